@@ -1,10 +1,9 @@
 -- What the diagnosis of a refused pattern says: the error, and where a text is at fault. Texts are their bytes.
-use Rattle.std.specs.Prelude.{◌≡◌, ◌⊎◌, ℕ, Bool, false, IfNone, IfOk, IfSome, List, [], Option, None, Result, Some, Ok, unwrap_or, string_bytes}
-use Rattle.std.specs.List.{list_any}
+use Rattle.std.specs.Prelude.{◌≡◌, ◌⊎◌, ℕ, Bool, IfNone, IfOk, IfSome, List, [], Option, None, Result, Some, Ok, unwrap_or, string_bytes}
 use Rattle.std.specs.Str.{chars}
 use Rattle.urlpattern_core.specs.Components.{ComponentView}
 use Rattle.urlpattern_core.specs.declared.regexp.RegExp.{Ghosts as Engine}
-use Rattle.urlpattern_faults.specs.Faults.{IsColonFault, IsFaultIn, IsFaultOf, IsUrlFault, is_path_sign}
+use Rattle.urlpattern_faults.specs.Faults.{IsColonFault, IsFaultIn, IsFaultOf, IsUrlFault}
 use Rattle.urlpattern_faults.specs.Places.{IsFaultMoved}
 use Rattle.urlpattern_diagnosis.specs.declared.diagnosis.{Diagnosis.Diagnosis, Subject.Subject}
 use Rattle.urlpattern_diagnosis.specs.declared.diagnosis.Subject.TheVariants as subjects
@@ -125,8 +124,7 @@ ShowsColon text diagnosis =
 -- what is shown of a constructor string that is refused when it is split: the pattern of its protocol, the colon after it, or all
 abbrev pub ShowsProtocol : (text : List ℕ) → Subject → Diagnosis → Type 0
 ShowsProtocol text (subjects.Component component) diagnosis =
-    (pattern : List ℕ) × HasProtocol text (λ protocol. protocol ≡ chars pattern) × (list_any is_path_sign pattern ≡ false)
-    × ShowsFault Protocol pattern [] diagnosis
+    (pattern : List ℕ) × HasProtocol text (λ protocol. protocol ≡ chars pattern) × ShowsFault Protocol pattern [] diagnosis
 ShowsProtocol text subjects.Whole diagnosis = ShowsAll diagnosis ⊎ ShowsColon text diagnosis
 ShowsProtocol text subjects.Base diagnosis = ⊥
 

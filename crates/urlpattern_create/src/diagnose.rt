@@ -6,7 +6,7 @@ ghost use Rattle.urlpattern_diagnosis.specs.declared.diagnosis.Subject.TheVarian
 ghost use Rattle.urlpattern_init.specs.Inheritance.{values_view};
 ghost use Rattle.urlpattern_create.specs.Compiled.{RefusesInit, RefusesValues};
 ghost use Rattle.urlpattern_create.specs.CompilerSteps.{compiled_values, manner_by};
-ghost use Rattle.urlpattern_faults.specs.Faults.{IsFaultIn};
+ghost use Rattle.urlpattern_faults.specs.Faults.{IsColonFault, IsFaultIn};
 ghost use Rattle.urlpattern_create.specs.Diagnoses.{AcceptsInit, AcceptsPatternOfText, AcceptsValues, HasErrorOf, IfAccepted, IfRefused, IsOf, IsPartOfRefused, IsWithinText, ShowsGiven, ShowsInit, ShowsPattern, ShowsProtocol, ShowsValues};
 ghost use Rattle.urlpattern_create.specs.FromString.{RefusesPatternOfText};
 ghost use Rattle.urlpattern_syntax.specs.Errors.{error_view};
@@ -92,7 +92,7 @@ fn protocol_diagnosis(alloc: Global, error: Error, text: &str) -> Result<Diagnos
         return Err(OutOfMemory);
     };
     match found {
-        Some(protocol) if !lacks_colon(text, &error) => match Fault::of_colon(text, protocol) {
+        Some(protocol) if !lacks_colon(text, &error) => match colon_fault(text, protocol, &error) {
             Some(fault) => Ok(Diagnosis::of_colon(alloc, error, text, fault)?),
             None => {
                 let name = ComponentName::Protocol;
@@ -103,6 +103,17 @@ fn protocol_diagnosis(alloc: Global, error: Error, text: &str) -> Result<Diagnos
             }
         },
         _ => Ok(Diagnosis::whole(alloc, error, Subject::Whole, text)?),
+    }
+}
+
+/// The fault of the colon after what is no protocol, unless this error is of a token before it.
+fn colon_fault(text: &str, protocol: &str, error: &Error) -> Option<Fault>
+    ensures fault { IfSome result (IsColonFault text.now protocol.now) }
+    ensures within { IfSome result (IsFaultIn text.now) }
+{
+    match error {
+        Error::Tokenizer(_, _) => None,
+        _ => Fault::of_colon(text, protocol),
     }
 }
 

@@ -9,16 +9,16 @@ use Rattle.urlpattern_create.specs.Diagnoses.{ShowsProtocol}
 use Rattle.urlpattern_create.proofs.DiagnosisLemmas.{shows_all, shows_colon, shows_fault}
 use Rattle.urlpattern_create.proofs.diagnose.protocol_diagnosis.Goals as goal
 
-pub returns-in_ok-of_colon-in-Some-of_colon-clause-shows : goal.returns-in_ok-of_colon-in-Some-of_colon-clause-shows
-returns-in_ok-of_colon-in-Some-of_colon-clause-shows c =
+pub returns-in_ok-of_colon-in-Some-colon_fault-clause-shows : goal.returns-in_ok-of_colon-in-Some-colon_fault-clause-shows
+returns-in_ok-of_colon-in-Some-colon_fault-clause-shows c =
     let text = c.args.text.now in
-    let made = c.in_ok-of_colon-in-Some-of_colon.field-0 in
-    let is = c.in_ok-of_colon-in-Some-of_colon.ensures in
+    let made = c.in_ok-of_colon-in-Some-colon_fault.field-0 in
+    let is = c.in_ok-of_colon-in-Some-colon_fault.ensures in
     let protocol = c.in-Some.protocol in
     let has : HasProtocol (chars text) (λ (other : List ℕ). other ≡ chars protocol.now) =
     subst (λ found. IfSome found (λ (part : Bor (List ℕ)). HasProtocol (chars text) (λ (other : List ℕ). other ≡ chars part.now))) c.in-Some.is c.in-Ok.ensures.protocol in
     subst (λ (what : Subject). ShowsProtocol (chars text) what made) (sym is.subject)
-    (inr (shows_colon text protocol.now made c.in-Some-of_colon.fault is.text has c.in-Some-of_colon.ensures.fault is.fault))
+    (inr (shows_colon text protocol.now made c.in-Some-colon_fault.fault is.text has c.in-Some-colon_fault.ensures.fault is.fault))
 
 pub returns-in_ok-of_part-in-None-clause-shows : goal.returns-in_ok-of_part-in-None-clause-shows
 returns-in_ok-of_part-in-None-clause-shows c =
@@ -30,7 +30,7 @@ returns-in_ok-of_part-in-None-clause-shows c =
     let has : HasProtocol (chars text) (λ (other : List ℕ). other ≡ chars protocol.now) =
     subst (λ found. IfSome found (λ (part : Bor (List ℕ)). HasProtocol (chars text) (λ (other : List ℕ). other ≡ chars part.now))) c.in-Some.is c.in-Ok.ensures.protocol in
     subst (λ (what : Subject). ShowsProtocol (chars text) what made) (sym is.subject)
-    (protocol.now, has, c.in-None.ensures.other, shows_fault Protocol text protocol.now (chars []) [] c.args.error made fault is.error is.text chars-nil (inl c.in_ok-fault-in-None.ensures.fault) is.fault)
+    (protocol.now, has, shows_fault Protocol text protocol.now (chars []) [] c.args.error made fault is.error is.text chars-nil (inl c.in_ok-fault-in-None.ensures.fault) is.fault)
 
 pub returns-in_ok-whole-in_default-found-clause-shows : goal.returns-in_ok-whole-in_default-found-clause-shows
 returns-in_ok-whole-in_default-found-clause-shows c =
