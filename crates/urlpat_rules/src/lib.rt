@@ -3,12 +3,12 @@
 
 mod covering;
 mod parts;
-mod route;
+mod routing;
 mod row;
 mod tables;
 mod unreachable;
 
 pub use covering::covers;
-pub use route::route;
+pub use routing::route;
 pub use tables::Tables;
 pub use unreachable::list_unreachable;

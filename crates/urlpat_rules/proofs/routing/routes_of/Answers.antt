@@ -1,6 +1,6 @@
 use Rattle.std.specs.Prelude.{option_copied}
 use Rattle.urlpat_rules.proofs.RouteLemmas.{routes-more, routes-none}
-use Rattle.urlpat_rules.proofs.route.routes_of.Goals as goal
+use Rattle.urlpat_rules.proofs.routing.routes_of.Goals as goal
 
 pub loop-entry-init : goal.loop-entry-init
 loop-entry-init g c = routes-none c.args.ignore_case (option_copied c.args.base) c.new-routes.result c.new-routes.ensures

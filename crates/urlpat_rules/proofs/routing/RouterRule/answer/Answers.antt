@@ -1,6 +1,6 @@
 use Rattle.std.proofs.Common.{inl, refl}
 use Rattle.urlpattern.specs.BorrowedMatches.{pattern_captures_view}
-use Rattle.urlpat_rules.proofs.route.RouterRule.answer.Goals as goal
+use Rattle.urlpat_rules.proofs.routing.RouterRule.answer.Goals as goal
 
 pub returns-in-Ok-Some : goal.returns-in-Ok-Some
 returns-in-Ok-Some c =

@@ -3,7 +3,7 @@ use Rattle.std.specs.Prelude.{option_copied}
 use Rattle.urlpat_matching.specs.InputUrls.{kept_base}
 use Rattle.urlpat_matching.specs.Status.{status_of}
 use Rattle.urlpat_rules.proofs.RouteLemmas.{routes-by}
-use Rattle.urlpat_rules.proofs.route.route_by.Goals as goal
+use Rattle.urlpat_rules.proofs.routing.route_by.Goals as goal
 
 pub returns-in-Some-true-clause-answers : goal.returns-in-Some-true-clause-answers
 returns-in-Some-true-clause-answers g c = λ answered.
