@@ -2,7 +2,7 @@
 //! each text.
 
 use crate::given::{expect_same, parts_of, pattern_of, url_input};
-use crate::stubborn::{Captures, KeptText, Refusing, Starved, Stubborn, Wanting};
+use crate::stubborn::{Captures, KeptText, Refusing, Starved, Stubborn};
 use regex::Regex;
 use std::alloc::Global;
 use std::process::Abort;
@@ -201,7 +201,11 @@ fn what_an_engine_refuses_is_kept_and_matches_nothing(rt: HostRuntime) -> Result
 }
 
 /// Compares a matcher whose engine finds no memory: it asks the engine about what ends with `b`.
-fn expect_wanting(rt: &impl Abort, alloc: Global, matcher: &Matcher<Wanting>) -> Result<(), Error> {
+fn expect_wanting(
+    rt: &impl Abort,
+    alloc: Global,
+    matcher: &Matcher<KeptText>,
+) -> Result<(), Error> {
     assert!(rt; matches!(matcher.matches(alloc, "b"), Err(Error::OutOfMemory)));
     assert!(rt; matches!(matcher.accepts(alloc, "b"), Err(Error::OutOfMemory)));
     assert!(rt; matcher.matches(alloc, "a")?.is_none());

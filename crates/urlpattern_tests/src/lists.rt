@@ -1,7 +1,7 @@
 //! Lists of patterns: what they hold, which patterns are asked, components put together by hand, and a list that finds no room.
 
 use crate::given::{expect_same, pattern_of, url_input, url_of};
-use crate::stubborn::Wanting;
+use crate::stubborn::KeptText;
 use regex::Regex;
 use std::alloc::Global;
 use std::process::Abort;
@@ -87,7 +87,7 @@ fn a_list_holds_its_patterns_in_their_order(rt: HostRuntime) -> Result<(), Fail>
 /// The index of the first pattern with one of these paths that matches a URL of two segments. Each engine that is asked finds no
 /// memory.
 fn first_unasked(alloc: Global, pathnames: &[&str]) -> Result<Option<usize>, Error> {
-    let list = list_of::<Wanting>(alloc, pathnames)?;
+    let list = list_of::<KeptText>(alloc, pathnames)?;
     let index = first_index(alloc, &list, "https://example.com/a/b");
     drop(list);
     index

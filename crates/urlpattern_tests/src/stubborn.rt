@@ -8,19 +8,16 @@ use urlpattern::regexp::RegExp;
 /// What an engine captures of each text.
 pub type Captures = &'static [Option<&'static str>];
 
-/// An engine that takes or refuses each text, and captures the same of all texts, or nothing. These captures need be no slices
-/// of the texts.
+/// An engine that takes or refuses each text, and captures the same of all texts. These captures need be no slices of the texts.
+/// A value without captures finds no memory when it is asked.
 #[derive(Debug, Drop)]
 pub struct Stubborn<const TAKES_TEXTS: bool, const HAS_MEMORY: bool> {
     pub text: String,
     pub captures: Option<Captures>,
 }
 
-/// An engine that keeps each text. A value that it makes matches nothing.
+/// An engine that keeps each text. A value that it makes finds no memory when it is asked.
 pub type KeptText = Stubborn<true, true>;
-
-/// An engine of which a value finds no memory when it is asked.
-pub type Wanting = Stubborn<true, false>;
 
 /// An engine that refuses each text.
 pub type Refusing = Stubborn<false, true>;
@@ -70,9 +67,8 @@ impl<const TAKES_TEXTS: bool, const HAS_MEMORY: bool> RegExp for Stubborn<TAKES_
         _text: &'a str,
     ) -> Result<Option<Vec<Option<&'a str>>>, OutOfMemory> {
         match self.captures {
-            _ if !HAS_MEMORY => Err(OutOfMemory),
             Some(captures) => Ok(Some(captures.to_vec(alloc)?)),
-            None => Ok(None),
+            None => Err(OutOfMemory),
         }
     }
 

@@ -7,9 +7,11 @@ use crate::given::{expect_same, parts_of};
 use std::alloc::Global;
 use std::process::Abort;
 use std::test::Fail;
-use urlpattern::Error;
-use urlpattern::component::{generate_pattern_string, generate_regular_expression_and_name_list};
-use urlpattern::parser::{Options, Part};
+use urlpattern_core::Error;
+use urlpattern_core::component::{
+    generate_pattern_string, generate_regular_expression_and_name_list,
+};
+use urlpattern_core::parser::{Options, Part};
 
 /// A pathname pattern, its regular expression, and the bytes of that.
 type Case = (&'static str, &'static str, usize);
