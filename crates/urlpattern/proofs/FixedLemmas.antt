@@ -1,5 +1,5 @@
 -- Lemmas on the patterns that a list does not ask.
-use Rattle.std.proofs.Common.{◌≡◌, ℕ, zero, suc, ◌+◌, ◌<◌, ◌≤◌, ◌⊎◌, Bool, true, false, List, [], ◌∷◌, ◌++◌, ap, append_assoc, arith, get_or, inl, inr, length, refl, subst, sym, take, ◌∙◌}
+use Rattle.std.proofs.Common.{◌≡◌, ℕ, zero, suc, ◌+◌, ◌<◌, ◌≤◌, ◌⊎◌, Bool, true, false, List, [], ◌∷◌, ◌++◌, ap, append_assoc, arith, get_or, inl, inr, length, refl, replicate, subst, sym, take, ◌∙◌}
 use Rattle.std.proofs.lemmas.Bool.{cases_lt}
 use Rattle.std.proofs.lemmas.List.{append-nil, get_or-take, length_push, map-append, take_more}
 use Rattle.std.proofs.lemmas.List.Edits.{length-remove}
@@ -93,7 +93,7 @@ remove-past (x ∷ xs) (suc i) le = ap (λ ys. x ∷ ys) (remove-past xs i (omeg
 -- ---- patterns that are indexed
 
 -- no patterns
-pub indexed-none : {E : Type 0} (answer : E → List ℕ → Option Captures) (patterns : List (UrlPattern E)) (index : Listing) → patterns ≡ [] → ◌≡◌ {A = Listing} index (record { keys = []; forms = [] })
+pub indexed-none : {E : Type 0} (answer : E → List ℕ → Option Captures) (patterns : List (UrlPattern E)) (index : Listing) → patterns ≡ [] → ◌≡◌ {A = Listing} index (record { keys = []; forms = replicate 13 [] })
     → AreIndexed answer patterns index
 indexed-none answer patterns index none empty = rw (none, empty) record { as_many = refl; refuses = λ number pattern is texts missed. absurd (cc) }
 

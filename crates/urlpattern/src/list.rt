@@ -5,12 +5,15 @@
 //! match.
 ghost use Rattle.std.specs.Iterator.Adapters.{IterYieldsInOrder};
 ghost use Rattle.std.specs.List.{remove};
-ghost use Rattle.std.specs.Prelude.{◌≡◌, ◌==◌, ◌++◌, [], ◌∷◌, length, option_copied, slice_get, IfErr, IfOk, OnErr, OnOk};
+ghost use Rattle.std.specs.Prelude.{◌≡◌, ◌==◌, ◌++◌, ◌<◌, [], ◌∷◌, length, option_copied, slice_get, IfErr, IfOk, OnErr, OnOk};
 ghost use Rattle.std.specs.Slice.Iter.{iter_rest};
 ghost use Rattle.urlpattern_init.specs.Inheritance.{texts_of_url};
 ghost use Rattle.urlpattern_init.specs.declared.init.UrlPatternMatchInput.TheVariants as inputs;
 ghost use Rattle.urlpattern_matches.specs.GroupTexts.{borrowed_texts};
 ghost use Rattle.urlpattern.specs.FirstMatch.{first_captures_view, first_view, patterns_view, CopiesFirstMatch, IsFirstMatch, IsFirstMatchOf, AsksBeforeMatch};
+ghost use Rattle.urlpattern.specs.PatternKeys.{address_of};
+ghost use Rattle.urlpattern_index.specs.FixedTexts.{address_texts};
+ghost use Rattle.urlpattern_index.specs.Keys.{hashes_of, hashes_view};
 ghost use Rattle.urlpattern.specs.NextMatch.{matches_left, AsksBeforeMatchFrom, IsFirstMatchFrom};
 ghost use Rattle.urlpattern_pattern.specs.Match.{IfUrl};
 ghost use Rattle.urlpattern_matches.specs.MatchInput.{texts_view};
@@ -25,12 +28,12 @@ pub use matches::UrlPatternMatches;
 use std::alloc::Global;
 use std::marker::Model;
 use std::slice;
-use url::Url;
+use url::{Url, quirks};
 use urlpattern_core::Error;
 use urlpattern_core::error::OutOfMemory;
 use urlpattern_core::regexp::RegExp;
 use urlpattern_eight::Eight;
-use urlpattern_index::{Address, Fixed, Index};
+use urlpattern_index::{Address, AddressHashes, Fixed, Index};
 use urlpattern_init::UrlPatternMatchInput;
 use urlpattern_inputs::MatchInput;
 use urlpattern_matches::{
@@ -239,7 +242,13 @@ impl<R: RegExp> UrlPatternList<R> {
         ensures memory { OnlyOutOfMemory result }
         ensures asked { IfErr result (λ _. AsksBeforeMatch R.answer (patterns_view self.now) (texts_of_url url.now)) }
     {
-        Ok(self.first(alloc, url_texts(url))?)
+        // Most of a URL's texts are made only where a pattern is asked.
+        let mut hashes = AddressHashes::new();
+        hashes.fill(url_address(url));
+        match self.index.first_from(&hashes, 0) {
+            Some(index) => Ok(self.first_listed(alloc, &url_texts(url), &hashes, index)?),
+            None => Ok(None),
+        }
     }
 
     /// The least index whose pattern matches an input that has its eight texts, and that match, borrowed from the pattern and
@@ -308,26 +317,60 @@ impl<R: RegExp> UrlPatternList<R> {
         &'p self,
         alloc: Global,
         texts: &Eight<&'u str>,
-        mut from: usize,
+        from: usize,
     ) -> Result<Option<(usize, UrlPatternCaptures<'p, 'u>)>, OutOfMemory>
         ensures first { IfOk result (λ found.
             IsFirstMatchFrom R.answer (patterns_view self.now) (borrowed_texts texts.now) from (first_captures_view found)) }
         ensures asked { IfErr result (λ _. AsksBeforeMatchFrom R.answer (patterns_view self.now) (borrowed_texts texts.now) from) }
     {
-        let hashes = Address {
+        let mut hashes = AddressHashes::new();
+        hashes.fill(Address {
             protocol: texts.protocol,
             hostname: texts.hostname,
             pathname: texts.pathname,
+        });
+        match self.index.first_from(&hashes, from) {
+            Some(index) => self.first_listed(alloc, texts, &hashes, index),
+            None => Ok(None),
         }
-        .hashes();
-        while let Some(index) = self.index.first_from(&hashes, from) {
+    }
+
+    /// The first match of eight texts by the pattern at an index, or by a later one. `None`: none of them matches the texts.
+    ///
+    /// Only an engine allocates.
+    fn first_listed<'p, 'u>(
+        &'p self,
+        alloc: Global,
+        texts: &Eight<&'u str>,
+        hashes: &AddressHashes,
+        index: usize,
+    ) -> Result<Option<(usize, UrlPatternCaptures<'p, 'u>)>, OutOfMemory>
+        requires within { index < length self.now }
+        requires hashes { hashes_view hashes.now ≡ hashes_of (address_of (borrowed_texts texts.now)) }
+        ensures first { IfOk result (λ found.
+            IsFirstMatchFrom R.answer (patterns_view self.now) (borrowed_texts texts.now) index (first_captures_view found)) }
+        ensures asked { IfErr result (λ _. AsksBeforeMatchFrom R.answer (patterns_view self.now) (borrowed_texts texts.now) index) }
+    {
+        let mut found = Some(index);
+        while let Some(index) = found {
             let pattern = &self.patterns[index];
             if let Some(captures) = captures_of_texts(alloc, pattern, texts)? {
                 return Ok(Some((index, captures)));
             }
-            from = index + 1;
+            found = self.index.first_from(hashes, index + 1);
         }
         Ok(None)
+    }
+}
+
+/// The texts of a URL by which patterns are looked up.
+fn url_address(url: &Url) -> Address<'_>
+    ensures { address_texts result ≡ address_of (texts_of_url url.now) }
+{
+    Address {
+        protocol: url.scheme(),
+        hostname: quirks::hostname(url),
+        pathname: url.path(),
     }
 }
 

@@ -1,5 +1,5 @@
 -- The hashes of an address, and the keys that are made of them.
-use Rattle.std.specs.Prelude.{◌≡◌, ◌<◌, ℕ, ◌+◌, ◌*◌, ◌%◌, ◌^◌, ◌==◌, if◌then◌else◌, Bool, true, false, List, [], ◌∷◌, encode_utf8_all, length, take, Option, None, Some}
+use Rattle.std.specs.Prelude.{◌≡◌, ◌<◌, ℕ, ◌+◌, ◌*◌, ◌%◌, ◌^◌, ◌==◌, if◌then◌else◌, Bool, true, false, List, [], ◌∷◌, ◌++◌, encode_utf8_all, length, slice_index_or, take, Option, None, Some}
 use Rattle.std.specs.Hash.FoldHasher as folding
 use Rattle.urlpattern_index.specs.FixedTexts.{AddressTexts}
 use Rattle.urlpattern_index.specs.declared.address.AddressHashes.{AddressHashes}
@@ -61,6 +61,18 @@ AreEnough false segments count = segments < count
 
 abbrev pub Fits : FormView → Hashes → Type 0
 Fits form hashes = AreEnough form.is_whole (length form.segments) (length hashes.segments)
+
+-- the group of a form: that of whole paths with so many segments, or the first, of paths that have more
+abbrev pub group_of : FormView → ℕ
+group_of form = if form.is_whole then length form.segments else 0
+
+-- the forms of a group
+abbrev pub group : List (List FormView) → ℕ → List FormView
+group forms number = slice_index_or forms number []
+
+-- the forms that a path of so many segments can fit
+abbrev pub forms_for : List (List FormView) → (count : ℕ) → List FormView
+forms_for forms count = group forms 0 ++ group forms count
 
 -- a hash after those of the segments whose text counts, and a 1 for each other
 abbrev pub mixed_segments : (hash : ℕ) → List Bool → (hashes : List ℕ) → ℕ

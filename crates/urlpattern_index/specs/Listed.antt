@@ -2,12 +2,12 @@
 use Rattle.std.specs.Prelude.{◌≡◌, ℕ, ◌+◌, ◌-◌, ◌≤◌, ◌==◌, if◌then◌else◌, List, [], ◌∷◌, Contains, filter, length, map, min, nat_eq, nat_lt, not, option_map, slice_get, unwrap_or, Option, None, Some, Vec}
 use Rattle.std.specs.HashMap.{HashMap, get}
 use Rattle.urlpattern_index.specs.FixedTexts.{AddressTexts, FixedTexts, HasTexts}
-use Rattle.urlpattern_index.specs.Keys.{Fits, FormView, Hashes, form_key, hashes_of}
+use Rattle.urlpattern_index.specs.Keys.{Fits, FormView, Hashes, form_key, forms_for, hashes_of}
 
--- The keys of the patterns, by number, and the forms by which they are made.
+-- The keys of the patterns, by number, and the forms by which they are made, in groups.
 pub record Listing : Type 0 where
   pub keys : List ℕ
-  pub forms : List FormView
+  pub forms : List (List FormView)
 
 -- ---- numbers by key
 
@@ -63,7 +63,7 @@ abbrev pub FindsFrom : FormView → (keys : List ℕ) → Hashes → (from numbe
 FindsFrom form keys hashes from number = (from ≤ number) × Fits form hashes × (slice_get keys number ≡ Some (form_key form hashes))
 
 abbrev pub Finds : Listing → Hashes → (number : ℕ) → Type 0
-Finds listing hashes number = FindsBy listing.forms listing.keys hashes number
+Finds listing hashes number = FindsBy (forms_for listing.forms (length hashes.segments)) listing.keys hashes number
 
 -- A pattern has the next number. It is found by each address that has its fixed texts, and the others as before.
 pub record GetsPattern (old new : Listing) (fixed : FixedTexts) : Type 0 where

@@ -1,5 +1,5 @@
 //! The hashes of an address.
-ghost use Rattle.std.specs.Prelude.{◌≡◌, chars, take};
+ghost use Rattle.std.specs.Prelude.{◌≡◌, [], chars, take};
 ghost use Rattle.urlpattern_index.specs.FixedTexts.{address_texts};
 ghost use Rattle.urlpattern_index.specs.Keys.{hashes_of, hashes_view, segment_hashes};
 
@@ -10,7 +10,7 @@ use arrayvec::ArrayVec;
 /// How many segments of a path have a hash: one more than a form has at most.
 pub(crate) const SEGMENTS: usize = 13;
 
-/// Hashes of the protocol, of the hostname and of the first segments of the pathname.
+/// The hashes by which patterns are looked up: of the protocol, of the hostname and of the first segments of the pathname.
 #[derive(Debug, Drop)]
 pub struct AddressHashes {
     pub(crate) protocol: u64,
@@ -18,24 +18,34 @@ pub struct AddressHashes {
     pub(crate) segments: ArrayVec<u64, SEGMENTS>,
 }
 
-impl Address<'_> {
-    /// The hashes by which patterns are looked up. It does not allocate.
-    pub fn hashes(self) -> AddressHashes
-        ensures { hashes_view result ≡ hashes_of (address_texts self.entry) }
-    {
-        AddressHashes {
-            protocol: text_hash(self.protocol),
-            hostname: text_hash(self.hostname),
-            segments: segment_hashes(self.pathname),
+impl AddressHashes {
+    /// The hashes of no address yet.
+    pub fn new() -> Self {
+        Self {
+            protocol: 0,
+            hostname: 0,
+            segments: ArrayVec::new(),
         }
+    }
+
+    /// Replaces the hashes by those of an address. It does not allocate.
+    ///
+    /// They are written in place, since a copy of what was just written takes longer than the writing.
+    pub fn fill(&mut self, address: Address<'_>)
+        ensures { hashes_view self.new ≡ hashes_of (address_texts address.entry) }
+    {
+        self.protocol = text_hash(address.protocol);
+        self.hostname = text_hash(address.hostname);
+        self.segments.clear();
+        push_segments(&mut self.segments, address.pathname);
     }
 }
 
-/// The hashes of the first segments of a path.
-fn segment_hashes(path: &str) -> ArrayVec<u64, SEGMENTS>
-    ensures { result.items ≡ take 13 (segment_hashes 0 (chars path.now)) }
+/// Appends the hashes of the first segments of a path to none.
+fn push_segments(hashes: &mut ArrayVec<u64, SEGMENTS>, path: &str)
+    requires { hashes.old.items ≡ [] }
+    ensures { hashes.new.items ≡ take 13 (segment_hashes 0 (chars path.now)) }
 {
-    let mut hashes = ArrayVec::new();
     let mut hash = 0;
     for c in path.chars() {
         if c != '/' {
@@ -45,9 +55,8 @@ fn segment_hashes(path: &str) -> ArrayVec<u64, SEGMENTS>
         hashes.push(hash);
         hash = 0;
         if hashes.is_full() {
-            return hashes;
+            return;
         }
     }
     hashes.push(hash);
-    hashes
 }

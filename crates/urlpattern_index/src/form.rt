@@ -1,8 +1,8 @@
 //! Forms of keys.
 ghost use Rattle.arrayvec.specs.ArrayVec.{array_vec_len};
-ghost use Rattle.std.specs.Prelude.{◌≡◌, ◌≤◌, ◌↔◌, IsTrue, IfNone, IfSome, chars, option_map, length, if◌then◌else◌};
+ghost use Rattle.std.specs.Prelude.{◌≡◌, ◌≤◌, ◌<◌, ◌↔◌, IsTrue, IfNone, IfSome, chars, option_map, length, if◌then◌else◌};
 ghost use Rattle.urlpattern_index.specs.FixedTexts.{fixed_texts, FixedTexts};
-ghost use Rattle.urlpattern_index.specs.Keys.{AreEnough, Fits, form_key, form_view, hashes_view, option_hash};
+ghost use Rattle.urlpattern_index.specs.Keys.{AreEnough, Fits, form_key, form_view, group_of, hashes_view, option_hash};
 ghost use Rattle.urlpattern_index.specs.Segments.{IsPlaceFor};
 
 use crate::address::AddressHashes;
@@ -13,6 +13,9 @@ use arrayvec::ArrayVec;
 
 /// How many segments of a path have a part in a key at most.
 pub(crate) const DEPTH: usize = 12;
+
+/// How many groups of forms there are: one for each number of segments that a whole path has, and one for paths that have more.
+pub(crate) const GROUPS: usize = 13;
 
 /// What has the part of a segment that can be any.
 const ANY: u64 = 1;
@@ -58,6 +61,18 @@ impl Form {
             count == self.segments.len()
         } else {
             self.segments.len() < count
+        }
+    }
+
+    /// The group of the form: that of whole paths with so many segments, or the first, of paths that have more.
+    pub(crate) fn group(&self) -> usize
+        ensures group { result ≡ group_of (form_view self.now) }
+        ensures bound { result < 13 }
+    {
+        if self.is_whole {
+            self.segments.len()
+        } else {
+            0
         }
     }
 

@@ -1,21 +1,22 @@
 //! The keys of patterns, by number, and the patterns that an address finds.
 ghost use Rattle.std.specs.List.Sorted.{IsNonDecreasing};
 ghost use Rattle.std.specs.List.{remove};
-ghost use Rattle.std.specs.Prelude.{◌≡◌, ◌≤◌, ◌<◌, ◌++◌, ◌∷◌, [], if◌then◌else◌, Some, length, vec_capacity, vec_len, IsTrue, Contains, OnErr, OnOk};
+ghost use Rattle.std.specs.Prelude.{◌≡◌, ◌≤◌, ◌<◌, ◌++◌, ◌∷◌, [], if◌then◌else◌, Some, length, map, replicate, vec_capacity, vec_len, IsTrue, Contains, OnErr, OnOk};
 ghost use Rattle.urlpattern_index.specs.FixedTexts.{fixed_texts};
-ghost use Rattle.urlpattern_index.specs.Keys.{form_view, hashes_view};
-ghost use Rattle.urlpattern_index.specs.Listed.{Finds, FindsFrom, GetsPattern, IsFirstFrom, IsLeast, lesser, lowered, without};
+ghost use Rattle.urlpattern_index.specs.Keys.{form_view, group, group_of, hashes_view};
+ghost use Rattle.urlpattern_index.specs.Listed.{Finds, FindsBy, FindsFrom, GetsPattern, IsFirstFrom, IsLeast, lesser, lowered, without};
 ghost use Rattle.urlpattern_index.specs.Segments.{IsPlaceFor};
 
 use crate::address::AddressHashes;
 use crate::fixed::Fixed;
-use crate::form::{Form, Place};
+use crate::form::{Form, GROUPS, Place};
 use std::alloc::{AllocError, Global};
+use std::array;
 use std::collections::HashMap;
 use std::marker::Model;
 
-/// How many forms of keys an index has at most, beside the form of what nothing is known of.
-const FORMS: usize = 64;
+/// How many forms of keys a group has at most, beside the form of what nothing is known of.
+const FORMS: usize = 32;
 
 /// The keys of patterns. Each pattern has a number, from 0 on.
 #[derive(Debug, Drop)]
@@ -24,8 +25,8 @@ pub struct Index {
     keys: Vec<u64>,
     /// The numbers of the patterns with a key, in ascending order.
     numbers: HashMap<u64, Vec<usize>>,
-    /// The forms of the keys.
-    forms: Vec<Form>,
+    /// The forms of the keys, in groups by the number of segments.
+    forms: [Vec<Form>; GROUPS],
 }
 
 impl Model for Index {
@@ -35,7 +36,7 @@ impl Model for Index {
 
     ghost Value = { Listing };
 
-    ghost view = { λ index. record { keys = index.keys.items; forms = map (λ form. form_view form) index.forms.items } };
+    ghost view = { λ index. record { keys = index.keys.items; forms = map (λ group. map (λ form. form_view form) group.items) index.forms } };
 
     ghost invariant = { λ index. AreListed index.keys.items index.numbers };
 }
@@ -43,12 +44,15 @@ impl Model for Index {
 impl Index {
     /// An index of no patterns. It does not allocate.
     pub fn new(alloc: Global) -> Self
-        ensures { result ≡ record { keys = []; forms = [] } }
+        ensures { result ≡ record { keys = []; forms = replicate 13 [] } }
     {
+        let no_forms = |_group: usize| -> Vec<Form>
+            ensures { result.items ≡ [] }
+        { Vec::new(alloc) };
         Self {
             keys: Vec::new(alloc),
             numbers: HashMap::new(alloc),
-            forms: Vec::new(alloc),
+            forms: array::from_fn(no_forms),
         }
     }
 
@@ -61,11 +65,12 @@ impl Index {
     {
         let Place { form, key } = self.place_for(fixed);
         let is_new = !self.has_form(&form);
+        let group = form.group();
         let number = self.keys.len();
         self.keys.reserve(1)?;
-        self.forms.reserve(1)?;
+        self.forms[group].reserve(1)?;
         self.numbers.entry(key)?.or_default().push(number)?;
-        add_form(&mut self.forms, form, is_new);
+        add_form(&mut self.forms[group], form, is_new);
         match self.keys.push(key) {
             Ok(()) => Ok(()),
             Err(_) => unreachable!(),
@@ -90,8 +95,19 @@ impl Index {
     pub fn first_from(&self, hashes: &AddressHashes, from: usize) -> Option<usize>
         ensures { IsLeast (λ number. (from ≤ number) × Finds self.now (hashes_view hashes.now) number) result }
     {
+        let least = self.first_by_forms(&self.forms[0], hashes, from);
+        match self.forms.get(hashes.segments.len()) {
+            Some(forms) => lesser(least, self.first_by_forms(forms, hashes, from)),
+            None => least,
+        }
+    }
+
+    /// The same of the patterns that are listed by some forms.
+    fn first_by_forms(&self, forms: &[Form], hashes: &AddressHashes, from: usize) -> Option<usize>
+        ensures { IsLeast (λ number. (from ≤ number) × FindsBy (map (λ form. form_view form) forms.now) self.now.keys (hashes_view hashes.now) number) result }
+    {
         let mut least = None;
-        for form in &self.forms {
+        for form in forms {
             least = lesser(least, self.first_by(form, hashes, from));
         }
         least
@@ -111,7 +127,7 @@ impl Index {
         ensures { IsPlaceFor (fixed_texts fixed.entry) result }
     {
         let place = Place::of(fixed);
-        if self.forms.len() < FORMS || self.has_form(&place.form) {
+        if self.forms[place.form.group()].len() < FORMS || self.has_form(&place.form) {
             place
         } else {
             Place::of_any()
@@ -120,9 +136,9 @@ impl Index {
 
     /// Whether keys have the form.
     fn has_form(&self, form: &Form) -> bool
-        ensures { IsTrue result → Contains self.now.forms (form_view form.now) }
+        ensures { IsTrue result → Contains (group self.now.forms (group_of (form_view form.now))) (form_view form.now) }
     {
-        for other in &self.forms {
+        for other in &self.forms[form.group()] {
             if other.is_same(form) {
                 return true;
             }

@@ -2,7 +2,8 @@
 //!
 //! Each pattern has a number, and is listed under a key: a hash of the protocol and the hostname, where they are fixed, and of the
 //! first segments of the pathname, of which each has a fixed text or can be any. The patterns of an input are looked up by a key for
-//! each [`Form`](form::Form) of keys in the index. Hashes are compared, so others may be found, and none is left out.
+//! each [`Form`](form::Form) of keys that a path with so many segments can have. Hashes are compared, so others may be found, and
+//! none is left out.
 #![tactic(auto)]
 
 mod address;

@@ -1,28 +1,38 @@
-use Rattle.std.proofs.Common.{◌≡◌, ◌≤◌, ◌+◌, ◌∙◌, ◌++◌, ◌∷◌, [], List, get_or, ap, map, subst, sym, take, take_all}
-use Rattle.std.proofs.lemmas.List.{map-append, take_more}
-use Rattle.urlpattern_index.proofs.NumberLemmas.{least_by_forms}
-use Rattle.urlpattern_index.specs.Keys.{FormView, form_view, hashes_view}
-use Rattle.urlpattern_index.specs.Listed.{FindsBy, IsLeast, Listing}
+use Rattle.std.proofs.Common.{Global, Vec, ◌≡◌, ◌≤◌, ◌<◌, ◌∙◌, ◌++◌, [], List, ap, append-nil, arith, length, map, subst, sym}
+use Rattle.std.proofs.lemmas.List.{length-map}
+use Rattle.urlpattern_index.proofs.NumberLemmas.{group-at, group-past, groups_view, least_by_groups}
+use Rattle.urlpattern_index.specs.Keys.{FormView, form_view, forms_for, group, hashes_view}
+use Rattle.urlpattern_index.specs.declared.form.Form.{Form}
+use Rattle.urlpattern_index.specs.Listed.{FindsBy, IsLeast, Listing, lesser}
 use Rattle.urlpattern_index.proofs.index.Index.first_from.Goals as goal
 
-pub loop-form-preserved : goal.loop-form-preserved
-loop-form-preserved c =
-    let items = c.deref-form-items.result.now in
-    let index = c.loop-form.form-index in
-    let form = c.form-item.result in
-    let same : form_view (get_or items index form) ≡ form_view form = ap (λ f. form_view f) (sym c.form-item.is) in
-    let more : map (λ form. form_view form) (take (index + 1) items) ≡ map (λ form. form_view form) (take index items) ++ form_view form ∷ [] =
-    ap (map (λ form. form_view form)) (take_more items index form c.loop-form-test.true) ∙ map-append (λ form. form_view form) (take index items) (get_or items index form ∷ [])
-    ∙ ap (λ f. map (λ form. form_view form) (take index items) ++ f ∷ []) same in
-    rw (c.lesser-least.ensures, more)
-    (least_by_forms (map (λ form. form_view form) (take index items)) (form_view form) c.args.self.now.keys (hashes_view c.args.hashes.now) c.args.from
-    c.loop-form.least c.first_by.result c.loop-form.invariant c.first_by.ensures)
+pub returns-in-Some : goal.returns-in-Some
+returns-in-Some c =
+    let groups = c.self.inside.forms in
+    let hashes = hashes_view c.args.hashes.now in
+    let forms : c.args.self.now.forms ≡ groups_view groups = sym (ap (λ (listing : Listing). listing.forms) c.self.view_is) in
+    let longer : map (λ form. form_view form) c.deref.result.now ≡ group c.args.self.now.forms 0 =
+    ap (map (λ form. form_view form)) (c.deref.ensures.value ∙ ap (λ (v : Vec Form Global). v.items) (sym c.index-self-0.is)) ∙ sym (ap (λ f. group f 0) forms ∙ group-at groups 0 c.index-self-0.result (omega (arith, c.self.told)) c.index-self-0.is) in
+    let (there, same, is_some, found, rest) = c.in-Some.ensures.lookup in
+    let whole : map (λ form. form_view form) c.deref-in-Some.result.now ≡ group c.args.self.now.forms (length hashes.segments) =
+    ap (map (λ form. form_view form)) c.deref-in-Some.ensures.value
+    ∙ sym (ap (λ f. group f (length hashes.segments)) forms ∙ ap (group (groups_view groups)) (sym c.len.ensures.value) ∙ group-at groups c.len.result c.in-Some.forms.now found.0 same) in
+    rw c.lesser.ensures
+    (subst (λ (forms : List FormView). IsLeast (λ number. (c.args.from ≤ number) × FindsBy forms c.args.self.now.keys hashes number) (lesser c.first_by_forms-least.result c.first_by_forms.result))
+    (ap (λ f. f ++ map (λ form. form_view form) c.deref-in-Some.result.now) longer ∙ ap (λ f. group c.args.self.now.forms 0 ++ f) whole)
+    (least_by_groups _ _ c.args.self.now.keys hashes c.args.from c.first_by_forms-least.result c.first_by_forms.result c.first_by_forms-least.ensures c.first_by_forms.ensures))
 
-pub returns : goal.returns
-returns c =
-    let items = c.deref-form-items.result.now in
-    let all : map (λ form. form_view form) (take c.loop-form.form-index items) ≡ c.args.self.now.forms =
-    ap (map (λ form. form_view form)) (take_all c.loop-form.form-index items c.loop-form-test.false ∙ c.deref-form-items.ensures.value)
-    ∙ ap (λ (listing : Listing). listing.forms) c.self.view_is in
-    subst (λ (forms : List FormView). IsLeast (λ number. (c.args.from ≤ number) × FindsBy forms c.args.self.now.keys (hashes_view c.args.hashes.now) number) c.loop-form.least)
-    all c.loop-form.invariant
+pub returns-in-None : goal.returns-in-None
+returns-in-None c =
+    let groups = c.self.inside.forms in
+    let hashes = hashes_view c.args.hashes.now in
+    let forms : c.args.self.now.forms ≡ groups_view groups = sym (ap (λ (listing : Listing). listing.forms) c.self.view_is) in
+    let longer : map (λ form. form_view form) c.deref.result.now ≡ group c.args.self.now.forms 0 =
+    ap (map (λ form. form_view form)) (c.deref.ensures.value ∙ ap (λ (v : Vec Form Global). v.items) (sym c.index-self-0.is)) ∙ sym (ap (λ f. group f 0) forms ∙ group-at groups 0 c.index-self-0.result (omega (arith, c.self.told)) c.index-self-0.is) in
+    let (there, same, is_some, found, rest) = c.in-None.ensures.lookup in
+    let none : [] ≡ group c.args.self.now.forms (length hashes.segments) =
+    sym (ap (λ f. group f (length hashes.segments)) forms ∙ group-past (groups_view groups) (length hashes.segments)
+    (let past : length groups ≤ c.len.result = found in omega (arith, c.len.ensures.value, length-map groups (λ group. map (λ form. form_view form) group.items)))) in
+    subst (λ (forms : List FormView). IsLeast (λ number. (c.args.from ≤ number) × FindsBy forms c.args.self.now.keys hashes number) c.first_by_forms-least.result)
+    (longer ∙ sym (append-nil (group c.args.self.now.forms 0)) ∙ ap (λ f. group c.args.self.now.forms 0 ++ f) none)
+    c.first_by_forms-least.ensures

@@ -6,7 +6,7 @@ use Rattle.std.proofs.lemmas.List.{length_push, take_at}
 use Rattle.std.specs.Str.{chars}
 use Rattle.urlpattern_index.proofs.SegmentLemmas.{hashes-end, hashes-more, hashes-same}
 use Rattle.urlpattern_index.specs.Keys.{segment_hashes}
-use Rattle.urlpattern_index.proofs.address.segment_hashes.Goals as goal
+use Rattle.urlpattern_index.proofs.address.push_segments.Goals as goal
 
 pub loop-c-preserved-then-c-ne47 : goal.loop-c-preserved-then-c-ne47
 loop-c-preserved-then-c-ne47 c =

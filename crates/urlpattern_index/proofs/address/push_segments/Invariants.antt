@@ -1,7 +1,7 @@
 use Rattle.std.proofs.Common.{◌≡◌, ◌++◌, ◌<◌, drop, length}
 use Rattle.std.specs.Str.{chars}
 use Rattle.urlpattern_index.specs.Keys.{segment_hashes}
-use Rattle.urlpattern_index.proofs.address.segment_hashes.Given as goal
+use Rattle.urlpattern_index.proofs.address.push_segments.Given as goal
 
 abbrev pub invariant-loop-c : goal.invariant-loop-c
 invariant-loop-c l = record {
