@@ -1,9 +1,9 @@
 //! Builds the lists of patterns that were built when a case was recorded, and asks for the first match of the same inputs.
 
-use bench_patterns::calls::{found_for, found_of_texts, found_of_url};
-use bench_patterns::patterns::{are_same_components, built, is_same_error};
-use bench_rows::Case;
-use bench_rows::recorded::{Fault, list, named, optional_text};
+use crate::calls::{found_for, found_of_texts, found_of_url};
+use crate::patterns::{are_same_components, built, is_same_error};
+use crate::Case;
+use crate::recorded::{Fault, list, named, optional_text};
 use serde_json::Value;
 use std::alloc::Global;
 use urlpattern::regexp::RegExp;

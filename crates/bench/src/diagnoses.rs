@@ -1,7 +1,7 @@
 //! Asks what is wrong with patterns.
 
-use bench_rows::recorded::{Answer, Fault, has_text, list, optional_text};
-use bench_rows::{Case, given};
+use crate::recorded::{Answer, Fault, has_text, list, optional_text};
+use crate::{Case, given};
 use serde_json::Value;
 use std::alloc::Global;
 use urlpattern_core::Error;

@@ -1,7 +1,7 @@
 //! Reads plain values of JSON, writes them, and compares them with each other.
 
-use bench_rows::recorded::{Answer, Fault, field, is_set, list, optional_text, text};
-use bench_rows::{Case, given};
+use crate::recorded::{Answer, Fault, field, is_set, list, optional_text, text};
+use crate::{Case, given};
 use serde::Serialize;
 use serde::de::DeserializeOwned;
 use serde_json::Value;

@@ -2,8 +2,8 @@
 
 use crate::generated::{groups_of, is_reason, is_refused};
 use crate::patterns;
-use bench_rows::recorded::{Answer, Fault, has_text, list, optional_text};
-use bench_rows::{Case, given};
+use crate::recorded::{Answer, Fault, has_text, list, optional_text};
+use crate::{Case, given};
 use serde_json::Value;
 use std::alloc::Global;
 use url::Url;

@@ -2,12 +2,12 @@
 
 mod first_match;
 
-use bench_inputs::{constructors, diagnoses, inputs, plain, trees};
-use bench_patterns::{generated, links, patterns, rules};
-use bench_rows::recorded::{
+use crate::{constructors, diagnoses, inputs, plain, trees};
+use crate::{generated, links, patterns, rules};
+use crate::recorded::{
     Answer, Fault, OPERATIONS, Operation, field, is_set, named, optional_text, text,
 };
-use bench_rows::{Case, compiled, components, engines, matchers, tokens, values};
+use crate::{Case, compiled, components, engines, matchers, tokens, values};
 use regex::Regex;
 use serde_json::Value;
 use std::alloc::Global;

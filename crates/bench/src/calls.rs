@@ -1,7 +1,7 @@
 //! Matches an input by the call that a question names.
 
-use bench_rows::recorded::{Fault, named, optional_text};
-use bench_rows::{Case, given};
+use crate::recorded::{Fault, named, optional_text};
+use crate::{Case, given};
 use serde_json::Value;
 use std::alloc::Global;
 use url::Url;

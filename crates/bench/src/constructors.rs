@@ -1,7 +1,7 @@
 //! Asks for the components of constructor strings, and for the inits of strings and of a browser's inits.
 
-use bench_rows::recorded::{Fault, optional_text, text};
-use bench_rows::{Case, given};
+use crate::recorded::{Fault, optional_text, text};
+use crate::{Case, given};
 use regex::Regex;
 use serde_json::Value;
 use std::alloc::Global;

@@ -1,7 +1,7 @@
 //! Replays what was asked of match inputs.
 
-use bench_rows::recorded::{Fault, optional_text};
-use bench_rows::{Case, given};
+use crate::recorded::{Fault, optional_text};
+use crate::{Case, given};
 use serde_json::Value;
 use std::alloc::Global;
 use urlpattern_core::Error;

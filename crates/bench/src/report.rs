@@ -1,7 +1,7 @@
 //! The run over files of cases, and what it prints.
 
 use crate::replay::{Outcome, replay};
-use bench_rows::recorded::{Fault, OPERATIONS, Operation};
+use crate::recorded::{Fault, OPERATIONS, Operation};
 use std::alloc::{AllocError, Global};
 use std::io::Write;
 use std::rt::Files;

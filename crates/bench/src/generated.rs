@@ -1,8 +1,8 @@
 //! Asks for texts of components whose groups capture what is given.
 
 use crate::patterns;
-use bench_rows::Case;
-use bench_rows::recorded::{Answer, Fault, has_text, list, text};
+use crate::Case;
+use crate::recorded::{Answer, Fault, has_text, list, text};
 use serde_json::Value;
 use std::alloc::Global;
 use urlpattern_core::Error;

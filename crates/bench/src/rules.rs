@@ -1,7 +1,7 @@
 //! Compares patterns by their parts.
 
-use bench_rows::recorded::{Answer, Fault, field, has_text, list, named, optional_text, text};
-use bench_rows::{Case, given};
+use crate::recorded::{Answer, Fault, field, has_text, list, named, optional_text, text};
+use crate::{Case, given};
 use serde_json::Value;
 use std::alloc::Global;
 use std::cmp::Ordering;

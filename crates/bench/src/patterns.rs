@@ -1,8 +1,8 @@
 //! Builds the patterns that were built when a case was recorded, and matches what was matched.
 
 use crate::calls::{self, Call};
-use bench_rows::recorded::{Fault, has_text, is_set, optional_text, text};
-use bench_rows::{Case, given, prints};
+use crate::recorded::{Fault, has_text, is_set, optional_text, text};
+use crate::{Case, given, prints};
 use serde_json::Value;
 use std::alloc::Global;
 use urlpattern_core::Error;

@@ -1,9 +1,29 @@
 //! Replays questions and their answers over the library, and prints how many there are and how many of them differ.
 #![tactic(auto)]
 
+mod calls;
+mod case;
+mod compiled;
+mod components;
+mod constructors;
+mod diagnoses;
+mod engines;
+mod generated;
+mod given;
+mod inputs;
+mod links;
+mod matchers;
+mod patterns;
+mod plain;
+mod recorded;
 mod replay;
 mod report;
+mod rules;
+mod tokens;
+mod trees;
+mod values;
 
+pub(crate) use case::{Case, prints, succeeded};
 use std::io::Write;
 use std::process::ExitCode;
 use std::{env, io};
