@@ -89,14 +89,32 @@ pub(crate) fn has_cut_class(part: &str, start: usize, end: usize) -> bool {
     false
 }
 
-/// The first full-width mark before a place.
+/// The first `]` or `}` from a place on that closes neither a class nor a count.
+pub(crate) fn stray_bracket(part: &str, place: usize) -> Option<char> {
+    let mut is_escaped = false;
+    let mut awaited = b' ';
+    for byte in part.as_bytes().iter().skip(place) {
+        match *byte {
+            _ if is_escaped => is_escaped = false,
+            b'\\' => is_escaped = true,
+            b'[' if awaited == b' ' => awaited = b']',
+            b'{' if awaited == b' ' => awaited = b'}',
+            byte if byte == awaited => awaited = b' ',
+            b']' | b'}' if awaited == b' ' => return Some(char::from(*byte)),
+            _ => {}
+        }
+    }
+    None
+}
+
+/// The mark whose full-width form is the first one before a place.
 pub(crate) fn wide_mark(part: &str, place: usize) -> Option<char> {
     for (index, c) in part.char_indices() {
         if index >= place {
             return None;
         }
         match ascii_form(c) {
-            Some('(' | ')' | '{' | '}' | ':' | '*' | '\\') => return Some(c),
+            Some(mark @ ('(' | ')' | '{' | '}' | ':' | '*' | '\\')) => return Some(mark),
             _ => {}
         }
     }
@@ -142,6 +160,10 @@ pub(crate) fn is_after_word(part: &str, fault: Fault) -> bool {
         return false;
     };
     let end = fault.span.start;
-    let mut word = part.as_bytes().iter().take(end).skip(open.end);
-    open.end < end && word.all(|byte| byte.is_ascii_alphanumeric() || *byte == b'_')
+    for byte in part.as_bytes().iter().take(end).skip(open.end) {
+        if !byte.is_ascii_alphanumeric() && *byte != b'_' {
+            return false;
+        }
+    }
+    open.end < end
 }

@@ -5,7 +5,7 @@ ghost use Rattle.urlpattern_diagnosis.specs.declared.diagnosis.Subject.TheVarian
 ghost use Rattle.urlpattern_faults.specs.Faults.{IsFaultIn, IsUrlFault};
 ghost use Rattle.urlpattern_faults.specs.Places.{IsFaultMoved, IsPlaceOf};
 
-use crate::colon::path_colon_reason;
+use crate::colon::path_colon_sentence;
 use crate::hint::Hint;
 use crate::reason::{Faulty, reason_of};
 use std::alloc::{AllocError, Global};
@@ -134,7 +134,8 @@ impl Diagnosis {
         ensures text { IfOk result (λ diagnosis. string_bytes diagnosis.text ≡ text.now) }
         ensures fault { IfOk result (λ diagnosis. diagnosis.fault ≡ fault) }
     {
-        let reason = path_colon_reason(alloc, text, fault.span.start)?;
+        let mut reason = String::new(alloc);
+        path_colon_sentence(text, fault.span.start).append_to(&mut reason)?;
         Ok(Diagnosis {
             error,
             subject: Subject::Whole,

@@ -10,6 +10,7 @@ mod host;
 mod printing;
 mod reason;
 mod scheme;
+mod sentence;
 mod walk;
 mod wide;
 
