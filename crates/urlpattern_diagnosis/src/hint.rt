@@ -1,8 +1,8 @@
 //! What explains a fault besides the part at fault.
 
 use crate::around::{
-    has_bracket_before, has_cut_class, has_open_group, is_after_expression, is_after_modifier,
-    is_after_word, is_closed, is_in_class, sign_at, stray_bracket, wide_mark,
+    has_cut_class, is_after_expression, is_after_modifier, is_after_word, is_in_class, is_unclosed,
+    sign_at, stray_bracket, wide_mark,
 };
 use crate::diagnosis::Subject;
 use crate::wide::ascii_form_of;
@@ -111,10 +111,10 @@ impl Hint {
 /// What explains that no name follows a colon, which is before this place.
 fn colon_hint(subject: Subject, part: &str, place: usize) -> Hint {
     match subject {
-        Subject::Component(ComponentName::Hostname) if has_bracket_before(part, place) => {
+        Subject::Component(ComponentName::Hostname) if is_in_class(part, 0, place) => {
             Hint::Brackets
         }
-        Subject::Component(ComponentName::Hostname) if has_open_group(part, place) => {
+        Subject::Component(ComponentName::Hostname) if is_unclosed(part, place, b'{', b'}') => {
             Hint::OpenGroup
         }
         _ => next_hint(part.as_bytes().get(place)),
@@ -170,7 +170,7 @@ fn expression_hint(
         (RegexFault::NestedGroupCaptures | RegexFault::NestedGroupNotClosed, Some(open))
             if is_in_class(part, open.start, fault.span.start) => { Hint::Brackets }
         (RegexFault::NestedGroupCaptures | RegexFault::NestedGroupNotClosed, Some(open))
-            if !is_closed(part, open.start) => { Hint::Open }
+            if is_unclosed(part, open.start, b'(', b')') => { Hint::Open }
         (RegexFault::BadCharacter, None) => question_hint(part, fault.span.end.saturating_sub(1)),
         (RegexFault::BadCharacter | RegexFault::BadEscape, Some(_)) => letter_hint(part, fault),
         _ => Hint::Nothing,
@@ -196,7 +196,7 @@ fn letter_hint(part: &str, fault: Fault) -> Hint {
         return Hint::Wide(sign);
     }
     match part.as_bytes().get(fault.span.end) {
-        _ if has_bracket_before(part, fault.span.start) => Hint::Brackets,
+        _ if is_in_class(part, 0, fault.span.start) => Hint::Brackets,
         Some(b'*' | b'+' | b'?' | b'{') => Hint::Repeated,
         _ => Hint::Nothing,
     }
@@ -247,14 +247,13 @@ fn modifier_hint(part: &str, fault: Fault, is_in_group: bool) -> Hint {
 
 /// What explains that no expression is before a modifier at a place.
 fn unread_hint(part: &str, place: usize) -> Hint {
-    match part.find('(') {
-        Some(open) if has_cut_class(part, open, place) => return Hint::Brackets,
-        _ => {}
+    if has_cut_class(part, part.find('(').unwrap_or(place), place) {
+        return Hint::Brackets;
     }
     match wide_mark(part, place) {
         Some(mark) => Hint::Wide(mark),
         None if is_after_expression(part, place) => Hint::Expression,
-        None if has_open_group(part, place) => Hint::OpenGroup,
+        None if is_unclosed(part, place, b'{', b'}') => Hint::OpenGroup,
         None => Hint::Nothing,
     }
 }

@@ -8,6 +8,12 @@ use urlpattern_faults::{Fault, Span};
 /// The digits of a number in decimal.
 const DIGITS: [char; 10] = ['0', '1', '2', '3', '4', '5', '6', '7', '8', '9'];
 
+/// The characters that no domain has, but for controls.
+const FORBIDDEN: &str = " #/<>?@[]^|";
+
+/// The controls that are skipped as a URL is read.
+const SKIPPED: &str = "\t\n\r";
+
 /// The first character of a refused hostname that no domain has, or its first number that no IPv4 address has, or else all of it.
 ///
 /// <https://url.spec.whatwg.org/#forbidden-host-code-point>
@@ -83,17 +89,13 @@ fn forbidden(name: &str) -> Option<(usize, usize)> {
 
 /// Whether no domain has the character. A colon, which none has, is no text in a pattern, and tabs and line ends are skipped there.
 fn is_forbidden(c: char) -> bool {
-    c.is_ascii_control() && !matches!(c, '\t' | '\n' | '\r')
-        || matches!(
-            c,
-            ' ' | '#' | '/' | '<' | '>' | '?' | '@' | '[' | ']' | '^' | '|'
-        )
+    FORBIDDEN.contains(c) || c.is_ascii_control() && !SKIPPED.contains(c)
 }
 
 /// Whether a character is the full-width form of one that no domain has, as it is read.
 fn is_wide_forbidden(c: char) -> bool {
     match ascii_form(c) {
-        Some(sign) => matches!(sign, ':' | '%' | '\\') || is_forbidden(sign),
+        Some(sign) => ":%\\".contains(sign) || is_forbidden(sign),
         None => false,
     }
 }

@@ -152,7 +152,7 @@ pub(crate) fn protocol_words(part: &str) -> &'static str {
         "`@` is no protocol: a protocol has no space"
     } else if part.contains("http") && part.contains([',', '|', '[']) {
         "`@` is no protocol: write `http{s}?` for both"
-    } else if is_of_numbers(part) {
+    } else if is_of_numbers(part) || part.starts_with('[') {
         "`@` is no protocol: write `https://@` for a hostname"
     } else {
         "`@` is no protocol: it begins with a letter, and has letters, digits, `+`, `-` and `.`"
