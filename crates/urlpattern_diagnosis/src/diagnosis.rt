@@ -57,7 +57,7 @@ pub struct Diagnosis {
     pub text: String,
     /// Which part of the text is at fault, in bytes.
     pub fault: Fault,
-    /// Why it is refused, and what to do.
+    /// Why it is refused, and what to do, in one line.
     pub reason: String,
 }
 

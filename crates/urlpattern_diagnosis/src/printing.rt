@@ -88,16 +88,22 @@ impl Diagnosis {
         }
     }
 
-    /// Writes a part of the text.
+    /// Writes what is shown of the text.
     fn write_text<W: fmt::Write>(&self, shown: Span, f: &mut fmt::Formatter<W>) -> fmt::Result {
         if shown.start > 0 {
             f.write_str(DOTS)?;
         }
-        for c in self.part(shown).chars() {
-            f.write_char(if c.is_control() { ' ' } else { c })?;
-        }
+        self.write_part(shown, f)?;
         if shown.end < self.text.len() {
             f.write_str(DOTS)?;
+        }
+        Ok(())
+    }
+
+    /// Writes a part of the text, with spaces for tabs and line ends.
+    fn write_part<W: fmt::Write>(&self, part: Span, f: &mut fmt::Formatter<W>) -> fmt::Result {
+        for c in self.part(part).chars() {
+            f.write_char(if c.is_control() { ' ' } else { c })?;
         }
         Ok(())
     }
@@ -133,8 +139,9 @@ impl Diagnosis {
             end: part.start,
         };
         let number = self.part(front).chars().count().saturating_add(1);
-        let text = self.part(part);
-        write!(f, " and `{text}` at character {number}")
+        f.write_str(" and `")?;
+        self.write_part(part, f)?;
+        write!(f, "` at character {number}")
     }
 
     /// A part of the text.

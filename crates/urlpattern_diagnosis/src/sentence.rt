@@ -22,12 +22,20 @@ impl Sentence<'_> {
     pub(crate) fn append_to(&self, out: &mut String) -> Result<(), AllocError> {
         for c in self.words.chars() {
             match c {
-                '@' => out.push_str(self.text)?,
-                '#' => out.push_str(self.other)?,
+                '@' => append_line(out, self.text)?,
+                '#' => append_line(out, self.other)?,
                 '~' => out.push(self.sign)?,
                 _ => out.push(c)?,
             }
         }
         Ok(())
     }
+}
+
+/// Appends a text as a part of a line: tabs and line ends are spaces there.
+fn append_line(out: &mut String, text: &str) -> Result<(), AllocError> {
+    for c in text.chars() {
+        out.push(if c.is_control() { ' ' } else { c })?;
+    }
+    Ok(())
 }
