@@ -73,7 +73,7 @@ impl Subject {
 }
 
 impl Diagnosis {
-    /// A whole text is at fault, or the place where the colon after its scheme is missing.
+    /// A whole text is at fault, or the place where the colon after its scheme is missing, or what is there in its place.
     ///
     /// The error is that memory ran out.
     pub fn whole(
@@ -89,7 +89,8 @@ impl Diagnosis {
         ensures within { IfOk result (λ diagnosis. IsFaultIn text.now diagnosis.fault) }
     {
         let fault = Fault::of_url(text);
-        Self::of_fault(alloc, error, subject, text, fault, Hint::of_url(text))
+        let hint = Hint::of_url(text, fault);
+        Self::of_fault(alloc, error, subject, text, fault, hint)
     }
 
     /// A part of a text has a fault, or the whole text is at fault if it does not have the part.

@@ -7,7 +7,7 @@ use crate::around::{
 use crate::diagnosis::Subject;
 use crate::wide::ascii_form_of;
 use urlpattern_eight::ComponentName;
-use urlpattern_faults::{Fault, Place, Span, missing_colon};
+use urlpattern_faults::{Fault, Place, Span};
 use urlpattern_syntax::error::{Error, ParserError, RegexFault, TokenizerError};
 use urlpattern_syntax::tokenizer::TokenType;
 
@@ -26,7 +26,7 @@ pub(crate) enum Hint {
     Flag,
     /// The fault is in square brackets: those of an IPv6 address, or of a class.
     Brackets,
-    /// The colon after a scheme is missing.
+    /// The colon after a scheme is missing, or `;` is in its place.
     Colon,
     /// A custom expression is not closed before the `(` at fault.
     Open,
@@ -67,11 +67,12 @@ impl Hint {
         }
     }
 
-    /// What explains that a text is no URL.
-    pub(crate) fn of_url(text: &str) -> Self {
-        match missing_colon(text) {
-            Some(_) => Hint::Colon,
-            None => Hint::Nothing,
+    /// What explains that a text with this fault is no URL.
+    pub(crate) fn of_url(text: &str, fault: Fault) -> Self {
+        if fault == Fault::whole(text) {
+            Hint::Nothing
+        } else {
+            Hint::Colon
         }
     }
 

@@ -17,7 +17,5 @@ mod wide;
 pub use diagnosis::{Diagnosis, Subject};
 pub use expression::fault_of_expression;
 pub use host::fault_of_host;
-pub use urlpattern_faults::{
-    Fault, Place, Span, fault_of, missing_colon, refused_expression, refused_row,
-};
+pub use urlpattern_faults::{Fault, Place, Span, fault_of, refused_expression, refused_row};
 pub use walk::component_start;

@@ -5,7 +5,7 @@ use crate::diagnosis::Subject;
 use crate::expression::message;
 use crate::hint::Hint;
 use crate::host::{host_words, port_words};
-use crate::scheme::{COLON_MISSING, base_sentence, is_quoted, protocol_words};
+use crate::scheme::{base_sentence, is_quoted, missing_words, protocol_words};
 use crate::sentence::Sentence;
 use crate::wide::ascii_form_of;
 use percent_encoding::{CONTROLS, utf8_percent_encode};
@@ -65,7 +65,11 @@ fn append_reason(
     faulty: &Faulty<'_>,
 ) -> Result<(), AllocError> {
     match error {
-        _ if matches!(faulty.hint, Hint::Colon) => out.push_str(COLON_MISSING),
+        _ if matches!(faulty.hint, Hint::Colon) => {
+            faulty
+                .sentence(missing_words(faulty.part), "")
+                .append_to(out)
+        }
         Error::BaseUrlRequired => base_sentence(faulty.part).append_to(out),
         Error::BaseUrlWithInit => {
             out.push_str("components have their own base URL: leave out the one beside them")
@@ -304,6 +308,9 @@ fn url_words(reason: ParseError, faulty: &Faulty<'_>) -> &'static str {
         }
         (Subject::Base, ParseError::RelativeUrlWithoutBase) => {
             "`@` is no base URL: begin it with a protocol, as `https://`"
+        }
+        (Subject::Base, ParseError::IdnaError) if part.contains(' ') => {
+            "`@` is no base URL: a hostname has no space"
         }
         (Subject::Base, _) => "`@` is no base URL: #",
         _ => "`@` is refused: #",

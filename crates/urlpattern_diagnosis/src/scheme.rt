@@ -3,9 +3,14 @@
 use crate::host::is_number;
 use crate::sentence::Sentence;
 
-/// What is said of a scheme without its colon.
-pub(crate) const COLON_MISSING: &str =
-    "`:` is missing before `//`: a protocol ends with it, as in `https://`";
+/// What is said of a scheme without its colon, by what is in its place.
+pub(crate) fn missing_words(sign: &str) -> &'static str {
+    if sign.is_empty() {
+        "`:` is missing before `//`: a protocol ends with it, as in `https://`"
+    } else {
+        "`:` is missing before `//`: `@` is in its place"
+    }
+}
 
 /// Why a pattern needs a base URL, and what to write: a pattern has neither the `^` nor the `$` that a regular expression may have.
 pub(crate) fn base_sentence(part: &str) -> Sentence<'_> {
@@ -15,14 +20,6 @@ pub(crate) fn base_sentence(part: &str) -> Sentence<'_> {
             text: part,
             other: "",
             sign: ' ',
-        };
-    }
-    if let Some(sign) = sign_for_colon(part) {
-        return Sentence {
-            words: "`:` is missing before `//`: `~` is in its place",
-            text: part,
-            other: "",
-            sign,
         };
     }
     if let Some(scheme) = scheme_before_name(part) {
@@ -72,6 +69,8 @@ fn misread_words(text: &str) -> Option<&'static str> {
         Some("a pattern of all URLs is written `*://*:*/*`")
     } else if text.starts_with('{') && text.contains(['"', '\'']) {
         Some("a pattern is written as a URL, as in `https://HOST/users/:id`, and not as an object")
+    } else if text.contains("：//") {
+        Some("no protocol is before `：//`, since `：` is full-width: write `:`")
     } else if text.contains("://") {
         Some(
             "`://` ends no protocol within `{` or `(`: write the protocol outside of them, or close them before it",
@@ -99,17 +98,6 @@ fn has_method(text: &str) -> bool {
             "GET" | "HEAD" | "POST" | "PUT" | "PATCH" | "DELETE" | "OPTIONS"
         ),
         None => false,
-    }
-}
-
-/// The character that two slashes follow after a special scheme, where its colon should be.
-fn sign_for_colon(text: &str) -> Option<char> {
-    let (front, _) = text.split_once("//")?;
-    let mut characters = front.chars();
-    let sign = characters.next_back()?;
-    match characters.as_str() {
-        "http" | "https" | "ws" | "wss" | "ftp" | "file" => Some(sign),
-        _ => None,
     }
 }
 
