@@ -22,7 +22,7 @@ use urlpattern_core::regexp::RegExp;
 use urlpattern_core::tokenizer::{TokenizePolicy, tokenize};
 use urlpattern_diagnosis::{
     Diagnosis, Fault, Place, Subject, component_start, fault_of, fault_of_expression,
-    fault_of_host, missing_colon, refused_expression, refused_row,
+    fault_of_host, refused_expression, refused_row,
 };
 use urlpattern_eight::{ComponentName, Eight};
 use urlpattern_init::{UrlPatternInit, protocol_of};
@@ -117,9 +117,9 @@ fn colon_fault(text: &str, protocol: &str, error: &Error) -> Option<Fault>
     }
 }
 
-/// Whether a text that is refused with this error has no protocol, or no colon after it.
+/// Whether a text that is refused with this error has no protocol, or no colon after it, or `;` in its place.
 fn lacks_colon(text: &str, error: &Error) -> bool {
-    matches!(error, Error::BaseUrlRequired) || missing_colon(text).is_some()
+    matches!(error, Error::BaseUrlRequired) || Fault::of_url(text) != Fault::whole(text)
 }
 
 /// What is wrong with an init, in a constructor string or else in its own values.

@@ -3,57 +3,28 @@
 use crate::wide::ascii_form;
 use urlpattern_faults::Fault;
 
-/// Whether the last bracket before a place is a `[`.
-pub(crate) fn has_bracket_before(part: &str, place: usize) -> bool {
-    let mut is_open = false;
-    for byte in part.as_bytes().iter().take(place) {
-        match byte {
-            b'[' => is_open = true,
-            b']' => is_open = false,
-            _ => {}
-        }
-    }
-    is_open
-}
-
-/// Whether a group that begins after a place is not closed.
-pub(crate) fn has_open_group(part: &str, place: usize) -> bool {
+/// Whether the first bracket of a kind from a place on is not closed.
+pub(crate) fn is_unclosed(part: &str, place: usize, open: u8, close: u8) -> bool {
     let mut depth = 0usize;
     let mut is_escaped = false;
     for byte in part.as_bytes().iter().skip(place) {
-        match byte {
-            _ if is_escaped => is_escaped = false,
-            b'\\' => is_escaped = true,
-            b'{' => depth = depth.saturating_add(1),
-            b'}' => depth = depth.saturating_sub(1),
-            _ => {}
+        if is_escaped {
+            is_escaped = false;
+        } else if *byte == b'\\' {
+            is_escaped = true;
+        } else if *byte == open {
+            depth = depth.saturating_add(1);
+        } else if *byte == close {
+            if depth == 1 {
+                return false;
+            }
+            depth = depth.saturating_sub(1);
         }
     }
     depth > 0
 }
 
-/// Whether the parenthesis at a place is closed.
-pub(crate) fn is_closed(part: &str, place: usize) -> bool {
-    let mut depth = 0usize;
-    let mut is_escaped = false;
-    for byte in part.as_bytes().iter().skip(place) {
-        match byte {
-            _ if is_escaped => is_escaped = false,
-            b'\\' => is_escaped = true,
-            b'(' => depth = depth.saturating_add(1),
-            b')' => {
-                depth = depth.saturating_sub(1);
-                if depth == 0 {
-                    return true;
-                }
-            }
-            _ => {}
-        }
-    }
-    false
-}
-
-/// Whether a place is in a class of the expression that begins before it.
+/// Whether a place is in square brackets that begin at another place or after it.
 pub(crate) fn is_in_class(part: &str, start: usize, place: usize) -> bool {
     let mut is_open = false;
     let mut is_escaped = false;
@@ -89,14 +60,32 @@ pub(crate) fn has_cut_class(part: &str, start: usize, end: usize) -> bool {
     false
 }
 
-/// The first full-width mark before a place.
+/// The first `]` or `}` from a place on that closes neither a class nor a count.
+pub(crate) fn stray_bracket(part: &str, place: usize) -> Option<char> {
+    let mut is_escaped = false;
+    let mut awaited = b' ';
+    for byte in part.as_bytes().iter().skip(place) {
+        match *byte {
+            _ if is_escaped => is_escaped = false,
+            b'\\' => is_escaped = true,
+            b'[' if awaited == b' ' => awaited = b']',
+            b'{' if awaited == b' ' => awaited = b'}',
+            byte if byte == awaited => awaited = b' ',
+            b']' | b'}' if awaited == b' ' => return Some(char::from(*byte)),
+            _ => {}
+        }
+    }
+    None
+}
+
+/// The mark whose full-width form is the first one before a place.
 pub(crate) fn wide_mark(part: &str, place: usize) -> Option<char> {
     for (index, c) in part.char_indices() {
         if index >= place {
             return None;
         }
         match ascii_form(c) {
-            Some('(' | ')' | '{' | '}' | ':' | '*' | '\\') => return Some(c),
+            Some(mark @ ('(' | ')' | '{' | '}' | ':' | '*' | '\\')) => return Some(mark),
             _ => {}
         }
     }
@@ -136,12 +125,11 @@ pub(crate) fn sign_at(part: &str, place: usize) -> Option<char> {
     }
 }
 
-/// Whether only letters, digits and `_` stand between the brace of a group and what is at fault in it.
+/// Whether only a word is between the brace of a group and what is at fault in it.
 pub(crate) fn is_after_word(part: &str, fault: Fault) -> bool {
     let Some(open) = fault.earlier else {
         return false;
     };
-    let end = fault.span.start;
-    let mut word = part.as_bytes().iter().take(end).skip(open.end);
-    open.end < end && word.all(|byte| byte.is_ascii_alphanumeric() || *byte == b'_')
+    let word = part.get(open.end..fault.span.start).unwrap_or("");
+    !word.is_empty() && !word.contains([':', '*', '(', ']', '}', '\\', '.', '/', '-', ' '])
 }

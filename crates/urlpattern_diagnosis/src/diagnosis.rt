@@ -5,7 +5,7 @@ ghost use Rattle.urlpattern_diagnosis.specs.declared.diagnosis.Subject.TheVarian
 ghost use Rattle.urlpattern_faults.specs.Faults.{IsFaultIn, IsUrlFault};
 ghost use Rattle.urlpattern_faults.specs.Places.{IsFaultMoved, IsPlaceOf};
 
-use crate::colon::path_colon_reason;
+use crate::colon::path_colon_sentence;
 use crate::hint::Hint;
 use crate::reason::{Faulty, reason_of};
 use std::alloc::{AllocError, Global};
@@ -57,7 +57,7 @@ pub struct Diagnosis {
     pub text: String,
     /// Which part of the text is at fault, in bytes.
     pub fault: Fault,
-    /// Why it is refused, and what to do.
+    /// Why it is refused, and what to do, in one line.
     pub reason: String,
 }
 
@@ -73,7 +73,7 @@ impl Subject {
 }
 
 impl Diagnosis {
-    /// A whole text is at fault, or the place where the colon after its scheme is missing.
+    /// A whole text is at fault, or the place where the colon after its scheme is missing, or what is there in its place.
     ///
     /// The error is that memory ran out.
     pub fn whole(
@@ -89,7 +89,8 @@ impl Diagnosis {
         ensures within { IfOk result (λ diagnosis. IsFaultIn text.now diagnosis.fault) }
     {
         let fault = Fault::of_url(text);
-        Self::of_fault(alloc, error, subject, text, fault, Hint::of_url(text))
+        let hint = Hint::of_url(text, fault);
+        Self::of_fault(alloc, error, subject, text, fault, hint)
     }
 
     /// A part of a text has a fault, or the whole text is at fault if it does not have the part.
@@ -134,7 +135,8 @@ impl Diagnosis {
         ensures text { IfOk result (λ diagnosis. string_bytes diagnosis.text ≡ text.now) }
         ensures fault { IfOk result (λ diagnosis. diagnosis.fault ≡ fault) }
     {
-        let reason = path_colon_reason(alloc, text, fault.span.start)?;
+        let mut reason = String::new(alloc);
+        path_colon_sentence(text, fault.span.start).append_to(&mut reason)?;
         Ok(Diagnosis {
             error,
             subject: Subject::Whole,

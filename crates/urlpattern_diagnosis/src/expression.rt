@@ -56,7 +56,7 @@ fn advice(kind: ErrorKind, expression: &str, place: usize, hint: Hint) -> &'stat
         ErrorKind::ClassRangeInvalid | ErrorKind::ClassRangeLiteral => {
             "; `-` in a class is between the ends of a range: write `\\-` for the character itself"
         }
-        ErrorKind::ClassUnclosed if hint == Hint::Brackets => {
+        ErrorKind::ClassUnclosed if matches!(hint, Hint::Brackets) => {
             "; `)` ends an expression also in a class: write `\\)` for the character itself"
         }
         ErrorKind::ClassUnclosed if expression.contains("&&[") => {
@@ -70,6 +70,7 @@ fn advice(kind: ErrorKind, expression: &str, place: usize, hint: Hint) -> &'stat
         ErrorKind::EscapeUnrecognized => {
             "; write the character without `\\` for the character itself"
         }
+        ErrorKind::UnsupportedLookAround => "; match more, and compare what the group captures",
         ErrorKind::FlagUnrecognized if refused == Some(&b'#') => "; comments are not supported",
         ErrorKind::FlagUnrecognized if refused == Some(&b'>') => {
             "; atomic groups are not supported: write `(?:` for `(?>`"

@@ -1,17 +1,18 @@
 //! What explains a fault besides the part at fault.
 
 use crate::around::{
-    has_bracket_before, has_cut_class, has_open_group, is_after_expression, is_after_modifier,
-    is_after_word, is_closed, is_in_class, sign_at, wide_mark,
+    has_cut_class, is_after_expression, is_after_modifier, is_after_word, is_in_class, is_unclosed,
+    sign_at, stray_bracket, wide_mark,
 };
 use crate::diagnosis::Subject;
+use crate::wide::ascii_form_of;
 use urlpattern_eight::ComponentName;
-use urlpattern_faults::{Fault, Place, Span, missing_colon};
+use urlpattern_faults::{Fault, Place, Span};
 use urlpattern_syntax::error::{Error, ParserError, RegexFault, TokenizerError};
 use urlpattern_syntax::tokenizer::TokenType;
 
 /// What explains a fault besides the part at fault.
-#[derive(Clone, Copy, PartialEq, Eq)]
+#[derive(Clone, Copy)]
 pub(crate) enum Hint {
     /// Nothing does.
     Nothing,
@@ -25,7 +26,7 @@ pub(crate) enum Hint {
     Flag,
     /// The fault is in square brackets: those of an IPv6 address, or of a class.
     Brackets,
-    /// The colon after a scheme is missing.
+    /// The colon after a scheme is missing, or `;` is in its place.
     Colon,
     /// A custom expression is not closed before the `(` at fault.
     Open,
@@ -37,15 +38,16 @@ pub(crate) enum Hint {
     NameBegins(char),
     /// This character, which no name has, follows a name.
     NameEnds(char),
-    /// A regular expression is not in parentheses, or follows a colon.
+    /// A regular expression is not in parentheses, or an expression follows a colon.
     Expression,
     /// The character at fault is repeated.
     Repeated,
     /// The modifier at fault follows another one.
     SecondModifier,
-    /// This mark before the modifier at fault is full-width.
+    /// The full-width form of this character is at fault, or before the modifier at fault.
     Wide(char),
-    /// Only a word is before the modifier at fault in its group, as in other templates.
+    /// A name is in brackets, as in other templates: only a word is before the modifier at fault in its group, or a bracket
+    /// follows a colon.
     Word,
     /// A group after what is at fault is not closed.
     OpenGroup,
@@ -54,11 +56,23 @@ pub(crate) enum Hint {
 }
 
 impl Hint {
-    /// What explains that a text is no URL.
-    pub(crate) fn of_url(text: &str) -> Self {
-        match missing_colon(text) {
-            Some(_) => Hint::Colon,
-            None => Hint::Nothing,
+    /// The character that a hint has.
+    pub(crate) fn sign(self) -> Option<char> {
+        match self {
+            Hint::ClosedBy(sign)
+            | Hint::NameBegins(sign)
+            | Hint::NameEnds(sign)
+            | Hint::Wide(sign) => Some(sign),
+            _ => None,
+        }
+    }
+
+    /// What explains that a text with this fault is no URL.
+    pub(crate) fn of_url(text: &str, fault: Fault) -> Self {
+        if fault == Fault::whole(text) {
+            Hint::Nothing
+        } else {
+            Hint::Colon
         }
     }
 
@@ -95,27 +109,39 @@ impl Hint {
     }
 }
 
-/// What explains that no name follows a colon, which is before this place. A port that begins with it is of an IPv6 address
-/// without its brackets.
+/// What explains that no name follows a colon, which is before this place.
 fn colon_hint(subject: Subject, part: &str, place: usize) -> Hint {
-    match (subject, part.as_bytes().get(place)) {
-        (Subject::Component(ComponentName::Port), _) if part.starts_with(':') => Hint::Brackets,
-        _ if has_bracket_before(part, place) => Hint::Brackets,
-        (Subject::Component(ComponentName::Hostname), _) if has_open_group(part, place) => {
+    match subject {
+        Subject::Component(ComponentName::Hostname) if is_in_class(part, 0, place) => {
+            Hint::Brackets
+        }
+        Subject::Component(ComponentName::Hostname) if is_unclosed(part, place, b'{', b'}') => {
             Hint::OpenGroup
         }
-        (_, Some(byte)) if is_none_of_names(*byte) => Hint::NameBegins(char::from(*byte)),
-        (_, Some(b'\\' | b'[')) => Hint::Expression,
-        _ => Hint::Nothing,
+        _ => next_hint(part.as_bytes().get(place)),
     }
 }
 
-/// Whether a character begins no name, and is not used in patterns.
-pub(crate) fn is_none_of_names(byte: u8) -> bool {
-    matches!(
-        byte,
-        b'0'..=b'9' | b'-' | b'^' | b'.' | b'~' | b'@' | b'&' | b'=' | b' ' | b'\'' | b'"'
-    )
+/// What explains that no name follows a colon, by what does.
+pub(crate) fn next_hint(next: Option<&u8>) -> Hint {
+    match next {
+        Some(b'\\' | b'[' | b'(') => Hint::Expression,
+        Some(b'{' | b'<') => Hint::Word,
+        Some(
+            byte @ (b'0'..=b'9'
+            | b'-'
+            | b'^'
+            | b'.'
+            | b'~'
+            | b'@'
+            | b'&'
+            | b'='
+            | b' '
+            | b'\''
+            | b'"'),
+        ) => Hint::NameBegins(char::from(*byte)),
+        _ => Hint::Nothing,
+    }
 }
 
 /// What explains that a group begins in another: its brace follows that of the first.
@@ -135,16 +161,17 @@ fn expression_hint(
     search: Option<usize>,
 ) -> Hint {
     match (reason, fault.earlier) {
-        (RegexFault::MissingClose, _) => match (close_hint(part, fault.span.end), search) {
-            (Hint::ClosedBy(bracket), _) => Hint::ClosedBy(bracket),
+        (RegexFault::MissingClose, _) => match (stray_bracket(part, fault.span.end), search) {
+            (Some(bracket), _) => Hint::ClosedBy(bracket),
             (_, Some(sign)) if fault.span.end == part.len() => question_hint(text, sign),
             (_, Some(_)) => Hint::Search,
-            (hint, None) => hint,
+            _ if part.contains("\\)") => Hint::Escaped,
+            _ => Hint::Nothing,
         },
         (RegexFault::NestedGroupCaptures | RegexFault::NestedGroupNotClosed, Some(open))
             if is_in_class(part, open.start, fault.span.start) => { Hint::Brackets }
         (RegexFault::NestedGroupCaptures | RegexFault::NestedGroupNotClosed, Some(open))
-            if !is_closed(part, open.start) => { Hint::Open }
+            if is_unclosed(part, open.start, b'(', b')') => { Hint::Open }
         (RegexFault::BadCharacter, None) => question_hint(part, fault.span.end.saturating_sub(1)),
         (RegexFault::BadCharacter | RegexFault::BadEscape, Some(_)) => letter_hint(part, fault),
         _ => Hint::Nothing,
@@ -163,37 +190,17 @@ fn question_hint(text: &str, place: usize) -> Hint {
     }
 }
 
-/// Where a character stands that is not ASCII: in a class, or before what repeats it.
+/// What a character is that is not ASCII: full-width, in a class, or before what repeats it.
 fn letter_hint(part: &str, fault: Fault) -> Hint {
+    let letter = part.get(fault.span.start..fault.span.end).unwrap_or("");
+    if let Some(sign) = ascii_form_of(letter) {
+        return Hint::Wide(sign);
+    }
     match part.as_bytes().get(fault.span.end) {
-        _ if has_bracket_before(part, fault.span.start) => Hint::Brackets,
+        _ if is_in_class(part, 0, fault.span.start) => Hint::Brackets,
         Some(b'*' | b'+' | b'?' | b'{') => Hint::Repeated,
         _ => Hint::Nothing,
     }
-}
-
-/// What is there from a place on for the `)` of a custom expression: another bracket, which closes neither a class nor a count,
-/// or a `)` that is escaped.
-fn close_hint(part: &str, place: usize) -> Hint {
-    let mut hint = Hint::Nothing;
-    let mut is_escaped = false;
-    let mut awaited = None;
-    for byte in part.as_bytes().iter().skip(place) {
-        match *byte {
-            b')' if is_escaped => {
-                is_escaped = false;
-                hint = Hint::Escaped;
-            }
-            _ if is_escaped => is_escaped = false,
-            b'\\' => is_escaped = true,
-            b'[' if awaited.is_none() => awaited = Some(b']'),
-            b'{' if awaited.is_none() => awaited = Some(b'}'),
-            _ if awaited == Some(*byte) => awaited = None,
-            b']' | b'}' if awaited.is_none() => return Hint::ClosedBy(char::from(*byte)),
-            _ => {}
-        }
-    }
-    hint
 }
 
 /// What explains that a name occurs twice.
@@ -241,14 +248,13 @@ fn modifier_hint(part: &str, fault: Fault, is_in_group: bool) -> Hint {
 
 /// What explains that no expression is before a modifier at a place.
 fn unread_hint(part: &str, place: usize) -> Hint {
-    match part.find('(') {
-        Some(open) if has_cut_class(part, open, place) => return Hint::Brackets,
-        _ => {}
+    if has_cut_class(part, part.find('(').unwrap_or(place), place) {
+        return Hint::Brackets;
     }
     match wide_mark(part, place) {
         Some(mark) => Hint::Wide(mark),
         None if is_after_expression(part, place) => Hint::Expression,
-        None if has_open_group(part, place) => Hint::OpenGroup,
+        None if is_unclosed(part, place, b'{', b'}') => Hint::OpenGroup,
         None => Hint::Nothing,
     }
 }

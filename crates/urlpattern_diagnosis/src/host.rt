@@ -3,9 +3,16 @@ ghost use Rattle.urlpattern_faults.specs.Faults.{IsFaultIn};
 ghost use Rattle.urlpattern_faults.specs.Spans.{IsSpanIn};
 
 use crate::wide::{ascii_form, ascii_form_of};
-use std::alloc::{AllocError, Global};
-use url::ParseError;
 use urlpattern_faults::{Fault, Span};
+
+/// The digits of a number in decimal.
+const DIGITS: [char; 10] = ['0', '1', '2', '3', '4', '5', '6', '7', '8', '9'];
+
+/// The characters that no domain has, but for controls.
+const FORBIDDEN: &str = " #/<>?@[]^|";
+
+/// The controls that are skipped as a URL is read.
+const SKIPPED: &str = "\t\n\r";
 
 /// The first character of a refused hostname that no domain has, or its first number that no IPv4 address has, or else all of it.
 ///
@@ -27,32 +34,33 @@ pub fn fault_of_host(text: &str, host: Span) -> Fault
     }
 }
 
-/// Why a part is no hostname, by the reason of `url`.
-pub(crate) fn host_reason(
-    alloc: Global,
-    reason: ParseError,
-    part: &str,
-) -> Result<String, AllocError> {
-    if part == " " {
-        String::from_str(alloc, "a hostname has no space")
-    } else if part == "\\\\" {
-        String::from_str(alloc, "a hostname has no `\\`")
-    } else if part == "^" {
-        String::from_str(
-            alloc,
-            "a hostname has no `^`: a pattern matches a whole hostname, without `^` and `$`",
-        )
-    } else if let Some(sign) = ascii_form_of(part) {
-        format!(in alloc; "`{part}` is full-width: write `{sign}`")
-    } else if is_one_forbidden(part) {
-        format!(in alloc; "a hostname has no `{part}`")
-    } else if ends_in_number(part) {
-        String::from_str(
-            alloc,
-            "a hostname that ends in a number is an IPv4 address: four numbers up to 255",
-        )
+/// What is said of a part that is no hostname, and of the reason of `url`.
+pub(crate) fn host_words(part: &str) -> &'static str {
+    match part {
+        " " => "a hostname has no space",
+        "\\\\" => "a hostname has no `\\`: write `/`",
+        "^" => "a hostname has no `^`: a pattern matches a whole hostname, without `^` and `$`",
+        "|" => "a hostname has no `|`: write `(a|b)` for one of two",
+        "<" => "a hostname has no `<`: a name is written `:host`",
+        _ if ascii_form_of(part).is_some() => "`@` is full-width: write `~`",
+        _ if is_one_forbidden(part) => "a hostname has no `@`",
+        _ if ends_in_number(part) => {
+            "a hostname that ends in a number is an IPv4 address: four numbers up to 255"
+        }
+        _ => "`@` is no hostname: #",
+    }
+}
+
+/// What is said of a part that is no port. One that begins with a dot may be meant as a hostname that begins with a name.
+pub(crate) fn port_words(part: &str) -> &'static str {
+    if is_number(part) {
+        "`@` is no port: a port is a number up to 65535"
+    } else if part.starts_with('.') {
+        "`@` is no port: a port has only the digits 0 to 9, and a name after `:` begins with a letter, `$` or `_`"
+    } else if part.starts_with('[') {
+        "`@` is no port: a port has only the digits 0 to 9, and a regular expression is within `(` and `)`"
     } else {
-        format!(in alloc; "`{part}` is no hostname: {reason}")
+        "`@` is no port: a port has only the digits 0 to 9"
     }
 }
 
@@ -81,17 +89,13 @@ fn forbidden(name: &str) -> Option<(usize, usize)> {
 
 /// Whether no domain has the character. A colon, which none has, is no text in a pattern, and tabs and line ends are skipped there.
 fn is_forbidden(c: char) -> bool {
-    c.is_ascii_control() && !matches!(c, '\t' | '\n' | '\r')
-        || matches!(
-            c,
-            ' ' | '#' | '/' | '<' | '>' | '?' | '@' | '[' | ']' | '^' | '|'
-        )
+    FORBIDDEN.contains(c) || c.is_ascii_control() && !SKIPPED.contains(c)
 }
 
 /// Whether a character is the full-width form of one that no domain has, as it is read.
 fn is_wide_forbidden(c: char) -> bool {
     match ascii_form(c) {
-        Some(sign) => matches!(sign, ':' | '%' | '\\') || is_forbidden(sign),
+        Some(sign) => ":%\\".contains(sign) || is_forbidden(sign),
         None => false,
     }
 }
@@ -107,37 +111,43 @@ fn is_one_forbidden(text: &str) -> bool {
 
 /// Whether two hexadecimal digits follow the byte at an index, so that a `%` there encodes a byte.
 fn has_digits_after(name: &str, index: usize) -> bool {
-    let digits = name.as_bytes().iter().skip(index.saturating_add(1)).take(2);
-    digits.filter(|byte| byte.is_ascii_hexdigit()).count() == 2
+    let bytes = name.as_bytes();
+    match (
+        bytes.get(index.saturating_add(1)),
+        bytes.get(index.saturating_add(2)),
+    ) {
+        (Some(first), Some(second)) => first.is_ascii_hexdigit() && second.is_ascii_hexdigit(),
+        _ => false,
+    }
 }
 
 /// Where the first number over 255 begins among the four of a hostname, and how long it is.
 fn large_number(name: &str) -> Option<(usize, usize)> {
-    let labels = name.split('.');
-    if name.split('.').count() != 4 || !name.split('.').all(is_number) {
-        return None;
-    }
+    let mut found = None;
+    let mut count = 0usize;
     let mut start = 0usize;
-    for label in labels {
-        if is_large(label) {
-            return Some((start, label.len()));
+    for label in name.split('.') {
+        if !is_number(label) {
+            return None;
+        }
+        if found.is_none() && is_large(label) {
+            found = Some((start, label.len()));
         }
         start = start.saturating_add(label.len()).saturating_add(1);
+        count = count.saturating_add(1);
     }
-    None
+    if count == 4 { found } else { None }
 }
 
 /// Whether a text is a number in decimal.
 pub(crate) fn is_number(label: &str) -> bool {
-    !label.is_empty() && label.bytes().all(|byte| byte.is_ascii_digit())
+    !label.is_empty() && label.trim_start_matches(DIGITS).is_empty()
 }
 
 /// Whether a number is larger than 255.
 fn is_large(label: &str) -> bool {
-    match label.parse::<u32>() {
-        Ok(number) => number > 255,
-        Err(_) => true,
-    }
+    let digits = label.trim_start_matches('0');
+    digits.len() > 3 || digits.len() == 3 && digits > "255"
 }
 
 /// Whether the last label of a hostname is a number, so that the hostname is an IPv4 address.

@@ -10,13 +10,12 @@ mod host;
 mod printing;
 mod reason;
 mod scheme;
+mod sentence;
 mod walk;
 mod wide;
 
 pub use diagnosis::{Diagnosis, Subject};
 pub use expression::fault_of_expression;
 pub use host::fault_of_host;
-pub use urlpattern_faults::{
-    Fault, Place, Span, fault_of, missing_colon, refused_expression, refused_row,
-};
+pub use urlpattern_faults::{Fault, Place, Span, fault_of, refused_expression, refused_row};
 pub use walk::component_start;

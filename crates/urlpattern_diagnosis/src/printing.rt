@@ -48,12 +48,12 @@ impl Diagnosis {
         let start = self.shown_from(marks);
         let mut end = start;
         let mut width = 0usize;
-        for (index, c) in text.char_indices().skip_while(|(index, _)| *index < start) {
+        for c in text.get(start..text.len()).unwrap_or("").chars() {
             width = width.saturating_add(width_of(c));
             if width > CUT_WIDTH {
                 break;
             }
-            end = index.saturating_add(c.len_utf8());
+            end = end.saturating_add(c.len_utf8());
         }
         Span { start, end }
     }
@@ -88,19 +88,22 @@ impl Diagnosis {
         }
     }
 
-    /// Writes a part of the text.
+    /// Writes what is shown of the text.
     fn write_text<W: fmt::Write>(&self, shown: Span, f: &mut fmt::Formatter<W>) -> fmt::Result {
         if shown.start > 0 {
             f.write_str(DOTS)?;
         }
-        for (index, c) in self.text.char_indices() {
-            if has(shown, index) {
-                let printed = if c.is_control() { ' ' } else { c };
-                write!(f, "{printed}")?;
-            }
-        }
+        self.write_part(shown, f)?;
         if shown.end < self.text.len() {
             f.write_str(DOTS)?;
+        }
+        Ok(())
+    }
+
+    /// Writes a part of the text, with spaces for tabs and line ends.
+    fn write_part<W: fmt::Write>(&self, part: Span, f: &mut fmt::Formatter<W>) -> fmt::Result {
+        for c in self.part(part).chars() {
+            f.write_char(if c.is_control() { ' ' } else { c })?;
         }
         Ok(())
     }
@@ -131,18 +134,19 @@ impl Diagnosis {
 
     /// Writes where a part is that is not printed.
     fn write_left_out<W: fmt::Write>(&self, part: Span, f: &mut fmt::Formatter<W>) -> fmt::Result {
-        let before = self
-            .text
-            .char_indices()
-            .take_while(|(index, _)| *index < part.start);
-        let number = before.count().saturating_add(1);
+        let front = Span {
+            start: 0,
+            end: part.start,
+        };
+        let number = self.part(front).chars().count().saturating_add(1);
         f.write_str(" and `")?;
-        for (index, c) in self.text.char_indices() {
-            if has(part, index) {
-                write!(f, "{c}")?;
-            }
-        }
+        self.write_part(part, f)?;
         write!(f, "` at character {number}")
+    }
+
+    /// A part of the text.
+    fn part(&self, span: Span) -> &str {
+        self.text.get(span.start..span.end).unwrap_or("")
     }
 
     /// What follows the last character that is marked.

@@ -1,12 +1,13 @@
 //! Why a pattern is refused, in words for its author.
 
-use crate::colon::colon_reason;
+use crate::colon::colon_sentence;
 use crate::diagnosis::Subject;
 use crate::expression::message;
 use crate::hint::Hint;
-use crate::host::{host_reason, is_number};
-use crate::scheme::{COLON_MISSING, base_reason, is_quoted, protocol_reason};
-use crate::wide::{ascii_form, ascii_form_of};
+use crate::host::{host_words, port_words};
+use crate::scheme::{base_sentence, is_quoted, missing_words, protocol_words};
+use crate::sentence::Sentence;
+use crate::wide::ascii_form_of;
 use percent_encoding::{CONTROLS, utf8_percent_encode};
 use std::alloc::{AllocError, Global};
 use url::ParseError;
@@ -27,6 +28,22 @@ pub(crate) struct Faulty<'a> {
     pub(crate) hint: Hint,
 }
 
+impl Faulty<'_> {
+    /// A sentence about the part at fault, another text, and the sign of the hint, or that of which the part is the full-width form.
+    pub(crate) fn sentence<'a>(&'a self, words: &'static str, other: &'a str) -> Sentence<'a> {
+        let sign = match self.hint.sign() {
+            Some(sign) => sign,
+            None => ascii_form_of(self.part).unwrap_or(' '),
+        };
+        Sentence {
+            words,
+            text: self.part,
+            other,
+            sign,
+        }
+    }
+}
+
 /// Why a pattern is refused with this error, and what to do.
 ///
 /// The error is that memory ran out.
@@ -35,104 +52,117 @@ pub(crate) fn reason_of(
     error: &Error,
     faulty: &Faulty<'_>,
 ) -> Result<String, AllocError> {
+    let mut reason = String::new(alloc);
+    append_reason(alloc, &mut reason, error, faulty)?;
+    Ok(reason)
+}
+
+/// Appends why a pattern is refused.
+fn append_reason(
+    alloc: Global,
+    out: &mut String,
+    error: &Error,
+    faulty: &Faulty<'_>,
+) -> Result<(), AllocError> {
     match error {
-        Error::BaseUrlRequired => base_reason(alloc, faulty),
-        Error::BaseUrlWithInit => String::from_str(
-            alloc,
-            "components have their own base URL: leave out the one beside them",
-        ),
-        Error::Tokenizer(fault, _) => {
-            let mut reason = token_reason(alloc, fault, faulty)?;
-            add_earlier(&mut reason, faulty.earlier)?;
-            Ok(reason)
+        _ if matches!(faulty.hint, Hint::Colon) => {
+            faulty
+                .sentence(missing_words(faulty.part), "")
+                .append_to(out)
         }
-        Error::Parser(ParserError::ExpectedToken(expected, found, value)) => {
-            stop_reason(alloc, *expected, *found, value, faulty.hint)
+        Error::BaseUrlRequired => base_sentence(faulty.part).append_to(out),
+        Error::BaseUrlWithInit => {
+            out.push_str("components have their own base URL: leave out the one beside them")
         }
-        Error::Parser(ParserError::DuplicateName(name)) => name_reason(alloc, name, faulty.hint),
-        Error::Url(reason) => url_reason(alloc, *reason, faulty),
-        Error::RegExp(()) => engine_reason(alloc, faulty),
-        Error::OutOfMemory => String::from_str(alloc, "out of memory"),
+        Error::Tokenizer(fault, _) => append_token_reason(alloc, out, fault, faulty),
+        Error::Parser(ParserError::ExpectedToken(expected, found, _)) => faulty
+            .sentence(stop_words(*expected, *found, faulty.hint), "")
+            .append_to(out),
+        Error::Parser(ParserError::DuplicateName(name)) => {
+            faulty
+                .sentence(name_words(faulty.hint), name)
+                .append_to(out)
+        }
+        Error::Url(reason) => append_url_reason(alloc, out, *reason, faulty),
+        Error::RegExp(()) => append_engine_reason(alloc, out, faulty),
+        Error::OutOfMemory => out.push_str("out of memory"),
     }
 }
 
-/// Adds that an earlier token is at fault too, other than the parenthesis of a custom expression.
-fn add_earlier(reason: &mut String, earlier: Option<&str>) -> Result<(), AllocError> {
-    match earlier {
-        Some(token) if token != "(" => {
-            reason.push_str("; `")?;
-            reason.push_str(token)?;
-            reason.push_str("` is at fault too")
+/// Appends why no token begins at a place.
+fn append_token_reason(
+    alloc: Global,
+    out: &mut String,
+    fault: &TokenizerError,
+    faulty: &Faulty<'_>,
+) -> Result<(), AllocError> {
+    match fault {
+        TokenizerError::IncompleteEscapeCode => {
+            out.push_str("`\\` at the end escapes nothing: write `\\\\` for the character itself")?
         }
+        TokenizerError::InvalidName => colon_sentence(faulty).append_to(out)?,
+        TokenizerError::InvalidRegex(_) if !faulty.part.is_ascii() => {
+            append_ascii_reason(alloc, out, faulty)?
+        }
+        TokenizerError::InvalidRegex(fault) => faulty
+            .sentence(expression_words(*fault, faulty.hint), "")
+            .append_to(out)?,
+    }
+    match faulty.earlier {
+        Some(token) if token != "(" => append_earlier(out, token),
         _ => Ok(()),
     }
 }
 
-/// Why no token begins at a place.
-fn token_reason(
-    alloc: Global,
-    fault: &TokenizerError,
-    faulty: &Faulty<'_>,
-) -> Result<String, AllocError> {
-    match (fault, faulty.hint) {
-        (TokenizerError::IncompleteEscapeCode, _) => String::from_str(
-            alloc,
-            "`\\` at the end escapes nothing: write `\\\\` for the character itself",
-        ),
-        (TokenizerError::InvalidName, _) => colon_reason(alloc, faulty),
-        (TokenizerError::InvalidRegex(_), Hint::ClosedBy(bracket)) => {
-            format!(in alloc;
-                "`(` is not closed: a custom expression ends with `)`, and here `{bracket}` is in its place"
-            )
-        }
-        (TokenizerError::InvalidRegex(RegexFault::BadCharacter | RegexFault::BadEscape), _)
-            if !faulty.part.is_ascii() => { ascii_reason(alloc, faulty) }
-        (TokenizerError::InvalidRegex(fault), hint) => {
-            String::from_str(alloc, expression_reason(*fault, hint))
-        }
-    }
+/// Appends that an earlier token is at fault too.
+fn append_earlier(out: &mut String, token: &str) -> Result<(), AllocError> {
+    out.push_str("; `")?;
+    out.push_str(token)?;
+    out.push_str("` is at fault too")
 }
 
-/// Why a custom expression does not have a character that is not ASCII, and how URLs have it.
-fn ascii_reason(alloc: Global, faulty: &Faulty<'_>) -> Result<String, AllocError> {
-    let part = faulty.part;
-    let bare = part.trim_start_matches('\\');
-    if let Some(sign) = ascii_form_of(bare) {
-        return format!(in alloc;
-            "a custom expression has only ASCII characters, and `{bare}` is full-width: write `{sign}`"
-        );
-    }
-    let encoded = utf8_percent_encode(bare, CONTROLS);
+/// Appends why a custom expression does not have a character that is not ASCII, and how URLs have it.
+fn append_ascii_reason(
+    alloc: Global,
+    out: &mut String,
+    faulty: &Faulty<'_>,
+) -> Result<(), AllocError> {
+    let bare = faulty.part.trim_start_matches('\\');
+    let mut encoded = String::new(alloc);
+    utf8_percent_encode(bare, CONTROLS).append_to(&mut encoded)?;
+    faulty
+        .sentence(ascii_words(faulty), &encoded)
+        .append_to(out)
+}
+
+/// What is said of a character of a custom expression that is not ASCII, and of its percent-encoding.
+fn ascii_words(faulty: &Faulty<'_>) -> &'static str {
     match (faulty.subject, faulty.hint) {
+        (_, Hint::Wide(_)) => {
+            "a custom expression has only ASCII characters, and `@` is full-width: write `~`"
+        }
         (Subject::Component(ComponentName::Hostname), _) => {
-            format!(in alloc;
-                "a custom expression has only ASCII characters, and `{part}` is none: URLs have such a label in Punycode, which begins with `xn--`"
-            )
+            "a custom expression has only ASCII characters, and `@` is none: URLs have such a label in Punycode, which begins with `xn--`"
         }
         (Subject::Component(ComponentName::Protocol | ComponentName::Port), _) => {
-            format!(in alloc; "a custom expression has only ASCII characters, and `{part}` is none")
+            "a custom expression has only ASCII characters, and `@` is none"
         }
         (_, Hint::Repeated) => {
-            format!(in alloc;
-                "a custom expression has only ASCII characters: write `(?:{encoded})` for the repeated `{part}`, as URLs have it"
-            )
+            "a custom expression has only ASCII characters: write `(?:#)` for the repeated `@`, as URLs have it"
         }
         (_, Hint::Brackets) => {
-            format!(in alloc;
-                "a custom expression has only ASCII characters: URLs have `{encoded}` for `{part}`, so write `(?:{encoded}|e)` for the class `[{part}e]`"
-            )
+            "a custom expression has only ASCII characters: URLs have `#` for `@`, so write `(?:#|e)` for the class `[@e]`"
         }
-        _ => {
-            format!(in alloc;
-                "a custom expression has only ASCII characters: write `{encoded}` for `{part}`, as URLs have it"
-            )
-        }
+        _ => "a custom expression has only ASCII characters: write `#` for `@`, as URLs have it",
     }
 }
 
-/// Why no custom expression begins at a parenthesis.
-fn expression_reason(fault: RegexFault, hint: Hint) -> &'static str {
+/// What is said of a parenthesis where no custom expression begins.
+fn expression_words(fault: RegexFault, hint: Hint) -> &'static str {
     match (fault, hint) {
+        (_, Hint::ClosedBy(_)) => {
+            "`(` is not closed: a custom expression ends with `)`, and here `~` is in its place"
+        }
         (_, Hint::LookAround) => {
             "a custom expression does not begin with `?`, and look-around is not supported: match more, and compare what the group captures"
         }
@@ -169,45 +199,29 @@ fn expression_reason(fault: RegexFault, hint: Hint) -> &'static str {
     }
 }
 
-/// Why a name may not occur again.
-fn name_reason(alloc: Global, name: &str, hint: Hint) -> Result<String, AllocError> {
+/// What is said of a name that may not occur again.
+fn name_words(hint: Hint) -> &'static str {
     match hint {
-        Hint::NameEnds(sign) => {
-            format!(in alloc;
-                "the name `{name}` occurs twice: first here, and here; a name ends before `{sign}`: write `_` in its place, or rename one of them"
-            )
+        Hint::NameEnds(_) => {
+            "the name `#` occurs twice: first here, and here; a name ends before `~`: write `_` in its place, or rename one of them"
         }
-        _ => {
-            format!(in alloc;
-                "the name `{name}` occurs twice: first here, and here; rename one of them"
-            )
-        }
+        _ => "the name `#` occurs twice: first here, and here; rename one of them",
     }
 }
 
-/// Why a token is not expected where it stands.
-fn stop_reason(
-    alloc: Global,
-    expected: TokenType,
-    found: TokenType,
-    value: &str,
-    hint: Hint,
-) -> Result<String, AllocError> {
-    match (expected, found) {
-        (_, TokenType::OtherModifier) => {
-            modifier_reason(alloc, value, expected == TokenType::Close, hint)
-        }
-        (TokenType::Close, _) => String::from_str(alloc, group_reason(found, hint)),
-        (_, TokenType::Close) => String::from_str(
-            alloc,
-            "`}` closes no group: write `\\}` for the character itself",
-        ),
-        _ => format!(in alloc; "`{value}` is not expected here"),
+/// What is said of a token that is not expected where it stands.
+fn stop_words(expected: TokenType, found: TokenType, hint: Hint) -> &'static str {
+    let is_in_group = matches!(expected, TokenType::Close);
+    match found {
+        TokenType::OtherModifier => modifier_words(is_in_group, hint),
+        _ if is_in_group => group_words(found, hint),
+        TokenType::Close => "`}` closes no group: write `\\}` for the character itself",
+        _ => "`@` is not expected here",
     }
 }
 
-/// Why a token does not stand in a group.
-fn group_reason(found: TokenType, hint: Hint) -> &'static str {
+/// What is said of a token that does not stand in a group.
+fn group_words(found: TokenType, hint: Hint) -> &'static str {
     match (found, hint) {
         (TokenType::End, Hint::Search) => {
             "`{` is not closed: a group ends with `}`, or write `\\{` for the character itself; the `?` after it begins the search"
@@ -221,135 +235,103 @@ fn group_reason(found: TokenType, hint: Hint) -> &'static str {
         (TokenType::Open, _) => {
             "groups do not nest: close the first one before this `{`, or write `\\{` for the character itself"
         }
-        _ => "a group has one name, expression or `*` at most: this is its second",
+        _ => {
+            "a group has one name, expression or `*` at most: this is its second, so end the group before it"
+        }
     }
 }
 
-/// Why a modifier does not stand where it does, maybe in a group.
-fn modifier_reason(
-    alloc: Global,
-    value: &str,
-    is_in_group: bool,
-    hint: Hint,
-) -> Result<String, AllocError> {
+/// What is said of a modifier that does not stand where it does, maybe in a group.
+fn modifier_words(is_in_group: bool, hint: Hint) -> &'static str {
     match hint {
         Hint::Word => {
-            format!(in alloc;
-                "`{value}` is within a group: a modifier follows the `}}`, and a name is written `:id{value}`; write `\\{value}` for the character itself"
-            )
+            "`@` is within a group: a modifier follows the `}`, and a name is written `:id@`; write `\\@` for the character itself"
         }
         Hint::Nothing if is_in_group => {
-            format!(in alloc;
-                "`{value}` is within a group: a modifier follows the `}}`, or write `\\{value}` for the character itself"
-            )
+            "`@` is within a group: a modifier follows the `}`, or write `\\@` for the character itself"
         }
         Hint::SecondModifier => {
-            format!(in alloc;
-                "`{value}` is a second modifier: a name, an expression, `*` or a group has only one; write `\\{value}` for the character itself"
-            )
+            "`@` is a second modifier: a name, an expression, `*` or a group has only one; write `\\@` for the character itself"
         }
         Hint::Expression => {
-            format!(in alloc;
-                "`{value}` repeats a regular expression only within `(` and `)`: write it as in `(\\d+)`, or `\\{value}` for the character itself"
-            )
+            "`@` repeats a regular expression only within `(` and `)`: write it as in `(\\d+)`, or `\\@` for the character itself"
         }
-        _ => unrepeated_reason(alloc, value, hint),
-    }
-}
-
-/// Why a modifier follows nothing that it could repeat.
-fn unrepeated_reason(alloc: Global, value: &str, hint: Hint) -> Result<String, AllocError> {
-    match hint {
-        Hint::NameEnds(sign) => {
-            format!(in alloc;
-                "`{value}` follows nothing that it could repeat: a name ends before `{sign}`; write `_` in its place, or `\\{value}` for the character itself"
-            )
+        Hint::NameEnds(_) => {
+            "`@` follows nothing that it could repeat: a name ends before `~`; write `_` in its place, or `\\@` for the character itself"
         }
         Hint::Brackets => {
-            format!(in alloc;
-                "`{value}` follows nothing that it could repeat; `)` ends an expression also in a class: write `\\)` for the character itself"
-            )
+            "`@` follows nothing that it could repeat; `)` ends an expression also in a class: write `\\)` for the character itself"
         }
-        Hint::Wide(mark) => {
-            let sign = ascii_form(mark).unwrap_or(mark);
-            format!(in alloc;
-                "`{value}` follows nothing that it could repeat; `{mark}` before it is full-width: write `{sign}`"
-            )
+        Hint::Wide(_) => {
+            "`@` follows nothing that it could repeat: the `~` before it is full-width; write it in ASCII"
         }
         Hint::OpenGroup => {
-            format!(in alloc;
-                "`{value}` follows nothing that it could repeat: write `\\{value}` for the character itself; the `{{` after it is not closed"
-            )
+            "`@` follows nothing that it could repeat: write `\\@` for the character itself; the `{` after it is not closed"
         }
-        Hint::Scheme => String::from_str(
-            alloc,
-            "`?` follows nothing that it could repeat: write `http{s}?` for both protocols",
-        ),
+        Hint::Scheme => {
+            "`?` follows nothing that it could repeat: write `http{s}?` for both protocols"
+        }
         _ => {
-            format!(in alloc;
-                "`{value}` follows nothing that it could repeat: it is a modifier after a name, an expression, `*` or `}}`; write `\\{value}` for the character itself"
-            )
+            "`@` follows nothing that it could repeat: it is a modifier after a name, an expression, `*` or `}`; write `\\@` for the character itself"
         }
     }
 }
 
-/// Why a part is no such component or no URL, by the reason of `url`.
-fn url_reason(
+/// Appends why a part is no such component or no URL, by the reason of `url`.
+fn append_url_reason(
     alloc: Global,
+    out: &mut String,
     reason: ParseError,
     faulty: &Faulty<'_>,
-) -> Result<String, AllocError> {
+) -> Result<(), AllocError> {
+    let detail = reason.to_string(alloc)?;
+    faulty
+        .sentence(url_words(reason, faulty), &detail)
+        .append_to(out)
+}
+
+/// What is said of a part that is no such component or no URL, and of the reason of `url`.
+fn url_words(reason: ParseError, faulty: &Faulty<'_>) -> &'static str {
     let part = faulty.part;
-    let what = faulty.subject.name();
     match (faulty.subject, reason) {
-        (Subject::Component(ComponentName::Port), ParseError::InvalidPort) => {
-            port_reason(alloc, part)
+        (Subject::Component(ComponentName::Port), _) => port_words(part),
+        (Subject::Component(ComponentName::Protocol), _) => protocol_words(part),
+        (Subject::Component(ComponentName::Hostname), _) => host_words(part),
+        (Subject::Base, ParseError::InvalidPort) => {
+            "`@` is no base URL: a port is a number up to 65535"
         }
-        (_, ParseError::InvalidPort) => {
-            format!(in alloc; "`{part}` is no {what}: a port is a number up to 65535")
+        (Subject::Base, _) if part.is_empty() => {
+            "the base URL is empty: give one that begins with `https://`, or none"
         }
-        (Subject::Component(ComponentName::Protocol), _) => protocol_reason(alloc, part),
-        (Subject::Component(ComponentName::Hostname), _) => host_reason(alloc, reason, part),
-        (_, ParseError::RelativeUrlWithoutBase) if faulty.hint == Hint::Colon => {
-            String::from_str(alloc, COLON_MISSING)
+        (Subject::Base, ParseError::RelativeUrlWithoutBase) if is_quoted(part) => {
+            "`@` is no base URL: it is written without quotes around it"
         }
-        (Subject::Base, _) if part.is_empty() => String::from_str(
-            alloc,
-            "the base URL is empty: give one that begins with `https://`, or none",
-        ),
-        (_, ParseError::RelativeUrlWithoutBase) if is_quoted(part) => {
-            format!(in alloc; "`{part}` is no {what}: it is written without quotes around it")
+        (Subject::Base, ParseError::RelativeUrlWithoutBase) => {
+            "`@` is no base URL: begin it with a protocol, as `https://`"
         }
-        (_, ParseError::RelativeUrlWithoutBase) => {
-            format!(in alloc; "`{part}` is no {what}: begin it with a protocol, as `https://`")
+        (Subject::Base, ParseError::IdnaError) if part.contains(' ') => {
+            "`@` is no base URL: a hostname has no space"
         }
-        _ => format!(in alloc; "`{part}` is no {what}: {reason}"),
+        (Subject::Base, _) => "`@` is no base URL: #",
+        _ => "`@` is refused: #",
     }
 }
 
-/// Why a part is no port. One that begins with a dot may be meant as a hostname that begins with a name.
-fn port_reason(alloc: Global, part: &str) -> Result<String, AllocError> {
-    let why = if is_number(part) {
-        "a port is a number up to 65535"
-    } else if part.starts_with('.') {
-        "a port has only the digits 0 to 9, and a name after `:` begins with a letter, `$` or `_`"
-    } else {
-        "a port has only the digits 0 to 9"
-    };
-    format!(in alloc; "`{part}` is no port: {why}")
-}
-
-/// Why an engine refuses an expression, in the words of the crate `regex`.
-fn engine_reason(alloc: Global, faulty: &Faulty<'_>) -> Result<String, AllocError> {
+/// Appends why an engine refuses an expression, in the words of the crate `regex`.
+fn append_engine_reason(
+    alloc: Global,
+    out: &mut String,
+    faulty: &Faulty<'_>,
+) -> Result<(), AllocError> {
     let expression = faulty.earlier.unwrap_or(faulty.part);
-    match message(alloc, expression, faulty.hint)? {
-        Some((message, advice)) => {
-            format!(in alloc; "the engine refuses the expression `{expression}`: {message}{advice}")
-        }
-        None => {
-            format!(in alloc;
-                "the engine refuses the expression `{expression}`, which may be too large"
-            )
-        }
-    }
+    let found = message(alloc, expression, faulty.hint)?;
+    let (message, advice) = found.unwrap_or(("it may be too large", ""));
+    let sentence = Sentence {
+        words: "the engine refuses the expression `@`: #",
+        text: expression,
+        other: message,
+        sign: ' ',
+    };
+    sentence.append_to(out)?;
+    out.push_str(advice)
 }

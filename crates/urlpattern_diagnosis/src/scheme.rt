@@ -1,41 +1,45 @@
 //! Why a text has no protocol, in words.
 
-use crate::hint::Hint;
 use crate::host::is_number;
-use crate::reason::Faulty;
-use std::alloc::{AllocError, Global};
+use crate::sentence::Sentence;
 
-/// What is said of a scheme without its colon.
-pub(crate) const COLON_MISSING: &str =
-    "`:` is missing before `//`: a protocol ends with it, as in `https://`";
+/// What is said of a scheme without its colon, by what is in its place.
+pub(crate) fn missing_words(sign: &str) -> &'static str {
+    if sign.is_empty() {
+        "`:` is missing before `//`: a protocol ends with it, as in `https://`"
+    } else {
+        "`:` is missing before `//`: `@` is in its place"
+    }
+}
 
-/// Why a pattern needs a base URL, and what to write: a pattern begins with no `^`, as a regular expression may.
-///
-/// The error is that memory ran out.
-pub(crate) fn base_reason(alloc: Global, faulty: &Faulty<'_>) -> Result<String, AllocError> {
-    let part = faulty.part;
-    if faulty.hint == Hint::Colon {
-        return String::from_str(alloc, COLON_MISSING);
-    }
-    if let Some(reason) = misread_reason(part) {
-        return String::from_str(alloc, reason);
-    }
-    if part.contains(['\t', '\n', '\r']) {
-        return String::from_str(
-            alloc,
-            "a pattern without a protocol needs a base URL: begin it with `https://`, or give a base",
-        );
+/// Why a pattern needs a base URL, and what to write: a pattern has neither the `^` nor the `$` that a regular expression may have.
+pub(crate) fn base_sentence(part: &str) -> Sentence<'_> {
+    if let Some(words) = misread_words(part) {
+        return Sentence {
+            words,
+            text: part,
+            other: "",
+            sign: ' ',
+        };
     }
     if let Some(scheme) = scheme_before_name(part) {
-        return format!(in alloc;
-            "a pattern without a protocol needs a base URL: `:` begins a name here, so write `{scheme}\\:` for a protocol, or give a base"
-        );
+        return Sentence {
+            words: "a pattern without a protocol needs a base URL: `:` begins a name here, so write `@\\:` for a protocol, or give a base",
+            text: scheme,
+            other: "",
+            sign: ':',
+        };
     }
-    let relative = part.trim_start_matches('^');
-    let front = front_of_url(relative);
-    format!(in alloc;
-        "a pattern without a protocol needs a base URL: write `{front}{relative}`, or give a base"
-    )
+    let relative = match part.strip_prefix('^') {
+        Some(rest) => rest.trim_end_matches('$'),
+        None => part.trim_start_matches(' '),
+    };
+    Sentence {
+        words: "a pattern without a protocol needs a base URL: write `#@`, or give a base",
+        text: relative,
+        other: front_of_url(relative),
+        sign: ' ',
+    }
 }
 
 /// What a URL has before a text that is relative to it: also a hostname, unless the text may begin with one, as it has a dot there.
@@ -49,51 +53,71 @@ fn front_of_url(text: &str) -> &'static str {
     if text.starts_with("localhost") {
         return "https://";
     }
-    for (index, byte) in text.as_bytes().iter().enumerate() {
-        match byte {
-            b'.' if index > 0 => return "https://",
-            b'.' | b'/' | b'?' | b'#' => return "https://HOST/",
-            _ => {}
-        }
+    match text.find(['.', '/', '?', '#']) {
+        Some(place) if place > 0 && text.as_bytes().get(place) == Some(&b'.') => "https://",
+        _ => "https://HOST/",
     }
-    "https://HOST/"
 }
 
-/// Why no protocol is found in a text that may be meant to have one. `None`: nothing tells.
-fn misread_reason(text: &str) -> Option<&'static str> {
+/// What is said of a text without a protocol that may be meant to have one, or is no URL at all. `None`: nothing tells.
+fn misread_words(text: &str) -> Option<&'static str> {
     if is_quoted(text) {
         Some(
             "a pattern is written without quotes around it, and without a protocol it needs a base URL",
         )
+    } else if text == "<all_urls>" {
+        Some("a pattern of all URLs is written `*://*:*/*`")
+    } else if text.starts_with('{') && text.contains(['"', '\'']) {
+        Some("a pattern is written as a URL, as in `https://HOST/users/:id`, and not as an object")
     } else if text.contains("：//") {
         Some("no protocol is before `：//`, since `：` is full-width: write `:`")
     } else if text.contains("://") {
         Some(
             "`://` ends no protocol within `{` or `(`: write the protocol outside of them, or close them before it",
         )
+    } else if has_method(text) {
+        Some("a pattern is written without a method, and without a protocol it needs a base URL")
+    } else if text.starts_with("\\\\") {
+        Some(
+            "a pattern has `/` where a path of Windows has `\\`, and without a protocol it needs a base URL",
+        )
+    } else if text.contains(['\t', '\n', '\r']) {
+        Some(
+            "a pattern without a protocol needs a base URL: begin it with `https://`, or give a base",
+        )
     } else {
         None
     }
 }
 
+/// Whether a text begins with a method of HTTP.
+fn has_method(text: &str) -> bool {
+    match text.split_once(' ') {
+        Some((word, _)) => matches!(
+            word,
+            "GET" | "HEAD" | "POST" | "PUT" | "PATCH" | "DELETE" | "OPTIONS"
+        ),
+        None => false,
+    }
+}
+
 /// The letters before the first colon of a text, where a name begins, unless they are a hostname.
 fn scheme_before_name(text: &str) -> Option<&str> {
-    match text.split_once(':') {
-        Some(("localhost", _)) => None,
-        Some((scheme, _))
-            if !scheme.is_empty() && scheme.bytes().all(|b| b.is_ascii_alphabetic()) => {
-            Some(scheme)
-        }
-        _ => None,
+    let (scheme, _) = text.split_once(':')?;
+    if scheme.is_empty() || scheme == "localhost" {
+        return None;
     }
+    for byte in scheme.as_bytes() {
+        if !byte.is_ascii_alphabetic() {
+            return None;
+        }
+    }
+    Some(scheme)
 }
 
 /// Whether a text begins with a quote.
 pub(crate) fn is_quoted(text: &str) -> bool {
-    matches!(
-        text.chars().next(),
-        Some('"' | '\'' | '`' | '“' | '‘' | '«')
-    )
+    text.starts_with(['"', '\'', '`', '“', '‘', '«'])
 }
 
 /// Whether a text begins as an IPv4 address does.
@@ -104,21 +128,21 @@ fn is_of_numbers(text: &str) -> bool {
     }
 }
 
-/// Why a text is no protocol, and what to write.
-///
-/// The error is that memory ran out.
-pub(crate) fn protocol_reason(alloc: Global, part: &str) -> Result<String, AllocError> {
+/// What is said of a text that is no protocol.
+pub(crate) fn protocol_words(part: &str) -> &'static str {
     if part.starts_with('^') {
-        format!(in alloc; "`{part}` is no protocol: a pattern matches a whole URL, without `^`")
-    } else if part == "http[s]" {
-        format!(in alloc; "`{part}` is no protocol: write `http{{s}}?` for both")
+        "`@` is no protocol: a pattern matches a whole URL, without `^`"
     } else if is_quoted(part) {
-        format!(in alloc; "`{part}` is no protocol: a pattern is written without quotes around it")
-    } else if is_of_numbers(part) {
-        format!(in alloc; "`{part}` is no protocol: write `https://{part}` for a hostname")
+        "`@` is no protocol: a pattern is written without quotes around it"
+    } else if has_method(part) {
+        "`@` is no protocol: a pattern is written without a method"
+    } else if part.contains(' ') {
+        "`@` is no protocol: a protocol has no space"
+    } else if part.contains("http") && part.contains([',', '|', '[']) {
+        "`@` is no protocol: write `http{s}?` for both"
+    } else if is_of_numbers(part) || part.starts_with('[') {
+        "`@` is no protocol: write `https://@` for a hostname"
     } else {
-        format!(in alloc;
-            "`{part}` is no protocol: it begins with a letter, and has letters, digits, `+`, `-` and `.`"
-        )
+        "`@` is no protocol: it begins with a letter, and has letters, digits, `+`, `-` and `.`"
     }
 }

@@ -8,9 +8,9 @@ pub(crate) fn ascii_form(c: char) -> Option<char> {
     }
 }
 
-/// The ASCII character that a text is the full-width form of.
+/// The ASCII character that a text is the full-width form of, after a backslash or without one.
 pub(crate) fn ascii_form_of(text: &str) -> Option<char> {
-    let mut characters = text.chars();
+    let mut characters = text.trim_start_matches('\\').chars();
     match (characters.next(), characters.next()) {
         (Some(c), None) => ascii_form(c),
         _ => None,

@@ -65,10 +65,24 @@ missing_colon bytes =
     else if begins bytes (codes "ws//") then Some 2
     else None
 
--- the place where the colon after a scheme is missing is at fault, or else the whole text
+-- how long the special scheme at the front of a text is, if a `;` and two slashes follow it: the place of the `;`
+abbrev pub mistyped_colon : (bytes : List ℕ) → Option ℕ
+mistyped_colon bytes =
+    if begins bytes (codes "https;//") then Some 5
+    else if begins bytes (codes "http;//") || begins bytes (codes "file;//") then Some 4
+    else if begins bytes (codes "wss;//") || begins bytes (codes "ftp;//") then Some 3
+    else if begins bytes (codes "ws;//") then Some 2
+    else None
+
+-- the `;` in the place of the colon after a scheme is at fault, or else the whole text
+abbrev pub IsSignFault : (bytes : List ℕ) → Fault → Type 0
+IsSignFault bytes fault =
+    MatchOption (mistyped_colon bytes) (IsWholeFault bytes fault) (λ place. IsAlone (IsSpanAt bytes place 1) fault)
+
+-- the place where the colon after a scheme is missing is at fault, or what is in its place, or else the whole text
 abbrev pub IsUrlFault : (bytes : List ℕ) → Fault → Type 0
 IsUrlFault bytes fault =
-    MatchOption (missing_colon bytes) (IsWholeFault bytes fault) (λ place. IsAlone (IsSpanAt bytes place 0) fault)
+    MatchOption (missing_colon bytes) (IsSignFault bytes fault) (λ place. IsAlone (IsSpanAt bytes place 0) fault)
 
 -- a character of a path, a search or a hash that no protocol has
 abbrev pub is_path_sign : ℕ → Bool

@@ -2,7 +2,7 @@
 ghost use Rattle.std.specs.Prelude.{◌≡◌, ℕ, false, IfNone, IfOk, IfSome, None, filter, map};
 ghost use Rattle.std.specs.List.{list_any};
 ghost use Rattle.std.specs.Str.{chars};
-ghost use Rattle.urlpattern_faults.specs.Faults.{IsColonFault, IsFaultIn, IsFaultOf, IsParserFault, IsSecondFault, IsSpanOfToken, IsStopFault, IsUrlFault, IsWholeFault, gives_name, is_path_sign, marks_len, missing_colon};
+ghost use Rattle.urlpattern_faults.specs.Faults.{IsColonFault, IsFaultIn, IsFaultOf, IsParserFault, IsSecondFault, IsSignFault, IsSpanOfToken, IsStopFault, IsUrlFault, IsWholeFault, gives_name, is_path_sign, marks_len, missing_colon, mistyped_colon};
 ghost use Rattle.urlpattern_faults.specs.Spans.{IsSpanIn};
 ghost use Rattle.urlpattern_syntax.specs.Tokens.{AreTokens, token_view};
 
@@ -50,13 +50,25 @@ impl Fault {
 }
 
 impl Fault {
-    /// The place in a text where the colon after a special scheme is missing, or else the whole text, which is no URL.
+    /// The place in a text where the colon after a special scheme is missing, or the `;` there, or else the whole text, which is
+    /// no URL.
     pub fn of_url(text: &str) -> Self
         ensures fault { IsUrlFault text.now result }
         ensures within { IsFaultIn text.now result }
     {
         match missing_colon(text) {
             Some(place) => Fault::of_span(Span::at(text, place, 0)),
+            None => Fault::of_sign(text),
+        }
+    }
+
+    /// The `;` in a text for the colon after a special scheme, or else the whole text.
+    fn of_sign(text: &str) -> Self
+        ensures fault { IsSignFault text.now result }
+        ensures within { IsFaultIn text.now result }
+    {
+        match mistyped_colon(text) {
+            Some(place) => Fault::of_span(Span::at(text, place, 1)),
             None => Fault::whole(text),
         }
     }
@@ -93,7 +105,7 @@ fn is_path_sign(byte: u8) -> bool
 
 /// How long the special scheme at the front of a text is, or the pattern `http{s}?` of two, if two slashes follow it, and so its
 /// colon is missing.
-pub fn missing_colon(text: &str) -> Option<usize>
+fn missing_colon(text: &str) -> Option<usize>
     ensures { result ≡ missing_colon text.now }
 {
     let bytes = text.as_bytes();
@@ -106,6 +118,24 @@ pub fn missing_colon(text: &str) -> Option<usize>
     } else if bytes.starts_with(b"wss//") || bytes.starts_with(b"ftp//") {
         Some(3)
     } else if bytes.starts_with(b"ws//") {
+        Some(2)
+    } else {
+        None
+    }
+}
+
+/// How long the special scheme at the front of a text is, if `;` and two slashes follow it, and so its colon is mistyped.
+fn mistyped_colon(text: &str) -> Option<usize>
+    ensures { result ≡ mistyped_colon text.now }
+{
+    let bytes = text.as_bytes();
+    if bytes.starts_with(b"https;//") {
+        Some(5)
+    } else if bytes.starts_with(b"http;//") || bytes.starts_with(b"file;//") {
+        Some(4)
+    } else if bytes.starts_with(b"wss;//") || bytes.starts_with(b"ftp;//") {
+        Some(3)
+    } else if bytes.starts_with(b"ws;//") {
         Some(2)
     } else {
         None

@@ -7,7 +7,7 @@ mod place;
 mod span;
 mod token;
 
-pub use fault::{Fault, fault_of, missing_colon};
+pub use fault::{Fault, fault_of};
 pub use parts::{refused_expression, refused_row};
 pub use place::Place;
 pub use span::Span;

@@ -1,0 +1,41 @@
+//! Sentences about the texts of a pattern.
+
+use std::alloc::AllocError;
+
+/// A sentence about two texts and a sign, or fewer of them.
+#[derive(Clone, Copy)]
+pub(crate) struct Sentence<'a> {
+    /// Its words, with `@` for the first text, `#` for the second and `~` for the sign.
+    pub(crate) words: &'static str,
+    /// The first text.
+    pub(crate) text: &'a str,
+    /// The second text.
+    pub(crate) other: &'a str,
+    /// The sign.
+    pub(crate) sign: char,
+}
+
+impl Sentence<'_> {
+    /// Appends the sentence.
+    ///
+    /// The error is that memory ran out.
+    pub(crate) fn append_to(&self, out: &mut String) -> Result<(), AllocError> {
+        for c in self.words.chars() {
+            match c {
+                '@' => append_line(out, self.text)?,
+                '#' => append_line(out, self.other)?,
+                '~' => out.push(self.sign)?,
+                _ => out.push(c)?,
+            }
+        }
+        Ok(())
+    }
+}
+
+/// Appends a text as a part of a line: tabs and line ends are spaces there.
+fn append_line(out: &mut String, text: &str) -> Result<(), AllocError> {
+    for c in text.chars() {
+        out.push(if c.is_control() { ' ' } else { c })?;
+    }
+    Ok(())
+}
