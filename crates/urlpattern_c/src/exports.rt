@@ -3,12 +3,14 @@ ghost use Rattle.std.specs.Prelude.{◌≡◌, None};
 ghost use Rattle.urlpattern_c.specs.Handles.{patterns_in};
 ghost use Rattle.urlpattern_calls.specs.Calls.{IsAdded, IsFirstReported, IsTested, ReturnsStatus};
 ghost use Rattle.urlpattern_calls.specs.Mismatches.{IsCustomReported, IsMismatchReported};
-ghost use Rattle.urlpattern_calls.specs.Texts.{IsComponentWritten, IsDiagnosed, IsExecReported};
+ghost use Rattle.urlpattern_calls.specs.Spans.{AreCapturesReported};
+ghost use Rattle.urlpattern_calls.specs.Texts.{IsComponentWritten, IsDiagnosed, IsExecReported, IsGroupNameWritten};
 
 use crate::patterns::Patterns;
 use std::alloc::Global;
 use urlpattern_calls::{
-    Place, add, diagnose, execute, first, has_regexp_groups, mismatch, test, write_component,
+    Place, Sizes, Span, add, captures, diagnose, execute, first, has_regexp_groups, mismatch, test,
+    version, write_component, write_group_name,
 };
 
 /// Compiles a constructor string, with a base URL unless that is empty, and appends the pattern.
@@ -111,6 +113,48 @@ pub extern "C" fn urlpattern_exec(
     status.number()
 }
 
+/// Writes what the groups of a pattern capture of a URL, and a span for each group.
+#[unsafe(no_mangle)]
+pub extern "C" fn urlpattern_captures(
+    alloc: Global,
+    patterns: &mut Patterns,
+    index: usize,
+    url: &[u8],
+    base: &[u8],
+    buffer: &mut [u8],
+    spans: &mut [Span],
+    needed: &mut Sizes,
+) -> u32
+    ensures answer { ReturnsStatus
+        (AreCapturesReported (patterns_in patterns.old) index url.now base.now buffer.old buffer.new spans.old spans.new needed.new) result }
+    ensures unchanged { patterns_in patterns.new ≡ patterns_in patterns.old }
+{
+    let kept = patterns.take(alloc);
+    let status = captures(alloc, &kept, index, url, base, buffer, spans, needed);
+    patterns.put(kept);
+    status.number()
+}
+
+/// Writes the name of a group, by its number in a component.
+#[unsafe(no_mangle)]
+pub extern "C" fn urlpattern_group_name(
+    alloc: Global,
+    patterns: &mut Patterns,
+    index: usize,
+    component: u32,
+    group: usize,
+    buffer: &mut [u8],
+    needed: &mut usize,
+) -> u32
+    ensures answer { ReturnsStatus (IsGroupNameWritten (patterns_in patterns.old) index component group buffer.old buffer.new needed.new) result }
+    ensures unchanged { patterns_in patterns.new ≡ patterns_in patterns.old }
+{
+    let kept = patterns.take(alloc);
+    let status = write_group_name(&kept, index, component, group, buffer, needed);
+    patterns.put(kept);
+    status.number()
+}
+
 /// Writes the pattern text of a component.
 #[unsafe(no_mangle)]
 pub extern "C" fn urlpattern_component(
@@ -160,4 +204,12 @@ pub extern "C" fn urlpattern_diagnose(
     ensures { ReturnsStatus (IsDiagnosed text.now base.now ignore_case buffer.old buffer.new needed.new place.new) result }
 {
     diagnose(alloc, text, base, ignore_case, buffer, needed, place).number()
+}
+
+/// The version: 1,000 times its first number, and its second.
+#[unsafe(no_mangle)]
+pub extern "C" fn urlpattern_version() -> u32
+    ensures { result ≡ 1000 }
+{
+    version()
 }

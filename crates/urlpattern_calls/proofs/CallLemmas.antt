@@ -9,7 +9,7 @@ use Rattle.std.specs.Prelude.{slice_get, Some}
 use Rattle.urlpattern.specs.Eight.{components}
 use Rattle.urlpattern_calls.specs.Calls.{given_base, c_options, error_status, IsAdded, IsPushed, IsTested, IsUrlTested}
 use Rattle.urlpattern_calls.specs.Mismatches.{IsMismatchReported, IsUrlMismatched}
-use Rattle.urlpattern_calls.specs.Texts.{IsComponentWritten, IsDiagnosed, IsDiagnosis, IsExecReported, IsUrlExecuted, IsWritten}
+use Rattle.urlpattern_calls.specs.Texts.{group_name_at, IsComponentWritten, IsDiagnosed, IsDiagnosis, IsExecReported, IsGroupNameWritten, IsUrlExecuted, IsWritten}
 use Rattle.urlpattern_calls.specs.declared.diagnosing.Place.{Place}
 use Rattle.urlpattern_eight.specs.declared.eight.ComponentName.{ComponentName}
 use Rattle.urlpattern_calls.specs.declared.status.Status.{Status}
@@ -107,3 +107,14 @@ diagnosed text base ignores place reason old new needed statuses.Refused is coun
 diagnosed text base ignores place reason old new needed statuses.OutOfMemory is counted written = absurd written
 diagnosed text base ignores place reason old new needed statuses.NoPattern is counted written = absurd written
 diagnosed text base ignores place reason old new needed statuses.TooSmall is counted written = (reason, is, counted, written)
+
+pub group_named : (patterns : List (UrlPattern PatternRegexp)) (index component group : ℕ) (text old new : List ℕ) (needed : ℕ) (status : Status)
+    → Some (chars text) ≡ group_name_at patterns index component group → needed ≡ length text → IsWritten text old new status
+    → IsGroupNameWritten patterns index component group old new needed status
+group_named patterns index component group text old new needed statuses.Done is counted written = (text, is, counted, written)
+group_named patterns index component group text old new needed statuses.NoMatch is counted written = absurd written
+group_named patterns index component group text old new needed statuses.NotUtf8 is counted written = absurd written
+group_named patterns index component group text old new needed statuses.Refused is counted written = absurd written
+group_named patterns index component group text old new needed statuses.OutOfMemory is counted written = absurd written
+group_named patterns index component group text old new needed statuses.NoPattern is counted written = absurd written
+group_named patterns index component group text old new needed statuses.TooSmall is counted written = (text, is, counted, written)

@@ -1,5 +1,5 @@
 -- What calls write to memory of C's, of texts that are bytes.
-use Rattle.std.specs.Prelude.{◌≡◌, ◌⊎◌, ◌++◌, ◌<◌, ◌≤◌, ℕ, Bool, List, length, drop, slice_get, None, Some, string_bytes}
+use Rattle.std.specs.Prelude.{◌≡◌, ◌⊎◌, ◌++◌, ◌<◌, ◌≤◌, ℕ, Bool, List, length, drop, slice_get, Option, None, Some, option_and_then, string_bytes}
 use Rattle.std.specs.Str.{chars}
 use Rattle.serde_json.specs.Data.{Data, depth}
 use Rattle.serde_json.specs.Read.{read, max_depth}
@@ -11,6 +11,7 @@ use Rattle.urlpattern.specs.Match.{IsMatch}
 use Rattle.urlpattern.specs.Patterns.{PatternView, pattern_view}
 use Rattle.urlpattern.specs.ResultViews.{result_view}
 use Rattle.urlpattern_calls.specs.Calls.{given_base, c_options, IsNoUrl, IsUrlUnderBase, IsUrlTested}
+use Rattle.urlpattern_calls.specs.Kept.{PatternList}
 use Rattle.urlpattern_calls.specs.declared.diagnosing.Place.{Place}
 use Rattle.urlpattern_calls.specs.declared.status.Status.{Status}
 use Rattle.urlpattern_calls.specs.declared.status.Status.TheVariants as statuses
@@ -46,6 +47,20 @@ abbrev pub IsComponentWritten : List (UrlPattern PatternRegexp) → (index compo
 IsComponentWritten patterns index component old new needed statuses.NoPattern =
     ((slice_get patterns index ≡ None) ⊎ (slice_get components component ≡ None)) × (new ≡ old)
 IsComponentWritten patterns index component old new needed status = WritesToBuffer (IsTextOfComponent patterns index component) old new needed status
+
+-- ---- names of groups
+
+-- the name of a group, by its number in a component
+abbrev pub group_name_at : PatternList → (index component group : ℕ) → Option (List ℕ)
+group_name_at patterns index component group =
+    option_and_then (λ pattern. option_and_then (λ name. slice_get (pattern_view pattern name).group_name_list group) (slice_get components component))
+    (slice_get patterns index)
+
+abbrev pub IsGroupNameWritten : PatternList → (index component group : ℕ) → (old new : List ℕ) → (needed : ℕ) → Status → Type 0
+IsGroupNameWritten patterns index component group old new needed statuses.NoPattern =
+    (group_name_at patterns index component group ≡ None) × (new ≡ old)
+IsGroupNameWritten patterns index component group old new needed status =
+    WritesToBuffer (λ text. Some (chars text) ≡ group_name_at patterns index component group) old new needed status
 
 -- ---- matches
 

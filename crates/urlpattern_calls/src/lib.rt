@@ -4,18 +4,24 @@
 #![tactic(auto)]
 
 mod adding;
+mod capturing;
 mod diagnosing;
 mod kept;
 mod mismatching;
+mod spans;
 mod status;
 mod testing;
 mod texts;
 mod urls;
+mod version;
 
 pub use adding::add;
+pub use capturing::captures;
 pub use diagnosing::{Place, diagnose};
 pub use kept::Kept;
 pub use mismatching::{has_regexp_groups, mismatch};
+pub use spans::{Sizes, Span};
 pub use status::Status;
 pub use testing::{execute, first, test};
-pub use texts::write_component;
+pub use texts::{write_component, write_group_name};
+pub use version::version;
