@@ -2,15 +2,17 @@
 ghost use Rattle.std.specs.Prelude.{◌≡◌, None};
 ghost use Rattle.urlpattern_c.specs.Handles.{patterns_in};
 ghost use Rattle.urlpattern_calls.specs.Calls.{IsAdded, IsFirstReported, IsTested, ReturnsStatus};
+ghost use Rattle.urlpattern_calls.specs.Diagnoses.{IsDiagnosed, IsInitDiagnosed};
+ghost use Rattle.urlpattern_calls.specs.Inits.{IsInitAdded};
 ghost use Rattle.urlpattern_calls.specs.Mismatches.{IsCustomReported, IsMismatchReported};
 ghost use Rattle.urlpattern_calls.specs.Spans.{AreCapturesReported};
-ghost use Rattle.urlpattern_calls.specs.Texts.{IsComponentWritten, IsDiagnosed, IsExecReported, IsGroupNameWritten};
+ghost use Rattle.urlpattern_calls.specs.Texts.{IsComponentWritten, IsExecReported, IsGroupNameWritten};
 
 use crate::patterns::Patterns;
 use std::alloc::Global;
 use urlpattern_calls::{
-    Place, Sizes, Span, add, captures, diagnose, execute, first, has_regexp_groups, mismatch, test,
-    version, write_component, write_group_name,
+    Place, Sizes, Span, add, add_init, captures, diagnose, diagnose_init, execute, first,
+    has_regexp_groups, mismatch, test, version, write_component, write_group_name,
 };
 
 /// Compiles a constructor string, with a base URL unless that is empty, and appends the pattern.
@@ -26,6 +28,22 @@ pub extern "C" fn urlpattern_add(
 {
     let mut kept = patterns.take(alloc);
     let status = add(alloc, &mut kept, text, base, ignore_case);
+    patterns.put(kept);
+    status.number()
+}
+
+/// Compiles an init, an object of JSON, and appends the pattern.
+#[unsafe(no_mangle)]
+pub extern "C" fn urlpattern_add_init(
+    alloc: Global,
+    patterns: &mut Patterns,
+    json: &[u8],
+    ignore_case: bool,
+) -> u32
+    ensures { ReturnsStatus (IsInitAdded (patterns_in patterns.old) json.now ignore_case (patterns_in patterns.new)) result }
+{
+    let mut kept = patterns.take(alloc);
+    let status = add_init(alloc, &mut kept, json, ignore_case);
     patterns.put(kept);
     status.number()
 }
@@ -204,6 +222,21 @@ pub extern "C" fn urlpattern_diagnose(
     ensures { ReturnsStatus (IsDiagnosed text.now base.now ignore_case buffer.old buffer.new needed.new place.new) result }
 {
     diagnose(alloc, text, base, ignore_case, buffer, needed, place).number()
+}
+
+/// Writes why an init is refused, and which text of it is at fault where.
+#[unsafe(no_mangle)]
+pub extern "C" fn urlpattern_diagnose_init(
+    alloc: Global,
+    json: &[u8],
+    ignore_case: bool,
+    buffer: &mut [u8],
+    needed: &mut usize,
+    place: &mut Place,
+) -> u32
+    ensures { ReturnsStatus (IsInitDiagnosed json.now ignore_case buffer.old buffer.new needed.new place.new) result }
+{
+    diagnose_init(alloc, json, ignore_case, buffer, needed, place).number()
 }
 
 /// The version: 1,000 times its first number, and its second.

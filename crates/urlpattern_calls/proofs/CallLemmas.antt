@@ -8,8 +8,10 @@ use Rattle.urlpattern.specs.Patterns.{pattern_view}
 use Rattle.std.specs.Prelude.{slice_get, Some}
 use Rattle.urlpattern.specs.Eight.{components}
 use Rattle.urlpattern_calls.specs.Calls.{given_base, c_options, error_status, IsAdded, IsPushed, IsTested, IsUrlTested}
+use Rattle.urlpattern_calls.specs.Diagnoses.{init_subject_number, subject_number, IsDiagnosed, IsDiagnosis, IsInitDiagnosed, RefusesText}
+use Rattle.urlpattern_calls.specs.Inits.{IsInitRefused}
 use Rattle.urlpattern_calls.specs.Mismatches.{IsMismatchReported, IsUrlMismatched}
-use Rattle.urlpattern_calls.specs.Texts.{group_name_at, IsComponentWritten, IsDiagnosed, IsDiagnosis, IsExecReported, IsGroupNameWritten, IsUrlExecuted, IsWritten}
+use Rattle.urlpattern_calls.specs.Texts.{group_name_at, IsComponentWritten, IsExecReported, IsGroupNameWritten, IsUrlExecuted, IsWritten}
 use Rattle.urlpattern_calls.specs.declared.diagnosing.Place.{Place}
 use Rattle.urlpattern_eight.specs.declared.eight.ComponentName.{ComponentName}
 use Rattle.urlpattern_calls.specs.declared.status.Status.{Status}
@@ -99,7 +101,8 @@ component_written patterns index component pattern name text old new needed stat
 component_written patterns index component pattern name text old new needed statuses.TooSmall is named same counted written = (text, (pattern, name, is, named, same), counted, written)
 
 pub diagnosed : (text base : List ℕ) (ignores : Bool) (place : Place) (reason old new : List ℕ) (needed : ℕ) (status : Status)
-    → IsDiagnosis text base ignores place reason → needed ≡ length reason → IsWritten reason old new status → IsDiagnosed text base ignores old new needed place status
+    → IsDiagnosis (RefusesText text base ignores) subject_number place reason → needed ≡ length reason → IsWritten reason old new status
+    → IsDiagnosed text base ignores old new needed place status
 diagnosed text base ignores place reason old new needed statuses.Done is counted written = (reason, is, counted, written)
 diagnosed text base ignores place reason old new needed statuses.NoMatch is counted written = absurd written
 diagnosed text base ignores place reason old new needed statuses.NotUtf8 is counted written = absurd written
@@ -107,6 +110,17 @@ diagnosed text base ignores place reason old new needed statuses.Refused is coun
 diagnosed text base ignores place reason old new needed statuses.OutOfMemory is counted written = absurd written
 diagnosed text base ignores place reason old new needed statuses.NoPattern is counted written = absurd written
 diagnosed text base ignores place reason old new needed statuses.TooSmall is counted written = (reason, is, counted, written)
+
+pub init_diagnosed : (json : List ℕ) (ignores : Bool) (place : Place) (reason old new : List ℕ) (needed : ℕ) (status : Status)
+    → IsDiagnosis (IsInitRefused json ignores) init_subject_number place reason → needed ≡ length reason → IsWritten reason old new status
+    → IsInitDiagnosed json ignores old new needed place status
+init_diagnosed json ignores place reason old new needed statuses.Done is counted written = (reason, is, counted, written)
+init_diagnosed json ignores place reason old new needed statuses.NoMatch is counted written = absurd written
+init_diagnosed json ignores place reason old new needed statuses.NotUtf8 is counted written = absurd written
+init_diagnosed json ignores place reason old new needed statuses.Refused is counted written = absurd written
+init_diagnosed json ignores place reason old new needed statuses.OutOfMemory is counted written = absurd written
+init_diagnosed json ignores place reason old new needed statuses.NoPattern is counted written = absurd written
+init_diagnosed json ignores place reason old new needed statuses.TooSmall is counted written = (reason, is, counted, written)
 
 pub group_named : (patterns : List (UrlPattern PatternRegexp)) (index component group : ℕ) (text old new : List ℕ) (needed : ℕ) (status : Status)
     → Some (chars text) ≡ group_name_at patterns index component group → needed ≡ length text → IsWritten text old new status

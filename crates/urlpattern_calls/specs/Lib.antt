@@ -1,4 +1,6 @@
 pub mod Calls
+pub mod Diagnoses
+pub mod Inits
 pub mod Kept
 pub mod Mismatches
 pub mod Spans

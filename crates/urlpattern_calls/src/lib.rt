@@ -6,6 +6,7 @@
 mod adding;
 mod capturing;
 mod diagnosing;
+mod inits;
 mod kept;
 mod mismatching;
 mod spans;
@@ -17,7 +18,8 @@ mod version;
 
 pub use adding::add;
 pub use capturing::captures;
-pub use diagnosing::{Place, diagnose};
+pub use diagnosing::{Place, diagnose, diagnose_init};
+pub use inits::add_init;
 pub use kept::Kept;
 pub use mismatching::{has_regexp_groups, mismatch};
 pub use spans::{Sizes, Span};
