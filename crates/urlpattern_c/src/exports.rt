@@ -164,7 +164,8 @@ pub extern "C" fn urlpattern_group_name(
     buffer: &mut [u8],
     needed: &mut usize,
 ) -> u32
-    ensures answer { ReturnsStatus (IsGroupNameWritten (patterns_in patterns.old) index component group buffer.old buffer.new needed.new) result }
+    ensures answer { ReturnsStatus
+        (IsGroupNameWritten (patterns_in patterns.old) index component group buffer.old buffer.new needed.new) result }
     ensures unchanged { patterns_in patterns.new ≡ patterns_in patterns.old }
 {
     let kept = patterns.take(alloc);

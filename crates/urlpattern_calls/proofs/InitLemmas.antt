@@ -1,9 +1,9 @@
--- Lemmas on inits, and on errors as statuses.
-use Rattle.std.proofs.Common.{◌≡◌, ℕ, Bool, List, refl, inl, inr, ◌⊎◌, ap, subst, sym}
+-- Lemmas on inits.
+use Rattle.std.proofs.Common.{◌≡◌, ℕ, Bool, List, refl, inl, inr}
 use Rattle.std.specs.Prelude.{None, Some}
-use Rattle.urlpattern.specs.Errors.{ErrorView, MemoryOr, error_view}
-use Rattle.urlpattern.specs.Errors.{ErrorView as views}
+use Rattle.urlpattern.specs.Errors.{MemoryOr, error_view}
 use Rattle.urlpattern.specs.Patterns.{pattern_view}
+use Rattle.urlpattern_calls.proofs.CallLemmas.{reported}
 use Rattle.urlpattern_calls.specs.Calls.{c_options, error_status, IsPushed}
 use Rattle.urlpattern_calls.specs.Inits.{plain_init_of, IsInitAdded, IsInitOfJson, IsNoInit}
 use Rattle.urlpattern_calls.specs.Kept.{PatternList}
@@ -19,31 +19,6 @@ use Rattle.urlpattern_inputs.specs.declared.input.StringOrInit.TheVariants as in
 use Rattle.urlpattern_pattern.specs.declared.pattern.UrlPattern.{UrlPattern}
 use Rattle.urlpattern_quirks.specs.Inputs.{RefusesInput}
 use Rattle.urlpattern_syntax.specs.declared.error.Error.{Error}
-
--- ---- errors
-
--- an error is reported in one of two ways
-two_statuses : (error : ErrorView) → (error_status error ≡ statuses.OutOfMemory) ⊎ (error_status error ≡ statuses.Refused)
-two_statuses views.OutOfMemory = inl refl
-two_statuses views.BaseUrlRequired = inr refl
-two_statuses views.BaseUrlWithInit = inr refl
-two_statuses (views.Tokenizer fault place) = inr refl
-two_statuses (views.ExpectedToken expected found value) = inr refl
-two_statuses (views.DuplicateName name) = inr refl
-two_statuses (views.Url reason) = inr refl
-two_statuses views.RegExp = inr refl
-
--- what holds where memory ran out, and where there is a reason, holds of the status that is reported
-pub reported : (Holds : Status → Type 0) (Reason : ErrorView → Type 0) (error : Error) → Holds statuses.OutOfMemory → (Reason (error_view error) → Holds statuses.Refused)
-    → MemoryOr Reason error → Holds (error_status (error_view error))
-reported Holds Reason error memory refused (inl out) = subst Holds (sym (ap error_status out)) memory
-reported Holds Reason error memory refused (inr reason) =
-    elim (two_statuses (error_view error)) [
-      inl is ↦ subst Holds (sym is) memory
-    | inr is ↦ subst Holds (sym is) (refused reason)
-    ]
-
--- ---- inits
 
 pub init_added : (old : PatternList) (json : List ℕ) (ignores : Bool) (init : UrlPatternInit) (pattern : UrlPattern PatternRegexp) (new : PatternList) (status : Status)
     → IsInitOfJson json init → IsPatternOfInit pattern_engine init (c_options ignores) (pattern_view pattern) → IsPushed old pattern new status → IsInitAdded old json ignores new status

@@ -61,6 +61,7 @@ IsInitDiagnosed json ignores old new needed place statuses.Done =
 IsInitDiagnosed json ignores old new needed place statuses.TooSmall =
     WritesToBuffer (IsDiagnosis (IsInitRefused json ignores) init_subject_number place) old new needed statuses.TooSmall
 IsInitDiagnosed json ignores old new needed place statuses.NoMatch =
-    ((init : UrlPatternInit) × (pattern : PatternView PatternRegexp) × IsInitOfJson json init × IsPatternOfInit pattern_engine init (c_options ignores) pattern)
+    ((init : UrlPatternInit) × (pattern : PatternView PatternRegexp) × IsInitOfJson json init
+    × IsPatternOfInit pattern_engine init (c_options ignores) pattern)
     × (new ≡ old)
 IsInitDiagnosed json ignores old new needed place status = IsNoInit json status × (new ≡ old)

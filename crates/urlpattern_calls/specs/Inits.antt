@@ -49,6 +49,7 @@ abbrev pub IsInitAdded : (old : PatternList) → (json : List ℕ) → (ignore_c
 IsInitAdded old json ignores new statuses.Done =
     (init : UrlPatternInit) × (pattern : UrlPattern PatternRegexp) × IsInitOfJson json init
     × IsPatternOfInit pattern_engine init (c_options ignores) (pattern_view pattern) × (new ≡ old ++ pattern ∷ [])
-IsInitAdded old json ignores new statuses.Refused = (IsNoInit json statuses.Refused ⊎ ((error : ErrorView) × IsInitRefused json ignores error)) × (new ≡ old)
+IsInitAdded old json ignores new statuses.Refused =
+    (IsNoInit json statuses.Refused ⊎ ((error : ErrorView) × IsInitRefused json ignores error)) × (new ≡ old)
 IsInitAdded old json ignores new statuses.OutOfMemory = new ≡ old
 IsInitAdded old json ignores new status = IsNoInit json status × (new ≡ old)

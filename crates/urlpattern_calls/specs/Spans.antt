@@ -52,7 +52,13 @@ texts_of_groups groups = flat_map (λ group. capture_bytes group.2) groups
 
 -- the span of a group whose text begins here
 abbrev pub span_at : (start : ℕ) → NumberedGroup → Span
-span_at start group = record { component = component_number group.0; took_part = if is_some group.2 then 1 else 0; group = group.1; start = start; length = length (capture_bytes group.2) }
+span_at start group = record {
+  component = component_number group.0;
+  took_part = if is_some group.2 then 1 else 0;
+  group = group.1;
+  start = start;
+  length = length (capture_bytes group.2);
+}
 
 -- the spans of groups, of which the first begins here, and each other one where the one before it ends
 abbrev pub spans_from : (start : ℕ) → List NumberedGroup → List Span
@@ -96,7 +102,8 @@ AreWritten groups old new old_spans new_spans needed status = ⊥
 -- ---- matches
 
 -- the groups of the match are written, or there is no match
-abbrev pub AreUrlCaptures : PatternView PatternRegexp → (url base : List ℕ) → (old new : List ℕ) → (old_spans new_spans : List Span) → (needed : Sizes) → Status → Type 0
+abbrev pub AreUrlCaptures : PatternView PatternRegexp → (url base : List ℕ) → (old new : List ℕ) → (old_spans new_spans : List Span) → (needed : Sizes)
+    → Status → Type 0
 AreUrlCaptures pattern url base old new old_spans new_spans needed statuses.Done =
     (groups : List NumberedGroup) × AreGroupsOf pattern url base groups × AreWritten groups old new old_spans new_spans needed statuses.Done
 AreUrlCaptures pattern url base old new old_spans new_spans needed statuses.TooSmall =
@@ -106,7 +113,8 @@ AreUrlCaptures pattern url base old new old_spans new_spans needed status =
     IsUrlTested pattern url base status × (new ≡ old) × (new_spans ≡ old_spans)
 
 -- the same of the pattern at an index
-abbrev pub AreCapturesReported : PatternList → (index : ℕ) → (url base : List ℕ) → (old new : List ℕ) → (old_spans new_spans : List Span) → (needed : Sizes) → Status → Type 0
+abbrev pub AreCapturesReported : PatternList → (index : ℕ) → (url base : List ℕ) → (old new : List ℕ) → (old_spans new_spans : List Span)
+    → (needed : Sizes) → Status → Type 0
 AreCapturesReported patterns index url base old new old_spans new_spans needed statuses.NoPattern =
     (slice_get patterns index ≡ None) × (new ≡ old) × (new_spans ≡ old_spans)
 AreCapturesReported patterns index url base old new old_spans new_spans needed status =

@@ -22,7 +22,8 @@ pub fn captures(
     spans: &mut [Span],
     needed: &mut Sizes,
 ) -> Status
-    ensures { AreCapturesReported (boxed_patterns kept.now) index url.now base.now buffer.old buffer.new spans.old spans.new needed.new result }
+    ensures { AreCapturesReported (boxed_patterns kept.now) index url.now base.now
+        buffer.old buffer.new spans.old spans.new needed.new result }
 {
     match pattern_at(kept, index) {
         Some(pattern) => pattern_captures(alloc, pattern, url, base, buffer, spans, needed),

@@ -82,7 +82,8 @@ fn put_groups(
     buffer: &mut [u8],
     spans: &mut [Span],
 ) -> Option<Sizes>
-    ensures { IfSome result (λ to. ArePut (numbered component 0 (groups_left groups.entry)) from to buffer.old buffer.new spans.old spans.new) }
+    ensures { IfSome result (λ to. ArePut (numbered component 0 (groups_left groups.entry)) from to
+        buffer.old buffer.new spans.old spans.new) }
 {
     let mut sizes = from;
     for (_, capture) in groups {
@@ -101,7 +102,8 @@ fn put_group(
     buffer: &mut [u8],
     spans: &mut [Span],
 ) -> Option<Sizes>
-    ensures { IfSome result (λ to. ArePut ((component, group, option_text capture.entry) ∷ []) from to buffer.old buffer.new spans.old spans.new) }
+    ensures { IfSome result (λ to. ArePut ((component, group, option_text capture.entry) ∷ []) from to
+        buffer.old buffer.new spans.old spans.new) }
 {
     let text = capture_bytes(capture);
     let bytes = put_text(text, from.bytes, buffer)?;

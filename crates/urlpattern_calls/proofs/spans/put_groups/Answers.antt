@@ -25,6 +25,9 @@ loop-capture-preserved c =
     let next : is.spans - from.spans ≡ number + 1 = omega (arith, put.spans, c.in_ok-sizes.ensures.spans) in
     let first = rw c.in-Some.is at c.next.ensures.steps in
     let same = append_assoc done (group ∷ []) (rest (is.spans - from.spans)) ∙ ap (λ n. done ++ group ∷ rest n) next
-    ∙ ap (λ groups. done ++ numbered c.args.component number groups) (sym first) ∙ all in
-    (done ++ group ∷ [], same, groups_more done (group ∷ []) from was is c.args.buffer.now c.loop-capture.buffer c.put_group.new.buffer
-    c.args.spans.now c.loop-capture.spans c.put_group.new.spans c.loop-capture.auto.buffer c.loop-capture.auto.spans put c.in_ok-sizes.ensures)
+    ∙ ap (λ groups. done ++ numbered c.args.component number groups) (sym first) ∙ all in (
+      done ++ group ∷ [],
+      same,
+      groups_more done (group ∷ []) from was is c.args.buffer.now c.loop-capture.buffer c.put_group.new.buffer
+          c.args.spans.now c.loop-capture.spans c.put_group.new.spans c.loop-capture.auto.buffer c.loop-capture.auto.spans put c.in_ok-sizes.ensures,
+    )
