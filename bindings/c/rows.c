@@ -168,12 +168,26 @@ static void ask_custom(char **words, unsigned number) {
     compare(status == (uint32_t)atoi(words[1]), number, status);
 }
 
+/* Whether the first match is written with its groups, as `urlpattern_captures` writes those of the pattern at its index. */
+static bool is_same_first(text url, text base, uint32_t wanted, size_t wanted_index) {
+    urlpattern_sizes sizes = { 0, 0 }, needed = { 0, 0 };
+    size_t index = 0;
+    uint32_t status = urlpattern_captures(&patterns, wanted_index, url.bytes, url.length, base.bytes, base.length, group, ROOM, spans, SPANS, &sizes);
+    bool is_right = wanted != URLPATTERN_DONE || status == wanted;
+    status = urlpattern_first_captures(&patterns, url.bytes, url.length, base.bytes, base.length, &index, buffer, ROOM, spans, SPANS, &needed);
+    if (wanted != URLPATTERN_DONE || status != wanted) {
+        return status == wanted;
+    }
+    return is_right && index == wanted_index && needed.bytes == sizes.bytes && needed.spans == sizes.spans && memcmp(buffer, group, sizes.bytes) == 0;
+}
+
 static void ask_first(char **words, unsigned number) {
     uint32_t wanted = (uint32_t)atoi(words[1]);
     text url = text_of(words[2]), base = text_of(words[3]);
-    size_t index = 0;
+    size_t index = 0, wanted_index = (size_t)atoi(words[4]);
     uint32_t status = urlpattern_first(&patterns, url.bytes, url.length, base.bytes, base.length, &index);
-    compare(status == wanted && (status != URLPATTERN_DONE || index == (size_t)atoi(words[4])), number, status);
+    bool is_right = status == wanted && (status != URLPATTERN_DONE || index == wanted_index);
+    compare(is_right && is_same_first(url, base, wanted, wanted_index), number, status);
 }
 
 static void ask(char **words, unsigned number) {

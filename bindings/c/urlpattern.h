@@ -111,6 +111,12 @@ typedef struct urlpattern_sizes {
 uint32_t urlpattern_captures(urlpattern_list *patterns, size_t index, const char *url, size_t length, const char *base, size_t base_length,
                              char *buffer, size_t room, urlpattern_span *spans, size_t span_room, urlpattern_sizes *needed);
 
+/* Finds the first pattern that matches a URL, and writes its index, and its groups as `urlpattern_captures` does.
+ * DONE, NO_MATCH, NOT_UTF8, OUT_OF_MEMORY, NO_PATTERN (an empty handle), or TOO_SMALL, for which `index` is written too. */
+uint32_t urlpattern_first_captures(urlpattern_list *patterns, const char *url, size_t length, const char *base, size_t base_length,
+                                   size_t *index, char *buffer, size_t room, urlpattern_span *spans, size_t span_room,
+                                   urlpattern_sizes *needed);
+
 /* Writes the name of a group, by its number in a component: a group that has none in the pattern is named by a number of its own.
  * DONE, NO_PATTERN, or TOO_SMALL, with `needed` as of `urlpattern_exec`. */
 uint32_t urlpattern_group_name(urlpattern_list *patterns, size_t index, uint32_t component, size_t group, char *buffer, size_t room,

@@ -60,6 +60,11 @@ def _load():
         ("mismatch", [handle, size, *texts, ctypes.POINTER(ctypes.c_uint32)], status),
         ("exec", [handle, size, *texts, *room], status),
         ("captures", [handle, size, *texts, ctypes.c_char_p, size, ctypes.POINTER(_Span), size, ctypes.POINTER(_Sizes)], status),
+        (
+            "first_captures",
+            [handle, *texts, ctypes.POINTER(size), ctypes.c_char_p, size, ctypes.POINTER(_Span), size, ctypes.POINTER(_Sizes)],
+            status,
+        ),
         ("group_name", [handle, size, ctypes.c_uint32, size, *room], status),
         ("component", [handle, size, ctypes.c_uint32, *room], status),
         ("has_regexp_groups", [handle, size], status),
@@ -205,13 +210,26 @@ class URLPatternList:
         """The groups of the match of the pattern of this index, or None: a list of tuples of the component, the name, and what the group
         captured, which is None where it took no part. They are in the order of the pattern, component by component."""
         url, base = url.encode(), _bytes(base)
+        found = self._matched(_captures, index, url, len(url), base, len(base))
+        return self._groups(index) if found else None
+
+    def first_captures(self, url, base=None):
+        """The index of the first pattern that matches, with its groups as `captures` gives them, or None."""
+        url, base, index = url.encode(), _bytes(base), ctypes.c_size_t()
+        found = self._length > 0 and self._matched(_library.urlpattern_first_captures, url, len(url), base, len(base), ctypes.byref(index))
+        return (index.value, self._groups(index.value)) if found else None
+
+    def _matched(self, function, *arguments):
+        """Whether there is a match, which is then written to the room for it."""
         status = TOO_SMALL
         while status == TOO_SMALL:
-            status = _captures(self._address, index, url, len(url), base, len(base), *self._memory)
+            status = function(self._address, *arguments, *self._memory)
             if status == TOO_SMALL:
                 self._room(max(self._sizes.bytes, ROOM), max(self._sizes.spans, SPANS))
-        if not _checked(status):
-            return None
+        return _checked(status)
+
+    def _groups(self, index):
+        """The groups of the match that is written."""
         text, names = self._buffer[: self._sizes.bytes], self._names
         found = []
         for span in self._spans[: self._sizes.spans]:

@@ -5,14 +5,14 @@ ghost use Rattle.urlpattern_calls.specs.Calls.{IsAdded, IsFirstReported, IsTeste
 ghost use Rattle.urlpattern_calls.specs.Diagnoses.{IsDiagnosed, IsInitDiagnosed};
 ghost use Rattle.urlpattern_calls.specs.Inits.{IsInitAdded};
 ghost use Rattle.urlpattern_calls.specs.Mismatches.{IsCustomReported, IsMismatchReported};
-ghost use Rattle.urlpattern_calls.specs.Spans.{AreCapturesReported};
+ghost use Rattle.urlpattern_calls.specs.Spans.{AreCapturesReported, AreFirstCaptures};
 ghost use Rattle.urlpattern_calls.specs.Texts.{IsComponentWritten, IsExecReported, IsGroupNameWritten};
 
 use crate::patterns::Patterns;
 use std::alloc::Global;
 use urlpattern_calls::{
     Place, Sizes, Span, add, add_init, captures, diagnose, diagnose_init, execute, first,
-    has_regexp_groups, mismatch, test, version, write_component, write_group_name,
+    first_captures, has_regexp_groups, mismatch, test, version, write_component, write_group_name,
 };
 
 /// Compiles a constructor string, with a base URL unless that is empty, and appends the pattern.
@@ -149,6 +149,28 @@ pub extern "C" fn urlpattern_captures(
 {
     let kept = patterns.take(alloc);
     let status = captures(alloc, &kept, index, url, base, buffer, spans, needed);
+    patterns.put(kept);
+    status.number()
+}
+
+/// Finds the first pattern that matches a URL, and writes its index, what its groups capture, and a span for each group.
+#[unsafe(no_mangle)]
+pub extern "C" fn urlpattern_first_captures(
+    alloc: Global,
+    patterns: &mut Patterns,
+    url: &[u8],
+    base: &[u8],
+    index: &mut usize,
+    buffer: &mut [u8],
+    spans: &mut [Span],
+    needed: &mut Sizes,
+) -> u32
+    ensures answer { ReturnsStatus (AreFirstCaptures (patterns_in patterns.old) url.now base.now index.old index.new
+        buffer.old buffer.new spans.old spans.new needed.new) result }
+    ensures unchanged { patterns_in patterns.new ≡ patterns_in patterns.old }
+{
+    let kept = patterns.take(alloc);
+    let status = first_captures(alloc, &kept, url, base, index, buffer, spans, needed);
     patterns.put(kept);
     status.number()
 }

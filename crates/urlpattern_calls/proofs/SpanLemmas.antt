@@ -6,7 +6,7 @@ use Rattle.std.specs.List.{flat_map}
 use Rattle.std.specs.Prelude.{set, slice_get, Some}
 use Rattle.urlpattern.specs.Patterns.{PatternView, pattern_view}
 use Rattle.urlpattern_eight.specs.declared.eight.ComponentName.{ComponentName}
-use Rattle.urlpattern_calls.specs.Spans.{NumberedGroup, capture_bytes, numbered, numbered_groups, span_at, spans_from, texts_of_groups, AreCapturesReported, AreGroupsOf, ArePut, AreUrlCaptures, AreWritten, IsPut}
+use Rattle.urlpattern_calls.specs.Spans.{NumberedGroup, capture_bytes, numbered, numbered_groups, span_at, spans_from, texts_of_groups, AreCapturesReported, AreFirstCaptures, AreFirstGroupsOf, AreGroupsOf, ArePut, AreUrlCaptures, AreWritten, IsPut}
 use Rattle.urlpattern_calls.specs.declared.spans.Sizes.{Sizes}
 use Rattle.urlpattern_calls.specs.declared.spans.Span.{Span}
 use Rattle.urlpattern_calls.specs.Kept.{PatternList}
@@ -102,3 +102,14 @@ captured patterns index pattern url base old new old_spans new_spans needed stat
 captured patterns index pattern url base old new old_spans new_spans needed statuses.OutOfMemory is answer = (pattern, is, answer)
 captured patterns index pattern url base old new old_spans new_spans needed statuses.NoPattern is answer = absurd answer.0
 captured patterns index pattern url base old new old_spans new_spans needed statuses.TooSmall is answer = (pattern, is, answer)
+
+pub first_captured : (patterns : PatternList) (url base : List ℕ) (old_index index : ℕ) (groups : List NumberedGroup) (old new : List ℕ) (old_spans new_spans : List Span) (needed : Sizes) (status : Status)
+    → AreFirstGroupsOf patterns url base index groups → AreWritten groups old new old_spans new_spans needed status
+    → AreFirstCaptures patterns url base old_index index old new old_spans new_spans needed status
+first_captured patterns url base old_index index groups old new old_spans new_spans needed statuses.Done are written = (groups, are, written)
+first_captured patterns url base old_index index groups old new old_spans new_spans needed statuses.NoMatch are written = absurd written
+first_captured patterns url base old_index index groups old new old_spans new_spans needed statuses.NotUtf8 are written = absurd written
+first_captured patterns url base old_index index groups old new old_spans new_spans needed statuses.Refused are written = absurd written
+first_captured patterns url base old_index index groups old new old_spans new_spans needed statuses.OutOfMemory are written = tt
+first_captured patterns url base old_index index groups old new old_spans new_spans needed statuses.NoPattern are written = absurd written
+first_captured patterns url base old_index index groups old new old_spans new_spans needed statuses.TooSmall are written = (groups, are, written)

@@ -2,8 +2,9 @@
 use Rattle.std.specs.Prelude.{◌≡◌, ◌⊎◌, ◌++◌, ◌+◌, ◌<◌, ◌≤◌, ℕ, List, [], ◌∷◌, length, drop, take, flat_map, slice_get, encode_utf8_all, unwrap_or, is_some, Option, None, Some, if◌then◌else◌}
 use Rattle.url.specs.Parts.{Parts}
 use Rattle.urlpattern.specs.Eight.{components}
+use Rattle.urlpattern.specs.FirstMatch.{IsFirstMatch, patterns_view}
 use Rattle.urlpattern.specs.Patterns.{PatternView, pattern_view}
-use Rattle.urlpattern_calls.specs.Calls.{IsUrlTested, IsUrlUnderBase}
+use Rattle.urlpattern_calls.specs.Calls.{IsFirstReported, IsUrlTested, IsUrlUnderBase}
 use Rattle.urlpattern_calls.specs.Kept.{PatternList}
 use Rattle.urlpattern_calls.specs.Mismatches.{component_number}
 use Rattle.urlpattern_calls.specs.declared.spans.Sizes.{Sizes}
@@ -14,6 +15,8 @@ use Rattle.urlpattern_eight.specs.declared.eight.ComponentName.{ComponentName}
 use Rattle.urlpattern_engine.specs.PatternRegexps.{pattern_answer}
 use Rattle.urlpattern_engine.specs.declared.pattern_regexp.PatternRegexp.{PatternRegexp}
 use Rattle.urlpattern_init.specs.Inheritance.{texts_of_url}
+use Rattle.urlpattern_init.specs.declared.init.UrlPatternMatchInput.TheVariants as match_inputs
+use Rattle.urlpattern_matches.specs.ResultViews.{ResultView}
 use Rattle.urlpattern_pattern.specs.Match.{AreGroupsInOrder}
 use Rattle.urlpattern_pattern.specs.declared.pattern.UrlPattern.{UrlPattern}
 
@@ -120,3 +123,30 @@ AreCapturesReported patterns index url base old new old_spans new_spans needed s
 AreCapturesReported patterns index url base old new old_spans new_spans needed status =
     (pattern : UrlPattern PatternRegexp) × (slice_get patterns index ≡ Some pattern)
     × AreUrlCaptures (pattern_view pattern) url base old new old_spans new_spans needed status
+
+-- ---- first matches
+
+-- the groups of the first pattern of the list that matches the URL, which has this index
+pub record AreFirstGroupsOf (patterns : PatternList) (url base : List ℕ) (index : ℕ) (groups : List NumberedGroup) : Type 0 where
+  pub parts : Parts
+  pub pattern : PatternView PatternRegexp
+  pub result : ComponentName → ResultView
+  pub captures : ComponentName → List (List ℕ × Option (List ℕ))
+  pub is_url : IsUrlUnderBase url base parts
+  pub is_there : slice_get (patterns_view patterns) index ≡ Some pattern
+  pub is_first : IsFirstMatch pattern_answer (patterns_view patterns) (match_inputs.Url parts) (Some (index, result))
+  pub are_captures : AreGroupsInOrder pattern_answer pattern (texts_of_url parts) captures
+  pub are_groups : groups ≡ numbered_groups captures components
+
+-- the index of the first match and its groups are written, or there is none
+abbrev pub AreFirstCaptures : PatternList → (url base : List ℕ) → (old_index new_index : ℕ) → (old new : List ℕ) → (old_spans new_spans : List Span)
+    → (needed : Sizes) → Status → Type 0
+AreFirstCaptures patterns url base old_index new_index old new old_spans new_spans needed statuses.Done =
+    (groups : List NumberedGroup) × AreFirstGroupsOf patterns url base new_index groups
+    × AreWritten groups old new old_spans new_spans needed statuses.Done
+AreFirstCaptures patterns url base old_index new_index old new old_spans new_spans needed statuses.TooSmall =
+    (groups : List NumberedGroup) × AreFirstGroupsOf patterns url base new_index groups
+    × AreWritten groups old new old_spans new_spans needed statuses.TooSmall
+AreFirstCaptures patterns url base old_index new_index old new old_spans new_spans needed statuses.OutOfMemory = Unit {0}
+AreFirstCaptures patterns url base old_index new_index old new old_spans new_spans needed status =
+    IsFirstReported patterns url base old_index new_index status × (new ≡ old) × (new_spans ≡ old_spans)

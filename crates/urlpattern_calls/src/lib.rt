@@ -17,7 +17,7 @@ mod urls;
 mod version;
 
 pub use adding::add;
-pub use capturing::captures;
+pub use capturing::{captures, first_captures};
 pub use diagnosing::{Place, diagnose, diagnose_init};
 pub use inits::add_init;
 pub use kept::Kept;
