@@ -1,5 +1,5 @@
 //! Says which component does not match, and whether a pattern has custom regular expressions.
-ghost use Rattle.std.specs.Prelude.{◌≡◌, slice_get, Some};
+ghost use Rattle.std.specs.Prelude.{◌≡◌, ◌<◌, slice_get, Some};
 ghost use Rattle.urlpattern.specs.Eight.{components};
 ghost use Rattle.urlpattern.specs.Patterns.{pattern_view};
 ghost use Rattle.urlpattern_calls.specs.Kept.{boxed_patterns};
@@ -63,6 +63,7 @@ fn pattern_mismatch(
 /// The number of a component, in the order of the standard.
 pub(crate) fn component_number(name: ComponentName) -> u32
     ensures number { result ≡ component_number name }
+    ensures small { result < 8 }
     ensures place { slice_get components result ≡ Some name }
 {
     match name {
