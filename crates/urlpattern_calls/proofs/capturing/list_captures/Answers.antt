@@ -12,11 +12,11 @@ returns-in-Ok-Some c =
     first_captured c.args.list.now c.args.url.now c.args.base.now c.args.index.now c.in-Ok-Some.first (numbered_groups groups components) c.args.buffer.now c.write_groups.new.buffer
     c.args.spans.now c.write_groups.new.spans c.write_groups.new.needed c.write_groups.result
     (record {
-      parts = c.in-Ok-url.url;
+      parts = c.in-Ok.url;
       pattern = pattern;
       result = pattern_captures_view c.in-Ok-Some.found;
       captures = groups;
-      is_url = c.in-Ok-url.ensures.found;
+      is_url = c.in-Ok.ensures.found;
       is_there = is_there;
       is_first = rw c.in-Ok-Some.field-0-is at c.in-Ok-Some.ensures.first;
       are_captures = in_order;

@@ -12,9 +12,9 @@ returns-in-Ok-Some c =
     url_captured (pattern_view c.args.pattern.now) c.args.url.now c.args.base.now (numbered_groups groups components) c.args.buffer.now c.write_groups.new.buffer
     c.args.spans.now c.write_groups.new.spans c.write_groups.new.needed c.write_groups.result
     (record {
-      parts = c.in-Ok-url.url;
+      parts = c.in-Ok.url;
       captures = groups;
-      is_url = c.in-Ok-url.ensures.found;
+      is_url = c.in-Ok.ensures.found;
       are_captures = rw c.in-Ok-Some.field-0-is at c.in-Ok-Some.ensures.groups;
       are_groups = refl;
     })

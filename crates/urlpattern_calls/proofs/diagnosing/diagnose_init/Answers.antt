@@ -12,12 +12,12 @@ pub returns-in-Ok-Some : goal.returns-in-Ok-Some
 returns-in-Ok-Some c =
     let found = c.in-Ok-Some.diagnosis in
     let given = rw c.in-Ok-Some.field-0-is at c.in-Ok-Some.ensures.refused in
-    let why = subst (λ (asked : UrlPatternOptions). RefusesInit pattern_engine c.in-Ok-init.init asked (error_view found.error)) c.options.ensures given in
+    let why = subst (λ (asked : UrlPatternOptions). RefusesInit pattern_engine c.in-Ok.init asked (error_view found.error)) c.options.ensures given in
     init_diagnosed c.args.json.now c.args.ignore_case c.write_diagnosis.new.place
     (string_bytes found.reason) c.args.buffer.now c.write_diagnosis.new.buffer c.write_diagnosis.new.needed c.write_diagnosis.result
     (record {
       diagnosis = found;
-      is_refused = (c.in-Ok-init.init, c.in-Ok-init.ensures.found, why);
+      is_refused = (c.in-Ok.init, c.in-Ok.ensures.found, why);
       is_reason = refl;
       is_place = c.write_diagnosis.ensures.place ∙ ap (λ number. place_of number found) c.init_subject_number-subject.ensures;
     })

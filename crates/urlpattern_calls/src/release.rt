@@ -1,4 +1,4 @@
-//! The version of the interface.
+//! The release of the interface.
 ghost use Rattle.std.specs.Prelude.{◌≡◌};
 
 /// The version: 1,000 times its first number, and its second.
