@@ -1,9 +1,11 @@
 /* Asks what the lines of standard input say, and compares the answers. `.ci/bindings` writes them.
  *
  * A line has words, of which texts are hexadecimal, and `-` is no text. `add STATUS IGNORES PATTERN BASE` compiles a pattern into
- * a new handle, `more` another into the same, `exec STATUS URL BASE JSON` matches with the first, `text COMPONENT TEXT` reads a
- * component, `custom STATUS` asks for a custom regular expression, and `first STATUS URL BASE INDEX` finds the first match. The last
- * line counts the answers that are as they should be.
+ * a new handle, `init STATUS IGNORES JSON` an init, `more` another into the same, `exec STATUS URL BASE JSON` matches with the first, `groups STATUS URL BASE GROUPS`
+ * writes its groups, `text COMPONENT TEXT` reads a component, `custom STATUS` asks for a custom regular expression, and
+ * `first STATUS URL BASE INDEX` finds the first match. The last line counts the answers that are as they should be.
+ *
+ * A group of GROUPS is a byte 1, the digit of its component, its name, a byte 2, `+` with what it captured, if it took part, and a byte 3.
  */
 #include "urlpattern.h"
 
@@ -11,7 +13,8 @@
 #include <stdlib.h>
 #include <string.h>
 
-enum { WORDS = 5, ROOM = 1 << 20, EDGE = 8, COMPONENTS = 8 };
+enum { WORDS = 5, ROOM = 1 << 20, EDGE = 8, COMPONENTS = 8, SPANS = 1 << 12 };
+enum { BEGIN = 1, MIDDLE = 2, END = 3 };
 
 typedef struct {
     char *bytes;
@@ -19,7 +22,8 @@ typedef struct {
 } text;
 
 static char line[8 * ROOM];
-static char buffer[ROOM];
+static char buffer[ROOM], group[2 * ROOM];
+static urlpattern_span spans[SPANS];
 static urlpattern_list patterns = URLPATTERN_EMPTY;
 static unsigned passed, failed;
 
@@ -49,6 +53,18 @@ static uint32_t add(char **words) {
     return urlpattern_add(&patterns, pattern.bytes, pattern.length, base.bytes, base.length, words[2][0] == '1');
 }
 
+static uint32_t add_init(char **words) {
+    text json = text_of(words[3]);
+    uint32_t status = urlpattern_add_init(&patterns, json.bytes, json.length, words[2][0] == '1');
+    if (status == URLPATTERN_REFUSED) {
+        urlpattern_place place;
+        size_t needed = 0;
+        uint32_t why = urlpattern_diagnose_init(json.bytes, json.length, words[2][0] == '1', buffer, sizeof buffer, &needed, &place);
+        return why == URLPATTERN_REFUSED || (why == URLPATTERN_DONE && needed > 0 && place.start <= place.end) ? status : why;
+    }
+    return status;
+}
+
 /* Whether a text was written, with nothing after it; and whether one byte less is too little, and is left alone. */
 static bool is_written(uint32_t status, size_t needed, text wanted) {
     return status == URLPATTERN_DONE && needed == wanted.length && memcmp(buffer, wanted.bytes, needed) == 0 && buffer[needed] == EDGE;
@@ -73,6 +89,72 @@ static void ask_exec(char **words, unsigned number) {
     compare(is_right, number, status);
 }
 
+static uint32_t captures(text url, text base, size_t room, size_t span_room, urlpattern_sizes *needed) {
+    return urlpattern_captures(&patterns, 0, url.bytes, url.length, base.bytes, base.length, buffer, room, spans, span_room, needed);
+}
+
+/* Whether a byte less, or a span less, is too little, and nothing is written past it. */
+static bool are_measured(text url, text base, urlpattern_sizes sizes) {
+    urlpattern_sizes needed = { 0, 0 }, again = { 0, 0 };
+    bool is_right = true;
+    if (sizes.bytes > 0) {
+        buffer[sizes.bytes - 1] = EDGE;
+        is_right &= captures(url, base, sizes.bytes - 1, SPANS, &needed) == URLPATTERN_TOO_SMALL && buffer[sizes.bytes - 1] == EDGE;
+        is_right &= needed.bytes == sizes.bytes && needed.spans == sizes.spans;
+    }
+    if (sizes.spans > 0) {
+        spans[sizes.spans - 1].component = COMPONENTS;
+        is_right &= captures(url, base, ROOM, sizes.spans - 1, &again) == URLPATTERN_TOO_SMALL && spans[sizes.spans - 1].component == COMPONENTS;
+        is_right &= again.bytes == sizes.bytes && again.spans == sizes.spans;
+    }
+    return is_right;
+}
+
+/* Whether a group is among those that are wanted. */
+static bool is_among(text wanted, const urlpattern_span *span) {
+    size_t length = 2, needed = 0;
+    group[0] = BEGIN;
+    group[1] = (char)('0' + span->component);
+    if (urlpattern_group_name(&patterns, 0, span->component, span->group, group + length, ROOM, &needed) != URLPATTERN_DONE) {
+        return false;
+    }
+    length += needed;
+    group[length++] = MIDDLE;
+    if (span->took_part) {
+        group[length++] = '+';
+        memcpy(group + length, buffer + span->start, span->length);
+        length += span->length;
+    }
+    group[length++] = END;
+    for (size_t at = 0; at + length <= wanted.length; at++) {
+        if (memcmp(wanted.bytes + at, group, length) == 0) {
+            return true;
+        }
+    }
+    return false;
+}
+
+static void ask_groups(char **words, unsigned number) {
+    uint32_t wanted = (uint32_t)atoi(words[1]);
+    text url = text_of(words[2]), base = text_of(words[3]), groups = text_of(words[4]);
+    urlpattern_sizes sizes = { 0, 0 };
+    size_t count = 0, end = 0;
+    uint32_t status = captures(url, base, ROOM, SPANS, &sizes);
+    bool is_right = status == wanted;
+    for (size_t at = 0; at < groups.length; at++) {
+        count += groups.bytes[at] == END;
+    }
+    if (is_right && status == URLPATTERN_DONE) {
+        is_right = sizes.spans == count;
+        for (size_t at = 0; is_right && at < sizes.spans; at++) {
+            is_right = spans[at].start == end && is_among(groups, &spans[at]);
+            end += spans[at].length;
+        }
+        is_right = is_right && end == sizes.bytes && are_measured(url, base, sizes);
+    }
+    compare(is_right, number, status);
+}
+
 static void ask_text(char **words, unsigned number) {
     text wanted = text_of(words[2]);
     size_t needed = 0;
@@ -86,17 +168,33 @@ static void ask_custom(char **words, unsigned number) {
     compare(status == (uint32_t)atoi(words[1]), number, status);
 }
 
+/* Whether the first match is written with its groups, as `urlpattern_captures` writes those of the pattern at its index. */
+static bool is_same_first(text url, text base, uint32_t wanted, size_t wanted_index) {
+    urlpattern_sizes sizes = { 0, 0 }, needed = { 0, 0 };
+    size_t index = 0;
+    uint32_t status = urlpattern_captures(&patterns, wanted_index, url.bytes, url.length, base.bytes, base.length, group, ROOM, spans, SPANS, &sizes);
+    bool is_right = wanted != URLPATTERN_DONE || status == wanted;
+    status = urlpattern_first_captures(&patterns, url.bytes, url.length, base.bytes, base.length, &index, buffer, ROOM, spans, SPANS, &needed);
+    if (wanted != URLPATTERN_DONE || status != wanted) {
+        return status == wanted;
+    }
+    return is_right && index == wanted_index && needed.bytes == sizes.bytes && needed.spans == sizes.spans && memcmp(buffer, group, sizes.bytes) == 0;
+}
+
 static void ask_first(char **words, unsigned number) {
     uint32_t wanted = (uint32_t)atoi(words[1]);
     text url = text_of(words[2]), base = text_of(words[3]);
-    size_t index = 0;
+    size_t index = 0, wanted_index = (size_t)atoi(words[4]);
     uint32_t status = urlpattern_first(&patterns, url.bytes, url.length, base.bytes, base.length, &index);
-    compare(status == wanted && (status != URLPATTERN_DONE || index == (size_t)atoi(words[4])), number, status);
+    bool is_right = status == wanted && (status != URLPATTERN_DONE || index == wanted_index);
+    compare(is_right && is_same_first(url, base, wanted, wanted_index), number, status);
 }
 
 static void ask(char **words, unsigned number) {
     if (strcmp(words[0], "exec") == 0) {
         ask_exec(words, number);
+    } else if (strcmp(words[0], "groups") == 0) {
+        ask_groups(words, number);
     } else if (strcmp(words[0], "text") == 0) {
         ask_text(words, number);
     } else if (strcmp(words[0], "custom") == 0) {
@@ -104,16 +202,17 @@ static void ask(char **words, unsigned number) {
     } else if (strcmp(words[0], "first") == 0) {
         ask_first(words, number);
     } else {
-        if (strcmp(words[0], "add") == 0) {
+        if (strcmp(words[0], "more") != 0) {
             urlpattern_free(&patterns);
             urlpattern_free(&patterns);
         }
-        uint32_t status = add(words);
+        uint32_t status = strcmp(words[0], "init") == 0 ? add_init(words) : add(words);
         compare(status == (uint32_t)atoi(words[1]), number, status);
     }
 }
 
 int main(void) {
+    compare(urlpattern_version() == URLPATTERN_VERSION, 0, URLPATTERN_DONE);
     for (unsigned number = 1; fgets(line, sizeof line, stdin); number++) {
         char *words[WORDS] = { "", "", "-", "-", "-" };
         int count = 0;

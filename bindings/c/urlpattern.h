@@ -6,7 +6,8 @@
  * - Each text is a pointer and a number of bytes that may be read there. The pointer is not null, even if there are no bytes. That the
  *   bytes are UTF-8 is checked.
  * - Each other pointer leads to a value of its type that may be written, and that nothing else uses during the call; a buffer to as
- *   many bytes as its size says. No two arguments overlap, but for texts.
+ *   many bytes, and an array to as many elements, as its size says. Neither pointer is null, even if the size is 0. No two arguments
+ *   overlap, but for texts.
  * - A handle holds zeros (`URLPATTERN_EMPTY`) before its first call. After that only these functions write it, it is not copied, and one
  *   call at a time has it. Each call of a handle is made by the same thread: that another one may make it is not proved.
  * - `malloc`, `realloc` and `free` come from one allocator, and align a block to each power of two up to 16 that divides its size.
@@ -26,14 +27,20 @@
 extern "C" {
 #endif
 
+/* The version of this header: 1,000 times the first number, and the second. */
+#define URLPATTERN_VERSION 1000
+
+/* The version of the library, written as that of the header. */
+uint32_t urlpattern_version(void);
+
 /* What a call reports. */
 enum urlpattern_status {
     URLPATTERN_DONE = 0,          /* it is done; of a match: there is one */
     URLPATTERN_NO_MATCH = 1,      /* no match, or the text is no URL */
     URLPATTERN_NOT_UTF8 = 2,      /* a text is not UTF-8 */
-    URLPATTERN_REFUSED = 3,       /* the pattern is refused; `urlpattern_diagnose` says why */
+    URLPATTERN_REFUSED = 3,       /* the pattern is refused; `urlpattern_diagnose` and `urlpattern_diagnose_init` say why */
     URLPATTERN_OUT_OF_MEMORY = 4, /* memory ran out; the handle is as it was */
-    URLPATTERN_NO_PATTERN = 5,    /* the handle has no pattern of this index, or there is no component of this number */
+    URLPATTERN_NO_PATTERN = 5,    /* the handle has no pattern of this index, or there is no component or group of this number */
     URLPATTERN_TOO_SMALL = 6      /* the buffer is too small; it is as it was, and `needed` has the size that is needed */
 };
 
@@ -51,6 +58,12 @@ typedef struct urlpattern_list {
  * DONE, NOT_UTF8, REFUSED, or OUT_OF_MEMORY; but for DONE, the patterns are as they were. */
 uint32_t urlpattern_add(urlpattern_list *patterns, const char *text, size_t length, const char *base, size_t base_length,
                         bool ignore_case);
+
+/* Compiles an init, and appends the pattern. The init is an object of JSON with some of `protocol`, `username`, `password`, `hostname`,
+ * `port`, `pathname`, `search`, `hash` and `baseURL`, each a text or null, as browsers take it.
+ * DONE, NOT_UTF8, REFUSED (also where the JSON is no such object, or the base URL is refused), or OUT_OF_MEMORY; but for DONE, the
+ * patterns are as they were. */
+uint32_t urlpattern_add_init(urlpattern_list *patterns, const char *json, size_t length, bool ignore_case);
 
 /* Frees the patterns. The handle is empty again, so that it may be used, or freed once more. */
 void urlpattern_free(urlpattern_list *patterns);
@@ -75,8 +88,42 @@ uint32_t urlpattern_mismatch(urlpattern_list *patterns, size_t index, const char
 uint32_t urlpattern_exec(urlpattern_list *patterns, size_t index, const char *url, size_t length, const char *base, size_t base_length,
                          char *buffer, size_t room, size_t *needed);
 
+/* Where the text of a group lies in a text that is written. */
+typedef struct urlpattern_span {
+    uint32_t component; /* the number of the component, as of `urlpattern_component` */
+    uint32_t took_part; /* 1: the group took part in the match, 0: it took no part, and its text has no bytes */
+    size_t group;       /* the number of the group in its component, from 0 on, as of `urlpattern_group_name` */
+    size_t start;       /* the byte at which its text begins */
+    size_t length;      /* how many bytes its text has */
+} urlpattern_span;
+
+/* How much a match takes. */
+typedef struct urlpattern_sizes {
+    size_t bytes; /* of its text */
+    size_t spans;
+} urlpattern_sizes;
+
+/* Writes what the groups of the pattern of this index capture of a URL: to the buffer the text of each, one after the other, and to the
+ * array a span for each, component by component in the order of their numbers.
+ * DONE, NO_MATCH, NOT_UTF8, OUT_OF_MEMORY, NO_PATTERN, or TOO_SMALL. For DONE and TOO_SMALL `needed` is how many bytes and spans there
+ * are. For TOO_SMALL and OUT_OF_MEMORY the buffer and the array may be written, though not past their sizes; for the others they are as
+ * they were. */
+uint32_t urlpattern_captures(urlpattern_list *patterns, size_t index, const char *url, size_t length, const char *base, size_t base_length,
+                             char *buffer, size_t room, urlpattern_span *spans, size_t span_room, urlpattern_sizes *needed);
+
+/* Finds the first pattern that matches a URL, and writes its index, and its groups as `urlpattern_captures` does.
+ * DONE, NO_MATCH, NOT_UTF8, OUT_OF_MEMORY, NO_PATTERN (an empty handle), or TOO_SMALL, for which `index` is written too. */
+uint32_t urlpattern_first_captures(urlpattern_list *patterns, const char *url, size_t length, const char *base, size_t base_length,
+                                   size_t *index, char *buffer, size_t room, urlpattern_span *spans, size_t span_room,
+                                   urlpattern_sizes *needed);
+
+/* Writes the name of a group, by its number in a component: a group that has none in the pattern is named by a number of its own.
+ * DONE, NO_PATTERN, or TOO_SMALL, with `needed` as of `urlpattern_exec`. */
+uint32_t urlpattern_group_name(urlpattern_list *patterns, size_t index, uint32_t component, size_t group, char *buffer, size_t room,
+                               size_t *needed);
+
 /* Writes the pattern text of a component: 0 protocol, 1 username, 2 password, 3 hostname, 4 port, 5 pathname, 6 search, 7 hash.
- * DONE, NO_PATTERN, or TOO_SMALL, with `needed` as above. */
+ * DONE, NO_PATTERN, or TOO_SMALL, with `needed` as of `urlpattern_exec`. */
 uint32_t urlpattern_component(urlpattern_list *patterns, size_t index, uint32_t component, char *buffer, size_t room, size_t *needed);
 
 /* Whether the pattern of this index has a custom regular expression, as `hasRegExpGroups` of a browser.
@@ -85,15 +132,21 @@ uint32_t urlpattern_has_regexp_groups(urlpattern_list *patterns, size_t index);
 
 /* The part of a text that is at fault, in bytes. */
 typedef struct urlpattern_place {
-    uint32_t subject; /* 0: the pattern's text, 1: the base URL */
+    uint32_t subject; /* 0: the pattern's text, 1: the base URL; of an init, 2 and the number of the component whose text it is */
     size_t start;
     size_t end;
 } urlpattern_place;
 
 /* Writes why `urlpattern_add` refuses these texts, and the place that is at fault.
- * DONE, NO_MATCH (they are accepted), NOT_UTF8, OUT_OF_MEMORY, or TOO_SMALL, with `needed` as above. */
+ * DONE, NO_MATCH (they are accepted), NOT_UTF8, OUT_OF_MEMORY, or TOO_SMALL, with `needed` as of `urlpattern_exec`. */
 uint32_t urlpattern_diagnose(const char *text, size_t length, const char *base, size_t base_length, bool ignore_case, char *buffer,
                              size_t room, size_t *needed, urlpattern_place *place);
+
+/* Writes why `urlpattern_add_init` refuses an init, and the place that is at fault in one of its texts.
+ * DONE, NO_MATCH (it is accepted), NOT_UTF8, REFUSED (the JSON is no init, or the base URL is refused), OUT_OF_MEMORY, or TOO_SMALL, with
+ * `needed` as of `urlpattern_exec`. */
+uint32_t urlpattern_diagnose_init(const char *json, size_t length, bool ignore_case, char *buffer, size_t room, size_t *needed,
+                                  urlpattern_place *place);
 
 #ifdef __cplusplus
 }

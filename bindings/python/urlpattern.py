@@ -13,14 +13,15 @@ import ctypes
 import json
 import os
 
-__all__ = ["URLPattern", "URLPatternList", "URLPatternError"]
+__all__ = ["URLPattern", "URLPatternList", "URLPatternError", "version"]
 
 COMPONENTS = ("protocol", "username", "password", "hostname", "port", "pathname", "search", "hash")
 
 DONE, NO_MATCH, NOT_UTF8, REFUSED, OUT_OF_MEMORY, NO_PATTERN, TOO_SMALL = range(7)
 
-# How many bytes a text is first given room for.
+# How many bytes a text is first given room for, and how many spans a match.
 ROOM = 1024
+SPANS = 16
 
 
 class _Handle(ctypes.Structure):
@@ -31,6 +32,20 @@ class _Place(ctypes.Structure):
     _fields_ = [("subject", ctypes.c_uint32), ("start", ctypes.c_size_t), ("end", ctypes.c_size_t)]
 
 
+class _Span(ctypes.Structure):
+    _fields_ = [
+        ("component", ctypes.c_uint32),
+        ("took_part", ctypes.c_uint32),
+        ("group", ctypes.c_size_t),
+        ("start", ctypes.c_size_t),
+        ("length", ctypes.c_size_t),
+    ]
+
+
+class _Sizes(ctypes.Structure):
+    _fields_ = [("bytes", ctypes.c_size_t), ("spans", ctypes.c_size_t)]
+
+
 def _load():
     path = os.environ.get("URLPATTERN_LIBRARY") or os.path.join(os.path.dirname(os.path.abspath(__file__)), "liburlpattern.so")
     library = ctypes.PyDLL(path)
@@ -38,14 +53,24 @@ def _load():
     texts, room = [text, size, text, size], [ctypes.c_char_p, size, ctypes.POINTER(size)]
     for name, arguments, result in (
         ("add", [handle, *texts, ctypes.c_bool], status),
+        ("add_init", [handle, text, size, ctypes.c_bool], status),
         ("free", [handle], None),
         ("test", [handle, size, *texts], status),
         ("first", [handle, *texts, ctypes.POINTER(size)], status),
         ("mismatch", [handle, size, *texts, ctypes.POINTER(ctypes.c_uint32)], status),
         ("exec", [handle, size, *texts, *room], status),
+        ("captures", [handle, size, *texts, ctypes.c_char_p, size, ctypes.POINTER(_Span), size, ctypes.POINTER(_Sizes)], status),
+        (
+            "first_captures",
+            [handle, *texts, ctypes.POINTER(size), ctypes.c_char_p, size, ctypes.POINTER(_Span), size, ctypes.POINTER(_Sizes)],
+            status,
+        ),
+        ("group_name", [handle, size, ctypes.c_uint32, size, *room], status),
         ("component", [handle, size, ctypes.c_uint32, *room], status),
         ("has_regexp_groups", [handle, size], status),
+        ("version", [], ctypes.c_uint32),
         ("diagnose", [*texts, ctypes.c_bool, *room, ctypes.POINTER(_Place)], status),
+        ("diagnose_init", [text, size, ctypes.c_bool, *room, ctypes.POINTER(_Place)], status),
     ):
         function = getattr(library, f"urlpattern_{name}")
         function.argtypes, function.restype = arguments, result
@@ -54,15 +79,23 @@ def _load():
 
 _library = _load()
 _test = _library.urlpattern_test
+_captures = _library.urlpattern_captures
+
+
+def version():
+    """The version of the library, as a tuple of two numbers."""
+    return divmod(_library.urlpattern_version(), 1000)
 
 
 class URLPatternError(ValueError):
-    """A pattern is refused. `place` is the span of bytes of the pattern, or of the base URL if `in_base`, that is at fault."""
+    """A pattern is refused. `place` is the span of bytes that is at fault: of the pattern, or of the base URL if `in_base`, or of the text of
+    `component` in a dict. It is None where nothing more is known."""
 
-    def __init__(self, message, place=None, in_base=False):
+    def __init__(self, message, place=None, in_base=False, component=None):
         super().__init__(message)
         self.place = place
         self.in_base = in_base
+        self.component = component
 
 
 def _bytes(text):
@@ -89,20 +122,21 @@ def _checked(status):
     return status == DONE
 
 
-def _refusal(pattern, base, ignore_case):
-    """The error that says why a constructor string is refused."""
+def _refusal(diagnose, *arguments):
+    """The error that says why a pattern is refused."""
     needed, place, room = ctypes.c_size_t(), _Place(), ROOM
     while True:
         buffer = ctypes.create_string_buffer(room)
-        status = _library.urlpattern_diagnose(
-            pattern, len(pattern), base, len(base), ignore_case, buffer, room, ctypes.byref(needed), ctypes.byref(place)
-        )
+        status = diagnose(*arguments, buffer, room, ctypes.byref(needed), ctypes.byref(place))
         if status != TOO_SMALL:
             break
         room = needed.value
     if status == OUT_OF_MEMORY:
         return MemoryError("out of memory")
-    return URLPatternError(buffer.raw[: needed.value].decode(), (place.start, place.end), place.subject == 1)
+    if status != DONE:
+        return URLPatternError("no texts of components, or the base URL is refused")
+    component = COMPONENTS[place.subject - 2] if place.subject > 1 else None
+    return URLPatternError(buffer.raw[: needed.value].decode(), (place.start, place.end), place.subject == 1, component)
 
 
 class URLPatternList:
@@ -112,15 +146,27 @@ class URLPatternList:
         self._handle = _Handle()
         self._address = ctypes.byref(self._handle)
         self._length = 0
+        self._names = {}
+        self._room(ROOM, SPANS)
         for pattern in patterns:
             self.append(pattern)
 
     def append(self, pattern, base=None, *, ignore_case=False):
-        """Compiles a constructor string, with a base URL if there is one, and appends the pattern."""
-        text, base = pattern.encode(), _bytes(base)
-        status = _library.urlpattern_add(self._address, text, len(text), base, len(base), ignore_case)
+        """Compiles a constructor string, with a base URL if there is one, or a dict of the texts of components with a `baseURL`, and appends
+        the pattern."""
+        if isinstance(pattern, dict):
+            if base is not None:
+                raise URLPatternError("the base URL of a dict is its `baseURL`")
+            add, diagnose = _library.urlpattern_add_init, _library.urlpattern_diagnose_init
+            text = json.dumps(pattern).encode()
+            arguments = text, len(text), ignore_case
+        else:
+            add, diagnose = _library.urlpattern_add, _library.urlpattern_diagnose
+            text, base = pattern.encode(), _bytes(base)
+            arguments = text, len(text), base, len(base), ignore_case
+        status = add(self._address, *arguments)
         if status == REFUSED:
-            raise _refusal(text, base, ignore_case)
+            raise _refusal(diagnose, *arguments)
         if status == OUT_OF_MEMORY:
             raise MemoryError("out of memory")
         self._length += 1
@@ -155,6 +201,50 @@ class URLPatternList:
         status, text = _written(_library.urlpattern_exec, self._address, index, url, len(url), base, len(base))
         return json.loads(text) if _checked(status) else None
 
+    def _room(self, size, spans):
+        """Makes room for a match of this size."""
+        self._buffer, self._spans, self._sizes = ctypes.create_string_buffer(size), (_Span * spans)(), _Sizes()
+        self._memory = self._buffer, size, self._spans, spans, ctypes.byref(self._sizes)
+
+    def captures(self, index, url, base=None):
+        """The groups of the match of the pattern of this index, or None: a list of tuples of the component, the name, and what the group
+        captured, which is None where it took no part. They are in the order of the pattern, component by component."""
+        url, base = url.encode(), _bytes(base)
+        found = self._matched(_captures, index, url, len(url), base, len(base))
+        return self._groups(index) if found else None
+
+    def first_captures(self, url, base=None):
+        """The index of the first pattern that matches, with its groups as `captures` gives them, or None."""
+        url, base, index = url.encode(), _bytes(base), ctypes.c_size_t()
+        found = self._length > 0 and self._matched(_library.urlpattern_first_captures, url, len(url), base, len(base), ctypes.byref(index))
+        return (index.value, self._groups(index.value)) if found else None
+
+    def _matched(self, function, *arguments):
+        """Whether there is a match, which is then written to the room for it."""
+        status = TOO_SMALL
+        while status == TOO_SMALL:
+            status = function(self._address, *arguments, *self._memory)
+            if status == TOO_SMALL:
+                self._room(max(self._sizes.bytes, ROOM), max(self._sizes.spans, SPANS))
+        return _checked(status)
+
+    def _groups(self, index):
+        """The groups of the match that is written."""
+        text, names = self._buffer[: self._sizes.bytes], self._names
+        found = []
+        for span in self._spans[: self._sizes.spans]:
+            key = index, span.component, span.group
+            name = names.get(key) or self._name(key)
+            found.append((*name, text[span.start : span.start + span.length].decode() if span.took_part else None))
+        return found
+
+    def _name(self, key):
+        """The component and the name of a group."""
+        status, text = _written(_library.urlpattern_group_name, self._address, *key)
+        _checked(status)
+        name = self._names[key] = COMPONENTS[key[1]], text
+        return name
+
     def component(self, index, name):
         """The pattern text of a component."""
         status, text = _written(_library.urlpattern_component, self._address, index, COMPONENTS.index(name))
@@ -170,7 +260,7 @@ class URLPatternList:
 
 
 class URLPattern:
-    """A pattern: a constructor string, with a base URL if there is one."""
+    """A pattern: a constructor string, with a base URL if there is one, or a dict of the texts of components with a `baseURL`."""
 
     __slots__ = ("_list", "_address")
 
@@ -197,6 +287,11 @@ class URLPattern:
     def exec(self, url, base=None):
         """The match, or None: a dict of components, each with `input` and `groups`."""
         return self._list.exec(0, url, base)
+
+    def captures(self, url, base=None):
+        """The groups of the match, or None: a list of tuples of the component, the name, and what the group captured, which is None where
+        it took no part. It has what `exec` has, in the order of the pattern, and takes less time."""
+        return self._list.captures(0, url, base)
 
     def __repr__(self):
         texts = {name: getattr(self, name) for name in COMPONENTS}

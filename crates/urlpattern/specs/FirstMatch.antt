@@ -1,13 +1,13 @@
 -- What the first match of a list of patterns is.
-use Rattle.std.specs.Prelude.{◌≡◌, ◌⊎◌, ℕ, List, map, take, All, Option, Some, None, option_map, slice_get}
+use Rattle.std.specs.Prelude.{◌≡◌, ◌⊎◌, ℕ, List, map, take, All, Option, Some, None, IfSome, option_map, slice_get}
 use Rattle.urlpattern_init.specs.declared.init.UrlPatternMatchInput.{UrlPatternMatchInput}
 use Rattle.urlpattern_eight.specs.declared.eight.ComponentName.{ComponentName}
 use Rattle.urlpattern_pattern.specs.declared.pattern.UrlPattern.{UrlPattern}
 use Rattle.urlpattern_matches.specs.declared.captures.UrlPatternCaptures.{UrlPatternCaptures}
 use Rattle.urlpattern_matches.specs.declared.result.UrlPatternResult.{UrlPatternResult}
-use Rattle.urlpattern_matches.specs.BorrowedMatches.{pattern_captures_view}
+use Rattle.urlpattern_matches.specs.BorrowedMatches.{groups_view, pattern_captures_view}
 use Rattle.urlpattern_pattern.specs.Patterns.{PatternView, pattern_view}
-use Rattle.urlpattern_pattern.specs.Match.{AreMatched, AsksAnEngine, HasMatch, HasNoMatch, IsMatch, IsMatchOf, IsRefused}
+use Rattle.urlpattern_pattern.specs.Match.{AreGroupsInOrder, AreMatched, AsksAnEngine, HasMatch, HasNoMatch, IsMatch, IsMatchOf, IsRefused}
 use Rattle.urlpattern_matches.specs.ResultViews.{ResultView, result_view}
 use Rattle.urlpattern_meaning.specs.PartMeaning.{Captures}
 use Rattle.urlpattern_eight.specs.Eight.{Texts}
@@ -40,6 +40,12 @@ IsFirstMatchOf {E} answer patterns texts (Some first) =
     ((pattern : PatternView E) × (slice_get patterns first.0 ≡ Some pattern) × IsMatchOf answer pattern texts first.1)
     × All (λ earlier. IsRefused answer earlier texts) (take first.0 patterns)
 IsFirstMatchOf answer patterns texts None = All (λ pattern. IsRefused answer pattern texts) patterns
+
+-- where a match of eight texts is found, its groups are those of the pattern at its index, in their order
+abbrev pub HasGroupsInOrder : {E : Type 0} → (answer : E → List ℕ → Option Captures) → List (PatternView E) → Texts → Option (ℕ × UrlPatternCaptures) → Type 0
+HasGroupsInOrder {E} answer patterns texts found =
+    IfSome found (λ first. (pattern : PatternView E) × (slice_get patterns first.0 ≡ Some pattern)
+    × AreGroupsInOrder answer pattern texts (groups_view first.1))
 
 -- a pattern asks an engine about eight texts, and none before it matches them
 abbrev pub AsksBeforeMatch : {E : Type 0} → (answer : E → List ℕ → Option Captures) → List (PatternView E) → Texts → Type 0

@@ -10,7 +10,7 @@ ghost use Rattle.std.specs.Slice.Iter.{iter_rest};
 ghost use Rattle.urlpattern_init.specs.Inheritance.{texts_of_url};
 ghost use Rattle.urlpattern_init.specs.declared.init.UrlPatternMatchInput.TheVariants as inputs;
 ghost use Rattle.urlpattern_matches.specs.GroupTexts.{borrowed_texts};
-ghost use Rattle.urlpattern.specs.FirstMatch.{first_captures_view, first_view, patterns_view, CopiesFirstMatch, IsFirstMatch, IsFirstMatchOf, AsksBeforeMatch};
+ghost use Rattle.urlpattern.specs.FirstMatch.{first_captures_view, first_view, patterns_view, CopiesFirstMatch, HasGroupsInOrder, IsFirstMatch, IsFirstMatchOf, AsksBeforeMatch};
 ghost use Rattle.urlpattern.specs.PatternKeys.{address_of};
 ghost use Rattle.urlpattern_index.specs.FixedTexts.{address_texts};
 ghost use Rattle.urlpattern_index.specs.Keys.{hashes_of, hashes_view};
@@ -239,6 +239,7 @@ impl<R: RegExp> UrlPatternList<R> {
         url: &'u Url,
     ) -> Result<Option<(usize, UrlPatternCaptures<'p, 'u>)>, Error>
         ensures first { IfOk result (λ found. IsFirstMatch R.answer (patterns_view self.now) (inputs.Url url.now) (first_captures_view found)) }
+        ensures groups { IfOk result (HasGroupsInOrder R.answer (patterns_view self.now) (texts_of_url url.now)) }
         ensures memory { OnlyOutOfMemory result }
         ensures asked { IfErr result (λ _. AsksBeforeMatch R.answer (patterns_view self.now) (texts_of_url url.now)) }
     {
@@ -261,6 +262,7 @@ impl<R: RegExp> UrlPatternList<R> {
         input: &'u MatchInput,
     ) -> Result<Option<(usize, UrlPatternCaptures<'p, 'u>)>, Error>
         ensures first { IfOk result (λ found. IsFirstMatchOf R.answer (patterns_view self.now) (texts_view input.now) (first_captures_view found)) }
+        ensures groups { IfOk result (HasGroupsInOrder R.answer (patterns_view self.now) (texts_view input.now)) }
         ensures memory { OnlyOutOfMemory result }
         ensures asked { IfErr result (λ _. AsksBeforeMatch R.answer (patterns_view self.now) (texts_view input.now)) }
     {
@@ -305,6 +307,7 @@ impl<R: RegExp> UrlPatternList<R> {
     ) -> Result<Option<(usize, UrlPatternCaptures<'p, 'u>)>, OutOfMemory>
         ensures first { IfOk result (λ found.
             IsFirstMatchOf R.answer (patterns_view self.now) (borrowed_texts texts.entry) (first_captures_view found)) }
+        ensures groups { IfOk result (HasGroupsInOrder R.answer (patterns_view self.now) (borrowed_texts texts.entry)) }
         ensures asked { IfErr result (λ _. AsksBeforeMatch R.answer (patterns_view self.now) (borrowed_texts texts.entry)) }
     {
         self.first_from(alloc, &texts, 0)
@@ -321,6 +324,7 @@ impl<R: RegExp> UrlPatternList<R> {
     ) -> Result<Option<(usize, UrlPatternCaptures<'p, 'u>)>, OutOfMemory>
         ensures first { IfOk result (λ found.
             IsFirstMatchFrom R.answer (patterns_view self.now) (borrowed_texts texts.now) from (first_captures_view found)) }
+        ensures groups { IfOk result (HasGroupsInOrder R.answer (patterns_view self.now) (borrowed_texts texts.now)) }
         ensures asked { IfErr result (λ _. AsksBeforeMatchFrom R.answer (patterns_view self.now) (borrowed_texts texts.now) from) }
     {
         let mut hashes = AddressHashes::new();
@@ -349,6 +353,7 @@ impl<R: RegExp> UrlPatternList<R> {
         requires hashes { hashes_view hashes.now ≡ hashes_of (address_of (borrowed_texts texts.now)) }
         ensures first { IfOk result (λ found.
             IsFirstMatchFrom R.answer (patterns_view self.now) (borrowed_texts texts.now) index (first_captures_view found)) }
+        ensures groups { IfOk result (HasGroupsInOrder R.answer (patterns_view self.now) (borrowed_texts texts.now)) }
         ensures asked { IfErr result (λ _. AsksBeforeMatchFrom R.answer (patterns_view self.now) (borrowed_texts texts.now) index) }
     {
         let mut found = Some(index);

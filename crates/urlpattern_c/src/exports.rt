@@ -2,13 +2,17 @@
 ghost use Rattle.std.specs.Prelude.{◌≡◌, None};
 ghost use Rattle.urlpattern_c.specs.Handles.{patterns_in};
 ghost use Rattle.urlpattern_calls.specs.Calls.{IsAdded, IsFirstReported, IsTested, ReturnsStatus};
+ghost use Rattle.urlpattern_calls.specs.Diagnoses.{IsDiagnosed, IsInitDiagnosed};
+ghost use Rattle.urlpattern_calls.specs.Inits.{IsInitAdded};
 ghost use Rattle.urlpattern_calls.specs.Mismatches.{IsCustomReported, IsMismatchReported};
-ghost use Rattle.urlpattern_calls.specs.Texts.{IsComponentWritten, IsDiagnosed, IsExecReported};
+ghost use Rattle.urlpattern_calls.specs.Spans.{AreCapturesReported, AreFirstCaptures};
+ghost use Rattle.urlpattern_calls.specs.Texts.{IsComponentWritten, IsExecReported, IsGroupNameWritten};
 
 use crate::patterns::Patterns;
 use std::alloc::Global;
 use urlpattern_calls::{
-    Place, add, diagnose, execute, first, has_regexp_groups, mismatch, test, write_component,
+    Place, Sizes, Span, add, add_init, captures, diagnose, diagnose_init, execute, first,
+    first_captures, has_regexp_groups, mismatch, test, version, write_component, write_group_name,
 };
 
 /// Compiles a constructor string, with a base URL unless that is empty, and appends the pattern.
@@ -24,6 +28,22 @@ pub extern "C" fn urlpattern_add(
 {
     let mut kept = patterns.take(alloc);
     let status = add(alloc, &mut kept, text, base, ignore_case);
+    patterns.put(kept);
+    status.number()
+}
+
+/// Compiles an init, an object of JSON, and appends the pattern.
+#[unsafe(no_mangle)]
+pub extern "C" fn urlpattern_add_init(
+    alloc: Global,
+    patterns: &mut Patterns,
+    json: &[u8],
+    ignore_case: bool,
+) -> u32
+    ensures { ReturnsStatus (IsInitAdded (patterns_in patterns.old) json.now ignore_case (patterns_in patterns.new)) result }
+{
+    let mut kept = patterns.take(alloc);
+    let status = add_init(alloc, &mut kept, json, ignore_case);
     patterns.put(kept);
     status.number()
 }
@@ -111,6 +131,71 @@ pub extern "C" fn urlpattern_exec(
     status.number()
 }
 
+/// Writes what the groups of a pattern capture of a URL, and a span for each group.
+#[unsafe(no_mangle)]
+pub extern "C" fn urlpattern_captures(
+    alloc: Global,
+    patterns: &mut Patterns,
+    index: usize,
+    url: &[u8],
+    base: &[u8],
+    buffer: &mut [u8],
+    spans: &mut [Span],
+    needed: &mut Sizes,
+) -> u32
+    ensures answer { ReturnsStatus
+        (AreCapturesReported (patterns_in patterns.old) index url.now base.now buffer.old buffer.new spans.old spans.new needed.new) result }
+    ensures unchanged { patterns_in patterns.new ≡ patterns_in patterns.old }
+{
+    let kept = patterns.take(alloc);
+    let status = captures(alloc, &kept, index, url, base, buffer, spans, needed);
+    patterns.put(kept);
+    status.number()
+}
+
+/// Finds the first pattern that matches a URL, and writes its index, what its groups capture, and a span for each group.
+#[unsafe(no_mangle)]
+pub extern "C" fn urlpattern_first_captures(
+    alloc: Global,
+    patterns: &mut Patterns,
+    url: &[u8],
+    base: &[u8],
+    index: &mut usize,
+    buffer: &mut [u8],
+    spans: &mut [Span],
+    needed: &mut Sizes,
+) -> u32
+    ensures answer { ReturnsStatus (AreFirstCaptures (patterns_in patterns.old) url.now base.now index.old index.new
+        buffer.old buffer.new spans.old spans.new needed.new) result }
+    ensures unchanged { patterns_in patterns.new ≡ patterns_in patterns.old }
+{
+    let kept = patterns.take(alloc);
+    let status = first_captures(alloc, &kept, url, base, index, buffer, spans, needed);
+    patterns.put(kept);
+    status.number()
+}
+
+/// Writes the name of a group, by its number in a component.
+#[unsafe(no_mangle)]
+pub extern "C" fn urlpattern_group_name(
+    alloc: Global,
+    patterns: &mut Patterns,
+    index: usize,
+    component: u32,
+    group: usize,
+    buffer: &mut [u8],
+    needed: &mut usize,
+) -> u32
+    ensures answer { ReturnsStatus
+        (IsGroupNameWritten (patterns_in patterns.old) index component group buffer.old buffer.new needed.new) result }
+    ensures unchanged { patterns_in patterns.new ≡ patterns_in patterns.old }
+{
+    let kept = patterns.take(alloc);
+    let status = write_group_name(&kept, index, component, group, buffer, needed);
+    patterns.put(kept);
+    status.number()
+}
+
 /// Writes the pattern text of a component.
 #[unsafe(no_mangle)]
 pub extern "C" fn urlpattern_component(
@@ -160,4 +245,27 @@ pub extern "C" fn urlpattern_diagnose(
     ensures { ReturnsStatus (IsDiagnosed text.now base.now ignore_case buffer.old buffer.new needed.new place.new) result }
 {
     diagnose(alloc, text, base, ignore_case, buffer, needed, place).number()
+}
+
+/// Writes why an init is refused, and which text of it is at fault where.
+#[unsafe(no_mangle)]
+pub extern "C" fn urlpattern_diagnose_init(
+    alloc: Global,
+    json: &[u8],
+    ignore_case: bool,
+    buffer: &mut [u8],
+    needed: &mut usize,
+    place: &mut Place,
+) -> u32
+    ensures { ReturnsStatus (IsInitDiagnosed json.now ignore_case buffer.old buffer.new needed.new place.new) result }
+{
+    diagnose_init(alloc, json, ignore_case, buffer, needed, place).number()
+}
+
+/// The version: 1,000 times its first number, and its second.
+#[unsafe(no_mangle)]
+pub extern "C" fn urlpattern_version() -> u32
+    ensures { result ≡ 1000 }
+{
+    version()
 }

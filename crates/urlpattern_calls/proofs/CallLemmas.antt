@@ -1,5 +1,5 @@
 -- Lemmas on what calls report.
-use Rattle.std.proofs.Common.{◌≡◌, ℕ, Bool, List, length, refl, inl, inr, ◌⊎◌}
+use Rattle.std.proofs.Common.{◌≡◌, ℕ, Bool, List, length, refl, inl, inr, ◌⊎◌, ap, subst, sym}
 use Rattle.std.specs.Str.{chars}
 use Rattle.urlpattern.specs.Errors.{ErrorView, MemoryOr, error_view}
 use Rattle.urlpattern.specs.Errors.{ErrorView as views}
@@ -8,8 +8,10 @@ use Rattle.urlpattern.specs.Patterns.{pattern_view}
 use Rattle.std.specs.Prelude.{slice_get, Some}
 use Rattle.urlpattern.specs.Eight.{components}
 use Rattle.urlpattern_calls.specs.Calls.{given_base, c_options, error_status, IsAdded, IsPushed, IsTested, IsUrlTested}
+use Rattle.urlpattern_calls.specs.Diagnoses.{init_subject_number, subject_number, IsDiagnosed, IsDiagnosis, IsInitDiagnosed, RefusesText}
+use Rattle.urlpattern_calls.specs.Inits.{IsInitRefused}
 use Rattle.urlpattern_calls.specs.Mismatches.{IsMismatchReported, IsUrlMismatched}
-use Rattle.urlpattern_calls.specs.Texts.{IsComponentWritten, IsDiagnosed, IsDiagnosis, IsExecReported, IsUrlExecuted, IsWritten}
+use Rattle.urlpattern_calls.specs.Texts.{group_name_at, IsComponentWritten, IsExecReported, IsGroupNameWritten, IsUrlExecuted, IsWritten}
 use Rattle.urlpattern_calls.specs.declared.diagnosing.Place.{Place}
 use Rattle.urlpattern_eight.specs.declared.eight.ComponentName.{ComponentName}
 use Rattle.urlpattern_calls.specs.declared.status.Status.{Status}
@@ -30,28 +32,32 @@ added old text base ignores pattern new statuses.OutOfMemory is pushed = pushed
 added old text base ignores pattern new statuses.NoPattern is pushed = absurd pushed
 added old text base ignores pattern new statuses.TooSmall is pushed = absurd pushed
 
--- an error that is not that memory ran out says why the pattern is refused
-refused_by : (old : List (UrlPattern PatternRegexp)) (text base : List ℕ) (ignores : Bool) (error : ErrorView)
-    → (error ≡ views.OutOfMemory) ⊎ RefusesPatternOfText pattern_engine (chars text) (given_base base) (c_options ignores) error → IsAdded old text base ignores old (error_status error)
-refused_by old text base ignores views.OutOfMemory why = refl
-refused_by old text base ignores views.BaseUrlRequired (inl memory) = absurd cc
-refused_by old text base ignores views.BaseUrlRequired (inr why) = (views.BaseUrlRequired, why, refl)
-refused_by old text base ignores views.BaseUrlWithInit (inl memory) = absurd cc
-refused_by old text base ignores views.BaseUrlWithInit (inr why) = (views.BaseUrlWithInit, why, refl)
-refused_by old text base ignores (views.Tokenizer fault place) (inl memory) = absurd cc
-refused_by old text base ignores (views.Tokenizer fault place) (inr why) = (views.Tokenizer fault place, why, refl)
-refused_by old text base ignores (views.ExpectedToken expected found value) (inl memory) = absurd cc
-refused_by old text base ignores (views.ExpectedToken expected found value) (inr why) = (views.ExpectedToken expected found value, why, refl)
-refused_by old text base ignores (views.DuplicateName name) (inl memory) = absurd cc
-refused_by old text base ignores (views.DuplicateName name) (inr why) = (views.DuplicateName name, why, refl)
-refused_by old text base ignores (views.Url reason) (inl memory) = absurd cc
-refused_by old text base ignores (views.Url reason) (inr why) = (views.Url reason, why, refl)
-refused_by old text base ignores views.RegExp (inl memory) = absurd cc
-refused_by old text base ignores views.RegExp (inr why) = (views.RegExp, why, refl)
+-- an error is reported in one of two ways
+two_statuses : (error : ErrorView) → (error_status error ≡ statuses.OutOfMemory) ⊎ (error_status error ≡ statuses.Refused)
+two_statuses views.OutOfMemory = inl refl
+two_statuses views.BaseUrlRequired = inr refl
+two_statuses views.BaseUrlWithInit = inr refl
+two_statuses (views.Tokenizer fault place) = inr refl
+two_statuses (views.ExpectedToken expected found value) = inr refl
+two_statuses (views.DuplicateName name) = inr refl
+two_statuses (views.Url reason) = inr refl
+two_statuses views.RegExp = inr refl
+
+-- what holds where memory ran out, and where there is a reason, holds of the status that is reported
+pub reported : (Holds : Status → Type 0) (Reason : ErrorView → Type 0) (error : Error) → Holds statuses.OutOfMemory → (Reason (error_view error) → Holds statuses.Refused)
+    → MemoryOr Reason error → Holds (error_status (error_view error))
+reported Holds Reason error memory refused (inl out) = subst Holds (sym (ap error_status out)) memory
+reported Holds Reason error memory refused (inr reason) =
+    elim (two_statuses (error_view error)) [
+      | inl is ↦ subst Holds (sym is) memory
+      | inr is ↦ subst Holds (sym is) (refused reason)
+    ]
 
 pub refused : (old : List (UrlPattern PatternRegexp)) (text base : List ℕ) (ignores : Bool) (error : Error)
     → MemoryOr (RefusesPatternOfText pattern_engine (chars text) (given_base base) (c_options ignores)) error → IsAdded old text base ignores old (error_status (error_view error))
-refused old text base ignores error why = refused_by old text base ignores (error_view error) why
+refused old text base ignores error why =
+    reported (IsAdded old text base ignores old) (RefusesPatternOfText pattern_engine (chars text) (given_base base) (c_options ignores)) error refl
+    (λ reason. (error_view error, reason, refl)) why
 
 -- ---- answers of the pattern at an index
 
@@ -99,7 +105,8 @@ component_written patterns index component pattern name text old new needed stat
 component_written patterns index component pattern name text old new needed statuses.TooSmall is named same counted written = (text, (pattern, name, is, named, same), counted, written)
 
 pub diagnosed : (text base : List ℕ) (ignores : Bool) (place : Place) (reason old new : List ℕ) (needed : ℕ) (status : Status)
-    → IsDiagnosis text base ignores place reason → needed ≡ length reason → IsWritten reason old new status → IsDiagnosed text base ignores old new needed place status
+    → IsDiagnosis (RefusesText text base ignores) subject_number place reason → needed ≡ length reason → IsWritten reason old new status
+    → IsDiagnosed text base ignores old new needed place status
 diagnosed text base ignores place reason old new needed statuses.Done is counted written = (reason, is, counted, written)
 diagnosed text base ignores place reason old new needed statuses.NoMatch is counted written = absurd written
 diagnosed text base ignores place reason old new needed statuses.NotUtf8 is counted written = absurd written
@@ -107,3 +114,25 @@ diagnosed text base ignores place reason old new needed statuses.Refused is coun
 diagnosed text base ignores place reason old new needed statuses.OutOfMemory is counted written = absurd written
 diagnosed text base ignores place reason old new needed statuses.NoPattern is counted written = absurd written
 diagnosed text base ignores place reason old new needed statuses.TooSmall is counted written = (reason, is, counted, written)
+
+pub init_diagnosed : (json : List ℕ) (ignores : Bool) (place : Place) (reason old new : List ℕ) (needed : ℕ) (status : Status)
+    → IsDiagnosis (IsInitRefused json ignores) init_subject_number place reason → needed ≡ length reason → IsWritten reason old new status
+    → IsInitDiagnosed json ignores old new needed place status
+init_diagnosed json ignores place reason old new needed statuses.Done is counted written = (reason, is, counted, written)
+init_diagnosed json ignores place reason old new needed statuses.NoMatch is counted written = absurd written
+init_diagnosed json ignores place reason old new needed statuses.NotUtf8 is counted written = absurd written
+init_diagnosed json ignores place reason old new needed statuses.Refused is counted written = absurd written
+init_diagnosed json ignores place reason old new needed statuses.OutOfMemory is counted written = absurd written
+init_diagnosed json ignores place reason old new needed statuses.NoPattern is counted written = absurd written
+init_diagnosed json ignores place reason old new needed statuses.TooSmall is counted written = (reason, is, counted, written)
+
+pub group_named : (patterns : List (UrlPattern PatternRegexp)) (index component group : ℕ) (text old new : List ℕ) (needed : ℕ) (status : Status)
+    → Some (chars text) ≡ group_name_at patterns index component group → needed ≡ length text → IsWritten text old new status
+    → IsGroupNameWritten patterns index component group old new needed status
+group_named patterns index component group text old new needed statuses.Done is counted written = (text, is, counted, written)
+group_named patterns index component group text old new needed statuses.NoMatch is counted written = absurd written
+group_named patterns index component group text old new needed statuses.NotUtf8 is counted written = absurd written
+group_named patterns index component group text old new needed statuses.Refused is counted written = absurd written
+group_named patterns index component group text old new needed statuses.OutOfMemory is counted written = absurd written
+group_named patterns index component group text old new needed statuses.NoPattern is counted written = absurd written
+group_named patterns index component group text old new needed statuses.TooSmall is counted written = (text, is, counted, written)

@@ -1,1 +1,3 @@
 pub mod CallLemmas
+pub mod InitLemmas
+pub mod SpanLemmas

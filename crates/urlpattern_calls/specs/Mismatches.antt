@@ -8,6 +8,7 @@ use Rattle.urlpattern_calls.specs.Kept.{PatternList}
 use Rattle.urlpattern_calls.specs.declared.status.Status.{Status}
 use Rattle.urlpattern_calls.specs.declared.status.Status.TheVariants as statuses
 use Rattle.urlpattern_eight.specs.declared.eight.ComponentName.{ComponentName}
+use Rattle.urlpattern_eight.specs.declared.eight.ComponentName.TheVariants as names
 use Rattle.urlpattern_engine.specs.PatternRegexps.{pattern_answer}
 use Rattle.urlpattern_engine.specs.declared.pattern_regexp.PatternRegexp.{PatternRegexp}
 use Rattle.urlpattern_init.specs.Inheritance.{texts_of_url}
@@ -17,6 +18,17 @@ use Rattle.urlpattern_pattern.specs.declared.pattern.UrlPattern.{UrlPattern}
 -- the number that is no component's
 abbrev pub no_component : ℕ
 no_component = 8
+
+-- the number of a component, its place in the order of the standard
+abbrev pub component_number : ComponentName → ℕ
+component_number names.Protocol = 0
+component_number names.Username = 1
+component_number names.Password = 2
+component_number names.Hostname = 3
+component_number names.Port = 4
+component_number names.Pathname = 5
+component_number names.Search = 6
+component_number names.Hash = 7
 
 -- the number is that of the first component that does not match the URL of the text
 abbrev pub IsMismatchNumber : PatternView PatternRegexp → (text base : List ℕ) → (number : ℕ) → Type 0

@@ -1,23 +1,19 @@
 -- What calls write to memory of C's, of texts that are bytes.
-use Rattle.std.specs.Prelude.{◌≡◌, ◌⊎◌, ◌++◌, ◌<◌, ◌≤◌, ℕ, Bool, List, length, drop, slice_get, None, Some, string_bytes}
+use Rattle.std.specs.Prelude.{◌≡◌, ◌⊎◌, ◌++◌, ◌<◌, ◌≤◌, ℕ, List, length, drop, slice_get, Option, None, Some, option_and_then}
 use Rattle.std.specs.Str.{chars}
 use Rattle.serde_json.specs.Data.{Data, depth}
 use Rattle.serde_json.specs.Read.{read, max_depth}
 use Rattle.url.specs.Parts.{Parts}
 use Rattle.urlpattern.specs.Eight.{components}
-use Rattle.urlpattern.specs.Errors.{error_view}
-use Rattle.urlpattern.specs.FromString.{IsPatternOfText, RefusesPatternOfText}
 use Rattle.urlpattern.specs.Match.{IsMatch}
 use Rattle.urlpattern.specs.Patterns.{PatternView, pattern_view}
 use Rattle.urlpattern.specs.ResultViews.{result_view}
-use Rattle.urlpattern_calls.specs.Calls.{given_base, c_options, IsNoUrl, IsUrlUnderBase, IsUrlTested}
-use Rattle.urlpattern_calls.specs.declared.diagnosing.Place.{Place}
+use Rattle.urlpattern_calls.specs.Calls.{IsUrlUnderBase, IsUrlTested}
+use Rattle.urlpattern_calls.specs.Kept.{PatternList}
 use Rattle.urlpattern_calls.specs.declared.status.Status.{Status}
 use Rattle.urlpattern_calls.specs.declared.status.Status.TheVariants as statuses
-use Rattle.urlpattern_diagnosis.specs.declared.diagnosis.{Diagnosis.Diagnosis, Subject.Subject}
-use Rattle.urlpattern_diagnosis.specs.declared.diagnosis.Subject.TheVariants as subjects
 use Rattle.urlpattern_eight.specs.declared.eight.ComponentName.{ComponentName}
-use Rattle.urlpattern_engine.specs.PatternRegexps.{pattern_answer, pattern_engine}
+use Rattle.urlpattern_engine.specs.PatternRegexps.{pattern_answer}
 use Rattle.urlpattern_engine.specs.declared.pattern_regexp.PatternRegexp.{PatternRegexp}
 use Rattle.urlpattern_init.specs.declared.init.UrlPatternMatchInput.TheVariants as match_inputs
 use Rattle.urlpattern_matches.specs.ResultJson.{IsResultTree, plain_results_view}
@@ -46,6 +42,20 @@ abbrev pub IsComponentWritten : List (UrlPattern PatternRegexp) → (index compo
 IsComponentWritten patterns index component old new needed statuses.NoPattern =
     ((slice_get patterns index ≡ None) ⊎ (slice_get components component ≡ None)) × (new ≡ old)
 IsComponentWritten patterns index component old new needed status = WritesToBuffer (IsTextOfComponent patterns index component) old new needed status
+
+-- ---- names of groups
+
+-- the name of a group, by its number in a component
+abbrev pub group_name_at : PatternList → (index component group : ℕ) → Option (List ℕ)
+group_name_at patterns index component group =
+    option_and_then (λ pattern. option_and_then (λ name. slice_get (pattern_view pattern name).group_name_list group) (slice_get components component))
+    (slice_get patterns index)
+
+abbrev pub IsGroupNameWritten : PatternList → (index component group : ℕ) → (old new : List ℕ) → (needed : ℕ) → Status → Type 0
+IsGroupNameWritten patterns index component group old new needed statuses.NoPattern =
+    (group_name_at patterns index component group ≡ None) × (new ≡ old)
+IsGroupNameWritten patterns index component group old new needed status =
+    WritesToBuffer (λ text. Some (chars text) ≡ group_name_at patterns index component group) old new needed status
 
 -- ---- matches
 
@@ -77,27 +87,3 @@ IsExecReported patterns index url base old new needed statuses.NoPattern = (slic
 IsExecReported patterns index url base old new needed status =
     (pattern : UrlPattern PatternRegexp) × (slice_get patterns index ≡ Some pattern)
     × IsUrlExecuted (pattern_view pattern) url base old new needed status
-
--- ---- diagnoses
-
--- 1 where the base URL is at fault, and 0 where the pattern is
-abbrev pub subject_number : Subject → ℕ
-subject_number subjects.Base = 1
-subject_number subject = 0
-
--- the pattern is refused as the diagnosis says, and the place is where its text is at fault
-pub record IsDiagnosis (text base : List ℕ) (ignore_case : Bool) (place : Place) (reason : List ℕ) : Type 0 where
-  pub diagnosis : Diagnosis
-  pub is_refused : RefusesPatternOfText pattern_engine (chars text) (given_base base) (c_options ignore_case) (error_view diagnosis.error)
-  pub is_reason : reason ≡ string_bytes diagnosis.reason
-  pub is_subject : place.subject ≡ subject_number diagnosis.subject
-  pub is_start : place.start ≡ diagnosis.fault.span.start
-  pub is_end : place.end ≡ diagnosis.fault.span.end
-
--- Why the pattern is refused is written; NoMatch: it is not refused.
-abbrev pub IsDiagnosed : (text base : List ℕ) → (ignore_case : Bool) → (old new : List ℕ) → (needed : ℕ) → Place → Status → Type 0
-IsDiagnosed text base ignores old new needed place statuses.Done = WritesToBuffer (IsDiagnosis text base ignores place) old new needed statuses.Done
-IsDiagnosed text base ignores old new needed place statuses.TooSmall = WritesToBuffer (IsDiagnosis text base ignores place) old new needed statuses.TooSmall
-IsDiagnosed text base ignores old new needed place statuses.NoMatch =
-    ((pattern : PatternView PatternRegexp) × IsPatternOfText pattern_engine (chars text) (given_base base) (c_options ignores) pattern) × (new ≡ old)
-IsDiagnosed text base ignores old new needed place status = IsNoUrl text base status × (new ≡ old)

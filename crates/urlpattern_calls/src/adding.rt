@@ -43,7 +43,7 @@ pub fn add(
 }
 
 /// What is reported of the error with which a pattern is refused.
-fn refusal(error: &Error) -> Status
+pub(crate) fn refusal(error: &Error) -> Status
     ensures { result ≡ error_status (error_view error.now) }
 {
     match error {
@@ -85,7 +85,11 @@ pub(crate) fn options(ignore_case: bool) -> UrlPatternOptions
 }
 
 /// Appends a pattern.
-fn push(alloc: Global, kept: &mut Option<Box<Kept>>, pattern: UrlPattern<PatternRegexp>) -> Status
+pub(crate) fn push(
+    alloc: Global,
+    kept: &mut Option<Box<Kept>>,
+    pattern: UrlPattern<PatternRegexp>,
+) -> Status
     ensures { IsPushed (boxed_patterns kept.old) pattern (boxed_patterns kept.new) result }
 {
     let Ok(mut taken) = take_or_new(alloc, kept) else {

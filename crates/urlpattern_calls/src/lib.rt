@@ -4,18 +4,26 @@
 #![tactic(auto)]
 
 mod adding;
+mod capturing;
 mod diagnosing;
+mod inits;
 mod kept;
 mod mismatching;
+mod release;
+mod spans;
 mod status;
 mod testing;
 mod texts;
 mod urls;
 
 pub use adding::add;
-pub use diagnosing::{Place, diagnose};
+pub use capturing::{captures, first_captures};
+pub use diagnosing::{Place, diagnose, diagnose_init};
+pub use inits::add_init;
 pub use kept::Kept;
 pub use mismatching::{has_regexp_groups, mismatch};
+pub use release::version;
+pub use spans::{Sizes, Span};
 pub use status::Status;
 pub use testing::{execute, first, test};
-pub use texts::write_component;
+pub use texts::{write_component, write_group_name};

@@ -1,9 +1,9 @@
 //! Says which component does not match, and whether a pattern has custom regular expressions.
-ghost use Rattle.std.specs.Prelude.{◌≡◌, slice_get, Some};
+ghost use Rattle.std.specs.Prelude.{◌≡◌, ◌<◌, slice_get, Some};
 ghost use Rattle.urlpattern.specs.Eight.{components};
 ghost use Rattle.urlpattern.specs.Patterns.{pattern_view};
 ghost use Rattle.urlpattern_calls.specs.Kept.{boxed_patterns};
-ghost use Rattle.urlpattern_calls.specs.Mismatches.{IsCustomReported, IsMismatchReported, IsUrlMismatched};
+ghost use Rattle.urlpattern_calls.specs.Mismatches.{component_number, IsCustomReported, IsMismatchReported, IsUrlMismatched};
 
 use crate::kept::{Kept, pattern_at};
 use crate::status::Status;
@@ -61,8 +61,10 @@ fn pattern_mismatch(
 }
 
 /// The number of a component, in the order of the standard.
-fn component_number(name: ComponentName) -> u32
-    ensures { slice_get components result ≡ Some name }
+pub(crate) fn component_number(name: ComponentName) -> u32
+    ensures number { result ≡ component_number name }
+    ensures small { result < 8 }
+    ensures place { slice_get components result ≡ Some name }
 {
     match name {
         ComponentName::Protocol => 0,

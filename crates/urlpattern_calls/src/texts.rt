@@ -4,7 +4,8 @@ ghost use Rattle.std.specs.Str.{chars};
 ghost use Rattle.urlpattern.specs.Eight.{components};
 ghost use Rattle.urlpattern.specs.Patterns.{pattern_view};
 ghost use Rattle.urlpattern_calls.specs.Kept.{boxed_patterns};
-ghost use Rattle.urlpattern_calls.specs.Texts.{IsComponentWritten, IsWritten};
+ghost use Rattle.urlpattern_calls.specs.Texts.{group_name_at, IsComponentWritten, IsGroupNameWritten, IsWritten};
+ghost use Rattle.urlpattern_syntax.specs.Text.{option_text};
 
 use crate::kept::{Kept, pattern_at};
 use crate::status::Status;
@@ -49,6 +50,33 @@ fn pattern_text(pattern: &UrlPattern<PatternRegexp>, name: ComponentName) -> &st
     ensures { chars result.now ≡ (pattern_view pattern.now name).pattern_string }
 {
     &pattern.get(name).pattern_string
+}
+
+/// Writes the name of a group of the pattern at an index, by its number in a component.
+pub fn write_group_name(
+    kept: &Option<Box<Kept>>,
+    index: usize,
+    component: u32,
+    group: usize,
+    buffer: &mut [u8],
+    needed: &mut usize,
+) -> Status
+    ensures { IsGroupNameWritten (boxed_patterns kept.now) index component group buffer.old buffer.new needed.new result }
+{
+    match group_name(kept, index, component, group) {
+        Some(name) => write(name, buffer, needed),
+        None => Status::NoPattern,
+    }
+}
+
+/// The name of a group.
+fn group_name(kept: &Option<Box<Kept>>, index: usize, component: u32, group: usize) -> Option<&str>
+    ensures { option_text result ≡ group_name_at (boxed_patterns kept.now) index component group }
+{
+    let pattern = pattern_at(kept, index)?;
+    let name = component_of(component)?;
+    let group = pattern.get(name).group_name_list.get(group)?;
+    Some(group.as_str())
 }
 
 /// The component of a number, in the order of the standard.

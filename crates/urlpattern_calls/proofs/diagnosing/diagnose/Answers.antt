@@ -1,9 +1,10 @@
 use Rattle.std.proofs.Common.{◌∙◌, ap, refl, subst}
-use Rattle.std.specs.Prelude.{ℕ, List, Option, option_copied}
+use Rattle.std.specs.Prelude.{ℕ, List, Option, option_copied, string_bytes}
 use Rattle.std.specs.Str.{chars}
 use Rattle.urlpattern.specs.Errors.{error_view}
 use Rattle.urlpattern.specs.FromString.{RefusesPatternOfText}
 use Rattle.urlpattern_calls.specs.Calls.{given_base, c_options}
+use Rattle.urlpattern_calls.specs.Diagnoses.{place_of}
 use Rattle.urlpattern_engine.specs.PatternRegexps.{pattern_engine}
 use Rattle.urlpattern_inputs.specs.declared.options.UrlPatternOptions.{UrlPatternOptions}
 use Rattle.urlpattern_calls.proofs.CallLemmas.{diagnosed}
@@ -18,7 +19,7 @@ returns-in-Ok-Some c =
     let asked = subst (λ asked. Refuses c.in-Ok.text.now (option_copied c.given_base.result) asked) c.options-options.ensures given in
     let by_base = subst (λ url. Refuses c.in-Ok.text.now url (c_options c.args.ignore_case)) base asked in
     let why = subst (λ bytes. Refuses bytes (given_base c.args.base.now) (c_options c.args.ignore_case)) c.in-Ok.ensures.cases.0 by_base in
-    diagnosed c.args.text.now c.args.base.now c.args.ignore_case (record { subject = c.subject_number.result; start = found.fault.span.start; end = found.fault.span.end })
-    c.deref.result.now c.args.buffer.now c.write.new.buffer c.write.new.needed c.write.result
-    (record { diagnosis = found; is_refused = why; is_reason = c.deref.ensures; is_subject = c.subject_number.ensures; is_start = refl; is_end = refl })
-    c.write.ensures.needed c.write.ensures.written
+    diagnosed c.args.text.now c.args.base.now c.args.ignore_case c.write_diagnosis.new.place
+    (string_bytes found.reason) c.args.buffer.now c.write_diagnosis.new.buffer c.write_diagnosis.new.needed c.write_diagnosis.result
+    (record { diagnosis = found; is_refused = why; is_reason = refl; is_place = c.write_diagnosis.ensures.place ∙ ap (λ number. place_of number found) c.subject_number-subject.ensures })
+    c.write_diagnosis.ensures.needed c.write_diagnosis.ensures.written

@@ -5,7 +5,7 @@ use Rattle.urlpattern_pattern.proofs.Results.{if_err}
 use Rattle.urlpattern.proofs.NextLemmas.{left, less-left, next-found, there-view}
 use Rattle.urlpattern_matches.specs.BorrowedMatches.{pattern_captures_view}
 use Rattle.urlpattern_matches.specs.GroupTexts.{borrowed_texts}
-use Rattle.urlpattern.specs.FirstMatch.{patterns_view}
+use Rattle.urlpattern.specs.FirstMatch.{patterns_view, HasGroupsInOrder}
 use Rattle.urlpattern.specs.NextMatch.{AsksBeforeMatchFrom, IsFirstMatchFrom}
 use Rattle.urlpattern_index.specs.Keys.{hashes_view}
 use Rattle.urlpattern_index.specs.Listed.{Finds}
@@ -62,6 +62,19 @@ returns-in-Some-2-clause-first g c =
     subst (λ (patterns : List (UrlPattern g.row.R.Denot)). IsFirstMatchFrom answer (patterns_view patterns) texts c.args.index (Some (c.in-Some.index, match)))
     c.self.view_is
     (next.1, (pattern_view pattern, there-view answer texts items c.in-Some.index pattern is_there, is_match), next.2)
+
+pub returns-in-Some-2-clause-groups : goal.returns-in-Some-2-clause-groups
+returns-in-Some-2-clause-groups g c =
+    let answer = g.R.RegExp.answer in
+    let texts = borrowed_texts c.args.texts.now in
+    let items = c.self.inside.patterns.items in
+    let next = rw c.in-Some.is at c.loop-found.invariant in
+    let within : c.in-Some.index < length items = next.0 in
+    let pattern = c.index-pattern.result.now in
+    let is_there = slice_get_read items (length items) c.in-Some.index pattern refl within c.index-pattern.ensures in
+    subst (λ (patterns : List (UrlPattern g.row.R.Denot)). HasGroupsInOrder answer (patterns_view patterns) texts (Some (c.in-Some.index, c.in-Some-2.captures)))
+    c.self.view_is
+    (pattern_view pattern, there-view answer texts items c.in-Some.index pattern is_there, rw c.in-Some-2.is at c.in_ok-captures.ensures.groups)
 
 pub returns-in_err-captures-clause-asked : goal.returns-in_err-captures-clause-asked
 returns-in_err-captures-clause-asked g c =

@@ -1,0 +1,24 @@
+use Rattle.std.proofs.Common.{◌∙◌, ap, refl, subst}
+use Rattle.std.specs.Prelude.{string_bytes}
+use Rattle.urlpattern.specs.Errors.{error_view}
+use Rattle.urlpattern_calls.specs.Diagnoses.{place_of}
+use Rattle.urlpattern_create.specs.Compiled.{RefusesInit}
+use Rattle.urlpattern_engine.specs.PatternRegexps.{pattern_engine}
+use Rattle.urlpattern_inputs.specs.declared.options.UrlPatternOptions.{UrlPatternOptions}
+use Rattle.urlpattern_calls.proofs.CallLemmas.{init_diagnosed}
+use Rattle.urlpattern_calls.proofs.diagnosing.diagnose_init.Goals as goal
+
+pub returns-in-Ok-Some : goal.returns-in-Ok-Some
+returns-in-Ok-Some c =
+    let found = c.in-Ok-Some.diagnosis in
+    let given = rw c.in-Ok-Some.field-0-is at c.in-Ok-Some.ensures.refused in
+    let why = subst (λ (asked : UrlPatternOptions). RefusesInit pattern_engine c.in-Ok.init asked (error_view found.error)) c.options.ensures given in
+    init_diagnosed c.args.json.now c.args.ignore_case c.write_diagnosis.new.place
+    (string_bytes found.reason) c.args.buffer.now c.write_diagnosis.new.buffer c.write_diagnosis.new.needed c.write_diagnosis.result
+    (record {
+      diagnosis = found;
+      is_refused = (c.in-Ok.init, c.in-Ok.ensures.found, why);
+      is_reason = refl;
+      is_place = c.write_diagnosis.ensures.place ∙ ap (λ number. place_of number found) c.init_subject_number-subject.ensures;
+    })
+    c.write_diagnosis.ensures.needed c.write_diagnosis.ensures.written

@@ -1,0 +1,67 @@
+-- What is written of patterns that are refused.
+use Rattle.std.specs.Prelude.{◌≡◌, ◌+◌, ℕ, Bool, List, string_bytes}
+use Rattle.std.specs.Str.{chars}
+use Rattle.urlpattern.specs.Errors.{ErrorView, error_view}
+use Rattle.urlpattern.specs.FromString.{IsPatternOfText, RefusesPatternOfText}
+use Rattle.urlpattern.specs.Patterns.{PatternView}
+use Rattle.urlpattern_calls.specs.Calls.{given_base, c_options, IsNoUrl}
+use Rattle.urlpattern_calls.specs.Inits.{IsInitOfJson, IsInitRefused, IsNoInit}
+use Rattle.urlpattern_calls.specs.Mismatches.{component_number}
+use Rattle.urlpattern_calls.specs.Texts.{WritesToBuffer}
+use Rattle.urlpattern_calls.specs.declared.diagnosing.Place.{Place}
+use Rattle.urlpattern_calls.specs.declared.status.Status.{Status}
+use Rattle.urlpattern_calls.specs.declared.status.Status.TheVariants as statuses
+use Rattle.urlpattern_create.specs.Compiled.{IsPatternOfInit}
+use Rattle.urlpattern_diagnosis.specs.declared.diagnosis.{Diagnosis.Diagnosis, Subject.Subject}
+use Rattle.urlpattern_diagnosis.specs.declared.diagnosis.Subject.TheVariants as subjects
+use Rattle.urlpattern_engine.specs.PatternRegexps.{pattern_engine}
+use Rattle.urlpattern_engine.specs.declared.pattern_regexp.PatternRegexp.{PatternRegexp}
+use Rattle.urlpattern_init.specs.declared.init.UrlPatternInit.{UrlPatternInit}
+
+-- 1 where the base URL is at fault, and 0 where the pattern is
+abbrev pub subject_number : Subject → ℕ
+subject_number subjects.Base = 1
+subject_number subject = 0
+
+-- of an init, 2 and the number of the component whose text is at fault
+abbrev pub init_subject_number : Subject → ℕ
+init_subject_number subjects.Whole = 0
+init_subject_number subjects.Base = 1
+init_subject_number (subjects.Component name) = 2 + component_number name
+
+-- the place that is at fault, in the text of this number
+abbrev pub place_of : (subject : ℕ) → Diagnosis → Place
+place_of subject diagnosis = record { subject = subject; start = diagnosis.fault.span.start; end = diagnosis.fault.span.end }
+
+-- the reason and the place are those of a diagnosis, whose error is one with which the pattern is refused
+pub record IsDiagnosis (Refuses : ErrorView → Type 0) (number : Subject → ℕ) (place : Place) (reason : List ℕ) : Type 0 where
+  pub diagnosis : Diagnosis
+  pub is_refused : Refuses (error_view diagnosis.error)
+  pub is_reason : reason ≡ string_bytes diagnosis.reason
+  pub is_place : place ≡ place_of (number diagnosis.subject) diagnosis
+
+-- the errors with which the constructor string is refused
+abbrev pub RefusesText : (text base : List ℕ) → (ignore_case : Bool) → ErrorView → Type 0
+RefusesText text base ignores error = RefusesPatternOfText pattern_engine (chars text) (given_base base) (c_options ignores) error
+
+-- Why the pattern is refused is written; NoMatch: it is not refused.
+abbrev pub IsDiagnosed : (text base : List ℕ) → (ignore_case : Bool) → (old new : List ℕ) → (needed : ℕ) → Place → Status → Type 0
+IsDiagnosed text base ignores old new needed place statuses.Done =
+    WritesToBuffer (IsDiagnosis (RefusesText text base ignores) subject_number place) old new needed statuses.Done
+IsDiagnosed text base ignores old new needed place statuses.TooSmall =
+    WritesToBuffer (IsDiagnosis (RefusesText text base ignores) subject_number place) old new needed statuses.TooSmall
+IsDiagnosed text base ignores old new needed place statuses.NoMatch =
+    ((pattern : PatternView PatternRegexp) × IsPatternOfText pattern_engine (chars text) (given_base base) (c_options ignores) pattern) × (new ≡ old)
+IsDiagnosed text base ignores old new needed place status = IsNoUrl text base status × (new ≡ old)
+
+-- the same of an init
+abbrev pub IsInitDiagnosed : (json : List ℕ) → (ignore_case : Bool) → (old new : List ℕ) → (needed : ℕ) → Place → Status → Type 0
+IsInitDiagnosed json ignores old new needed place statuses.Done =
+    WritesToBuffer (IsDiagnosis (IsInitRefused json ignores) init_subject_number place) old new needed statuses.Done
+IsInitDiagnosed json ignores old new needed place statuses.TooSmall =
+    WritesToBuffer (IsDiagnosis (IsInitRefused json ignores) init_subject_number place) old new needed statuses.TooSmall
+IsInitDiagnosed json ignores old new needed place statuses.NoMatch =
+    ((init : UrlPatternInit) × (pattern : PatternView PatternRegexp) × IsInitOfJson json init
+    × IsPatternOfInit pattern_engine init (c_options ignores) pattern)
+    × (new ≡ old)
+IsInitDiagnosed json ignores old new needed place status = IsNoInit json status × (new ≡ old)

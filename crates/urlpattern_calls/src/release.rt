@@ -1,0 +1,9 @@
+//! The release of the interface.
+ghost use Rattle.std.specs.Prelude.{◌≡◌};
+
+/// The version: 1,000 times its first number, and its second.
+pub fn version() -> u32
+    ensures { result ≡ 1000 }
+{
+    1000
+}
