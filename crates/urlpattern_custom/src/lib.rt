@@ -1,0 +1,2 @@
+//! What custom regular expressions mean.
+#![tactic(auto)]
