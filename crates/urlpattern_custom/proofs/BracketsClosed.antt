@@ -21,7 +21,7 @@ module _ (tail : Text) where
   nil≢cons : (c : ℕ) (t : Text) → [] ≢ c ∷ t
   nil≢cons c t e = absurd (omega (arith, ap length e))
 
-  full : (c : ℕ) (t : Text) → is_empty (c ∷ t) ≡ false
+  pub full : (c : ℕ) (t : Text) → is_empty (c ∷ t) ≡ false
   full c t = ne_eqb (length (c ∷ t)) 0 (λ e. omega arith)
 
   turned : (d : ℕ) → (d == 41) ≡ false → (41 == d) ≡ false
@@ -36,10 +36,10 @@ module _ (tail : Text) where
   or_right_false false b h = h
 
   -- the word has no parenthesis that closes
-  abbrev LacksClose : List ℕ → Type 0
+  abbrev pub LacksClose : List ℕ → Type 0
   LacksClose w = list_any (λ c. c == 41) w ≡ false
 
-  starts_closed : (w : List ℕ) (t : Text) → LacksClose w → starts_with nat_eq (closed tail t) w ≡ starts_with nat_eq t w
+  pub starts_closed : (w : List ℕ) (t : Text) → LacksClose w → starts_with nat_eq (closed tail t) w ≡ starts_with nat_eq t w
   starts_closed [] t h = refl
   starts_closed (d ∷ w) [] h = rw (or_left_false (d == 41) (list_any (λ c. c == 41) w) h) refl
   starts_closed (d ∷ w) (c ∷ t) h = ap (λ b. nat_eq d c && b) (starts_closed w t (or_right_false (d == 41) (list_any (λ c. c == 41) w) h))

@@ -1,3 +1,6 @@
 pub mod Closing
 pub mod EscapesClosed
 pub mod BracketsClosed
+pub mod Bare
+pub mod ItemsClosed
+pub mod BranchesClosed
