@@ -4,3 +4,4 @@ pub mod BracketsClosed
 pub mod Bare
 pub mod ItemsClosed
 pub mod BranchesClosed
+pub mod Takes
