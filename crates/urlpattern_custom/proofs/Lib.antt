@@ -5,3 +5,4 @@ pub mod Bare
 pub mod ItemsClosed
 pub mod BranchesClosed
 pub mod Takes
+pub mod Denoting
