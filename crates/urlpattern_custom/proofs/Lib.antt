@@ -6,3 +6,5 @@ pub mod ItemsClosed
 pub mod BranchesClosed
 pub mod Takes
 pub mod Denoting
+pub mod ItemsOf
+pub mod GroupsOf
