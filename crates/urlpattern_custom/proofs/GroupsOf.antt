@@ -25,7 +25,7 @@ use Rattle.urlpattern_syntax.specs.RegexpText.{captured, grouped}
 pub record IsInside (t : Text) (Is : List ℕ → Type 0) : Type 0 where
   pub starts : (rest : Text) → Free (t ++ 41 ∷ rest)
   pub reads : (rest : Text) (n : ℕ) (names : Names) (found : Nested Re) (end : Place) → group_inside n (at_text names (t ++ 41 ∷ rest)) ≡ Some (found, end)
-      → (after : Names) × (end ≡ at_text after (41 ∷ rest)) × Denotes found.value Is
+      → (end.text ≡ 41 ∷ rest) × Denotes found.value Is
 
 -- one branch
 pub record OneBranch (n : ℕ) (p : Place) (found : Nested Re) (end : Place) : Type 0 where
@@ -35,7 +35,7 @@ pub record OneBranch (n : ℕ) (p : Place) (found : Nested Re) (end : Place) : T
   pub read_items : items steps p ≡ Some (parts, after)
   pub goes : is_at "|" after.text ≡ false → (found ≡ join alt_all (join cat_all parts ∷ [])) × (end ≡ after)
 
-one_branch : (n : ℕ) (p : Place) (found : Nested Re) (end : Place) → group_inside n p ≡ Some (found, end) → OneBranch n p found end
+pub one_branch : (n : ℕ) (p : Place) (found : Nested Re) (end : Place) → group_inside n p ≡ Some (found, end) → OneBranch n p found end
 unfolding branches join_parts
 one_branch zero p found end e = absurd (none-some _ e)
 one_branch (suc n) p found end e =
@@ -70,7 +70,7 @@ closes : (rest : Text) → ends_branch (41 ∷ rest) ≡ true
 unfolding first
 closes rest = rw (full 41 rest) refl
 
-free_close : (rest : Text) → Free (41 ∷ rest)
+pub free_close : (rest : Text) → Free (41 ∷ rest)
 unfolding first
 free_close rest = refl
 
@@ -84,14 +84,14 @@ items_inside t Is a = record {
       let all : branch.parts ≡ is.own = is.cut ∙ ap (λ more. is.own ++ more) stop.0 ∙ append-nil is.own in
       let at_close : is_at "|" branch.after.text ≡ false = ap (λ (p : Place). is_at "|" p.text) stop.1 ∙ close_text rest in
       let goes = branch.goes at_close in
-      (is.names, goes.1 ∙ stop.1, subst (λ (tree : Nested Re). Denotes tree.value Is) (sym (goes.0 ∙ ap (λ parts. join alt_all (join cat_all parts ∷ [])) all)) (denotes_alone (cat_all (values is.own)) Is is.denotes));
+      (ap (λ (p : Place). p.text) (goes.1 ∙ stop.1), subst (λ (tree : Nested Re). Denotes tree.value Is) (sym (goes.0 ∙ ap (λ parts. join alt_all (join cat_all parts ∷ [])) all)) (denotes_alone (cat_all (values is.own)) Is is.denotes));
 }
 
 -- ---- groups
 
 -- what closes a group
 closed_group : (inner : Place → Option (Nested Re × Place)) (make : Re → Re) (inside : Place) (t : Text) (Is : Texts) (rest : Text) (found : Nested Re) (end : Place)
-    → ((found : Nested Re) (end : Place) → inner inside ≡ Some (found, end) → (after : Names) × (end ≡ at_text after (41 ∷ rest)) × Denotes found.value Is)
+    → ((found : Nested Re) (end : Place) → inner inside ≡ Some (found, end) → (end.text ≡ 41 ∷ rest) × Denotes found.value Is)
     → ((re : Re) → Denotes re Is → Denotes (make re) Is)
     → rest_of_group inner default_config (opens make) inside ≡ Some (found, end) → ItemFound Is rest found end
 unfolding first
@@ -99,7 +99,7 @@ closed_group inner make inside t Is rest found end reads makes e =
     let tree = option_and_then_some _ (inner inside) (found, end) e in
     let is = reads tree.0.0 tree.0.1 tree.1 in
     let core = level make tree.0.0 in
-    record { core = core; names = is.0; repeats = rw (is.1) at tree.2; denotes = makes tree.0.0.value is.2 }
+    record { core = core; names = tree.0.1.names; repeats = rw (is.0) at tree.2; denotes = makes tree.0.0.value is.1 }
 
 brackets : (t rest : Text) → (t ++ 41 ∷ []) ++ rest ≡ t ++ 41 ∷ rest
 brackets t rest = append_assoc t (41 ∷ []) rest

@@ -190,6 +190,13 @@ quantified LazyOneOrMore sub names rest free =
       repetitions_end default_config (length (43 ∷ 63 ∷ rest)) (length (63 ∷ rest)) (repeated_as LazyOneOrMore sub) rest rest (omega arith) refl free,
     )
 
+-- what an atom is read as, with its quantifier
+repeated_once : (q : Quantifier) (core : Nested Re) (names : Names) (rest : Text) → Free rest → (part : Nested Re) (after : Place) → with_repetitions core (at_text names (quantifier_text q ++ rest)) ≡ Some (part, after)
+    → (part ≡ repeated_as q core) × (at_text names rest ≡ after)
+repeated_once q core names rest free part after e =
+    let same = same_Some _ _ (sym (quantified q core names rest free) ∙ e) in
+    (sym (ap (λ (result : Nested Re × Place). result.0) same), ap (λ (result : Nested Re × Place). result.1) same)
+
 pub quantified_items : (t : Text) (Is : Texts) (q : Quantifier) → IsItemOf t Is → AreItemsOf (t ++ quantifier_text q) (Quantified q Is)
 quantified_items t Is q a = record {
   starts = λ rest free. subst Free (sym (append_assoc t (quantifier_text q) rest)) (a.opens (quantifier_text q ++ rest)).0;
@@ -197,17 +204,15 @@ quantified_items t Is q a = record {
       let split = append_assoc t (quantifier_text q) rest in
       let is = items_go_on n names (t ++ (quantifier_text q ++ rest)) found end (a.opens (quantifier_text q ++ rest)).1 (ap (λ s. items n (at_text names s)) (sym split) ∙ e) in
       let one = a.reads (quantifier_text q ++ rest) is.steps names is.part is.after is.one in
-      let same = same_Some _ _ (sym (quantified q one.core one.names rest free) ∙ one.repeats) in
-      let part : is.part ≡ repeated_as q one.core = sym (ap (λ (result : Nested Re × Place). result.0) same) in
-      let after : at_text one.names rest ≡ is.after = ap (λ (result : Nested Re × Place). result.1) same in
+      let same = repeated_once q one.core one.names rest free is.part is.after one.repeats in
       record {
         own = is.part ∷ [];
         more = is.parts;
         steps = is.steps;
         names = one.names;
         cut = is.all;
-        goes_on = ap (items is.steps) after ∙ is.more;
-        denotes = denotes_last is.part.value (Quantified q Is) (subst (λ (tree : Nested Re). Denotes tree.value (Quantified q Is)) (sym part) (denotes_quantified q one.core Is one.denotes));
+        goes_on = ap (items is.steps) same.1 ∙ is.more;
+        denotes = denotes_last is.part.value (Quantified q Is) (subst (λ (tree : Nested Re). Denotes tree.value (Quantified q Is)) (sym same.0) (denotes_quantified q one.core Is one.denotes));
       };
 }
 

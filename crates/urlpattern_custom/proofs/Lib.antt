@@ -8,3 +8,4 @@ pub mod Takes
 pub mod Denoting
 pub mod ItemsOf
 pub mod GroupsOf
+pub mod CustomGroups
