@@ -9,3 +9,4 @@ pub mod Denoting
 pub mod ItemsOf
 pub mod GroupsOf
 pub mod CustomGroups
+pub mod PieceItems
