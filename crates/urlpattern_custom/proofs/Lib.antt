@@ -10,3 +10,5 @@ pub mod ItemsOf
 pub mod GroupsOf
 pub mod CustomGroups
 pub mod PieceItems
+pub mod PartCharacters
+pub mod PartItems
