@@ -177,7 +177,7 @@ marked q mark sub names rest free is_mark takes =
       repetitions_end default_config (length (mark ∷ rest)) (length rest) (repeated_as q sub) rest rest (omega arith) refl free,
     )
 
-quantified : (q : Quantifier) (sub : Nested Re) (names : Names) (rest : Text) → Free rest → with_repetitions sub (at_text names (quantifier_text q ++ rest)) ≡ Some (repeated_as q sub, at_text names rest)
+pub quantified : (q : Quantifier) (sub : Nested Re) (names : Names) (rest : Text) → Free rest → with_repetitions sub (at_text names (quantifier_text q ++ rest)) ≡ Some (repeated_as q sub, at_text names rest)
 unfolding with_repetitions bounds repeat first skip
 quantified Once sub names rest free = rw (with_repetitions, repetitions_end default_config (length rest + 1) (length rest) sub rest rest (omega arith) refl free)
 quantified Optional sub names rest free = marked Optional 63 sub names rest free refl (rw (free_lazy rest free))

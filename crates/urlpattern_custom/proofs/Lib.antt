@@ -12,3 +12,4 @@ pub mod CustomGroups
 pub mod PieceItems
 pub mod PartCharacters
 pub mod PartItems
+pub mod WholeRead

@@ -51,7 +51,7 @@ at_push before c =
 drop_all : (bytes : List ℕ) → drop (length bytes) bytes ≡ []
 drop_all bytes = ap (λ bs. drop (length bytes) bs) (sym (append-nil bytes)) ∙ drop_at bytes [] (length bytes) refl
 
-nothing_in : (c : ℕ) → in_ranges [] c ≡ true → ⊥
+pub nothing_in : (c : ℕ) → in_ranges [] c ≡ true → ⊥
 unfolding in_ranges
 nothing_in c h = true≢false (sym h)
 
