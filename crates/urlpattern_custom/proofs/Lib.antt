@@ -13,3 +13,4 @@ pub mod PieceItems
 pub mod PartCharacters
 pub mod PartItems
 pub mod WholeRead
+pub mod ValuesTaken

@@ -46,6 +46,12 @@ leaf_item m names c rest sub found end no_group reads free e =
 abbrev pub between_lines : List (Nested Re) → Nested Re
 between_lines own = join alt_all (join cat_all (first_line ∷ (own ++ last_line ∷ [])) ∷ [])
 
+whole_is : (found : Nested Re) (all : List (Nested Re)) (part : Nested Re) (parts own more : List (Nested Re)) → found ≡ join alt_all (join cat_all all ∷ []) → all ≡ part ∷ parts → part ≡ first_line
+    → parts ≡ own ++ more → more ≡ last_line ∷ [] → found ≡ between_lines own
+whole_is found all part parts own more e f g h i =
+    e
+    ∙ ap (λ items. join alt_all (join cat_all items ∷ [])) (f ∙ ap (λ first. first ∷ parts) g ∙ ap (λ rest. first_line ∷ rest) (h ∙ ap (λ last. own ++ last) i))
+
 module _ (t : Text) (Is : List ℕ → Type 0) (a : AreItemsOf t Is) where
   abbrev inside : Text
   inside = t ++ 36 ∷ []
@@ -75,9 +81,11 @@ module _ (t : Text) (Is : List ℕ → Type 0) (a : AreItemsOf t Is) where
       let leaf = leaf_item is.steps names 94 inside first_line is.part is.after refl refl (a.starts (36 ∷ []) refl) is.one in
       let items_found = a.reads (36 ∷ []) refl is.steps names is.parts branch.after (ap (items is.steps) (sym leaf.1) ∙ is.more) in
       let last = last_read items_found.steps items_found.names items_found.more branch.after items_found.goes_on in
-      let parts : branch.parts ≡ first_line ∷ (items_found.own ++ last_line ∷ []) =
-      is.all ∙ ap (λ part. part ∷ is.parts) leaf.0 ∙ ap (λ all. first_line ∷ all) (items_found.cut ∙ ap (λ more. items_found.own ++ more) last.0) in
-      record { own = items_found.own; is = (branch.goes last.1).0 ∙ ap (λ all. join alt_all (join cat_all all ∷ [])) parts; denotes = items_found.denotes }
+      record {
+        own = items_found.own;
+        is = whole_is found branch.parts is.part is.parts items_found.own items_found.more (branch.goes last.1).0 is.all leaf.0 items_found.cut last.0;
+        denotes = items_found.denotes;
+      }
 
   pub whole_read : (found : Nested Re × Names) → read default_config (94 ∷ inside) ≡ Some found → WholeFound found.0
   unfolding read

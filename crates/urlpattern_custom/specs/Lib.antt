@@ -1,2 +1,3 @@
 pub mod Expressions
 pub mod PartTexts
+pub mod LawsOfTexts

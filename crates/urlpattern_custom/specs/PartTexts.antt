@@ -1,7 +1,7 @@
 -- Which texts parts take, custom ones among them: whatever they capture.
-use Rattle.std.specs.Prelude.{◌≡◌, ◌↔◌, All, ℕ, List, [], ◌∷◌, ◌++◌, Option, Some, None, IsTrue}
+use Rattle.std.specs.Prelude.{◌≡◌, All, ℕ, List, [], ◌∷◌, ◌++◌, IsTrue}
 use Rattle.urlpattern_custom.specs.Expressions.{ExpressionTakes, stands_alone}
-use Rattle.urlpattern_meaning.specs.PartMeaning.{Allows, Captures, IsWildcardText, PartsMean}
+use Rattle.urlpattern_meaning.specs.PartMeaning.{Allows, IsWildcardText}
 use Rattle.urlpattern_syntax.specs.{Options.OptionsView, Parts.PartView}
 use Rattle.urlpattern_syntax.specs.declared.parser.PartType.{PartType}
 use Rattle.urlpattern_syntax.specs.Text.{IsRepeated}
@@ -32,7 +32,3 @@ StandsAlone kind value = Unit {0}
 
 abbrev pub AllStandAlone : List PartView → Type 0
 AllStandAlone parts = All (λ part. StandsAlone part.kind part.value) parts
-
--- parts without a custom one take the texts that they mean
-abbrev pub TakesAreMeanings : Type 0
-TakesAreMeanings = Unit {0}
