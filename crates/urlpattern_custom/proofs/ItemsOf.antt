@@ -27,13 +27,13 @@ values trees = map (λ tree. tree.value) trees
 
 -- ---- one after the other
 
-joined_assoc : (A B C : Texts) → AreSameTexts (Joined A (Joined B C)) (Joined (Joined A B) C)
+pub joined_assoc : (A B C : Texts) → AreSameTexts (Joined A (Joined B C)) (Joined (Joined A B) C)
 joined_assoc A B C text good = (
   λ (first, rest, cut, a, (second, last, f, b, c)). (first ++ second, last, cut ∙ ap (λ t. first ++ t) f ∙ sym (append_assoc first second last), (first, second, refl, a, b), c),
   λ (front, last, cut, (first, second, f, a, b), c). (first, second ++ last, cut ∙ ap (λ t. t ++ last) f ∙ append_assoc first second last, a, (second, last, refl, b, c)),
 )
 
-nothing_joined : (A : Texts) → AreSameTexts A (Joined Nothing A)
+pub nothing_joined : (A : Texts) → AreSameTexts A (Joined Nothing A)
 nothing_joined A text good = (λ is. ([], text, refl, refl, is), λ (first, rest, cut, none, is). subst A (sym (cut ∙ ap (λ t. t ++ rest) none)) is)
 
 pub same_then : (A B C : Texts) → AreSameTexts A B → AreSameTexts B C → AreSameTexts A C

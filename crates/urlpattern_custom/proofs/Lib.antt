@@ -14,3 +14,5 @@ pub mod PartCharacters
 pub mod PartItems
 pub mod WholeRead
 pub mod ValuesTaken
+pub mod TakenMeanings
+pub mod MatchersTaken

@@ -32,7 +32,7 @@ use Rattle.urlpattern_syntax.specs.Text.{IsRepeated}
 abbrev Counted : PartModifier → Texts → Texts
 Counted modifier Is text = (count : ℕ) × Allows modifier count × IsRepeated Is count text
 
-one_copy : (Is : Texts) (text : List ℕ) → IsRepeated Is 1 text ↔ Is text
+pub one_copy : (Is : Texts) (text : List ℕ) → IsRepeated Is 1 text ↔ Is text
 one_copy Is text = (
   λ (first, rest, cut, is, none). subst Is (sym (cut ∙ ap (λ t. first ++ t) none ∙ append-nil first)) is,
   λ is. (text, [], sym (append-nil text), is, refl),
