@@ -16,3 +16,5 @@ pub mod WholeRead
 pub mod ValuesTaken
 pub mod TakenMeanings
 pub mod MatchersTaken
+pub mod CustomLaws
+pub mod ExpressionExamples

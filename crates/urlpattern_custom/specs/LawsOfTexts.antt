@@ -1,16 +1,17 @@
 -- Laws on the texts that custom regular expressions, parts, values of an engine and matchers take.
-use Rattle.std.specs.Prelude.{◌≡◌, ◌↔◌, ℕ, ◌^◌, ◌≤◌, false, List, ◌++◌, length, codes, Option, IfSome, IsSome, IsTrue}
+use Rattle.std.specs.Prelude.{⊤, ◌≡◌, ◌↔◌, ℕ, ◌^◌, ◌≤◌, false, List, ◌++◌, length, codes, Option, IfSome, IsSome, IsTrue}
 use Rattle.std.specs.Str.{all_scalars}
 use Rattle.regex_syntax.specs.Brackets.{join}
 use Rattle.regex_syntax.specs.Grammar.{Names, branches}
 use Rattle.regex_syntax.specs.Verdict.{default_config}
 use Rattle.regex_hir.specs.Meaning.{alt_all}
-use Rattle.urlpattern_core.specs.Components.{IsEngineOf}
+use Rattle.urlpattern_core.specs.Components.{FlagsAgree, IsEngineOf}
 use Rattle.urlpattern_core.specs.FirstWays.{Keeping, Taking}
 use Rattle.urlpattern_core.specs.Generated.{AreGenerated}
 use Rattle.urlpattern_core.specs.declared.regexp.RegExp.{Ghosts as Engine}
 use Rattle.urlpattern_custom.specs.Expressions.{ExpressionTakes, TakesWhole, stands_alone}
 use Rattle.urlpattern_custom.specs.PartTexts.{AllStandAlone, PartsTake}
+use Rattle.urlpattern_meaning.specs.FirstAnswers.{TookText}
 use Rattle.urlpattern_meaning.specs.Matching.{EachAnswerIs, IsMadeOf, MatcherView}
 use Rattle.urlpattern_meaning.specs.PartMeaning.{Captures, PartsMean}
 use Rattle.urlpattern_syntax.specs.{Options.OptionsView, Parts.PartView, RegexpText.regexp_text}
@@ -59,3 +60,7 @@ abbrev pub MatchersAnswerTaken : {E : Type 0} → Engine E → Taking E → Type
 MatchersAnswerTaken {E} engine Took =
     (options : OptionsView) (flags : List ℕ) (parts : List PartView) (matcher : MatcherView E) → IsTakenAlone engine Took options flags parts matcher →
     EachAnswerIs engine.answer matcher (IsSomeIfTaken options parts)
+
+-- the engine was given flags that ignore case where the options do, and took the text where it was needed
+abbrev pub TookAlone : {E : Type 0} → Taking E
+TookAlone options flags inner = FlagsAgree options flags × TookText (λ value. ⊤) inner
