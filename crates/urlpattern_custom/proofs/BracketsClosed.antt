@@ -1,19 +1,18 @@
 -- Classes in brackets are read the same where a closing parenthesis and more follow the text.
-use Rattle.std.proofs.Common.{◌≡◌, ◌≢◌, ℕ, zero, suc, ◌+◌, ◌*◌, ◌≤◌, Bool, true, false, not, ◌&&◌, ◌||◌, ◌==◌, List, [], ◌∷◌, ◌++◌, map, length, drop, Option, Some, None, is_some, if◌then◌else◌, nat_eq, nat_le, option_map, refl, sym, ap, ap₂, ◌∙◌, arith, true≢false, codes, ⊎_elim, append_assoc, subst, ne_eqb}
-use Rattle.std.proofs.lemmas.Bool.{and_parts, and_right, cases_Bool, false_from_ne_true}
+use Rattle.std.proofs.Common.{◌≡◌, ◌≢◌, ℕ, zero, suc, ◌+◌, Bool, true, false, not, ◌&&◌, ◌||◌, ◌==◌, List, [], ◌∷◌, ◌++◌, map, length, drop, Option, Some, None, is_some, if◌then◌else◌, nat_eq, option_map, refl, sym, ap, arith, true≢false, codes, ⊎_elim, ne_eqb}
+use Rattle.std.proofs.lemmas.Bool.{and_parts, and_right, cases_Bool}
 use Rattle.std.proofs.lemmas.Bool.Decides.{nat_tests}
 use Rattle.std.specs.Char.{is_whitespace}
 use Rattle.std.specs.List.{starts_with, list_any}
 use lib.Pointwise.{pointwise}
-use Rattle.regex_hir.specs.Text.{is_some_and}
 use Rattle.regex_syntax.specs.Brackets.{Nested, flat, union, unite, operator, posix, member, single, range, after_hyphen, set_item, bracket_start, item_or, operation, set_items, operations, bracket}
 use Rattle.regex_syntax.specs.declared.Config.{Config}
-use Rattle.regex_syntax.specs.Escapes.{Piece, character, class, assertion, escape, is_verbose}
+use Rattle.regex_syntax.specs.Escapes.{Piece, character, is_verbose}
 use Rattle.regex_syntax.specs.Reading.{Text, ◌>>=◌, ◌>>◌, ◌∈◌, first, is_at, begins, spells, is_empty, skip, next, take_run, split_once}
-use Rattle.regex_syntax.specs.Sets.{Set, ascii_class, case_fold, negate_if, is_member}
+use Rattle.regex_syntax.specs.Sets.{Set, ascii_class, case_fold, negate_if}
 use Prim.Native.String.{String}
-use Rattle.urlpattern_custom.proofs.Closing.{Calm, closed, calm_first, calm_rest, skip_closed, Leaves, SameRun, take_run_closed, ReadAlike, alike_none, alike_missing, alike_some, alike_then, alike_value, alike_test, alike_when, alike_if, alike_either}
-use Rattle.urlpattern_custom.proofs.EscapesClosed.{at_closed, drop_closed, next_closed, marked_run, escape_closed}
+use Rattle.urlpattern_custom.proofs.Closing.{Calm, closed, calm_first, calm_rest, skip_closed, Leaves, take_run_closed, ReadAlike, alike_none, alike_missing, alike_some, alike_then, alike_value, alike_if, alike_either}
+use Rattle.urlpattern_custom.proofs.EscapesClosed.{at_closed, drop_closed, next_closed, escape_closed}
 
 module _ (tail : Text) where
   -- ---- words

@@ -1,6 +1,6 @@
 -- Groups and branches are read the same, but for the numbers and names of groups, where a closing parenthesis and more follow
 -- the text.
-use Rattle.std.proofs.Common.{◌≡◌, ℕ, zero, suc, ◌+◌, ◌^◌, Bool, true, false, not, ◌&&◌, ◌||◌, ◌==◌, nat_lt, nat_eq, List, [], ◌∷◌, ◌++◌, map, length, drop, reverse, Option, Some, None, if◌then◌else◌, refl, sym, ap, ap₂, ◌∙◌, arith, true≢false, codes, encode_utf8_all, IfSome, ⊎_elim}
+use Rattle.std.proofs.Common.{◌≡◌, ℕ, zero, suc, ◌+◌, ◌^◌, Bool, true, false, not, ◌||◌, ◌==◌, nat_lt, nat_eq, List, [], ◌∷◌, ◌++◌, map, length, drop, reverse, Option, Some, None, if◌then◌else◌, refl, sym, ap, ap₂, ◌∙◌, true≢false, codes, encode_utf8_all, IfSome, ⊎_elim}
 use Rattle.std.proofs.lemmas.Bool.{and_parts, cases_Bool}
 use Rattle.std.specs.List.{starts_with, list_any}
 use lib.Pointwise.{pointwise}
@@ -11,7 +11,7 @@ use Rattle.regex_syntax.specs.Brackets.{Nested, flat, join}
 use Rattle.regex_syntax.specs.declared.Config.{Config}
 use Rattle.regex_syntax.specs.declared.flags.Flags.{Flags}
 use Rattle.regex_syntax.specs.Escapes.{is_verbose}
-use Rattle.regex_syntax.specs.Grammar.{Names, Place, Opening, setting, opens, set_flag, set_flags, is_name, capture, named_group, opening, atom, with_repetitions, rest_of_group, item, join_parts, items, branches}
+use Rattle.regex_syntax.specs.Grammar.{Names, Place, Opening, setting, opens, set_flag, set_flags, is_name, capture, named_group, opening, with_repetitions, rest_of_group, item, join_parts, items, branches}
 use Rattle.regex_syntax.specs.Reading.{Text, ◌>>=◌, ◌>>◌, ◌∈◌, first, is_at, begins, is_empty, skip, next, take_run}
 use Rattle.urlpattern_custom.proofs.Bare.{bare, bare_cat_all, bare_alt_all}
 use Rattle.urlpattern_custom.proofs.Closing.{Calm, closed, calm_rest, skip_closed, Leaves, ReadAlike, alike_none, alike_some, alike_value, alike_test, alike_if}

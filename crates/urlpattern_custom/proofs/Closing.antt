@@ -1,11 +1,10 @@
 -- How the grammar of `regex` reads the words of a text where a closing parenthesis and more follow the text.
-use Rattle.std.proofs.Common.{◌≡◌, ℕ, zero, suc, ◌+◌, ◌≤◌, Bool, true, false, not, ◌&&◌, ◌==◌, List, [], ◌∷◌, ◌++◌, length, drop, Option, Some, None, if◌then◌else◌, refl, sym, ap, ap₂, ◌∙◌, arith, true≢false, ⊎_elim, length-append}
-use Rattle.std.proofs.lemmas.Bool.{and_parts, and_from, cases_Bool}
+use Rattle.std.proofs.Common.{◌≡◌, ℕ, zero, suc, ◌≤◌, Bool, true, false, not, ◌==◌, [], ◌∷◌, ◌++◌, length, Option, Some, None, if◌then◌else◌, refl, sym, ap, ap₂, arith, true≢false, ⊎_elim, length-append}
+use Rattle.std.proofs.lemmas.Bool.{and_parts, cases_Bool}
 use Rattle.std.specs.Char.{is_whitespace}
 use Rattle.std.specs.List.{list_all}
-use Rattle.regex_hir.specs.Text.{is_some_and}
 use Rattle.regex_syntax.proofs.ReadingLemmas.{take_up_to_stops}
-use Rattle.regex_syntax.specs.Reading.{Text, ◌>>=◌, ◌>>◌, first, skip_from, skip, next, take_up_to, take_run, is_empty}
+use Rattle.regex_syntax.specs.Reading.{Text, ◌>>=◌, ◌>>◌, first, skip_from, skip, take_up_to, take_run}
 
 -- no comment begins in the text, even under the flag x
 abbrev pub Calm : Text → Type 0

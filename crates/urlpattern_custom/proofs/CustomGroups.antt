@@ -1,5 +1,5 @@
 -- An expression that stands alone is read inside of a group as a pattern that takes what it takes by itself.
-use Rattle.std.proofs.Common.{◌≡◌, ◌↔◌, ℕ, ◌+◌, ◌*◌, List, [], ◌∷◌, ◌++◌, length, Bool, true, false, not, ◌&&◌, ◌||◌, ◌==◌, Option, Some, None, IsSomeAnd, refl, sym, ap, ◌∙◌, subst, arith, ne_eqb, length-append, ⊎_elim, append-nil, eqb-true}
+use Rattle.std.proofs.Common.{◌≡◌, ◌↔◌, ℕ, ◌+◌, ◌*◌, List, [], ◌∷◌, ◌++◌, length, true, false, ◌==◌, Some, None, refl, sym, ap, ◌∙◌, subst, arith, ne_eqb, length-append, ⊎_elim, append-nil, eqb-true}
 use Rattle.std.proofs.lemmas.Bool.{and_parts, both_ways, cases_Bool}
 use Rattle.std.proofs.lemmas.List.{nil_from_length}
 use Rattle.std.proofs.lemmas.Option.{none-some, same_Some}
@@ -7,24 +7,21 @@ use Rattle.std.proofs.lemmas.Str.{encodes-append, length-le-encodes}
 use Rattle.std.specs.Prelude.{IsTrue}
 use lib.Utf8.{scalars, encodes}
 use Rattle.regex_hir.proofs.AttemptLemmas.{cond_some, is_some_and_parts, option_and_then_some}
-use Rattle.regex_hir.specs.Meaning.{alt_all}
 use Rattle.regex_hir.specs.Re.{Re}
 use Rattle.regex_syntax.proofs.BranchLemmas.{ends_branch, group_inside}
 use Rattle.regex_syntax.specs.Brackets.{Nested}
-use Rattle.regex_syntax.specs.Grammar.{Names, Place, atom, item, items, branches, join_parts, read}
-use Rattle.regex_syntax.specs.Reading.{Text, ◌>>=◌, ◌>>◌, ◌∈◌, first, is_at, is_empty}
+use Rattle.regex_syntax.specs.Grammar.{Names, Place, atom, item, read}
+use Rattle.regex_syntax.specs.Reading.{Text, ◌∈◌, first, is_empty}
 use Rattle.regex_syntax.specs.Verdict.{default_config}
-use Rattle.urlpattern_custom.proofs.Bare.{bare}
-use Rattle.urlpattern_custom.proofs.BranchesClosed.{beside, inside_closed}
+use Rattle.urlpattern_custom.proofs.BranchesClosed.{inside_closed}
 use Rattle.urlpattern_custom.proofs.Closing.{Calm, closed}
-use Rattle.urlpattern_custom.proofs.Denoting.{Texts, Denotes, denotes_bare}
+use Rattle.urlpattern_custom.proofs.Denoting.{Denotes, denotes_bare}
 use Rattle.urlpattern_custom.proofs.GroupsOf.{IsInside, free_close, one_branch}
 use Rattle.urlpattern_custom.proofs.ItemsOf.{at_text, items_go_on}
 use Rattle.urlpattern_custom.proofs.Takes.{Takes, matches_takes, takes_matches}
 use Rattle.urlpattern_custom.specs.Expressions.{ExpressionTakes, TakesWhole, stands_alone, takes_characters}
 use Rattle.urlpattern_regex.proofs.AtomsRead.{full}
 use Rattle.urlpattern_regex.proofs.ItemsRead.{Free}
-use Rattle.urlpattern_regex.proofs.WayAnswers.{at}
 
 -- ---- whole texts
 

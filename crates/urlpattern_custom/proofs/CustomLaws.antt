@@ -1,25 +1,22 @@
 -- The laws on custom regular expressions, for each engine.
-use Rattle.std.proofs.Common.{◌≡◌, ◌↔◌, ℕ, List, ◌++◌, Option, Some, None, refl, ap, sym, ◌∙◌}
+use Rattle.std.proofs.Common.{◌≡◌, ◌↔◌, ℕ, List, ◌++◌, Option, Some, None, refl, ap, ◌∙◌}
 use Rattle.std.specs.Prelude.{⊤, IfSome, IsTrue, Ok, Err, codes}
 use Rattle.std.specs.Str.{all_scalars}
 use Rattle.regex_hir.specs.Meaning.{alt_all}
 use Rattle.regex_hir.specs.Re.{Re}
 use Rattle.regex_syntax.specs.Brackets.{Nested, join}
-use Rattle.regex_syntax.specs.Grammar.{Names, Place, branches, join_parts}
-use Rattle.regex_syntax.specs.Reading.{Text}
-use Rattle.urlpattern_core.specs.Components.{FlagsAgree, ignores_case}
+use Rattle.regex_syntax.specs.Grammar.{Place, branches, join_parts}
 use Rattle.urlpattern_core.specs.FirstWays.{KeepsCase}
 use Rattle.urlpattern_core.specs.Regexes.{regex_engine}
 use Rattle.urlpattern_custom.proofs.CustomGroups.{custom_inside, whole_takes}
 use Rattle.urlpattern_custom.proofs.ItemsOf.{at_text}
 use Rattle.urlpattern_custom.proofs.MatchersTaken.{matchers_taken}
 use Rattle.urlpattern_custom.proofs.ValuesTaken.{pattern_values_taken, regex_values_taken}
-use Rattle.urlpattern_custom.specs.Expressions.{ExpressionTakes, TakesWhole, stands_alone}
+use Rattle.urlpattern_custom.specs.Expressions.{ExpressionTakes, TakesWhole}
 use Rattle.urlpattern_custom.specs.LawsOfTexts.{MatchersAnswerTaken, ReadsInGroups, TookAlone}
 use Rattle.urlpattern_engine.specs.PatternRegexps.{pattern_engine}
 use Rattle.urlpattern_meaning.specs.FirstAnswers.{TookText}
 use Rattle.urlpattern_meaning.specs.Matching.{InnerView, Literal, RegExp, SingleCapture}
-use Rattle.urlpattern_syntax.specs.Options.{OptionsView}
 
 pub reads_in_groups : ReadsInGroups
 unfolding join_parts

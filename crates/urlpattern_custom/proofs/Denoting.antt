@@ -1,13 +1,12 @@
 -- Patterns that take exactly certain texts.
-use Rattle.std.proofs.Common.{◌≡◌, ◌↔◌, ℕ, zero, suc, List, [], ◌∷◌, ◌++◌, Bool, true, false, ◌&&◌, ◌⊎◌, inl, inr, ⊎_elim, refl, sym, ap, ap₂, ◌∙◌, subst, append-nil, length, true≢false}
-use Rattle.std.proofs.lemmas.Bool.{and_parts, and_from}
+use Rattle.std.proofs.Common.{◌≡◌, ◌↔◌, ℕ, zero, suc, List, [], ◌++◌, Bool, true, false, ◌&&◌, ◌⊎◌, inl, inr, refl, sym, ap, ap₂, ◌∙◌, subst, append-nil}
+use Rattle.std.proofs.lemmas.Bool.{and_from}
 use lib.Utf8.{scalars}
 use Rattle.regex_hir.specs.Re.{Re, empty, literal, byte_in, char_in, look, cat, alt, group, plus}
 use Rattle.regex_syntax.specs.Brackets.{Nested}
 use Rattle.urlpattern_custom.proofs.Bare.{bare}
 use Rattle.urlpattern_custom.proofs.Takes.{Takes}
 use Rattle.urlpattern_custom.specs.Expressions.{takes_characters}
-use Rattle.urlpattern_meaning.proofs.Copies.{repeated_map}
 use Rattle.urlpattern_meaning.specs.Dialect.{Quantifier, Once, Optional, ZeroOrMore, OneOrMore, LazyOneOrMore}
 use Rattle.urlpattern_regex.proofs.ItemsRead.{repeated_as}
 use Rattle.urlpattern_regex.proofs.TreesRead.{scalars_parts}

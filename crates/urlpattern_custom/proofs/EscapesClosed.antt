@@ -1,14 +1,13 @@
 -- Escapes are read the same where a closing parenthesis and more follow the text.
-use Rattle.std.proofs.Common.{◌≡◌, ℕ, ◌+◌, Bool, true, false, not, ◌&&◌, ◌||◌, ◌==◌, List, [], ◌∷◌, ◌++◌, length, drop, Option, Some, None, if◌then◌else◌, refl, sym, ap, ◌∙◌, true≢false, codes, nat_lt, ◌^◌, ⊎_elim}
-use Rattle.std.proofs.lemmas.Bool.{and_parts, cases_Bool}
+use Rattle.std.proofs.Common.{◌≡◌, ℕ, Bool, true, false, not, ◌&&◌, ◌==◌, [], ◌∷◌, length, drop, refl, sym, ap, ◌∙◌, true≢false, nat_lt, ◌^◌, ⊎_elim}
+use Rattle.std.proofs.lemmas.Bool.{cases_Bool}
 use Rattle.std.specs.Char.{is_digit, is_whitespace}
-use Rattle.regex_hir.specs.Text.{is_some_and}
 use Rattle.regex_syntax.specs.declared.Config.{Config}
-use Rattle.regex_syntax.specs.Escapes.{Piece, character, escape, hex, named_class, boundary, boundary_name, one_letter, unicode_class, is_boundary_char, is_verbose, by_unicode}
-use Rattle.regex_syntax.specs.Reading.{Text, ◌>>=◌, ◌>>◌, ◌∈◌, first, is_at, is_empty, skip, next, take_up_to, take_run, decimal, char_of, value}
+use Rattle.regex_syntax.specs.Escapes.{character, escape, hex, named_class, boundary, boundary_name, one_letter, unicode_class, is_boundary_char, is_verbose}
+use Rattle.regex_syntax.specs.Reading.{Text, ◌∈◌, first, is_at, is_empty, skip, next, take_up_to, take_run, decimal, char_of, value}
 use Prim.Native.String.{String}
 use Rattle.regex_syntax.specs.Sets.{property}
-use Rattle.urlpattern_custom.proofs.Closing.{Calm, closed, calm_rest, skip_closed, Leaves, SameRun, run_closed, take_run_closed, ReadAlike, alike_none, alike_some, alike_then, alike_value, alike_test, alike_when, alike_if, alike_either}
+use Rattle.urlpattern_custom.proofs.Closing.{Calm, closed, calm_rest, skip_closed, Leaves, SameRun, run_closed, take_run_closed, ReadAlike, alike_none, alike_some, alike_value, alike_test, alike_when, alike_if}
 
 module _ (tail : Text) where
   -- ---- the first character

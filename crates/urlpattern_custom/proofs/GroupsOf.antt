@@ -1,19 +1,16 @@
 -- Groups that the grammar of `regex` reads, wherever they stand, as items that take exactly certain texts: of items, or of an
 -- expression that stands alone.
-use Rattle.std.proofs.Common.{◌≡◌, ◌↔◌, ℕ, zero, suc, ◌+◌, ◌*◌, ◌^◌, ◌≤◌, List, [], ◌∷◌, ◌++◌, map, length, drop, Bool, true, false, not, ◌&&◌, ◌||◌, ◌==◌, Option, Some, None, IsSomeAnd, nat_lt, if◌then◌else◌, refl, sym, ap, ap₂, ◌∙◌, subst, append_assoc, append-nil, codes, arith, eqb-true, true≢false, ⊎_elim}
-use Rattle.std.proofs.lemmas.Bool.{and_parts, and_from, cases_Bool}
+use Rattle.std.proofs.Common.{◌≡◌, ℕ, zero, suc, ◌^◌, List, [], ◌∷◌, ◌++◌, length, true, false, Option, Some, None, nat_lt, refl, sym, ap, ◌∙◌, subst, append_assoc, append-nil}
 use Rattle.std.proofs.lemmas.Option.{none-some, same_Some}
-use Rattle.std.specs.Prelude.{IsTrue}
 use Rattle.regex_hir.proofs.AttemptLemmas.{cond_some, option_and_then_some}
 use Rattle.regex_hir.specs.Meaning.{cat_all, alt_all}
 use Rattle.regex_hir.specs.Re.{Re, group}
-use Rattle.regex_hir.specs.Text.{is_some_and}
 use Rattle.regex_syntax.proofs.BranchLemmas.{ends_branch, group_inside}
 use Rattle.regex_syntax.specs.Brackets.{Nested, join}
-use Rattle.regex_syntax.specs.Grammar.{Names, Place, Opening, setting, opens, atom, with_repetitions, item, items, branches, join_parts, opening, capture, set_flags, rest_of_group, read}
-use Rattle.regex_syntax.specs.Reading.{Text, ◌>>=◌, ◌>>◌, ◌∈◌, first, skip, is_at, is_empty}
+use Rattle.regex_syntax.specs.Grammar.{Names, Place, Opening, opens, item, items, branches, join_parts, opening, capture, set_flags, rest_of_group}
+use Rattle.regex_syntax.specs.Reading.{Text, first, skip, is_at}
 use Rattle.regex_syntax.specs.Verdict.{default_config}
-use Rattle.urlpattern_custom.proofs.Denoting.{Texts, Denotes, Joined, AreSameTexts, denotes_same, denotes_alone}
+use Rattle.urlpattern_custom.proofs.Denoting.{Texts, Denotes, denotes_alone}
 use Rattle.urlpattern_custom.proofs.ItemsOf.{at_text, values, AreItemsOf, IsItemOf, ItemFound, items_stop}
 use Rattle.urlpattern_regex.proofs.AtomsRead.{full}
 use Rattle.urlpattern_regex.proofs.ItemsRead.{Free, begins_no, free_lazy, level}

@@ -1,19 +1,19 @@
 -- Atoms, their repetitions and groups are read the same, but for the numbers of groups, where a closing parenthesis and more
 -- follow the text.
-use Rattle.std.proofs.Common.{◌≡◌, ℕ, zero, suc, ◌+◌, ◌*◌, ◌≤◌, Bool, true, false, not, ◌&&◌, ◌||◌, ◌==◌, List, [], ◌∷◌, ◌++◌, map, length, drop, Option, Some, None, if◌then◌else◌, nat_eq, nat_le, refl, sym, ap, ap₂, ◌∙◌, arith, true≢false, codes, ⊎_elim}
-use Rattle.std.proofs.lemmas.Bool.{and_parts, cases_Bool}
+use Rattle.std.proofs.Common.{◌≡◌, ℕ, zero, suc, ◌+◌, ◌*◌, Bool, true, false, not, [], ◌∷◌, length, drop, Option, Some, None, if◌then◌else◌, nat_le, refl, sym, ap, ap₂, ◌∙◌, true≢false, ⊎_elim}
+use Rattle.std.proofs.lemmas.Bool.{cases_Bool}
 use Rattle.regex_class.specs.Ranges.{bool_xor}
 use Rattle.regex_hir.specs.Meaning.{repeat}
 use Rattle.regex_hir.specs.Re.{Re}
 use Rattle.regex_hir.specs.Text.{is_none_or}
-use Rattle.regex_syntax.specs.Brackets.{Nested, flat, bracket}
+use Rattle.regex_syntax.specs.Brackets.{Nested, flat}
 use Rattle.regex_syntax.specs.declared.Config.{Config}
-use Rattle.regex_syntax.specs.Escapes.{escape, is_verbose}
+use Rattle.regex_syntax.specs.Escapes.{is_verbose}
 use Rattle.regex_syntax.specs.Grammar.{atom, piece_meaning, char_meaning, upper_bound, counted_bounds, bounds, repetitions}
-use Rattle.regex_syntax.specs.Reading.{Text, ◌>>=◌, ◌>>◌, ◌∈◌, first, is_at, skip, next, decimal}
+use Rattle.regex_syntax.specs.Reading.{Text, ◌>>=◌, ◌>>◌, ◌∈◌, first, is_at, skip, next}
 use Rattle.regex_syntax.specs.Sets.{one_of}
 use Rattle.urlpattern_custom.proofs.Bare.{bare, bare_repeat}
-use Rattle.urlpattern_custom.proofs.Closing.{Calm, closed, calm_rest, skip_closed, Leaves, ReadAlike, alike_none, alike_missing, alike_some, alike_then, alike_value, alike_test, alike_when, alike_if, alike_either}
+use Rattle.urlpattern_custom.proofs.Closing.{Calm, closed, calm_rest, skip_closed, Leaves, ReadAlike, alike_none, alike_some, alike_then, alike_value, alike_test, alike_if, alike_either}
 use Rattle.urlpattern_custom.proofs.EscapesClosed.{at_closed, drop_closed, next_closed, decimal_closed, escape_closed}
 use Rattle.urlpattern_custom.proofs.BracketsClosed.{bracket_closed}
 
@@ -152,7 +152,7 @@ module _ (tail : Text) where
         (repetitions_closed n m (record { value = repeat least most greedy tree.value; depth = tree.depth + 1 }) (record { value = repeat least most greedy other.value; depth = other.depth + 1 })
         (if is_at "?" after then drop 1 after else after) alike rest.1))))
 
-  -- ---- atoms
+    -- ---- atoms
 
     pub atom_closed : (t : Text) → Calm t → ReadAlike tail (atom config t) (atom config (closed tail t))
     unfolding atom first

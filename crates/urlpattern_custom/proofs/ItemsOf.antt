@@ -1,23 +1,20 @@
 -- Texts that the grammar of `regex` reads, wherever they stand, as items that take exactly certain texts.
-use Rattle.std.proofs.Common.{◌≡◌, ◌↔◌, ℕ, zero, suc, ◌+◌, ◌^◌, List, [], ◌∷◌, ◌++◌, map, length, drop, Bool, true, false, not, ◌&&◌, ◌||◌, ◌==◌, Option, Some, None, nat_lt, if◌then◌else◌, refl, sym, ap, ap₂, ◌∙◌, subst, append_assoc, append-nil, codes, arith}
+use Rattle.std.proofs.Common.{◌≡◌, ℕ, zero, suc, ◌+◌, List, [], ◌∷◌, ◌++◌, map, length, true, false, Some, refl, sym, ap, ◌∙◌, subst, append_assoc, append-nil, arith}
 use Rattle.std.proofs.lemmas.Bool.{and_parts, and_from}
 use Rattle.std.proofs.lemmas.Option.{none-some, same_Some}
-use lib.Utf8.{scalars}
-use Rattle.regex_hir.proofs.AttemptLemmas.{cond_some, option_and_then_some}
-use Rattle.regex_hir.specs.Meaning.{cat_all, alt_all, repeat}
-use Rattle.regex_hir.specs.Re.{Re, empty, cat, alt, group, byte_in}
+use Rattle.regex_hir.proofs.AttemptLemmas.{option_and_then_some}
+use Rattle.regex_hir.specs.Meaning.{cat_all, repeat}
+use Rattle.regex_hir.specs.Re.{Re}
 use Rattle.regex_syntax.proofs.BranchLemmas.{ends_branch, group_inside, more_repetitions, repetitions_end, repetitions_go}
-use Rattle.regex_syntax.specs.Brackets.{Nested, join}
-use Rattle.regex_syntax.specs.Grammar.{Names, Place, Opening, setting, opens, atom, bounds, repetitions, with_repetitions, item, items, branches, join_parts, opening, capture, set_flags, rest_of_group}
-use Rattle.regex_syntax.specs.Reading.{Text, ◌>>=◌, ◌>>◌, first, skip, is_at}
+use Rattle.regex_syntax.specs.Brackets.{Nested}
+use Rattle.regex_syntax.specs.Grammar.{Names, Place, atom, bounds, repetitions, with_repetitions, item, items}
+use Rattle.regex_syntax.specs.Reading.{Text, ◌>>=◌, first, skip, is_at}
 use Rattle.regex_syntax.specs.Verdict.{default_config}
-use Rattle.urlpattern_custom.proofs.Denoting.{Texts, Denotes, Joined, Nothing, Quantified, AreSameTexts, good_cut, joined_same, denotes_same, denotes_empty, denotes_cat, denotes_alone, denotes_last, denotes_quantified}
+use Rattle.urlpattern_custom.proofs.Denoting.{Texts, Denotes, Joined, Nothing, Quantified, AreSameTexts, joined_same, denotes_same, denotes_empty, denotes_last, denotes_quantified}
 use Rattle.urlpattern_custom.proofs.Takes.{Takes}
 use Rattle.urlpattern_custom.specs.Expressions.{takes_characters}
 use Rattle.urlpattern_meaning.specs.Dialect.{Quantifier, Once, Optional, ZeroOrMore, OneOrMore, LazyOneOrMore, quantifier_text}
-use Rattle.urlpattern_regex.proofs.AtomsRead.{full}
-use Rattle.urlpattern_regex.proofs.ItemsRead.{Free, OpensItem, begins_no, free_lazy, repeated_as, level}
-use Rattle.urlpattern_syntax.specs.RegexpText.{captured, grouped}
+use Rattle.urlpattern_regex.proofs.ItemsRead.{Free, OpensItem, free_lazy, repeated_as}
 
 abbrev pub at_text : Names → Text → Place
 at_text names t = record { config = default_config; names = names; text = t }

@@ -1,5 +1,5 @@
 -- A matcher answers captures exactly to the texts that its parts take.
-use Rattle.std.proofs.Common.{◌≡◌, ◌↔◌, ℕ, zero, suc, ◌+◌, ◌≤◌, List, [], ◌∷◌, ◌++◌, length, Bool, true, false, Option, Some, None, Result, IsSome, is_some, refl, sym, ap, ◌∙◌, subst, append_assoc, append-nil, length-append, arith, codes, true≢false}
+use Rattle.std.proofs.Common.{◌≡◌, ◌↔◌, ℕ, ◌≤◌, List, [], ◌∷◌, ◌++◌, length, true, false, Option, Some, None, Result, is_some, refl, sym, ap, ◌∙◌, subst, append-nil, length-append, arith, codes, true≢false}
 use Rattle.std.proofs.lemmas.List.Elements.{All-cons, All-head, All-nil, All-tail}
 use Rattle.std.specs.List.{flat_map}
 use Rattle.std.specs.Prelude.{◌≢◌, ◌&&◌, All, IsTrue, Ok, Err, option_to_list}
@@ -12,13 +12,13 @@ use Rattle.urlpattern_custom.proofs.Denoting.{Joined, AreSameTexts, joined_same}
 use Rattle.urlpattern_custom.proofs.ItemsOf.{joined_assoc, nothing_joined, same_then, same_texts}
 use Rattle.urlpattern_custom.proofs.PartItems.{one_copy}
 use Rattle.urlpattern_custom.proofs.TakenMeanings.{means_takes, parts_take_meanings}
-use Rattle.urlpattern_custom.specs.LawsOfTexts.{HasRoom, IsSomeIfTaken, IsTakenAlone, MatchersAnswerTaken, ValuesAnswerTaken}
-use Rattle.urlpattern_custom.specs.PartTexts.{AllStandAlone, PartTakes, PartsTake, StandsAlone}
+use Rattle.urlpattern_custom.specs.LawsOfTexts.{HasRoom, IsSomeIfTaken, MatchersAnswerTaken, ValuesAnswerTaken}
+use Rattle.urlpattern_custom.specs.PartTexts.{PartTakes, PartsTake, StandsAlone}
 use Rattle.urlpattern_meaning.proofs.MatcherMeaning.{HasEnds, ends_of, not_fast, scalars_middle}
 use Rattle.urlpattern_meaning.proofs.MatchingLaws.{IsFast, fast_means, middle_kept, part_of}
 use Rattle.urlpattern_meaning.proofs.PartTrees.{IsNotCustom}
 use Rattle.urlpattern_meaning.specs.FirstAnswers.{TookText}
-use Rattle.urlpattern_meaning.specs.Matching.{Accepts, Answers, ArePeeled, EachAnswerIs, InnerView, IsMadeBetween, IsMadeOf, IsMadeOfOne, IsRemoved, Literal, MatcherView, Matches, RegExp, SingleCapture, end_text}
+use Rattle.urlpattern_meaning.specs.Matching.{Accepts, Answers, ArePeeled, InnerView, IsMadeBetween, IsMadeOfOne, IsRemoved, Literal, MatcherView, Matches, RegExp, SingleCapture, end_text}
 use Rattle.urlpattern_meaning.specs.PartMeaning.{Captures, PartsMean}
 use Rattle.urlpattern_syntax.specs.Errors.{ErrorView}
 use Rattle.urlpattern_syntax.specs.Options.{OptionsView}
@@ -28,7 +28,7 @@ use Rattle.urlpattern_syntax.specs.declared.parser.PartModifier.TheVariants as m
 use Rattle.urlpattern_syntax.specs.declared.parser.PartType.{PartType}
 use Rattle.urlpattern_syntax.specs.declared.parser.PartType.TheVariants.{FixedText, Regexp, SegmentWildcard, FullWildcard}
 use Rattle.urlpattern_syntax.specs.RegexpText.{is_fixed_text, is_plain, is_unmodified, part_regexp, regexp_text}
-use Rattle.urlpattern_syntax.specs.Text.{IsRepeated, lacks, line_feed}
+use Rattle.urlpattern_syntax.specs.Text.{IsRepeated}
 
 -- ---- parts from which plain ends are removed
 

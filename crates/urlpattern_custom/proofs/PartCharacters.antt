@@ -1,5 +1,5 @@
 -- If the regular expression of parts is of characters, so are the texts of the parts in it.
-use Rattle.std.proofs.Common.{◌≡◌, ◌≢◌, ℕ, List, [], ◌∷◌, ◌++◌, Bool, true, false, ◌&&◌, refl, sym, ap, ◌∙◌, subst, codes, if◌then◌else◌, true≢false}
+use Rattle.std.proofs.Common.{◌≡◌, ◌≢◌, ℕ, List, [], ◌∷◌, ◌++◌, Bool, true, false, ◌&&◌, refl, sym, ap, ◌∙◌, codes, if◌then◌else◌, true≢false}
 use Rattle.std.proofs.lemmas.Bool.{and_parts, and_from}
 use lib.Utf8.{scalars}
 use Rattle.urlpattern_meaning.proofs.MatchingLaws.{part_of}
@@ -10,7 +10,7 @@ use Rattle.urlpattern_syntax.specs.declared.parser.PartModifier.{PartModifier}
 use Rattle.urlpattern_syntax.specs.declared.parser.PartModifier.TheVariants as modifiers
 use Rattle.urlpattern_syntax.specs.declared.parser.PartType.{PartType}
 use Rattle.urlpattern_syntax.specs.declared.parser.PartType.TheVariants.{FixedText, Regexp, SegmentWildcard, FullWildcard}
-use Rattle.urlpattern_syntax.specs.RegexpText.{affixed_regexp, bare_regexp, captured, escaped, escaped_marks, escaped_regexp, fixed_regexp, group_regexp, grouped, is_empty, is_fixed_text, matched_by, modifier_text, part_regexp, repeated_regexp}
+use Rattle.urlpattern_syntax.specs.RegexpText.{affixed_regexp, bare_regexp, captured, escaped, escaped_marks, escaped_regexp, fixed_regexp, group_regexp, grouped, is_empty, is_fixed_text, matched_by, part_regexp, repeated_regexp}
 use Rattle.urlpattern_syntax.specs.Text.{is_among}
 
 -- the texts of a part that its regular expression has

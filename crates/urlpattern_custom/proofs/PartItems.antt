@@ -1,17 +1,16 @@
 -- The regular expression of parts is read as items that take exactly the texts that the parts take.
-use Rattle.std.proofs.Common.{◌≡◌, ◌≢◌, ◌↔◌, ◌⊎◌, inl, inr, ℕ, zero, suc, ◌+◌, ◌≤◌, List, [], ◌∷◌, ◌++◌, Bool, true, false, ◌&&◌, Some, None, refl, sym, ap, ◌∙◌, subst, append_assoc, append-nil, codes, arith, true≢false, if◌then◌else◌}
+use Rattle.std.proofs.Common.{◌≡◌, ◌≢◌, ◌↔◌, ◌⊎◌, inl, inr, ℕ, zero, suc, ◌≤◌, List, [], ◌∷◌, ◌++◌, Bool, true, false, ◌&&◌, refl, sym, ap, ◌∙◌, subst, append_assoc, append-nil, codes, arith, true≢false, if◌then◌else◌}
 use Rattle.std.proofs.lemmas.Bool.{and_parts}
 use Rattle.std.proofs.lemmas.List.Elements.{All-head, All-tail}
 use Rattle.std.specs.List.{flat_map}
-use Rattle.std.specs.Prelude.{All, IsTrue}
 use lib.Utf8.{scalars}
-use Rattle.urlpattern_custom.proofs.Denoting.{Texts, Joined, Nothing, Quantified, AreSameTexts, joined_same, quantified_same, repeated_same}
+use Rattle.urlpattern_custom.proofs.Denoting.{Texts, Joined, Quantified, AreSameTexts, repeated_same}
 use Rattle.urlpattern_custom.proofs.GroupsOf.{IsInside, items_inside, captured_item, grouped_item}
-use Rattle.urlpattern_custom.proofs.ItemsOf.{AreItemsOf, IsItemOf, no_items, append_items, same_items, same_item, quantified_items, once_items, same_then, same_texts}
+use Rattle.urlpattern_custom.proofs.ItemsOf.{AreItemsOf, IsItemOf, no_items, append_items, same_items, same_item, quantified_items, once_items}
 use Rattle.urlpattern_custom.proofs.PartCharacters.{IsOfCharacters, no_fixed, part_characters}
 use Rattle.urlpattern_custom.proofs.PieceItems.{fixed_items, piece_inside}
-use Rattle.urlpattern_custom.specs.PartTexts.{AllStandAlone, IsCopyOf, IsPieceOf, PartTakes, PartsTake, StandsAlone}
-use Rattle.urlpattern_meaning.specs.Dialect.{Quantifier, Once, Optional, ZeroOrMore, OneOrMore, quantifier_text}
+use Rattle.urlpattern_custom.specs.PartTexts.{AllStandAlone, IsPieceOf, PartTakes, PartsTake, StandsAlone}
+use Rattle.urlpattern_meaning.specs.Dialect.{Optional, ZeroOrMore, OneOrMore, quantifier_text}
 use Rattle.urlpattern_meaning.specs.PartMeaning.{Allows}
 use Rattle.urlpattern_meaning.proofs.Copies.{IsBetween, IsCore, IsFurther, copies_core, core_copies}
 use Rattle.urlpattern_meaning.proofs.MatchingLaws.{part_of}

@@ -1,16 +1,15 @@
 -- Fixed texts and the pieces of groups, as the grammar of `regex` reads them in the regular expression of parts.
-use Rattle.std.proofs.Common.{◌≡◌, ◌≢◌, ◌↔◌, ℕ, zero, suc, List, [], ◌∷◌, ◌++◌, Bool, true, false, not, ◌&&◌, ◌||◌, ◌==◌, Option, Some, None, nat_lt, nat_le, if◌then◌else◌, refl, sym, ap, ◌∙◌, subst, append_assoc, append-nil, codes, encode_utf8, lt-ltb, le-leb, eq-eqb, arith, length}
-use Rattle.std.proofs.lemmas.Bool.{and_parts, and_from, and_right}
+use Rattle.std.proofs.Common.{◌≡◌, ◌≢◌, ℕ, List, [], ◌∷◌, ◌++◌, Bool, true, false, not, ◌&&◌, ◌||◌, ◌==◌, Option, Some, None, nat_le, if◌then◌else◌, refl, sym, ap, ◌∙◌, subst, append_assoc, append-nil, codes, encode_utf8, lt-ltb, le-leb, eq-eqb, arith, length}
+use Rattle.std.proofs.lemmas.Bool.{and_parts, and_from}
 use Rattle.std.proofs.lemmas.Option.{same_Some}
 use Rattle.std.proofs.lemmas.Str.{length-encode}
 use Rattle.std.specs.Char.{IsScalar, len_utf8}
-use Rattle.std.specs.Prelude.{IsTrue, unwrap_or}
+use Rattle.std.specs.Prelude.{IsTrue}
 use lib.Utf8.{scalars}
 use Rattle.regex_class.proofs.RangesLemmas.{or-false}
-use Rattle.regex_class.specs.Ranges.{in_ranges}
 use Rattle.regex_hir.proofs.TextLemmas.{char_at_from}
 use Rattle.regex_hir.proofs.Utf8Lemmas.{InScalarRange-of_IsScalar}
-use Rattle.regex_hir.specs.Re.{Re, literal, char_in}
+use Rattle.regex_hir.specs.Re.{literal, char_in}
 use Rattle.regex_hir.specs.Text.{char_at, is_some_and}
 use Rattle.regex_syntax.proofs.SetLemmas.{in_ranges-members}
 use Rattle.regex_syntax.specs.Grammar.{atom}
@@ -18,15 +17,14 @@ use Rattle.regex_syntax.specs.Reading.{first, is_at}
 use Rattle.regex_syntax.specs.Sets.{Set, members, negate, one_of}
 use Rattle.regex_syntax.specs.Verdict.{default_config}
 use Rattle.urlpattern_custom.proofs.CustomGroups.{custom_inside}
-use Rattle.urlpattern_custom.proofs.Denoting.{Texts, Denotes, Joined, Nothing, Quantified, AreSameTexts, quantified_same, denotes_same}
+use Rattle.urlpattern_custom.proofs.Denoting.{Denotes, Joined, Quantified, AreSameTexts, denotes_same}
 use Rattle.urlpattern_custom.proofs.GroupsOf.{IsInside, items_inside}
-use Rattle.urlpattern_custom.proofs.ItemsOf.{AreItemsOf, IsItemOf, no_items, append_items, same_items, quantified_items, once_items, atom_item, same_then}
-use Rattle.urlpattern_custom.proofs.Takes.{Takes}
+use Rattle.urlpattern_custom.proofs.ItemsOf.{AreItemsOf, IsItemOf, no_items, append_items, same_items, quantified_items, once_items, atom_item}
 use Rattle.urlpattern_custom.specs.PartTexts.{IsPieceOf, StandsAlone}
-use Rattle.urlpattern_meaning.specs.Dialect.{Character, Plain, Escaped, character_of, character_text, Quantifier, ZeroOrMore, LazyOneOrMore, Atom, Dot, AnyBut, Literal, AtomMeans, Means, IsCharacter, IsClassCharacter, IsOneBut, atom_text}
+use Rattle.urlpattern_meaning.specs.Dialect.{Character, Plain, Escaped, character_of, character_text, ZeroOrMore, LazyOneOrMore, Dot, AnyBut, Literal, AtomMeans, IsCharacter, IsClassCharacter, IsOneBut, atom_text}
 use Rattle.urlpattern_meaning.specs.PartMeaning.{IsWildcardText}
 use Rattle.urlpattern_meaning.proofs.PartTreeAllowed.{text_allowed, wildcard_allowed}
-use Rattle.urlpattern_meaning.proofs.PartTrees.{alone, character, segment_atom, wildcard_items}
+use Rattle.urlpattern_meaning.proofs.PartTrees.{alone, character, segment_atom}
 use Rattle.urlpattern_meaning.proofs.TreeMeaning.{alone_means}
 use Rattle.urlpattern_meaning.proofs.WildcardItems.{wildcard_stands}
 use Rattle.urlpattern_regex.proofs.AtomsRead.{itself, any_character, any_but, read_character, read_dot, read_class, differs}
@@ -35,8 +33,8 @@ use Rattle.urlpattern_syntax.specs.Options.{OptionsView}
 use Rattle.urlpattern_syntax.specs.declared.parser.PartType.{PartType}
 use Rattle.urlpattern_syntax.specs.declared.parser.PartType.TheVariants.{FixedText, Regexp, SegmentWildcard, FullWildcard}
 use Rattle.urlpattern_syntax.specs.declared.parser.RegexSyntax.{RegexSyntax}
-use Rattle.urlpattern_syntax.specs.RegexpText.{escaped, escaped_marks, escaped_regexp, matched_by, segment_wildcard_of, full_wildcard, regexp_marks}
-use Rattle.urlpattern_syntax.specs.Text.{is_among, line_feed, IsRepeated}
+use Rattle.urlpattern_syntax.specs.RegexpText.{escaped, escaped_marks, escaped_regexp, matched_by, segment_wildcard_of, regexp_marks}
+use Rattle.urlpattern_syntax.specs.Text.{is_among, line_feed}
 
 -- ---- characters
 

@@ -1,9 +1,9 @@
 -- Parts without a custom one take the texts that they mean.
-use Rattle.std.proofs.Common.{◌≡◌, ◌↔◌, ℕ, zero, suc, List, [], ◌∷◌, ◌++◌, Bool, true, false, Option, Some, None, refl, sym, ap, subst, true≢false, ◌∙◌}
+use Rattle.std.proofs.Common.{ℕ, zero, suc, List, [], ◌∷◌, ◌++◌, Option, Some, refl}
 use Rattle.std.proofs.lemmas.List.Elements.{All-head, All-tail}
-use Rattle.std.specs.Prelude.{◌≢◌, All}
+use Rattle.std.specs.Prelude.{◌≢◌}
 use Rattle.urlpattern_custom.specs.LawsOfTexts.{PartsTakeMeanings}
-use Rattle.urlpattern_custom.specs.PartTexts.{IsCopyOf, IsPieceOf, PartTakes, PartsTake}
+use Rattle.urlpattern_custom.specs.PartTexts.{PartTakes, PartsTake}
 use Rattle.urlpattern_meaning.proofs.Copies.{IsBetween, copies_core}
 use Rattle.urlpattern_meaning.proofs.MatchingLaws.{part_of}
 use Rattle.urlpattern_meaning.proofs.PartTrees.{IsNotCustom}

@@ -1,7 +1,7 @@
 -- The texts that a pattern takes, character by character, wherever they stand.
-use Rattle.std.proofs.Common.{◌≡◌, ℕ, zero, suc, ◌+◌, ◌≤◌, List, [], ◌∷◌, ◌++◌, length, drop, Option, Some, None, Bool, true, false, ◌&&◌, ◌==◌, ◌⊎◌, inl, inr, ⊎_elim, refl, sym, ap, ◌∙◌, subst, append_assoc, append-nil, length-append, arith, encode_utf8, eqb-true, true≢false}
-use Rattle.std.proofs.lemmas.Bool.{and_parts, and_from}
-use Rattle.std.proofs.lemmas.List.{drop_at, nil_from_length}
+use Rattle.std.proofs.Common.{◌≡◌, ℕ, zero, suc, ◌+◌, ◌≤◌, List, [], ◌∷◌, ◌++◌, length, drop, Option, Some, None, Bool, true, ◌==◌, ◌⊎◌, inl, inr, ⊎_elim, refl, sym, ap, ◌∙◌, subst, append_assoc, append-nil, length-append, arith, encode_utf8, eqb-true, true≢false}
+use Rattle.std.proofs.lemmas.Bool.{and_parts}
+use Rattle.std.proofs.lemmas.List.{drop_at}
 use Rattle.std.proofs.lemmas.Option.{none-some, same_Some}
 use Rattle.std.proofs.lemmas.Str.{encodes-append, length-encode}
 use Rattle.std.specs.Char.{IsScalar, len_utf8}
@@ -11,7 +11,7 @@ use Rattle.regex_hir.proofs.TextLemmas.{char_at_from, char_at_parts, char_at_pas
 use Rattle.regex_hir.specs.Matches.{Matches, Rounds, one_round, next_round}
 use Rattle.regex_hir.specs.Re.{Re, empty, literal, byte_in, char_in, look, cat, alt, group, plus}
 use Rattle.regex_hir.specs.Text.{char_at, is_some_and}
-use Rattle.urlpattern_custom.specs.Expressions.{is_character, is_nothing, takes_characters}
+use Rattle.urlpattern_custom.specs.Expressions.{is_character, takes_characters}
 use Rattle.urlpattern_regex.proofs.WayAnswers.{at}
 use Rattle.urlpattern_syntax.specs.Text.{IsRepeated}
 

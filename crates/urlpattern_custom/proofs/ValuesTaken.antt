@@ -1,5 +1,5 @@
 -- A value of an engine answers captures exactly to the texts that the parts take that it was made of.
-use Rattle.std.proofs.Common.{◌≡◌, ◌↔◌, ℕ, zero, suc, ◌+◌, ◌^◌, ◌≤◌, List, [], ◌∷◌, ◌++◌, length, Bool, true, false, Option, Some, None, IsSome, IsSomeAnd, is_some, option_map, refl, sym, ap, ◌∙◌, subst, arith, codes, length-append, encode_utf8_all}
+use Rattle.std.proofs.Common.{◌≡◌, ℕ, suc, ◌^◌, ◌≤◌, List, ◌++◌, length, Bool, true, false, Option, Some, None, IsSome, IsSomeAnd, is_some, option_map, refl, sym, ap, ◌∙◌, subst, arith, codes, length-append, encode_utf8_all}
 use Rattle.std.proofs.lemmas.Str.{IsUtf8-string_bytes, scalars-chars}
 use Rattle.std.specs.declared.alloc.Global.{Global}
 use Rattle.std.specs.List.{flat_map}
@@ -15,16 +15,15 @@ use Rattle.regex_hir.proofs.OptionLemmas.{value_of_IsSome}
 use Rattle.regex_syntax.specs.Brackets.{Nested}
 use Rattle.regex_syntax.specs.Grammar.{Names, read}
 use Rattle.regex_syntax.specs.Verdict.{Reads, default_config}
-use Rattle.urlpattern_core.specs.Components.{ignores_case}
 use Rattle.urlpattern_core.specs.FirstWays.{KeepsCase}
 use Rattle.urlpattern_core.specs.Regexes.{IsRegexOf, regex_engine}
 use Rattle.urlpattern_custom.proofs.PartItems.{parts_items}
-use Rattle.urlpattern_custom.proofs.WholeRead.{WholeFound, between_lines, search_is, whole_read}
+use Rattle.urlpattern_custom.proofs.WholeRead.{between_lines, search_is, whole_read}
 use Rattle.urlpattern_custom.specs.LawsOfTexts.{HasRoom, IsSomeIfTaken, ValuesAnswerTaken}
 use Rattle.urlpattern_custom.specs.PartTexts.{AllStandAlone, PartsTake}
 use Rattle.urlpattern_engine.proofs.EngineLaws.{pattern_values_read, regex_values_read}
 use Rattle.urlpattern_engine.specs.Automatons.{config_for}
-use Rattle.urlpattern_engine.specs.PatternRegexps.{IsExpressionOf, IsPatternRegexpOf, pattern_engine}
+use Rattle.urlpattern_engine.specs.PatternRegexps.{IsExpressionOf, pattern_engine}
 use Rattle.urlpattern_engine.specs.Readings.{re_answer}
 use Rattle.urlpattern_engine.specs.declared.pattern_regexp.Expression.{Expression}
 use Rattle.urlpattern_engine.specs.declared.pattern_regexp.Expression.TheVariants.{Own, Compiled, Kept, Other}

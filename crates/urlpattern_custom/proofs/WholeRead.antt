@@ -1,7 +1,7 @@
 -- What the grammar of `regex` reads from `^` to `$` is found in exactly the texts that the items between them take.
-use Rattle.std.proofs.Common.{◌≡◌, ◌↔◌, ℕ, zero, suc, ◌+◌, ◌*◌, ◌<◌, ◌≤◌, List, [], ◌∷◌, ◌++◌, length, Bool, true, false, Option, Some, None, IsSome, is_some, if◌then◌else◌, refl, sym, ap, ◌∙◌, subst, inl, inr, ⊎_elim, arith, length-append, append-nil, true≢false}
+use Rattle.std.proofs.Common.{◌≡◌, ◌↔◌, ℕ, zero, suc, ◌+◌, ◌*◌, ◌<◌, ◌≤◌, List, [], ◌∷◌, ◌++◌, length, true, false, Some, None, IsSome, is_some, if◌then◌else◌, refl, sym, ap, ◌∙◌, subst, inl, inr, arith, length-append, append-nil, true≢false}
 use Rattle.std.proofs.lemmas.Bool.{cond-true}
-use Rattle.std.proofs.lemmas.Option.{none-some, same_Some, slice_get_past, slice_get-get_or}
+use Rattle.std.proofs.lemmas.Option.{same_Some, slice_get_past, slice_get-get_or}
 use Rattle.std.proofs.lemmas.Str.{encodes-append, length-le-encodes, IsCharBoundary-start}
 use lib.Utf8.{scalars, encodes}
 use Rattle.regex.proofs.Utf8Lemmas.{test_of_IsCharBoundary}
@@ -13,16 +13,16 @@ use Rattle.regex_hir.specs.Find.{Match, find_str}
 use Rattle.regex_hir.specs.Looks.{holds, holds_between}
 use Rattle.regex_hir.specs.Matches.{Matches}
 use Rattle.regex_hir.specs.Meaning.{cat_all, alt_all}
-use Rattle.regex_hir.specs.Re.{Re, Rest, byte_in, cat, alt, look, accept, attempt}
+use Rattle.regex_hir.specs.Re.{Re, Rest, accept, attempt}
 use Rattle.regex_hir.specs.Text.{is_boundary}
 use Rattle.regex_hir.specs.declared.look.Look.TheVariants.{Start, End}
 use Rattle.regex_syntax.proofs.BranchLemmas.{ends_branch, group_inside}
-use Rattle.regex_syntax.specs.Brackets.{Nested, flat, join}
+use Rattle.regex_syntax.specs.Brackets.{Nested, join}
 use Rattle.regex_syntax.specs.Grammar.{Names, Place, atom, char_meaning, item, items, read}
-use Rattle.regex_syntax.specs.Reading.{Text, ◌>>=◌, first, is_at, is_empty}
+use Rattle.regex_syntax.specs.Reading.{Text, first, is_at, is_empty}
 use Rattle.regex_syntax.specs.Verdict.{default_config}
-use Rattle.urlpattern_custom.proofs.Denoting.{Texts, Denotes}
-use Rattle.urlpattern_custom.proofs.GroupsOf.{OneBranch, one_branch}
+use Rattle.urlpattern_custom.proofs.Denoting.{Denotes}
+use Rattle.urlpattern_custom.proofs.GroupsOf.{one_branch}
 use Rattle.urlpattern_custom.proofs.ItemsOf.{AreItemsOf, at_text, items_go_on, items_stop, quantified, values}
 use Rattle.urlpattern_custom.proofs.Takes.{Takes, matches_takes, nothing_in, takes_matches}
 use Rattle.urlpattern_meaning.specs.Dialect.{Once}
