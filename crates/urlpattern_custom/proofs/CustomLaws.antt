@@ -10,10 +10,10 @@ use Rattle.urlpattern_core.specs.FirstWays.{KeepsCase}
 use Rattle.urlpattern_core.specs.Regexes.{regex_engine}
 use Rattle.urlpattern_custom.proofs.CustomGroups.{custom_inside, whole_takes}
 use Rattle.urlpattern_custom.proofs.ItemsOf.{at_text}
-use Rattle.urlpattern_custom.proofs.MatchersTaken.{matchers_taken}
+use Rattle.urlpattern_custom.proofs.MatchersTaken.{matchers_taken, shorter_room}
 use Rattle.urlpattern_custom.proofs.ValuesTaken.{pattern_values_taken, regex_values_taken}
 use Rattle.urlpattern_custom.specs.Expressions.{ExpressionTakes, TakesWhole}
-use Rattle.urlpattern_custom.specs.LawsOfTexts.{MatchersAnswerTaken, ReadsInGroups, TookAlone}
+use Rattle.urlpattern_custom.specs.LawsOfTexts.{HasRoom, MatchersAnswerTaken, ReadsInGroups, TookAlone}
 use Rattle.urlpattern_engine.specs.PatternRegexps.{pattern_engine}
 use Rattle.urlpattern_meaning.specs.FirstAnswers.{TookText}
 use Rattle.urlpattern_meaning.specs.Matching.{InnerView, Literal, RegExp, SingleCapture}
@@ -42,8 +42,8 @@ took_any (SingleCapture filter allow_empty) P p took = tt
 took_any (RegExp (Ok value)) P p took = p
 took_any (RegExp (Err error)) P p took = took
 
-pub regex_matchers_taken : MatchersAnswerTaken regex_engine (λ options flags. TookText (λ value. ⊤))
-regex_matchers_taken = matchers_taken regex_engine (λ flags. ⊤) _ regex_values_taken (λ options flags inner kept took. took)
+pub regex_matchers_taken : MatchersAnswerTaken regex_engine (λ regexp. ⊤) (λ options flags. TookText (λ value. ⊤))
+regex_matchers_taken = matchers_taken regex_engine (λ flags. ⊤) (λ regexp. ⊤) _ regex_values_taken (λ options parts middle le fits. tt) (λ options flags inner kept took. took)
 
-pub pattern_matchers_taken : MatchersAnswerTaken pattern_engine TookAlone
-pattern_matchers_taken = matchers_taken pattern_engine KeepsCase _ pattern_values_taken (λ options flags inner kept took. took_any inner (KeepsCase flags) (took.0 ∙ kept) took.1)
+pub pattern_matchers_taken : MatchersAnswerTaken pattern_engine HasRoom TookAlone
+pattern_matchers_taken = matchers_taken pattern_engine KeepsCase HasRoom _ pattern_values_taken shorter_room (λ options flags inner kept took. took_any inner (KeepsCase flags) (took.0 ∙ kept) took.1)

@@ -12,7 +12,7 @@ use Rattle.urlpattern_custom.proofs.Denoting.{Joined, AreSameTexts, joined_same}
 use Rattle.urlpattern_custom.proofs.ItemsOf.{joined_assoc, nothing_joined, same_then, same_texts}
 use Rattle.urlpattern_custom.proofs.PartItems.{one_copy}
 use Rattle.urlpattern_custom.proofs.TakenMeanings.{means_takes, parts_take_meanings}
-use Rattle.urlpattern_custom.specs.LawsOfTexts.{HasRoom, IsSomeIfTaken, MatchersAnswerTaken, ValuesAnswerTaken}
+use Rattle.urlpattern_custom.specs.LawsOfTexts.{HasRoom, IsSomeIfTaken, MatchersAnswerTaken, Room, ValuesAnswerTaken}
 use Rattle.urlpattern_custom.specs.PartTexts.{PartTakes, PartsTake, StandsAlone}
 use Rattle.urlpattern_meaning.proofs.MatcherMeaning.{HasEnds, ends_of, not_fast, scalars_middle}
 use Rattle.urlpattern_meaning.proofs.MatchingLaws.{IsFast, fast_means, middle_kept, part_of}
@@ -153,7 +153,7 @@ middle_all P parts front middle back peeled h =
 -- ---- room
 
 module _ (options : OptionsView) where
-  abbrev written : List PartView → List ℕ
+  abbrev pub written : List PartView → List ℕ
   written parts = flat_map (part_regexp options) parts
 
   left_length : (parts others : List PartView) → length (written parts) ≤ length (written (parts ++ others))
@@ -169,9 +169,8 @@ module _ (options : OptionsView) where
   middle_length parts front middle back peeled =
       omega (arith, right_length (option_to_list front) middle, left_length (option_to_list front ++ middle) (option_to_list back), ap (λ ps. length (written ps)) peeled.cut)
 
-  middle_room : (parts : List PartView) (front : Option PartView) (middle : List PartView) (back : Option PartView) → ArePeeled parts front middle back → HasRoom (regexp_text options parts) → HasRoom (regexp_text options middle)
-  middle_room parts front middle back peeled room =
-      omega (arith, room, middle_length parts front middle back peeled, length-append (written middle) (codes "$"), length-append (written parts) (codes "$"))
+pub shorter_room : (options : OptionsView) (parts middle : List PartView) → length (written options middle) ≤ length (written options parts) → HasRoom (regexp_text options parts) → HasRoom (regexp_text options middle)
+shorter_room options parts middle le room = omega (arith, room, le, length-append (written options middle) (codes "$"), length-append (written options parts) (codes "$"))
 
 -- ---- every matcher
 
@@ -200,10 +199,11 @@ fast_taken answer options parts matcher text None plain same never = (
 )
 
 -- where the engine took its text, and its values answer captures to what the parts take, so do the matchers
-pub matchers_taken : {E : Type 0} (engine : Engine E) (Keeps : Keeping) (Took : Taking E) → ValuesAnswerTaken engine Keeps
+pub matchers_taken : {E : Type 0} (engine : Engine E) (Keeps : Keeping) (Fits : Room) (Took : Taking E) → ValuesAnswerTaken engine Keeps Fits
+    → ((options : OptionsView) (parts middle : List PartView) → length (written options middle) ≤ length (written options parts) → Fits (regexp_text options parts) → Fits (regexp_text options middle))
     → ((options : OptionsView) (flags : List ℕ) (inner : InnerView E) → options.ignore_case ≡ false → Took options flags inner → TookText (λ value. Keeps flags) inner)
-    → MatchersAnswerTaken engine Took
-matchers_taken {E} engine Keeps Took values took options flags parts matcher made text result no_feed fine answers = by_inner matcher.inner refl (took options flags matcher.inner made.case_kept made.took)
+    → MatchersAnswerTaken engine Fits Took
+matchers_taken {E} engine Keeps Fits Took values shorter took options flags parts matcher made text result no_feed fine answers = by_inner matcher.inner refl (took options flags matcher.inner made.case_kept made.took)
   where
     fast : IsFast matcher.inner → IsSomeIfTaken options parts text result
     fast is =
@@ -221,5 +221,5 @@ matchers_taken {E} engine Keeps Took values took options flags parts matcher mad
         engine_taken engine.answer options parts m.front m.middle m.back matcher value text result m.are_peeled
         (ends_of (IsEngineOf engine false flags) options (end_text m.front) m.middle (end_text m.back) matcher (Ok value) m.is_made e) e made.case_kept
         (λ t good. values options flags m.middle value keeps (middle_all (λ part. StandsAlone part.kind part.value) parts m.front m.middle m.back m.are_peeled made.alone)
-        (middle_room options parts m.front m.middle m.back m.are_peeled made.room) is t good)
+        (shorter options parts m.middle (middle_length options parts m.front m.middle m.back m.are_peeled) made.fits) is t good)
         fine answers

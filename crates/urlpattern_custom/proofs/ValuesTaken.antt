@@ -76,8 +76,8 @@ regex_reads regexp regex made = reads_some (regex_source regex) regexp _ _ made.
 text_good : (source : String Global) (regexp : List ℕ) → chars (string_bytes source) ≡ regexp → scalars regexp ≡ true
 text_good source regexp of_text = ap scalars (sym of_text) ∙ scalars-chars (string_bytes source) (IsUtf8-string_bytes source)
 
-pub regex_values_taken : ValuesAnswerTaken regex_engine (λ flags. ⊤)
-regex_values_taken options flags parts regex any alone room made =
+pub regex_values_taken : ValuesAnswerTaken regex_engine (λ flags. ⊤) (λ regexp. ⊤)
+regex_values_taken options flags parts regex any alone fits made =
     let regexp = regexp_text options parts in
     answers_taken options parts (regex_engine.answer regex) alone (text_good regex.pattern.source regexp made.of_text) (regex_reads regexp regex made) (regex_values_read regexp flags regex any made)
 
@@ -121,7 +121,7 @@ expression_some ignore_case regexp (Kept value) kept made room = reads_some (str
 expression_some ignore_case regexp (Other regex) kept made room =
     reads_some (regex_source regex.value) regexp _ _ made.0.of_text (read_kept ignore_case _ _ _ kept (rw (made.0.by_case) at made.0.is_read))
 
-pub pattern_values_taken : ValuesAnswerTaken pattern_engine KeepsCase
+pub pattern_values_taken : ValuesAnswerTaken pattern_engine KeepsCase HasRoom
 pattern_values_taken options flags parts value keeps alone room made =
     let regexp = regexp_text options parts in
     answers_taken options parts (pattern_engine.answer value) alone (expression_good value.ignore_case regexp value.expression made.of_text)

@@ -35,30 +35,34 @@ PartsTakeMeanings =
 abbrev pub IsSomeIfTaken : OptionsView → List PartView → (text : List ℕ) → Option Captures → Type 0
 IsSomeIfTaken options parts text result = IsSome result ↔ PartsTake options parts text
 
--- the grammar has a number for each group that such an expression can have
-abbrev pub HasRoom : (regexp : List ℕ) → Type 0
+-- how long a regular expression may be
+abbrev pub Room : Type 1
+Room = (regexp : List ℕ) → Type 0
+
+-- the grammar has a number for each group that an expression of so many characters can have
+abbrev pub HasRoom : Room
 HasRoom regexp = length regexp ≤ 2 ^ 32
 
--- each value of the engine that was made, with such flags, of the regular expression of parts whose custom ones stand alone
-abbrev pub ValuesAnswerTaken : {E : Type 0} → Engine E → Keeping → Type 0
-ValuesAnswerTaken {E} engine Keeps =
-    (options : OptionsView) (flags : List ℕ) (parts : List PartView) (value : E) → Keeps flags → AllStandAlone parts → HasRoom (regexp_text options parts) →
+-- each value of the engine that was made, with such flags, of such a regular expression of parts whose custom ones stand alone
+abbrev pub ValuesAnswerTaken : {E : Type 0} → Engine E → Keeping → Room → Type 0
+ValuesAnswerTaken {E} engine Keeps Fits =
+    (options : OptionsView) (flags : List ℕ) (parts : List PartView) (value : E) → Keeps flags → AllStandAlone parts → Fits (regexp_text options parts) →
     engine.IsMade value (regexp_text options parts) flags →
     (text : List ℕ) → IsTrue (all_scalars text) → IsSomeIfTaken options parts text (engine.answer value text)
 
 -- The matcher is made by the engine of parts whose custom ones stand alone, case is kept, and the engine took the text, in this sense,
 -- where it was needed.
-pub record IsTakenAlone {E : Type 0} (engine : Engine E) (Took : Taking E) (options : OptionsView) (flags : List ℕ) (parts : List PartView) (matcher : MatcherView E) : Type 0 where
+pub record IsTakenAlone {E : Type 0} (engine : Engine E) (Fits : (regexp : List ℕ) → Type 0) (Took : Taking E) (options : OptionsView) (flags : List ℕ) (parts : List PartView) (matcher : MatcherView E) : Type 0 where
   pub is_made : IsMadeOf (IsEngineOf engine false flags) options parts matcher
   pub alone : AllStandAlone parts
-  pub room : HasRoom (regexp_text options parts)
+  pub fits : Fits (regexp_text options parts)
   pub case_kept : options.ignore_case ≡ false
   pub took : Took options flags matcher.inner
 
 -- each such matcher answers captures to a text of characters without line feed exactly if the parts take it
-abbrev pub MatchersAnswerTaken : {E : Type 0} → Engine E → Taking E → Type 0
-MatchersAnswerTaken {E} engine Took =
-    (options : OptionsView) (flags : List ℕ) (parts : List PartView) (matcher : MatcherView E) → IsTakenAlone engine Took options flags parts matcher →
+abbrev pub MatchersAnswerTaken : {E : Type 0} → Engine E → Room → Taking E → Type 0
+MatchersAnswerTaken {E} engine Fits Took =
+    (options : OptionsView) (flags : List ℕ) (parts : List PartView) (matcher : MatcherView E) → IsTakenAlone engine Fits Took options flags parts matcher →
     EachAnswerIs engine.answer matcher (IsSomeIfTaken options parts)
 
 -- the engine was given flags that ignore case where the options do, and took the text where it was needed

@@ -5,7 +5,7 @@
 ghost use Rattle.std.specs.Prelude.{⊤};
 ghost use Rattle.urlpattern_core.specs.Regexes.{regex_engine};
 ghost use Rattle.urlpattern_core.specs.FirstWays.{KeepsCase};
-ghost use Rattle.urlpattern_custom.specs.LawsOfTexts.{MatchersAnswerTaken, PartsTakeMeanings, ReadsInGroups, TookAlone, ValuesAnswerTaken};
+ghost use Rattle.urlpattern_custom.specs.LawsOfTexts.{HasRoom, MatchersAnswerTaken, PartsTakeMeanings, ReadsInGroups, TookAlone, ValuesAnswerTaken};
 ghost use Rattle.urlpattern_engine.specs.PatternRegexps.{pattern_engine};
 ghost use Rattle.urlpattern_meaning.specs.FirstAnswers.{TookText};
 
@@ -26,16 +26,16 @@ pub fn parts_take_the_texts_that_they_mean()
 /// A value of an engine that was made of the regular expression of parts answers captures to a text of characters exactly if the text
 /// is cut into stretches that the parts take, where a custom part takes what its expression takes by itself.
 ///
-/// It is asked of each custom expression that it stands alone, and of the whole regular expression that it has no more than 2³²
-/// characters. Of `PatternRegexp` it is asked that it was made without the flag `i`.
+/// It is asked of each custom expression that it stands alone. Of `PatternRegexp` it is asked that it was made without the flag `i`, of a
+/// regular expression of no more than 2³² characters.
 pub fn values_answer_the_texts_that_parts_take()
-    ensures own { ValuesAnswerTaken pattern_engine KeepsCase }
-    ensures regex { ValuesAnswerTaken regex_engine (λ flags. ⊤) }
+    ensures own { ValuesAnswerTaken pattern_engine KeepsCase HasRoom }
+    ensures regex { ValuesAnswerTaken regex_engine (λ flags. ⊤) (λ regexp. ⊤) }
 {}
 
 /// A matcher answers captures to a text of characters without line feed exactly if its parts take the text, custom ones among them, if
 /// case is kept and the engine took the regular expression where it was needed.
 pub fn matchers_answer_the_texts_that_parts_take()
-    ensures own { MatchersAnswerTaken pattern_engine TookAlone }
-    ensures regex { MatchersAnswerTaken regex_engine (λ options flags. TookText (λ value. ⊤)) }
+    ensures own { MatchersAnswerTaken pattern_engine HasRoom TookAlone }
+    ensures regex { MatchersAnswerTaken regex_engine (λ regexp. ⊤) (λ options flags. TookText (λ value. ⊤)) }
 {}
