@@ -1,0 +1,122 @@
+-- An expression that stands alone is read inside of a group as a pattern that takes what it takes by itself.
+use Rattle.std.proofs.Common.{◌≡◌, ◌↔◌, ℕ, ◌+◌, ◌*◌, List, [], ◌∷◌, ◌++◌, length, true, false, ◌==◌, Some, None, refl, sym, ap, ◌∙◌, subst, arith, ne_eqb, length-append, ⊎_elim, append-nil, eqb-true}
+use Rattle.std.proofs.lemmas.Bool.{and_parts, both_ways, cases_Bool}
+use Rattle.std.proofs.lemmas.List.{nil_from_length}
+use Rattle.std.proofs.lemmas.Option.{none-some, same_Some}
+use Rattle.std.proofs.lemmas.Str.{encodes-append, length-le-encodes}
+use Rattle.std.specs.Prelude.{IsTrue}
+use lib.Utf8.{scalars, encodes}
+use Rattle.regex_hir.proofs.AttemptLemmas.{cond_some, is_some_and_parts, option_and_then_some}
+use Rattle.regex_hir.specs.Re.{Re}
+use Rattle.regex_syntax.proofs.BranchLemmas.{ends_branch, group_inside}
+use Rattle.regex_syntax.specs.Brackets.{Nested}
+use Rattle.regex_syntax.specs.Grammar.{Names, Place, atom, item, read}
+use Rattle.regex_syntax.specs.Reading.{Text, ◌∈◌, first, is_empty}
+use Rattle.regex_syntax.specs.Verdict.{default_config}
+use Rattle.urlpattern_custom.proofs.BranchesClosed.{inside_closed}
+use Rattle.urlpattern_custom.proofs.Closing.{Calm, closed}
+use Rattle.urlpattern_custom.proofs.Denoting.{Denotes, denotes_bare}
+use Rattle.urlpattern_custom.proofs.GroupsOf.{IsInside, free_close, one_branch}
+use Rattle.urlpattern_custom.proofs.ItemsOf.{at_text, items_go_on}
+use Rattle.urlpattern_custom.proofs.Takes.{Takes, matches_takes, takes_matches}
+use Rattle.urlpattern_custom.specs.Expressions.{ExpressionTakes, TakesWhole, stands_alone, takes_characters}
+use Rattle.urlpattern_regex.proofs.AtomsRead.{full}
+use Rattle.urlpattern_regex.proofs.ItemsRead.{Free}
+
+-- ---- whole texts
+
+nothing_left : (text taken rest : List ℕ) → text ≡ taken ++ rest → length (encodes text) ≡ length (encodes taken) → rest ≡ []
+nothing_left text taken rest cut e =
+    nil_from_length rest
+    (omega (arith, ap (λ t. length (encodes t)) cut, ap length (encodes-append taken rest), length-append (encodes taken) (encodes rest), length-le-encodes rest))
+
+-- to take a text whole is to take it
+pub whole_takes : (re : Re) → takes_characters re ≡ true → (text : List ℕ) → scalars text ≡ true → Takes re text ↔ TakesWhole re text
+whole_takes re h text good = (
+  λ takes. takes_matches text good re h [] text [] (append-nil text) takes,
+  λ matches.
+      let found = matches_takes text good re h [] text refl (length (encodes text)) matches in
+      subst (Takes re) (sym (found.2 ∙ ap (λ t. found.0 ++ t) (nothing_left text found.0 found.1 found.2 found.3) ∙ append-nil found.0)) found.4,
+)
+
+-- ---- expressions by themselves
+
+-- what the grammar reads in the expression by itself
+pub record IsReadAlone (expression : List ℕ) : Type 0 where
+  pub tree : Nested Re
+  pub end : Place
+  pub names : Names
+  pub is_read : read default_config expression ≡ Some (tree, names)
+  pub inside : group_inside (2 * length expression + 2) (at_text (None ∷ []) expression) ≡ Some (tree, end)
+  pub ends : end.text ≡ []
+  pub plain : takes_characters tree.value ≡ true
+  pub calm : Calm expression
+
+read_alone : (expression : List ℕ) → stands_alone expression ≡ true → IsReadAlone expression
+unfolding stands_alone read
+read_alone expression h =
+    let both = and_parts _ _ h in
+    let found = is_some_and_parts (read default_config expression) _ both.1 in
+    let whole = option_and_then_some _ (group_inside (2 * length expression + 2) (at_text (None ∷ []) expression)) found.0 found.1 in
+    let ended = cond_some (is_empty whole.0.1.text) _ found.0 whole.2 in
+    let same : whole.0.0 ≡ found.0.0 = ap (λ (result : Nested Re × Names). result.0) (same_Some _ _ ended.1) in
+    record {
+      tree = found.0.0;
+      end = whole.0.1;
+      names = found.0.1;
+      is_read = found.1;
+      inside = whole.1 ∙ ap (λ tree. Some (tree, whole.0.1)) same;
+      ends = empty_text whole.0.1.text ended.0;
+      plain = found.2;
+      calm = both.0;
+    }
+  where
+    empty_text : (t : Text) → is_empty t ≡ true → t ≡ []
+    empty_text t e = nil_from_length t (eqb-true (length t) 0 e)
+
+-- no expression begins with a quantifier
+quantifier_first : (c : ℕ) → (c ∈ "?*+{") ≡ true → (d : ℕ) → (d ∈ "?*+{") ≡ false → (c == d) ≡ false
+quantifier_first c h d other = ne_eqb c d (λ e. both_ways _ other (ap (λ x. x ∈ "?*+{") (sym e) ∙ h))
+
+no_quantifier : (n : ℕ) (names : Names) (c : ℕ) (t : Text) (tree : Nested Re) (end : Place) → (c ∈ "?*+{") ≡ true → group_inside n (at_text names (c ∷ t)) ≡ Some (tree, end) → ⊥
+unfolding item atom first
+no_quantifier n names c t tree end h e =
+    let branch = one_branch n (at_text names (c ∷ t)) tree end e in
+    let goes_on : ends_branch (c ∷ t) ≡ false = rw (full c t, quantifier_first c h 124 refl, quantifier_first c h 41 refl) refl in
+    let is = items_go_on branch.steps names (c ∷ t) branch.parts branch.after goes_on branch.read_items in
+    let none : item (group_inside is.steps) (at_text names (c ∷ t)) ≡ None = rw (item, quantifier_first c h 40 refl, atom, h) refl in
+    none-some _ (sym none ∙ is.one)
+
+free_alone : (expression rest : List ℕ) (n : ℕ) (names : Names) (tree : Nested Re) (end : Place) → group_inside n (at_text names expression) ≡ Some (tree, end) → Free (expression ++ 41 ∷ rest)
+unfolding first
+free_alone [] rest n names tree end e = free_close rest
+free_alone (c ∷ t) rest n names tree end e =
+    ⊎_elim
+    (λ (quantifier : (c ∈ "?*+{") ≡ true). absurd (no_quantifier n names c t tree end quantifier e))
+    (λ (other : (c ∈ "?*+{") ≡ false). other)
+    (cases_Bool (c ∈ "?*+{"))
+
+-- ---- expressions in groups
+
+pub denotes_expression : (expression : List ℕ) (alone : IsReadAlone expression) → Denotes alone.tree.value (ExpressionTakes expression)
+denotes_expression expression alone = record {
+  plain = alone.plain;
+  same = λ text good.
+      let whole = whole_takes alone.tree.value alone.plain text good in
+      let reads = alone.is_read in
+      (λ takes. rw reads (whole.0 takes), λ is. whole.1 (rw reads at is));
+}
+
+pub custom_inside : (expression : List ℕ) → IsTrue (stands_alone expression) → IsInside expression (ExpressionTakes expression)
+custom_inside expression h =
+    let alone = read_alone expression h in
+    let p = at_text (None ∷ []) expression in
+    record {
+      starts = λ rest. free_alone expression rest (2 * length expression + 2) (None ∷ []) alone.tree alone.end alone.inside;
+      reads = λ rest n names found end e.
+          let alike = inside_closed rest (2 * length expression + 2) n p names alone.calm in
+          let holds = rw (alone.inside, e) at alike.holds in (
+            ap (λ (q : Place). q.text) holds.1 ∙ ap (λ t. closed rest t) alone.ends,
+            denotes_bare alone.tree.value found.value (ExpressionTakes expression) holds.0 (denotes_expression expression alone),
+          );
+    }

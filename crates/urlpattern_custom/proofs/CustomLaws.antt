@@ -1,0 +1,49 @@
+-- The laws on custom regular expressions, for each engine.
+use Rattle.std.proofs.Common.{◌≡◌, ◌↔◌, ℕ, List, ◌++◌, Option, Some, None, refl, ap, ◌∙◌}
+use Rattle.std.specs.Prelude.{⊤, IfSome, IsTrue, Ok, Err, codes}
+use Rattle.std.specs.Str.{all_scalars}
+use Rattle.regex_hir.specs.Meaning.{alt_all}
+use Rattle.regex_hir.specs.Re.{Re}
+use Rattle.regex_syntax.specs.Brackets.{Nested, join}
+use Rattle.regex_syntax.specs.Grammar.{Place, branches, join_parts}
+use Rattle.urlpattern_core.specs.FirstWays.{KeepsCase}
+use Rattle.urlpattern_core.specs.Regexes.{regex_engine}
+use Rattle.urlpattern_custom.proofs.CustomGroups.{custom_inside, whole_takes}
+use Rattle.urlpattern_custom.proofs.ItemsOf.{at_text}
+use Rattle.urlpattern_custom.proofs.MatchersTaken.{matchers_taken, shorter_room}
+use Rattle.urlpattern_custom.proofs.ValuesTaken.{pattern_values_taken, regex_values_taken}
+use Rattle.urlpattern_custom.specs.Expressions.{ExpressionTakes, TakesWhole}
+use Rattle.urlpattern_custom.specs.LawsOfTexts.{HasRoom, MatchersAnswerTaken, ReadsInGroups, TookAlone}
+use Rattle.urlpattern_engine.specs.PatternRegexps.{pattern_engine}
+use Rattle.urlpattern_meaning.specs.FirstAnswers.{TookText}
+use Rattle.urlpattern_meaning.specs.Matching.{InnerView, Literal, RegExp, SingleCapture}
+
+pub reads_in_groups : ReadsInGroups
+unfolding join_parts
+reads_in_groups expression rest steps names h = by (branches steps (at_text names (expression ++ (codes ")" ++ rest)))) refl
+  where
+    by : (o : Option (List (Nested Re) × Place)) → branches steps (at_text names (expression ++ (codes ")" ++ rest))) ≡ o
+        → IfSome o (λ (patterns, end). (end.text ≡ codes ")" ++ rest) × ((text : List ℕ) → IsTrue (all_scalars text) → TakesWhole (join alt_all patterns).value text ↔ ExpressionTakes expression text))
+    by None e = tt
+    by (Some found) e =
+        let inside = (custom_inside expression h).reads rest steps names (join alt_all found.0) found.1 (ap (join_parts alt_all) e) in (
+          inside.0,
+          λ text fine.
+              let whole = whole_takes (join alt_all found.0).value inside.1.plain text fine in
+              let same = inside.1.same text fine in
+              (λ takes. same.0 (whole.1 takes), λ takes. whole.0 (same.1 takes)),
+        )
+
+-- ---- matchers
+
+took_any : {E : Type 0} (inner : InnerView E) (P : Type 0) → P → TookText (λ value. ⊤) inner → TookText (λ value. P) inner
+took_any (Literal literal) P p took = tt
+took_any (SingleCapture filter allow_empty) P p took = tt
+took_any (RegExp (Ok value)) P p took = p
+took_any (RegExp (Err error)) P p took = took
+
+pub regex_matchers_taken : MatchersAnswerTaken regex_engine (λ regexp. ⊤) (λ options flags. TookText (λ value. ⊤))
+regex_matchers_taken = matchers_taken regex_engine (λ flags. ⊤) (λ regexp. ⊤) _ regex_values_taken (λ options parts middle le fits. tt) (λ options flags inner kept took. took)
+
+pub pattern_matchers_taken : MatchersAnswerTaken pattern_engine HasRoom TookAlone
+pattern_matchers_taken = matchers_taken pattern_engine KeepsCase HasRoom _ pattern_values_taken shorter_room (λ options flags inner kept took. took_any inner (KeepsCase flags) (took.0 ∙ kept) took.1)

@@ -1,0 +1,47 @@
+-- Expressions that stand alone, and expressions that do not.
+use Rattle.std.proofs.Common.{◌≡◌, true, false, codes, refl}
+use Rattle.std.specs.Str.{chars}
+use lib.Utf8.{encode}
+use Rattle.regex_hir.specs.Meaning.{repeat}
+use Rattle.regex_hir.specs.Text.{char_at, has_bytes_at}
+use Rattle.regex_syntax.specs.Brackets.{bracket, bracket_start, set_items, operations, operator, posix, item_or, set_item, member, single, range, unite, after_hyphen}
+use Rattle.regex_syntax.specs.Grammar.{read, branches, items, item, atom, char_meaning, piece_meaning, join_parts, with_repetitions, repetitions, bounds, counted_bounds, upper_bound, names_below}
+use Rattle.regex_syntax.specs.Reading.{first, skip, take_up_to, take_run, decimal}
+use Rattle.regex_syntax.specs.Sets.{verbatim, one_of, negate_if, case_fold, is_member}
+use Rattle.regex_syntax.specs.Escapes.{escape, one_letter, boundary}
+use Rattle.urlpattern_custom.specs.Expressions.{stands_alone}
+
+choices : stands_alone (codes "en|fr") ≡ true
+unfolding stands_alone read branches items item atom char_meaning join_parts with_repetitions repetitions first skip verbatim names_below char_at has_bytes_at chars encode
+choices = refl
+
+digits : stands_alone (codes "\\d+") ≡ true
+unfolding stands_alone read branches items item atom piece_meaning join_parts with_repetitions repetitions bounds repeat first skip escape one_letter negate_if one_of names_below
+digits = refl
+
+counted : stands_alone (codes "\\d{4}") ≡ true
+unfolding stands_alone read branches items item atom piece_meaning join_parts with_repetitions repetitions bounds repeat counted_bounds upper_bound decimal take_run take_up_to first skip escape one_letter negate_if one_of names_below
+counted = refl
+
+classes : stands_alone (codes "[a-z0-9-]+") ≡ true
+unfolding stands_alone read branches items item atom join_parts with_repetitions repetitions bounds repeat first skip bracket bracket_start set_items operations operator posix item_or set_item member single range unite after_hyphen take_run take_up_to is_member negate_if case_fold one_of names_below
+classes = refl
+
+optional : stands_alone (codes "png|jpe?g|webp") ≡ true
+unfolding stands_alone read branches items item atom char_meaning join_parts with_repetitions repetitions bounds repeat first skip verbatim names_below char_at has_bytes_at chars encode
+optional = refl
+
+-- an assertion sees what is beside the expression
+word_boundary : stands_alone (codes "a\\b") ≡ false
+unfolding stands_alone read branches items item atom char_meaning piece_meaning join_parts with_repetitions repetitions first skip escape boundary verbatim names_below char_at has_bytes_at chars encode
+word_boundary = refl
+
+-- a comment would hide the closing parenthesis
+comment : stands_alone (codes "(?x)a#b") ≡ false
+unfolding stands_alone
+comment = refl
+
+-- the parentheses of an expression by itself are in pairs
+unpaired : stands_alone (codes "a)(b") ≡ false
+unfolding stands_alone read branches items item atom char_meaning join_parts with_repetitions repetitions first skip verbatim
+unpaired = refl

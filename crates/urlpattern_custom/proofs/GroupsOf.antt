@@ -1,0 +1,135 @@
+-- Groups that the grammar of `regex` reads, wherever they stand, as items that take exactly certain texts: of items, or of an
+-- expression that stands alone.
+use Rattle.std.proofs.Common.{◌≡◌, ℕ, zero, suc, ◌^◌, List, [], ◌∷◌, ◌++◌, length, true, false, Option, Some, None, nat_lt, refl, sym, ap, ◌∙◌, subst, append_assoc, append-nil}
+use Rattle.std.proofs.lemmas.Option.{none-some, same_Some}
+use Rattle.regex_hir.proofs.AttemptLemmas.{cond_some, option_and_then_some}
+use Rattle.regex_hir.specs.Meaning.{cat_all, alt_all}
+use Rattle.regex_hir.specs.Re.{Re, group}
+use Rattle.regex_syntax.proofs.BranchLemmas.{ends_branch, group_inside}
+use Rattle.regex_syntax.specs.Brackets.{Nested, join}
+use Rattle.regex_syntax.specs.Grammar.{Names, Place, Opening, opens, item, items, branches, join_parts, opening, capture, set_flags, rest_of_group}
+use Rattle.regex_syntax.specs.Reading.{Text, first, skip, is_at}
+use Rattle.regex_syntax.specs.Verdict.{default_config}
+use Rattle.urlpattern_custom.proofs.Denoting.{Texts, Denotes, denotes_alone}
+use Rattle.urlpattern_custom.proofs.ItemsOf.{at_text, values, AreItemsOf, IsItemOf, ItemFound, items_stop}
+use Rattle.urlpattern_regex.proofs.AtomsRead.{full}
+use Rattle.urlpattern_regex.proofs.ItemsRead.{Free, begins_no, free_lazy, level}
+use Rattle.urlpattern_syntax.specs.RegexpText.{captured, grouped}
+
+-- ---- what is inside of a group
+
+-- before a closing parenthesis, wherever the text stands, it is read as a pattern that takes these texts
+pub record IsInside (t : Text) (Is : List ℕ → Type 0) : Type 0 where
+  pub starts : (rest : Text) → Free (t ++ 41 ∷ rest)
+  pub reads : (rest : Text) (n : ℕ) (names : Names) (found : Nested Re) (end : Place) → group_inside n (at_text names (t ++ 41 ∷ rest)) ≡ Some (found, end)
+      → (end.text ≡ 41 ∷ rest) × Denotes found.value Is
+
+-- one branch
+pub record OneBranch (n : ℕ) (p : Place) (found : Nested Re) (end : Place) : Type 0 where
+  pub steps : ℕ
+  pub parts : List (Nested Re)
+  pub after : Place
+  pub read_items : items steps p ≡ Some (parts, after)
+  pub goes : is_at "|" after.text ≡ false → (found ≡ join alt_all (join cat_all parts ∷ [])) × (end ≡ after)
+
+pub one_branch : (n : ℕ) (p : Place) (found : Nested Re) (end : Place) → group_inside n p ≡ Some (found, end) → OneBranch n p found end
+unfolding branches join_parts
+one_branch zero p found end e = absurd (none-some _ e)
+one_branch (suc n) p found end e =
+    let all = option_and_then_some _ (branches (suc n) p) (found, end) e in
+    let branch = option_and_then_some _ (join_parts cat_all (items n p)) all.0 all.1 in
+    let parts = option_and_then_some _ (items n p) branch.0 branch.1 in
+    let same = same_Some _ _ parts.2 in
+    let tree : join cat_all parts.0.0 ≡ branch.0.0 = ap (λ (result : Nested Re × Place). result.0) same in
+    let after : parts.0.1 ≡ branch.0.1 = ap (λ (result : Nested Re × Place). result.1) same in
+    record {
+      steps = n;
+      parts = parts.0.0;
+      after = parts.0.1;
+      read_items = parts.1;
+      goes = λ stops. only found end all.0 branch.0 (join cat_all parts.0.0) parts.0.1 tree after all.2 (rw (ap (λ (q : Place). is_at "|" q.text) (sym after) ∙ stops) at branch.2);
+    }
+  where
+    only : (found : Nested Re) (end : Place) (all : List (Nested Re) × Place) (branch : Nested Re × Place) (tree : Nested Re) (after : Place) → tree ≡ branch.0 → after ≡ branch.1
+        → ◌≡◌ {A = Option (Nested Re × Place)} (Some (join alt_all all.0, all.1)) (Some (found, end)) → ◌≡◌ {A = Option (List (Nested Re) × Place)} (Some (branch.0 ∷ [], branch.1)) (Some all) → (found ≡ join alt_all (tree ∷ [])) × (end ≡ after)
+    only found end all branch tree after is_tree is_after e f =
+        let whole = same_Some _ _ e in
+        let one = same_Some _ _ f in (
+          sym (ap (λ (result : Nested Re × Place). result.0) whole) ∙ ap (λ (result : List (Nested Re) × Place). join alt_all result.0) (sym one) ∙ ap (λ t. join alt_all (t ∷ [])) (sym is_tree),
+          sym (ap (λ (result : Nested Re × Place). result.1) whole) ∙ ap (λ (result : List (Nested Re) × Place). result.1) (sym one) ∙ sym is_after,
+        )
+
+close_text : (rest : Text) → is_at "|" (41 ∷ rest) ≡ false
+unfolding first
+close_text rest = refl
+
+closes : (rest : Text) → ends_branch (41 ∷ rest) ≡ true
+unfolding first
+closes rest = rw (full 41 rest) refl
+
+pub free_close : (rest : Text) → Free (41 ∷ rest)
+unfolding first
+free_close rest = refl
+
+pub items_inside : (t : Text) (Is : Texts) → AreItemsOf t Is → IsInside t Is
+items_inside t Is a = record {
+  starts = λ rest. a.starts (41 ∷ rest) (free_close rest);
+  reads = λ rest n names found end e.
+      let branch = one_branch n (at_text names (t ++ 41 ∷ rest)) found end e in
+      let is = a.reads (41 ∷ rest) (free_close rest) branch.steps names branch.parts branch.after branch.read_items in
+      let stop = items_stop is.steps is.names (41 ∷ rest) is.more branch.after (closes rest) is.goes_on in
+      let all : branch.parts ≡ is.own = is.cut ∙ ap (λ more. is.own ++ more) stop.0 ∙ append-nil is.own in
+      let at_close : is_at "|" branch.after.text ≡ false = ap (λ (p : Place). is_at "|" p.text) stop.1 ∙ close_text rest in
+      let goes = branch.goes at_close in
+      (ap (λ (p : Place). p.text) (goes.1 ∙ stop.1), subst (λ (tree : Nested Re). Denotes tree.value Is) (sym (goes.0 ∙ ap (λ parts. join alt_all (join cat_all parts ∷ [])) all)) (denotes_alone (cat_all (values is.own)) Is is.denotes));
+}
+
+-- ---- groups
+
+-- what closes a group
+closed_group : (inner : Place → Option (Nested Re × Place)) (make : Re → Re) (inside : Place) (t : Text) (Is : Texts) (rest : Text) (found : Nested Re) (end : Place)
+    → ((found : Nested Re) (end : Place) → inner inside ≡ Some (found, end) → (end.text ≡ 41 ∷ rest) × Denotes found.value Is)
+    → ((re : Re) → Denotes re Is → Denotes (make re) Is)
+    → rest_of_group inner default_config (opens make) inside ≡ Some (found, end) → ItemFound Is rest found end
+unfolding first
+closed_group inner make inside t Is rest found end reads makes e =
+    let tree = option_and_then_some _ (inner inside) (found, end) e in
+    let is = reads tree.0.0 tree.0.1 tree.1 in
+    let core = level make tree.0.0 in
+    record { core = core; names = tree.0.1.names; repeats = rw (is.0) at tree.2; denotes = makes tree.0.0.value is.1 }
+
+brackets : (t rest : Text) → (t ++ 41 ∷ []) ++ rest ≡ t ++ 41 ∷ rest
+brackets t rest = append_assoc t (41 ∷ []) rest
+
+denotes_group : (k : ℕ) (Is : Texts) (re : Re) → Denotes re Is → Denotes (group k re) Is
+denotes_group k Is re d = record { plain = d.plain; same = d.same }
+
+pub grouped_item : (t : Text) (Is : Texts) → IsInside t Is → IsItemOf (grouped t) Is
+unfolding item opening set_flags first skip
+grouped_item t Is a = record {
+  opens = λ rest. (refl, rw (full 40 (63 ∷ 58 ∷ ((t ++ 41 ∷ []) ++ rest))) refl);
+  reads = λ rest n names found end e.
+      closed_group (group_inside n) (λ re. re) (at_text names (t ++ 41 ∷ rest)) t Is rest found end (λ tree after f. a.reads rest n names tree after f) (λ re d. d)
+      (ap (λ s. item (group_inside n) (at_text names (40 ∷ 63 ∷ 58 ∷ s))) (sym (brackets t rest)) ∙ e);
+}
+
+-- brackets that capture are read as such
+opens_as : (names : Names) (t : Text) → Free t → opening (at_text names (40 ∷ t)) ≡ capture (at_text names (40 ∷ t)) None t
+unfolding opening first skip
+opens_as names t free = rw (opening, begins_no (80 ∷ 60 ∷ []) t free, begins_no (60 ∷ []) t free, free_lazy t free)
+
+pub captured_item : (t : Text) (Is : Texts) → IsInside t Is → IsItemOf (captured t) Is
+unfolding item capture first
+captured_item t Is a = record {
+  opens = λ rest. (refl, rw (full 40 ((t ++ 41 ∷ []) ++ rest)) refl);
+  reads = λ rest n names found end e.
+      let inside = t ++ 41 ∷ rest in
+      let f : item (group_inside n) (at_text names (40 ∷ inside)) ≡ Some (found, end) = ap (λ s. item (group_inside n) (at_text names (40 ∷ s))) (sym (brackets t rest)) ∙ e in
+      let how = option_and_then_some _ (opening (at_text names (40 ∷ inside))) (found, end) f in
+      let opened = cond_some (nat_lt (length names) (2 ^ 32)) _ how.0 (sym (opens_as names inside (a.starts rest)) ∙ how.1) in
+      let same = same_Some _ _ opened.1 in
+      let k = length names in
+      let next = at_text (names ++ None ∷ []) inside in
+      closed_group (group_inside n) (group k) next t Is rest found end (λ tree after g. a.reads rest n (names ++ None ∷ []) tree after g) (denotes_group k Is)
+      (ap (λ (o : Opening × Place). rest_of_group (group_inside n) default_config o.0 o.1) same ∙ how.2);
+}

@@ -1,0 +1,226 @@
+-- Texts that the grammar of `regex` reads, wherever they stand, as items that take exactly certain texts.
+use Rattle.std.proofs.Common.{◌≡◌, ℕ, zero, suc, ◌+◌, List, [], ◌∷◌, ◌++◌, map, length, true, false, Some, refl, sym, ap, ◌∙◌, subst, append_assoc, append-nil, arith}
+use Rattle.std.proofs.lemmas.Bool.{and_parts, and_from}
+use Rattle.std.proofs.lemmas.Option.{none-some, same_Some}
+use Rattle.regex_hir.proofs.AttemptLemmas.{option_and_then_some}
+use Rattle.regex_hir.specs.Meaning.{cat_all, repeat}
+use Rattle.regex_hir.specs.Re.{Re}
+use Rattle.regex_syntax.proofs.BranchLemmas.{ends_branch, group_inside, more_repetitions, repetitions_end, repetitions_go}
+use Rattle.regex_syntax.specs.Brackets.{Nested}
+use Rattle.regex_syntax.specs.Grammar.{Names, Place, atom, bounds, repetitions, with_repetitions, item, items}
+use Rattle.regex_syntax.specs.Reading.{Text, ◌>>=◌, first, skip, is_at}
+use Rattle.regex_syntax.specs.Verdict.{default_config}
+use Rattle.urlpattern_custom.proofs.Denoting.{Texts, Denotes, Joined, Nothing, Quantified, AreSameTexts, joined_same, denotes_same, denotes_empty, denotes_last, denotes_quantified}
+use Rattle.urlpattern_custom.proofs.Takes.{Takes}
+use Rattle.urlpattern_custom.specs.Expressions.{takes_characters}
+use Rattle.urlpattern_meaning.specs.Dialect.{Quantifier, Once, Optional, ZeroOrMore, OneOrMore, LazyOneOrMore, quantifier_text}
+use Rattle.urlpattern_regex.proofs.ItemsRead.{Free, OpensItem, free_lazy, repeated_as}
+
+abbrev pub at_text : Names → Text → Place
+at_text names t = record { config = default_config; names = names; text = t }
+
+abbrev pub values : List (Nested Re) → List Re
+values trees = map (λ tree. tree.value) trees
+
+-- ---- one after the other
+
+pub joined_assoc : (A B C : Texts) → AreSameTexts (Joined A (Joined B C)) (Joined (Joined A B) C)
+joined_assoc A B C text good = (
+  λ (first, rest, cut, a, (second, last, f, b, c)). (first ++ second, last, cut ∙ ap (λ t. first ++ t) f ∙ sym (append_assoc first second last), (first, second, refl, a, b), c),
+  λ (front, last, cut, (first, second, f, a, b), c). (first, second ++ last, cut ∙ ap (λ t. t ++ last) f ∙ append_assoc first second last, a, (second, last, refl, b, c)),
+)
+
+pub nothing_joined : (A : Texts) → AreSameTexts A (Joined Nothing A)
+nothing_joined A text good = (λ is. ([], text, refl, refl, is), λ (first, rest, cut, none, is). subst A (sym (cut ∙ ap (λ t. t ++ rest) none)) is)
+
+pub same_then : (A B C : Texts) → AreSameTexts A B → AreSameTexts B C → AreSameTexts A C
+same_then A B C p q text good = (λ a. (q text good).0 ((p text good).0 a), λ c. (p text good).1 ((q text good).1 c))
+
+pub same_texts : (A : Texts) → AreSameTexts A A
+same_texts A text good = (λ a. a, λ a. a)
+
+append_takes : (trees others : List (Nested Re)) → AreSameTexts (Takes (cat_all (values (trees ++ others)))) (Joined (Takes (cat_all (values trees))) (Takes (cat_all (values others))))
+append_takes [] others = nothing_joined (Takes (cat_all (values others)))
+append_takes (tree ∷ trees) others =
+    same_then _ _ _ (joined_same (Takes tree.value) (Takes tree.value) _ _ (same_texts (Takes tree.value)) (append_takes trees others))
+    (joined_assoc (Takes tree.value) (Takes (cat_all (values trees))) (Takes (cat_all (values others))))
+
+append_plain : (trees others : List (Nested Re)) → takes_characters (cat_all (values trees)) ≡ true → takes_characters (cat_all (values others)) ≡ true → takes_characters (cat_all (values (trees ++ others))) ≡ true
+append_plain [] others p q = q
+append_plain (tree ∷ trees) others p q = and_from _ _ (and_parts _ _ p).0 (append_plain trees others (and_parts _ _ p).1 q)
+
+denotes_append : (trees others : List (Nested Re)) (A B : Texts) → Denotes (cat_all (values trees)) A → Denotes (cat_all (values others)) B → Denotes (cat_all (values (trees ++ others))) (Joined A B)
+denotes_append trees others A B d e = record {
+  plain = append_plain trees others d.plain e.plain;
+  same = same_then _ _ _ (append_takes trees others) (joined_same _ A _ B d.same e.same);
+}
+
+-- ---- items
+
+-- What is found begins with items that take these texts, and goes on with what is read in the rest.
+pub record ItemsFound (Is : List ℕ → Type 0) (rest : Text) (found : List (Nested Re)) (end : Place) : Type 0 where
+  pub own : List (Nested Re)
+  pub more : List (Nested Re)
+  pub steps : ℕ
+  pub names : Names
+  pub cut : found ≡ own ++ more
+  pub goes_on : items steps (at_text names rest) ≡ Some (more, end)
+  pub denotes : Denotes (cat_all (values own)) Is
+
+-- wherever the text stands, before what is no quantifier, it is read as items that take these texts
+pub record AreItemsOf (t : Text) (Is : List ℕ → Type 0) : Type 0 where
+  pub starts : (rest : Text) → Free rest → Free (t ++ rest)
+  pub reads : (rest : Text) → Free rest → (n : ℕ) (names : Names) (found : List (Nested Re)) (end : Place) → items n (at_text names (t ++ rest)) ≡ Some (found, end) → ItemsFound Is rest found end
+
+cut_again : {A : Type 0} (all first rest second last : List A) → all ≡ first ++ rest → rest ≡ second ++ last → all ≡ (first ++ second) ++ last
+cut_again all first rest second last e f = e ∙ ap (λ t. first ++ t) f ∙ sym (append_assoc first second last)
+
+pub no_items : AreItemsOf [] Nothing
+no_items = record {
+  starts = λ rest free. free;
+  reads = λ rest free n names found end e. record { own = []; more = found; steps = n; names = names; cut = refl; goes_on = e; denotes = denotes_empty };
+}
+
+pub append_items : (t u : Text) (A B : Texts) → AreItemsOf t A → AreItemsOf u B → AreItemsOf (t ++ u) (Joined A B)
+append_items t u A B a b = record {
+  starts = λ rest free. subst Free (sym (append_assoc t u rest)) (a.starts (u ++ rest) (b.starts rest free));
+  reads = λ rest free n names found end e.
+      let front = a.reads (u ++ rest) (b.starts rest free) n names found end (ap (λ s. items n (at_text names s)) (sym (append_assoc t u rest)) ∙ e) in
+      let back = b.reads rest free front.steps front.names front.more end front.goes_on in
+      record {
+        own = front.own ++ back.own;
+        more = back.more;
+        steps = back.steps;
+        names = back.names;
+        cut = cut_again found front.own front.more back.own back.more front.cut back.cut;
+        goes_on = back.goes_on;
+        denotes = denotes_append front.own back.own A B front.denotes back.denotes;
+      };
+}
+
+pub same_items : (t : Text) (A B : Texts) → AreSameTexts A B → AreItemsOf t A → AreItemsOf t B
+same_items t A B p a = record {
+  starts = a.starts;
+  reads = λ rest free n names found end e.
+      let is = a.reads rest free n names found end e in
+      record { own = is.own; more = is.more; steps = is.steps; names = is.names; cut = is.cut; goes_on = is.goes_on; denotes = denotes_same _ A B p is.denotes };
+}
+
+-- ---- one item
+
+pub record ItemFound (Is : List ℕ → Type 0) (rest : Text) (found : Nested Re) (end : Place) : Type 0 where
+  pub core : Nested Re
+  pub names : Names
+  pub repeats : with_repetitions core (at_text names rest) ≡ Some (found, end)
+  pub denotes : Denotes core.value Is
+
+-- wherever the text stands, it is read as an item that takes these texts, before its quantifier
+pub record IsItemOf (t : Text) (Is : List ℕ → Type 0) : Type 0 where
+  pub opens : (rest : Text) → OpensItem (t ++ rest)
+  pub reads : (rest : Text) (n : ℕ) (names : Names) (found : Nested Re) (end : Place) → item (group_inside n) (at_text names (t ++ rest)) ≡ Some (found, end) → ItemFound Is rest found end
+
+pub same_item : (t : Text) (A B : Texts) → AreSameTexts A B → IsItemOf t A → IsItemOf t B
+same_item t A B p a = record {
+  opens = a.opens;
+  reads = λ rest n names found end e. let is = a.reads rest n names found end e in record { core = is.core; names = is.names; repeats = is.repeats; denotes = denotes_same _ A B p is.denotes };
+}
+
+-- an item, and what is read after it
+pub record OneItem (n : ℕ) (names : Names) (t : Text) (found : List (Nested Re)) (end : Place) : Type 0 where
+  pub steps : ℕ
+  pub part : Nested Re
+  pub after : Place
+  pub parts : List (Nested Re)
+  pub one : item (group_inside steps) (at_text names t) ≡ Some (part, after)
+  pub more : items steps after ≡ Some (parts, end)
+  pub all : found ≡ part ∷ parts
+
+pub items_go_on : (n : ℕ) (names : Names) (t : Text) (found : List (Nested Re)) (end : Place) → ends_branch t ≡ false → items n (at_text names t) ≡ Some (found, end) → OneItem n names t found end
+unfolding items skip
+items_go_on zero names t found end h e = absurd (none-some _ e)
+items_go_on (suc n) names t found end h e =
+    let one = option_and_then_some _ (item (group_inside n) (at_text names t)) (found, end) (rw h at e) in
+    let more = option_and_then_some _ (items n one.0.1) (found, end) one.2 in
+    let same = same_Some _ _ more.2 in
+    record {
+      steps = n;
+      part = one.0.0;
+      after = one.0.1;
+      parts = more.0.0;
+      one = one.1;
+      more = more.1 ∙ ap (λ (result : List (Nested Re) × Place). Some (more.0.0, result.1)) same;
+      all = sym (ap (λ (result : List (Nested Re) × Place). result.0) same);
+    }
+
+pub items_stop : (n : ℕ) (names : Names) (t : Text) (found : List (Nested Re)) (end : Place) → ends_branch t ≡ true → items n (at_text names t) ≡ Some (found, end) → (found ≡ []) × (end ≡ at_text names t)
+unfolding items skip
+items_stop zero names t found end h e = absurd (none-some _ e)
+items_stop (suc n) names t found end h e =
+    let same = same_Some _ _ (rw h at e) in
+    (sym (ap (λ (result : List (Nested Re) × Place). result.0) same), sym (ap (λ (result : List (Nested Re) × Place). result.1) same))
+
+-- ---- quantifiers
+
+-- one mark
+marked : (q : Quantifier) (mark : ℕ) (sub : Nested Re) (names : Names) (rest : Text) → Free rest → is_at "?*+{" (mark ∷ rest) ≡ true
+    → (bounds default_config (mark ∷ rest) >>= more_repetitions default_config (length (mark ∷ rest)) sub) ≡ repetitions default_config (length (mark ∷ rest)) (repeated_as q sub) rest
+    → with_repetitions sub (at_text names (mark ∷ rest)) ≡ Some (repeated_as q sub, at_text names rest)
+unfolding with_repetitions first skip
+marked q mark sub names rest free is_mark takes =
+    rw (
+      with_repetitions,
+      repetitions_go default_config (length (mark ∷ rest) + 1) (length (mark ∷ rest)) sub (mark ∷ rest) (mark ∷ rest) (omega arith) refl is_mark,
+      takes,
+      repetitions_end default_config (length (mark ∷ rest)) (length rest) (repeated_as q sub) rest rest (omega arith) refl free,
+    )
+
+pub quantified : (q : Quantifier) (sub : Nested Re) (names : Names) (rest : Text) → Free rest → with_repetitions sub (at_text names (quantifier_text q ++ rest)) ≡ Some (repeated_as q sub, at_text names rest)
+unfolding with_repetitions bounds repeat first skip
+quantified Once sub names rest free = rw (with_repetitions, repetitions_end default_config (length rest + 1) (length rest) sub rest rest (omega arith) refl free)
+quantified Optional sub names rest free = marked Optional 63 sub names rest free refl (rw (free_lazy rest free))
+quantified ZeroOrMore sub names rest free = marked ZeroOrMore 42 sub names rest free refl (rw (free_lazy rest free))
+quantified OneOrMore sub names rest free = marked OneOrMore 43 sub names rest free refl (rw (free_lazy rest free))
+quantified LazyOneOrMore sub names rest free =
+    rw (
+      with_repetitions,
+      repetitions_go default_config (length (43 ∷ 63 ∷ rest) + 1) (length (43 ∷ 63 ∷ rest)) sub (43 ∷ 63 ∷ rest) (43 ∷ 63 ∷ rest) (omega arith) refl refl,
+      repetitions_end default_config (length (43 ∷ 63 ∷ rest)) (length (63 ∷ rest)) (repeated_as LazyOneOrMore sub) rest rest (omega arith) refl free,
+    )
+
+-- what an atom is read as, with its quantifier
+repeated_once : (q : Quantifier) (core : Nested Re) (names : Names) (rest : Text) → Free rest → (part : Nested Re) (after : Place) → with_repetitions core (at_text names (quantifier_text q ++ rest)) ≡ Some (part, after)
+    → (part ≡ repeated_as q core) × (at_text names rest ≡ after)
+repeated_once q core names rest free part after e =
+    let same = same_Some _ _ (sym (quantified q core names rest free) ∙ e) in
+    (sym (ap (λ (result : Nested Re × Place). result.0) same), ap (λ (result : Nested Re × Place). result.1) same)
+
+pub quantified_items : (t : Text) (Is : Texts) (q : Quantifier) → IsItemOf t Is → AreItemsOf (t ++ quantifier_text q) (Quantified q Is)
+quantified_items t Is q a = record {
+  starts = λ rest free. subst Free (sym (append_assoc t (quantifier_text q) rest)) (a.opens (quantifier_text q ++ rest)).0;
+  reads = λ rest free n names found end e.
+      let split = append_assoc t (quantifier_text q) rest in
+      let is = items_go_on n names (t ++ (quantifier_text q ++ rest)) found end (a.opens (quantifier_text q ++ rest)).1 (ap (λ s. items n (at_text names s)) (sym split) ∙ e) in
+      let one = a.reads (quantifier_text q ++ rest) is.steps names is.part is.after is.one in
+      let same = repeated_once q one.core one.names rest free is.part is.after one.repeats in
+      record {
+        own = is.part ∷ [];
+        more = is.parts;
+        steps = is.steps;
+        names = one.names;
+        cut = is.all;
+        goes_on = ap (items is.steps) same.1 ∙ is.more;
+        denotes = denotes_last is.part.value (Quantified q Is) (subst (λ (tree : Nested Re). Denotes tree.value (Quantified q Is)) (sym same.0) (denotes_quantified q one.core Is one.denotes));
+      };
+}
+
+pub once_items : (t : Text) (Is : Texts) → IsItemOf t Is → AreItemsOf t Is
+once_items t Is a = subst (λ s. AreItemsOf s Is) (append-nil t) (quantified_items t Is Once a)
+
+-- an item that is no group
+pub atom_item : (t : Text) (sub : Nested Re) (Is : Texts) → ((rest : Text) → OpensItem (t ++ rest)) → ((rest : Text) → is_at "(" (t ++ rest) ≡ false) → ((rest : Text) → atom default_config (t ++ rest) ≡ Some (sub, rest))
+    → Denotes sub.value Is → IsItemOf t Is
+unfolding item
+atom_item t sub Is begins no_group reads d = record {
+  opens = begins;
+  reads = λ rest n names found end e. record { core = sub; names = names; repeats = rw (item, no_group rest, reads rest) at e; denotes = d };
+}

@@ -1,0 +1,128 @@
+-- A value of an engine answers captures exactly to the texts that the parts take that it was made of.
+use Rattle.std.proofs.Common.{◌≡◌, ℕ, suc, ◌^◌, ◌≤◌, List, ◌++◌, length, Bool, true, false, Option, Some, None, IsSome, IsSomeAnd, is_some, option_map, refl, sym, ap, ◌∙◌, subst, arith, codes, length-append, encode_utf8_all}
+use Rattle.std.proofs.lemmas.Str.{IsUtf8-string_bytes, scalars-chars}
+use Rattle.std.specs.declared.alloc.Global.{Global}
+use Rattle.std.specs.List.{flat_map}
+use Rattle.std.specs.Prelude.{⊤, IfSome, IsTrue, String, string_bytes}
+use Rattle.std.specs.Str.{all_scalars, chars}
+use lib.Utf8.{scalars}
+use Rattle.regex.specs.Strings.{regex_source}
+use Rattle.regex.specs.declared.string.regex.Regex.{Regex}
+use Rattle.regex_hir.specs.declared.hir.Hir.{Hir}
+use Rattle.regex_hir.specs.Find.{find_str}
+use Rattle.regex_hir.specs.Re.{Re}
+use Rattle.regex_hir.proofs.OptionLemmas.{value_of_IsSome}
+use Rattle.regex_syntax.specs.Brackets.{Nested}
+use Rattle.regex_syntax.specs.Grammar.{Names, read}
+use Rattle.regex_syntax.specs.Verdict.{Reads, default_config}
+use Rattle.urlpattern_core.specs.FirstWays.{KeepsCase}
+use Rattle.urlpattern_core.specs.Regexes.{IsRegexOf, regex_engine}
+use Rattle.urlpattern_custom.proofs.PartItems.{parts_items}
+use Rattle.urlpattern_custom.proofs.WholeRead.{between_lines, search_is, whole_read}
+use Rattle.urlpattern_custom.specs.LawsOfTexts.{HasRoom, IsSomeIfTaken, ValuesAnswerTaken}
+use Rattle.urlpattern_custom.specs.PartTexts.{AllStandAlone, PartsTake}
+use Rattle.urlpattern_engine.proofs.EngineLaws.{pattern_values_read, regex_values_read}
+use Rattle.urlpattern_engine.specs.Automatons.{config_for}
+use Rattle.urlpattern_engine.specs.PatternRegexps.{IsExpressionOf, pattern_engine}
+use Rattle.urlpattern_engine.specs.Readings.{re_answer}
+use Rattle.urlpattern_engine.specs.declared.pattern_regexp.Expression.{Expression}
+use Rattle.urlpattern_engine.specs.declared.pattern_regexp.Expression.TheVariants.{Own, Compiled, Kept, Other}
+use Rattle.urlpattern_meaning.specs.Dialect.{Atom, Items, Nothing, Item, Literal, Dot, AnyBut, Captured, Grouped, IsTreeOf, atom_group_count, atom_text, group_count, items_text, quantifier_text}
+use Rattle.urlpattern_meaning.specs.PartMeaning.{Captures}
+use Rattle.urlpattern_regex.proofs.TreesRead.{scalars_parts, tree_is_read}
+use Rattle.urlpattern_syntax.specs.Options.{OptionsView}
+use Rattle.urlpattern_syntax.specs.Parts.{PartView}
+use Rattle.urlpattern_syntax.specs.RegexpText.{part_regexp, regexp_text}
+
+mapped : {A B : Type 0} (f : A → B) (o : Option A) → is_some (option_map f o) ≡ is_some o
+mapped f None = refl
+mapped f (Some a) = refl
+
+-- what the grammar reads in the regular expression of parts is found in the texts that they take
+read_taken : (options : OptionsView) (parts : List PartView) (found : Nested Re × Names) → AllStandAlone parts → scalars (regexp_text options parts) ≡ true → read default_config (regexp_text options parts) ≡ Some found
+    → (groups : ℕ) (text : List ℕ) → IsTrue (all_scalars text) → IsSomeIfTaken options parts text (re_answer found.0.value groups text)
+read_taken options parts found alone good reads groups text fine =
+    let t = flat_map (part_regexp options) parts in
+    let inside = scalars_parts t (codes "$") (scalars_parts (codes "^") (t ++ codes "$") good).1 in
+    let whole = whole_read t (PartsTake options parts) (parts_items options parts alone inside.0) found reads in
+    let search = search_is whole.own (PartsTake options parts) whole.denotes text fine in
+    let same : is_some (re_answer found.0.value groups text) ≡ is_some (find_str (between_lines whole.own).value (encode_utf8_all text) 0) =
+    mapped _ (find_str found.0.value (encode_utf8_all text) 0) ∙ ap (λ (tree : Nested Re). is_some (find_str tree.value (encode_utf8_all text) 0)) whole.is in
+    (λ some. search.0 (sym same ∙ some), λ is. same ∙ search.1 is)
+
+-- an answer that is what the grammar reads
+answers_taken : (options : OptionsView) (parts : List PartView) (answer : List ℕ → Option Captures) → AllStandAlone parts → scalars (regexp_text options parts) ≡ true → IsSome (read default_config (regexp_text options parts))
+    → IfSome (read default_config (regexp_text options parts)) (λ (pattern, names). (text : List ℕ) → IsTrue (all_scalars text) → answer text ≡ re_answer pattern.value (length names) text)
+    → (text : List ℕ) → IsTrue (all_scalars text) → IsSomeIfTaken options parts text (answer text)
+answers_taken options parts answer alone good some reads text fine =
+    let found = value_of_IsSome (read default_config (regexp_text options parts)) some in
+    let same : answer text ≡ re_answer found.0.0.value (length found.0.1) text = (rw (found.1) at reads) text fine in
+    let is = read_taken options parts found.0 alone good found.1 (length found.0.1) text fine in
+    (λ a. is.0 (sym (ap is_some same) ∙ a), λ takes. ap is_some same ∙ is.1 takes)
+
+-- ---- values
+
+some_of : {A : Type 0} (o : Option A) (P : A → Type 0) → IsSomeAnd o P → IsSome o
+some_of None P p = absurd p
+some_of (Some a) P p = refl
+
+reads_some : (source regexp : List ℕ) (hir : Hir) (names : Names) → chars source ≡ regexp → Reads default_config source hir names → IsSome (read default_config regexp)
+unfolding Reads
+reads_some source regexp hir names of_text reads = ap (λ t. is_some (read default_config t)) (sym of_text) ∙ some_of (read default_config (chars source)) _ reads
+
+regex_reads : (regexp : List ℕ) (regex : Regex) → IsRegexOf regexp regex → IsSome (read default_config regexp)
+regex_reads regexp regex made = reads_some (regex_source regex) regexp _ _ made.of_text (rw (made.by_default) at made.is_read)
+
+text_good : (source : String Global) (regexp : List ℕ) → chars (string_bytes source) ≡ regexp → scalars regexp ≡ true
+text_good source regexp of_text = ap scalars (sym of_text) ∙ scalars-chars (string_bytes source) (IsUtf8-string_bytes source)
+
+pub regex_values_taken : ValuesAnswerTaken regex_engine (λ flags. ⊤) (λ regexp. ⊤)
+regex_values_taken options flags parts regex any alone fits made =
+    let regexp = regexp_text options parts in
+    answers_taken options parts (regex_engine.answer regex) alone (text_good regex.pattern.source regexp made.of_text) (regex_reads regexp regex made) (regex_values_read regexp flags regex any made)
+
+-- ---- values of the own engine
+
+mutual
+  -- a tree has no more groups than its text has characters
+  items_few : (tree : Items) → group_count tree ≤ length (items_text tree)
+  items_few Nothing = omega arith
+  items_few (Item atom quantifier items) =
+      omega (arith, atom_few atom, items_few items, length-append (atom_text atom ++ quantifier_text quantifier) (items_text items), length-append (atom_text atom) (quantifier_text quantifier))
+
+  atom_few : (atom : Atom) → atom_group_count atom ≤ length (atom_text atom)
+  atom_few (Literal character) = omega arith
+  atom_few Dot = omega arith
+  atom_few (AnyBut character) = omega arith
+  atom_few (Captured items) = omega (arith, items_few items, length-append (items_text items) (codes ")"))
+  atom_few (Grouped items) = omega (arith, items_few items, length-append (items_text items) (codes ")"))
+
+tree_some : (regexp : List ℕ) (tree : Items) → IsTreeOf regexp tree → scalars regexp ≡ true → HasRoom regexp → IsSome (read default_config regexp)
+tree_some regexp tree is good room =
+    let whole : scalars (codes "^" ++ items_text tree ++ codes "$") ≡ true = ap scalars (sym is.0) ∙ good in
+    let fine : scalars (items_text tree) ≡ true = (scalars_parts (items_text tree) (codes "$") whole).0 in
+    let few : suc (group_count tree) ≤ 2 ^ 32 = omega (arith, items_few tree, ap length is.0, length-append (items_text tree) (codes "$"), room) in
+    ap (λ t. is_some (read default_config t)) is.0 ∙ ap is_some (tree_is_read tree is.1 fine few)
+
+read_kept : (ignore_case : Bool) (source : List ℕ) (hir : Hir) (names : Names) → ignore_case ≡ false → Reads (config_for ignore_case) source hir names → Reads default_config source hir names
+read_kept ignore_case source hir names kept reads = subst (λ (b : Bool). Reads (config_for b) source hir names) kept reads
+
+expression_good : (ignore_case : Bool) (regexp : List ℕ) (expression : Expression) → IsExpressionOf ignore_case regexp expression → scalars regexp ≡ true
+expression_good ignore_case regexp (Own own) made = text_good own.text regexp made.0
+expression_good ignore_case regexp (Compiled automaton) made = text_good automaton.value.text regexp made.0
+expression_good ignore_case regexp (Kept kept) made = text_good kept.value.text regexp made.0
+expression_good ignore_case regexp (Other regex) made = text_good regex.value.pattern.source regexp made.0.of_text
+
+expression_some : (ignore_case : Bool) (regexp : List ℕ) (expression : Expression) → ignore_case ≡ false → IsExpressionOf ignore_case regexp expression → HasRoom regexp → IsSome (read default_config regexp)
+expression_some ignore_case regexp (Own own) kept made room = tree_some regexp made.1.tree made.1.is_tree (text_good own.text regexp made.0) room
+expression_some ignore_case regexp (Compiled automaton) kept made room =
+    reads_some (string_bytes automaton.value.text) regexp _ _ made.0 (read_kept ignore_case _ _ _ kept made.1.of_tree.is_read)
+expression_some ignore_case regexp (Kept value) kept made room = reads_some (string_bytes value.value.text) regexp _ _ made.0 (read_kept ignore_case _ _ _ kept made.1.is_read)
+expression_some ignore_case regexp (Other regex) kept made room =
+    reads_some (regex_source regex.value) regexp _ _ made.0.of_text (read_kept ignore_case _ _ _ kept (rw (made.0.by_case) at made.0.is_read))
+
+pub pattern_values_taken : ValuesAnswerTaken pattern_engine KeepsCase HasRoom
+pattern_values_taken options flags parts value keeps alone room made =
+    let regexp = regexp_text options parts in
+    answers_taken options parts (pattern_engine.answer value) alone (expression_good value.ignore_case regexp value.expression made.of_text)
+    (expression_some value.ignore_case regexp value.expression (made.by_flags ∙ keeps) made.of_text room) (pattern_values_read regexp flags value keeps made)

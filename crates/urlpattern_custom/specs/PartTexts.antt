@@ -1,0 +1,34 @@
+-- Which texts parts take, custom ones among them: whatever they capture.
+use Rattle.std.specs.Prelude.{◌≡◌, All, ℕ, List, [], ◌∷◌, ◌++◌, IsTrue}
+use Rattle.urlpattern_custom.specs.Expressions.{ExpressionTakes, stands_alone}
+use Rattle.urlpattern_meaning.specs.PartMeaning.{Allows, IsWildcardText}
+use Rattle.urlpattern_syntax.specs.{Options.OptionsView, Parts.PartView}
+use Rattle.urlpattern_syntax.specs.declared.parser.PartType.{PartType}
+use Rattle.urlpattern_syntax.specs.Text.{IsRepeated}
+
+-- the group of a part of this kind takes the text
+abbrev pub IsPieceOf : OptionsView → PartType → (value text : List ℕ) → Type 0
+IsPieceOf options PartType.Regexp value text = ExpressionTakes value text
+IsPieceOf options kind value text = IsWildcardText options kind text
+
+-- a copy of a part of this kind: a fixed text, or what its group takes between prefix and suffix
+abbrev pub IsCopyOf : OptionsView → PartType → PartView → List ℕ → Type 0
+IsCopyOf options PartType.FixedText part text = text ≡ part.value
+IsCopyOf options kind part text = (piece : List ℕ) × (text ≡ part.prefix ++ piece ++ part.suffix) × IsPieceOf options kind part.value piece
+
+-- the text is as many copies of the part as its modifier allows
+abbrev pub PartTakes : OptionsView → PartView → List ℕ → Type 0
+PartTakes options part text = (count : ℕ) × Allows part.modifier count × IsRepeated (IsCopyOf options part.kind part) count text
+
+-- the text is cut into a stretch for each part
+abbrev pub PartsTake : OptionsView → List PartView → List ℕ → Type 0
+PartsTake options [] text = text ≡ []
+PartsTake options (part ∷ parts) text = (first rest : List ℕ) × (text ≡ first ++ rest) × PartTakes options part first × PartsTake options parts rest
+
+-- the expression of a custom part means the same in the regular expression of the parts as by itself
+abbrev pub StandsAlone : PartType → (value : List ℕ) → Type 0
+StandsAlone PartType.Regexp value = IsTrue (stands_alone value)
+StandsAlone kind value = Unit {0}
+
+abbrev pub AllStandAlone : List PartView → Type 0
+AllStandAlone parts = All (λ part. StandsAlone part.kind part.value) parts

@@ -1,0 +1,41 @@
+//! Laws on custom regular expressions: what they mean, and that matchers and two engines answer it.
+//!
+//! Each function here does nothing; what it promises is a theorem.
+
+ghost use Rattle.std.specs.Prelude.{⊤};
+ghost use Rattle.urlpattern_core.specs.Regexes.{regex_engine};
+ghost use Rattle.urlpattern_core.specs.FirstWays.{KeepsCase};
+ghost use Rattle.urlpattern_custom.specs.LawsOfTexts.{HasRoom, MatchersAnswerTaken, PartsTakeMeanings, ReadsInGroups, TookAlone, ValuesAnswerTaken};
+ghost use Rattle.urlpattern_engine.specs.PatternRegexps.{pattern_engine};
+ghost use Rattle.urlpattern_meaning.specs.FirstAnswers.{TookText};
+
+/// The grammar of the crate `regex` composes: inside of a group, whatever is before and after it, an expression that stands alone is
+/// read up to the closing parenthesis, as a pattern that takes the texts that the expression takes by itself.
+///
+/// An expression stands alone if the grammar reads it by itself, without assertions and without classes of bytes, and if it has no `#`,
+/// which begins a comment under the flag `x`.
+pub fn expressions_are_read_in_groups()
+    ensures { ReadsInGroups }
+{}
+
+/// Parts of which none is custom take exactly the texts that they mean, whatever they capture.
+pub fn parts_take_the_texts_that_they_mean()
+    ensures { PartsTakeMeanings }
+{}
+
+/// A value of an engine that was made of the regular expression of parts answers captures to a text of characters exactly if the text
+/// is cut into stretches that the parts take, where a custom part takes what its expression takes by itself.
+///
+/// It is asked of each custom expression that it stands alone. Of `PatternRegexp` it is asked that it was made without the flag `i`, of a
+/// regular expression of no more than 2³² characters.
+pub fn values_answer_the_texts_that_parts_take()
+    ensures own { ValuesAnswerTaken pattern_engine KeepsCase HasRoom }
+    ensures regex { ValuesAnswerTaken regex_engine (λ flags. ⊤) (λ regexp. ⊤) }
+{}
+
+/// A matcher answers captures to a text of characters without line feed exactly if its parts take the text, custom ones among them, if
+/// case is kept and the engine took the regular expression where it was needed.
+pub fn matchers_answer_the_texts_that_parts_take()
+    ensures own { MatchersAnswerTaken pattern_engine HasRoom TookAlone }
+    ensures regex { MatchersAnswerTaken regex_engine (λ regexp. ⊤) (λ options flags. TookText (λ value. ⊤)) }
+{}
