@@ -12,6 +12,7 @@ different objects may be made at the same time, and the interpreter's lock is he
 import ctypes
 import json
 import os
+import struct
 
 __all__ = ["URLPattern", "URLPatternList", "URLPatternError", "version"]
 
@@ -32,14 +33,8 @@ class _Place(ctypes.Structure):
     _fields_ = [("subject", ctypes.c_uint32), ("start", ctypes.c_size_t), ("end", ctypes.c_size_t)]
 
 
-class _Span(ctypes.Structure):
-    _fields_ = [
-        ("component", ctypes.c_uint32),
-        ("took_part", ctypes.c_uint32),
-        ("group", ctypes.c_size_t),
-        ("start", ctypes.c_size_t),
-        ("length", ctypes.c_size_t),
-    ]
+# A span, as the header declares it: the component, whether the group took part, its number, and where its text begins and how long it is.
+_SPAN = struct.Struct("@IINNN")
 
 
 class _Sizes(ctypes.Structure):
@@ -51,6 +46,7 @@ def _load():
     library = ctypes.PyDLL(path)
     handle, text, size, status = ctypes.POINTER(_Handle), ctypes.c_char_p, ctypes.c_size_t, ctypes.c_uint32
     texts, room = [text, size, text, size], [ctypes.c_char_p, size, ctypes.POINTER(size)]
+    spans = [ctypes.c_char_p, size, ctypes.c_char_p, size, ctypes.POINTER(_Sizes)]
     for name, arguments, result in (
         ("add", [handle, *texts, ctypes.c_bool], status),
         ("add_init", [handle, text, size, ctypes.c_bool], status),
@@ -59,12 +55,8 @@ def _load():
         ("first", [handle, *texts, ctypes.POINTER(size)], status),
         ("mismatch", [handle, size, *texts, ctypes.POINTER(ctypes.c_uint32)], status),
         ("exec", [handle, size, *texts, *room], status),
-        ("captures", [handle, size, *texts, ctypes.c_char_p, size, ctypes.POINTER(_Span), size, ctypes.POINTER(_Sizes)], status),
-        (
-            "first_captures",
-            [handle, *texts, ctypes.POINTER(size), ctypes.c_char_p, size, ctypes.POINTER(_Span), size, ctypes.POINTER(_Sizes)],
-            status,
-        ),
+        ("captures", [handle, size, *texts, *spans], status),
+        ("first_captures", [handle, *texts, ctypes.POINTER(size), *spans], status),
         ("group_name", [handle, size, ctypes.c_uint32, size, *room], status),
         ("component", [handle, size, ctypes.c_uint32, *room], status),
         ("has_regexp_groups", [handle, size], status),
@@ -203,7 +195,8 @@ class URLPatternList:
 
     def _room(self, size, spans):
         """Makes room for a match of this size."""
-        self._buffer, self._spans, self._sizes = ctypes.create_string_buffer(size), (_Span * spans)(), _Sizes()
+        self._buffer, self._spans = ctypes.create_string_buffer(size), ctypes.create_string_buffer(spans * _SPAN.size)
+        self._sizes = _Sizes()
         self._memory = self._buffer, size, self._spans, spans, ctypes.byref(self._sizes)
 
     def captures(self, index, url, base=None):
@@ -232,10 +225,10 @@ class URLPatternList:
         """The groups of the match that is written."""
         text, names = self._buffer[: self._sizes.bytes], self._names
         found = []
-        for span in self._spans[: self._sizes.spans]:
-            key = index, span.component, span.group
+        for component, took_part, group, start, length in _SPAN.iter_unpack(self._spans[: self._sizes.spans * _SPAN.size]):
+            key = index, component, group
             name = names.get(key) or self._name(key)
-            found.append((*name, text[span.start : span.start + span.length].decode() if span.took_part else None))
+            found.append((*name, text[start : start + length].decode() if took_part else None))
         return found
 
     def _name(self, key):
