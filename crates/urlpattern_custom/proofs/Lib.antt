@@ -17,4 +17,5 @@ pub mod ValuesTaken
 pub mod TakenMeanings
 pub mod MatchersTaken
 pub mod CustomLaws
+pub mod Runs
 pub mod ExpressionExamples
