@@ -114,7 +114,7 @@ custom_inside expression h =
     record {
       starts = λ rest. free_alone expression rest (2 * length expression + 2) (None ∷ []) alone.tree alone.end alone.inside;
       reads = λ rest n names found end e.
-          let alike = inside_closed rest (2 * length expression + 2) n p names alone.calm in
+          let alike = inside_closed rest 1 (length names) (2 * length expression + 2) n p names (alone.calm, omega arith) in
           let holds = rw (alone.inside, e) at alike.holds in (
             ap (λ (q : Place). q.text) holds.1 ∙ ap (λ t. closed rest t) alone.ends,
             denotes_bare alone.tree.value found.value (ExpressionTakes expression) holds.0 (denotes_expression expression alone),
