@@ -18,4 +18,5 @@ pub mod TakenMeanings
 pub mod MatchersTaken
 pub mod CustomLaws
 pub mod Runs
+pub mod Catching
 pub mod ExpressionExamples
