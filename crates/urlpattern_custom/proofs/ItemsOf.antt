@@ -1,5 +1,5 @@
 -- Texts that the grammar of `regex` reads, wherever they stand, as items that take exactly certain texts.
-use Rattle.std.proofs.Common.{◌≡◌, ℕ, zero, suc, ◌+◌, List, [], ◌∷◌, ◌++◌, map, length, true, false, Some, refl, sym, ap, ◌∙◌, subst, append_assoc, append-nil, arith}
+use Rattle.std.proofs.Common.{max, ◌≡◌, ℕ, zero, suc, ◌+◌, List, [], ◌∷◌, ◌++◌, map, length, true, false, Some, refl, sym, ap, ◌∙◌, subst, append_assoc, append-nil, arith}
 use Rattle.std.proofs.lemmas.Bool.{and_parts, and_from}
 use Rattle.std.proofs.lemmas.Option.{none-some, same_Some}
 use Rattle.regex_hir.proofs.AttemptLemmas.{option_and_then_some}
@@ -7,7 +7,7 @@ use Rattle.regex_hir.specs.Meaning.{cat_all, repeat}
 use Rattle.regex_hir.specs.Re.{Re}
 use Rattle.regex_syntax.proofs.BranchLemmas.{ends_branch, group_inside, more_repetitions, repetitions_end, repetitions_go}
 use Rattle.regex_syntax.specs.Brackets.{Nested}
-use Rattle.regex_syntax.specs.Grammar.{Names, Place, atom, bounds, repetitions, with_repetitions, item, items}
+use Rattle.regex_syntax.specs.Grammar.{group_count, Names, Place, atom, bounds, repetitions, with_repetitions, item, items}
 use Rattle.regex_syntax.specs.Reading.{Text, ◌>>=◌, first, skip, is_at}
 use Rattle.regex_syntax.specs.Verdict.{default_config}
 use Rattle.urlpattern_custom.proofs.Denoting.{Texts, Denotes, Joined, Nothing, Quantified, AreSameTexts, joined_same}
@@ -65,6 +65,10 @@ groupless_append : (trees others : List (Nested Re)) → is_groupless (cat_all (
 groupless_append [] others p q = q
 groupless_append (tree ∷ trees) others p q = and_from _ _ (and_parts _ _ p).0 (groupless_append trees others (and_parts _ _ p).1 q)
 
+append_count : (trees others : List (Nested Re)) → group_count (cat_all (values (trees ++ others))) ≡ max (group_count (cat_all (values trees))) (group_count (cat_all (values others)))
+append_count [] others = omega arith
+append_count (tree ∷ trees) others = omega (arith, append_count trees others)
+
 -- the second is read after the groups of the first
 fulfils_append : (s u : Sense) (g h : ℕ) (trees others : List (Nested Re)) → (s.Known → h ≡ g + s.count) → Fulfils s g (cat_all (values trees)) → Fulfils u h (cat_all (values others))
     → Fulfils (joined s u) g (cat_all (values (trees ++ others)))
@@ -74,6 +78,7 @@ fulfils_append s u g h trees others after a b = record {
       subst (λ all. Catches g (s.count + u.count) (cat_all all) (Then s.Cap u.Cap)) (sym (values_append trees others))
       (catches_append g s.count u.count (values trees) (values others) s.Cap u.Cap (a.catches k.0) (subst (λ j. Catches j u.count (cat_all (values others)) u.Cap) (after k.0) (b.catches k.1)));
   groupless = λ k none. groupless_append trees others (a.groupless k.0 (omega (arith, none))) (b.groupless k.1 (omega (arith, none)));
+  numbered = λ k. omega (arith, append_count trees others, a.numbered k.0, b.numbered k.1, after k.0);
 }
 
 -- ---- items

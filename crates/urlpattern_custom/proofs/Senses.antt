@@ -1,10 +1,11 @@
 -- What a pattern takes and captures, and what has to be known for its captures.
-use Rattle.std.proofs.Common.{◌≡◌, ◌↔◌, ℕ, zero, suc, ◌+◌, List, [], ◌∷◌, ◌++◌, map, Bool, true, false, ◌&&◌, refl, sym, ap, ◌∙◌, subst, arith}
+use Rattle.std.proofs.Common.{◌≡◌, ◌↔◌, ℕ, zero, suc, ◌+◌, List, [], ◌∷◌, ◌++◌, map, Bool, true, false, ◌&&◌, refl, sym, ap, ◌∙◌, subst, arith, max, true≢false}
 use Rattle.std.proofs.lemmas.Bool.{and_parts, and_from}
 use lib.Utf8.{scalars}
 use Rattle.regex_hir.specs.Meaning.{cat_all}
 use Rattle.regex_hir.specs.Re.{Re, empty, byte_in, cat, alt, group, plus}
 use Rattle.regex_syntax.specs.Brackets.{Nested}
+use Rattle.regex_syntax.specs.Grammar.{group_count}
 use Rattle.urlpattern_custom.proofs.Catching.{Caps, Catches, Only, Perhaps, Then, Whole, catches_alone, catches_append, catches_group, catches_last, catches_perhaps, catches_same, catches_silent}
 use Rattle.urlpattern_custom.proofs.Denoting.{Texts, Denotes, Joined, Nothing, Quantified, AreSameTexts, good_cut, joined_same, denotes_same, denotes_empty, denotes_alone, denotes_last, denotes_quantified}
 use Rattle.urlpattern_custom.proofs.Takes.{Takes}
@@ -58,16 +59,26 @@ pub record Fulfils (s : Sense) (g : ℕ) (re : Re) : Type 0 where
   pub denotes : Denotes re s.Is
   pub catches : s.Known → Catches g s.count re s.Cap
   pub groupless : s.Known → s.count ≡ 0 → is_groupless re ≡ true
+  pub numbered : s.Known → max g (group_count re) ≡ g + s.count
+
+pub groupless_count : (re : Re) → is_groupless re ≡ true → group_count re ≡ 0
+groupless_count (cat a b) h = let both = and_parts _ _ h in omega (arith, groupless_count a both.0, groupless_count b both.1)
+groupless_count (alt a b) h = let both = and_parts _ _ h in omega (arith, groupless_count a both.0, groupless_count b both.1)
+groupless_count (group n a) h = absurd (true≢false (sym h))
+groupless_count (plus greedy a) h = groupless_count a h
+groupless_count re h = refl
 
 pub fulfils_same : (s u : Sense) (g : ℕ) (re : Re) → SameSense s u → Fulfils s g re → Fulfils u g re
 fulfils_same s u g re p f = record {
   denotes = denotes_same re s.Is u.Is p.texts f.denotes;
   catches = λ k. catches_same g s.count u.count re s.Cap u.Cap p.count p.caps (f.catches (p.known k));
   groupless = λ k none. f.groupless (p.known k) (sym p.count ∙ none);
+  numbered = λ k. omega (arith, f.numbered (p.known k), p.count);
 }
 
 pub fulfils_quiet : (K : Type 0) (Is : Texts) (g : ℕ) (re : Re) → Denotes re Is → (K → is_groupless re ≡ true) → Fulfils (quiet K Is) g re
-fulfils_quiet K Is g re d h = record { denotes = d; catches = λ k. catches_silent g re Is d (h k); groupless = λ k none. h k }
+fulfils_quiet K Is g re d h =
+    record { denotes = d; catches = λ k. catches_silent g re Is d (h k); groupless = λ k none. h k; numbered = λ k. omega (arith, groupless_count re (h k)) }
 
 pub fulfils_empty : (g : ℕ) → Fulfils (quiet (Unit {0}) Nothing) g empty
 fulfils_empty g = fulfils_quiet (Unit {0}) Nothing g empty denotes_empty (λ k. refl)
@@ -77,6 +88,7 @@ fulfils_alone s g a f = record {
   denotes = denotes_alone a s.Is f.denotes;
   catches = λ k. catches_alone g s.count a s.Cap (f.catches k);
   groupless = λ k none. and_from _ _ (f.groupless k none) refl;
+  numbered = λ k. omega (arith, f.numbered k);
 }
 
 pub fulfils_last : (s : Sense) (g : ℕ) (a : Re) → Fulfils s g a → Fulfils s g (cat a empty)
@@ -84,6 +96,7 @@ fulfils_last s g a f = record {
   denotes = denotes_last a s.Is f.denotes;
   catches = λ k. catches_last g s.count a s.Cap (f.catches k);
   groupless = λ k none. and_from _ _ (f.groupless k none) refl;
+  numbered = λ k. omega (arith, f.numbered k);
 }
 
 pub fulfils_group : (s : Sense) (g : ℕ) (a : Re) → Fulfils s (suc g) a → Fulfils (whole s) g (group g a)
@@ -91,6 +104,7 @@ fulfils_group s g a f = record {
   denotes = record { plain = f.denotes.plain; same = f.denotes.same };
   catches = λ k. catches_group g s.count a s.Cap (f.catches k);
   groupless = λ k none. absurd (omega (arith, none));
+  numbered = λ k. omega (arith, f.numbered k);
 }
 
 pub fulfils_perhaps : (s : Sense) (g : ℕ) (sub : Nested Re) → Fulfils s g sub.value → Fulfils (perhaps s) g (repeated_as Optional sub).value
@@ -98,6 +112,7 @@ fulfils_perhaps s g sub f = record {
   denotes = denotes_quantified Optional sub s.Is f.denotes;
   catches = λ k. catches_perhaps g s.count sub.value s.Cap (f.catches k);
   groupless = λ k none. and_from _ _ (and_from _ _ (f.groupless k none) refl) refl;
+  numbered = λ k. omega (arith, f.numbered k);
 }
 
 groupless_repeated : (q : Quantifier) (sub : Nested Re) → is_groupless sub.value ≡ true → is_groupless (repeated_as q sub).value ≡ true
