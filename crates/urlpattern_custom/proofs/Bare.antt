@@ -1,9 +1,9 @@
--- Patterns without their groups.
+-- Patterns whose groups have all one number.
 use Rattle.std.proofs.Common.{◌≡◌, ℕ, zero, suc, ◌-◌, Bool, true, false, List, [], ◌∷◌, map, Option, Some, None, refl, ap, ◌∙◌}
 use Rattle.regex_hir.specs.Meaning.{cat_all, alt_all, optional, copies, up_to, at_least, repeat}
 use Rattle.regex_hir.specs.Re.{Re, empty, literal, byte_in, char_in, look, cat, alt, group, plus}
 
--- the pattern without its groups, which take part in no match
+-- the pattern with 0 as the number of each group, which no match depends on
 abbrev pub bare : Re → Re
 bare empty = empty
 bare (literal bytes) = literal bytes
@@ -12,7 +12,7 @@ bare (char_in ranges) = char_in ranges
 bare (look l) = look l
 bare (cat a b) = cat (bare a) (bare b)
 bare (alt a b) = alt (bare a) (bare b)
-bare (group n a) = bare a
+bare (group n a) = group 0 (bare a)
 bare (plus greedy a) = plus greedy (bare a)
 
 bare_optional : (greedy : Bool) (a : Re) → bare (optional greedy a) ≡ optional greedy (bare a)

@@ -6,14 +6,17 @@ use Rattle.regex_hir.specs.Meaning.{alt_all}
 use Rattle.regex_hir.specs.Re.{Re}
 use Rattle.regex_syntax.specs.Brackets.{Nested, join}
 use Rattle.regex_syntax.specs.Grammar.{Place, branches, join_parts}
+use Rattle.urlpattern_core.proofs.FirstMatchers.{flags_agree}
+use Rattle.urlpattern_core.specs.Components.{engine_flags}
 use Rattle.urlpattern_core.specs.FirstWays.{KeepsCase}
 use Rattle.urlpattern_core.specs.Regexes.{regex_engine}
 use Rattle.urlpattern_custom.proofs.CustomGroups.{custom_inside, whole_takes}
 use Rattle.urlpattern_custom.proofs.ItemsOf.{at_text}
+use Rattle.urlpattern_custom.proofs.MatchersCapture.{matchers_capture}
 use Rattle.urlpattern_custom.proofs.MatchersTaken.{matchers_taken, shorter_room}
-use Rattle.urlpattern_custom.proofs.ValuesTaken.{pattern_values_taken, regex_values_taken}
+use Rattle.urlpattern_custom.proofs.ValuesTaken.{pattern_values_capture, pattern_values_taken, regex_values_capture, regex_values_taken}
 use Rattle.urlpattern_custom.specs.Expressions.{ExpressionTakes, TakesWhole}
-use Rattle.urlpattern_custom.specs.LawsOfTexts.{HasRoom, MatchersAnswerTaken, ReadsInGroups, TookAlone}
+use Rattle.urlpattern_custom.specs.LawsOfTexts.{ComponentsCapture, HasRoom, MatchersAnswerTaken, MatchersCapture, ReadsInGroups, TookAlone}
 use Rattle.urlpattern_engine.specs.PatternRegexps.{pattern_engine}
 use Rattle.urlpattern_meaning.specs.FirstAnswers.{TookText}
 use Rattle.urlpattern_meaning.specs.Matching.{InnerView, Literal, RegExp, SingleCapture}
@@ -27,10 +30,10 @@ reads_in_groups expression rest steps names h = by (branches steps (at_text name
     by None e = tt
     by (Some found) e =
         let inside = (custom_inside expression h).reads rest steps names (join alt_all found.0) found.1 (ap (join_parts alt_all) e) in (
-          inside.0,
+          inside.at_close,
           λ text fine.
-              let whole = whole_takes (join alt_all found.0).value inside.1.plain text fine in
-              let same = inside.1.same text fine in
+              let whole = whole_takes (join alt_all found.0).value inside.fulfils.denotes.plain text fine in
+              let same = inside.fulfils.denotes.same text fine in
               (λ takes. same.0 (whole.1 takes), λ takes. whole.0 (same.1 takes)),
         )
 
@@ -47,3 +50,19 @@ regex_matchers_taken = matchers_taken regex_engine (λ flags. ⊤) (λ regexp. �
 
 pub pattern_matchers_taken : MatchersAnswerTaken pattern_engine HasRoom TookAlone
 pattern_matchers_taken = matchers_taken pattern_engine KeepsCase HasRoom _ pattern_values_taken shorter_room (λ options flags inner kept took. took_any inner (KeepsCase flags) (took.0 ∙ kept) took.1)
+
+pub regex_matchers_capture : MatchersCapture regex_engine (λ regexp. ⊤) (λ options flags. TookText (λ value. ⊤))
+regex_matchers_capture = matchers_capture regex_engine (λ flags. ⊤) (λ regexp. ⊤) _ regex_values_capture (λ options parts middle le fits. tt) (λ options flags inner kept took. took)
+
+pub pattern_matchers_capture : MatchersCapture pattern_engine HasRoom TookAlone
+pattern_matchers_capture = matchers_capture pattern_engine KeepsCase HasRoom _ pattern_values_capture shorter_room (λ options flags inner kept took. took_any inner (KeepsCase flags) (took.0 ∙ kept) took.1)
+
+-- ---- components
+
+pub regex_components_capture : ComponentsCapture regex_engine (λ regexp. ⊤)
+regex_components_capture options parts component is alone silent fits kept took =
+    regex_matchers_capture options (engine_flags options) parts component.matcher (record { is_made = is.has_matcher; alone = alone; fits = fits; case_kept = kept; took = took }) silent
+
+pub pattern_components_capture : ComponentsCapture pattern_engine HasRoom
+pattern_components_capture options parts component is alone silent fits kept took =
+    pattern_matchers_capture options (engine_flags options) parts component.matcher (record { is_made = is.has_matcher; alone = alone; fits = fits; case_kept = kept; took = (flags_agree options, took) }) silent

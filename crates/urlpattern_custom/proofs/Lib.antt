@@ -6,6 +6,9 @@ pub mod ItemsClosed
 pub mod BranchesClosed
 pub mod Takes
 pub mod Denoting
+pub mod Runs
+pub mod Catching
+pub mod Senses
 pub mod ItemsOf
 pub mod GroupsOf
 pub mod CustomGroups
@@ -16,5 +19,7 @@ pub mod WholeRead
 pub mod ValuesTaken
 pub mod TakenMeanings
 pub mod MatchersTaken
+pub mod MatchersCapture
+pub mod CaptureCounts
 pub mod CustomLaws
 pub mod ExpressionExamples

@@ -1,10 +1,12 @@
 -- What a custom regular expression means: the texts that it takes whole, as the grammar of the crate `regex` reads it by itself.
-use Rattle.std.specs.Prelude.{ℕ, Bool, true, false, ◌&&◌, ◌==◌, List, [], length, IsSomeAnd, encode_utf8_all}
+use Rattle.std.specs.Prelude.{ℕ, ◌+◌, ◌*◌, Bool, true, false, ◌&&◌, ◌==◌, List, [], ◌∷◌, length, None, IsSomeAnd, encode_utf8_all}
 use Rattle.std.specs.Char.{len_utf8}
 use Rattle.regex_hir.specs.Matches.{Matches}
+use Rattle.regex_hir.specs.Meaning.{alt_all}
 use Rattle.regex_hir.specs.Re.{Re, empty, literal, byte_in, char_in, look, cat, alt, group, plus}
 use Rattle.regex_hir.specs.Text.{char_at, is_some_and}
-use Rattle.regex_syntax.specs.Grammar.{read}
+use Rattle.regex_syntax.specs.Brackets.{join}
+use Rattle.regex_syntax.specs.Grammar.{branches, read}
 use Rattle.regex_syntax.specs.Verdict.{default_config}
 use Rattle.urlpattern_syntax.specs.Text.{lacks}
 
@@ -46,3 +48,20 @@ comment_sign = 0x23
 unfoldable pub stands_alone : (expression : List ℕ) → Bool
 stands_alone expression =
     lacks comment_sign expression && is_some_and (read default_config expression) (λ (pattern, names). takes_characters pattern.value)
+
+-- ---- expressions that capture nothing
+
+-- no group of the pattern captures
+abbrev pub is_groupless : Re → Bool
+is_groupless (cat first second) = is_groupless first && is_groupless second
+is_groupless (alt first second) = is_groupless first && is_groupless second
+is_groupless (group number inner) = false
+is_groupless (plus greedy inner) = is_groupless inner
+is_groupless pattern = true
+
+-- The grammar reads the expression, and finds no group that captures. One that is repeated no time, which the pattern lacks, has a
+-- number too.
+unfoldable pub captures_nothing : (expression : List ℕ) → Bool
+captures_nothing expression =
+    is_some_and (branches (2 * length expression + 2) (record { config = default_config; names = None ∷ []; text = expression })) (λ (patterns, end).
+    (length end.names == 1) && is_groupless (join alt_all patterns).value)
