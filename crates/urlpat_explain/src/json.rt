@@ -112,14 +112,15 @@ fn component_tree(
     let place = explained.place(name);
     let mut members = Map::new(alloc);
     put_pattern(&mut members, alloc, explained, name, place)?;
-    if let Some(texts) = texts {
-        put_match(
-            &mut members,
-            alloc,
-            explained.pattern.get(name),
-            texts.get(name),
-        )?;
-    }
+    let Some(texts) = texts else {
+        return Ok(Value::Object(members));
+    };
+    put_match(
+        &mut members,
+        alloc,
+        explained.pattern.get(name),
+        texts.get(name),
+    )?;
     Ok(Value::Object(members))
 }
 
@@ -166,12 +167,11 @@ fn put_match(
     ensures { OnOk result (GainsMatch members.old.entries members.new.entries (component_view component.now) (chars text.now)) }
 {
     put_text(members, alloc, "input", text)?;
-    match component.matcher.matches(alloc, text)? {
-        Some(captures) => {
-            put_verdict(members, alloc, true, &component.group_name_list, &captures)?;
-        }
-        None => put_verdict(members, alloc, false, &[], &[])?,
-    }
+    let Some(captures) = component.matcher.matches(alloc, text)? else {
+        put_verdict(members, alloc, false, &[], &[])?;
+        return Ok(());
+    };
+    put_verdict(members, alloc, true, &component.group_name_list, &captures)?;
     Ok(())
 }
 

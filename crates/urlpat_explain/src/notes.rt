@@ -41,7 +41,8 @@ pub fn push_notes(
     let places = places_of(alloc, explained)?;
     let notes = value_notes(alloc, explained.init, explained.values)?;
     push_names(text, PLACES, &places)?;
-    text.push_str(&notes)
+    text.push_str(&notes)?;
+    Ok(())
 }
 
 /// The components that are in the constructor string, each with its place.
@@ -69,7 +70,8 @@ fn push_place(
     };
     let name = name.as_str();
     let cell = format!(in alloc; " {name} {start}..{end}")?;
-    cells.push_str(&cell)
+    cells.push_str(&cell)?;
+    Ok(())
 }
 
 /// The notes on the texts of an init, which result in these values.
