@@ -1,5 +1,5 @@
 -- The JSON of an explanation has no floats, so that its text is known.
-use Rattle.std.proofs.Common.{◌≡◌, ℕ, Bool, false, List, [], ◌∷◌, ◌++◌, codes, ap, refl, subst, sym, zip, ◌∙◌}
+use Rattle.std.proofs.Common.{◌≡◌, ℕ, Bool, true, false, List, [], ◌∷◌, ◌++◌, ap, refl, subst, sym, zip, ◌∙◌}
 use Rattle.std.specs.List.{AllByRecursion}
 use Rattle.std.specs.Prelude.{Option, None, Some}
 use Rattle.serde_json.specs.Data.{Data, Members, no_members, put}
@@ -37,7 +37,7 @@ both-none (named ∷ first) second (one, none) others = (one, both-none first se
 
 place-none : (place : Option Span) → AreWithoutFloat (place_members place)
 place-none None = tt
-place-none (Some span) = (refl, refl, tt)
+place-none (Some span) = (refl, (refl, tt))
 
 groups-none : (groups : List (List ℕ × Option (List ℕ))) → AreWithoutFloat (groups_named groups)
 groups-none [] = tt
@@ -45,11 +45,11 @@ groups-none ((name, None) ∷ groups) = (refl, groups-none groups)
 groups-none ((name, Some text) ∷ groups) = (refl, groups-none groups)
 
 verdict-none : (matches : Bool) (groups : List (List ℕ × Option (List ℕ))) → AreWithoutFloat (verdict_members matches groups)
-verdict-none matches groups = (refl, all_with-none no_members (groups_named groups) (groups-none groups) refl, tt)
+verdict-none matches groups = (refl, (all_with-none no_members (groups_named groups) (groups-none groups) refl, tt))
 
 captured-none : (names : List (List ℕ)) (captures : Option Captures) → AreWithoutFloat (captured_members names captures)
-captured-none names None = verdict-none _ []
-captured-none names (Some captures) = verdict-none _ (zip names captures)
+captured-none names None = verdict-none false []
+captured-none names (Some captures) = verdict-none true (zip names captures)
 
 input-none : (pattern : PatternView PatternRegexp) (texts : Option Texts) (name : ComponentName) (members : Named) → AreInputMembers pattern texts name members → AreWithoutFloat members
 input-none pattern None name members is = subst AreWithoutFloat (sym is) tt
@@ -57,9 +57,9 @@ input-none pattern (Some texts) name members (captures, answers, is) =
     subst AreWithoutFloat (sym is) (refl, captured-none (pattern name).group_name_list captures)
 
 component-none : (explained : ExplainedView) (texts : Option Texts) (name : ComponentName) (tree : Data) → IsComponentTree explained texts name tree → has_float tree ≡ false
-component-none explained texts name tree (place, members, at, are, is) =
+component-none explained texts name tree (place, members, there, are, is) =
     ap has_float is ∙ all_with-none no_members (pattern_members explained name place ++ members)
-    (refl, refl, both-none (place_members place) members (place-none place) (input-none explained.pattern texts name members are)) refl
+    (refl, (refl, both-none (place_members place) members (place-none place) (input-none explained.pattern texts name members are))) refl
 
 -- ---- all components
 

@@ -1,19 +1,21 @@
 -- Lemmas on the members of objects.
 use Rattle.std.proofs.Common.{◌≡◌, ◌⊎◌, ◌∙◌, ℕ, List, [], ◌∷◌, ◌++◌, ap, ap₂, inl, inr, map, refl, sym, zip}
 use Rattle.std.specs.Borrow.{Bor}
-use Rattle.std.specs.Prelude.{Option, String, string_bytes}
+use Rattle.std.proofs.lemmas.Str.{encodes-chars}
+use Rattle.std.specs.Prelude.{Option, Some, String, string_bytes}
+use Rattle.std.specs.Str.{IsUtf8}
 use Rattle.std.specs.declared.alloc.Global.{Global}
-use Rattle.serde_json.specs.Data.{Data, Members, put}
+use Rattle.serde_json.specs.Data.{Data, Members, no_members, object, put, string}
 use Rattle.urlpat_explain.specs.Json.{Named, capture_tree, groups_named}
 use Rattle.urlpat_matching.proofs.MatchLemmas.{bytes_of_text}
-use Rattle.urlpattern_inputs.specs.Trees.{all_with, with}
+use Rattle.urlpattern_inputs.specs.Trees.{all_with, object_of, with}
 use Rattle.urlpattern_matches.specs.GroupTexts.{texts_of}
 use Rattle.urlpattern_syntax.specs.Text.{option_text, text_of}
 
 -- members that are put after others
-pub all_with-append : (members : Members) (first second : Named) → all_with members (first ++ second) ≡ all_with (all_with members first) second
-all_with-append members [] second = refl
-all_with-append members (named ∷ first) second = all_with-append (with members named) first second
+pub all_with-append : (listed : Members) (first second : Named) → all_with listed (first ++ second) ≡ all_with (all_with listed first) second
+all_with-append listed [] second = refl
+all_with-append listed (named ∷ first) second = all_with-append (with listed named) first second
 
 abbrev pub named_of : List (String Global) → List (Option (Bor (List ℕ))) → Named
 named_of names captures = groups_named (zip (texts_of names) (map option_text captures))
@@ -35,3 +37,12 @@ none-left (name ∷ names) captures (inr none) = ap (λ (cs : List (Option (Bor 
 pub groups-all : (names : List (String Global)) (captures : List (Option (Bor (List ℕ)))) (members whole : Members) → (names ≡ []) ⊎ (captures ≡ [])
     → all_with members (named_of names captures) ≡ whole → members ≡ whole
 groups-all names captures members whole none was = sym (ap (all_with members) (none-left names captures none)) ∙ was
+
+-- what a group captured, as it is lent
+pub capture-some : (capture : Option (Bor (List ℕ))) (text : Bor (List ℕ)) → capture ≡ Some text → IsUtf8 text.now → string text.now ≡ capture_tree (option_text capture)
+capture-some capture text is utf8 =
+    ap string (sym (encodes-chars text.now utf8)) ∙ ap (λ (lent : Option (Bor (List ℕ))). capture_tree (option_text lent)) (sym is)
+
+-- members that are put after those of a new object
+pub object-of : (listed : Members) (first second : Named) → listed ≡ all_with (all_with no_members first) second → object listed ≡ object_of (first ++ second)
+object-of listed first second is = ap object (is ∙ sym (all_with-append no_members first second))

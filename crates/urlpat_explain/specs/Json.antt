@@ -7,8 +7,8 @@ use Rattle.urlpat_explain.specs.Explained.{ExplainedView}
 use Rattle.urlpat_explain.specs.Places.{MayBeAt}
 use Rattle.urlpat_matching.specs.MatchJson.{json_line}
 use Rattle.urlpattern_core.specs.Components.{ComponentView}
-use Rattle.urlpattern_eight.specs.Eight.{Eight, Texts, at, name_text}
-use Rattle.urlpattern_eight.specs.declared.eight.ComponentName.{ComponentName}
+use Rattle.urlpattern_eight.specs.Eight.{Texts, at, name_text}
+use Rattle.urlpattern_eight.specs.declared.eight.{ComponentName.ComponentName, Eight.Eight}
 use Rattle.urlpattern_engine.specs.PatternRegexps.{pattern_answer}
 use Rattle.urlpattern_engine.specs.declared.pattern_regexp.PatternRegexp.{PatternRegexp}
 use Rattle.urlpattern_faults.specs.declared.span.Span.{Span}

@@ -119,7 +119,7 @@ fn input_note(
 ///
 /// The error is why the pattern or its base is refused, or that memory ran out.
 fn explanation_for(alloc: Global, asked: Asked<'_>, flags: Flags) -> Result<Explanation, Error>
-    ensures text { IfOk result (IsExplanation flags (asked_view asked)) }
+    ensures text { IfOk result (IsExplanation flags (asked_view asked.entry)) }
     ensures status { IfOk result (λ found. (found.status ≡ DONE) ⊎ (found.status ≡ NO_MATCH)) }
 {
     let pattern = compiled(alloc, asked.string, asked.base, flags.ignore_case)?;
@@ -137,7 +137,7 @@ fn explanation_by(
     json: bool,
     pattern: &UrlPattern<PatternRegexp>,
 ) -> Result<Explanation, Error>
-    ensures text { IfOk result (IsExplanationBy json (pattern_view pattern.now) (asked_view asked)) }
+    ensures text { IfOk result (IsExplanationBy json (pattern_view pattern.now) (asked_view asked.entry)) }
     ensures status { IfOk result (λ found. (found.status ≡ DONE) ⊎ (found.status ≡ NO_MATCH)) }
 {
     let init = init_of_text::<PatternRegexp>(alloc, asked.string, asked.base)?;
@@ -156,7 +156,7 @@ fn explanation_of(
     pattern: &UrlPattern<PatternRegexp>,
     init: &UrlPatternInit,
 ) -> Result<Explanation, Error>
-    ensures text { IfOk result (IsExplanationOf json (pattern_view pattern.now) init.now (asked_view asked)) }
+    ensures text { IfOk result (IsExplanationOf json (pattern_view pattern.now) init.now (asked_view asked.entry)) }
     ensures status { IfOk result (λ found. (found.status ≡ DONE) ⊎ (found.status ≡ NO_MATCH)) }
 {
     let values = pattern_values(alloc, init)?;

@@ -137,7 +137,8 @@ fn put_pattern(
     let pattern = &explained.pattern.get(name).pattern_string;
     put_text(members, alloc, "pattern", pattern)?;
     put_text(members, alloc, "origin", explained.origin(name))?;
-    put_place(members, alloc, place)
+    put_place(members, alloc, place)?;
+    Ok(())
 }
 
 /// Puts a place into an object, if there is one.

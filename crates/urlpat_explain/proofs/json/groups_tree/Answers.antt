@@ -1,4 +1,4 @@
-use Rattle.std.proofs.Common.{ap, rules, string_bytes, ◌≡◌, ◌∙◌}
+use Rattle.std.proofs.Common.{ap, rules, string_bytes, ◌≡◌}
 use Rattle.std.proofs.lemmas.Slice.Zip.{Zip-more, either_empty_from_Zip}
 use Rattle.std.specs.Iterator.Adapters.{zip_first, zip_second}
 use Rattle.std.specs.Slice.Iter.{iter_rest}
