@@ -55,7 +55,7 @@ fn run_buffered(rt: &HostRuntime, words: &[String], flags: Flags) -> io::Result<
         return Ok(link(alloc, rest, &mut out, &mut err));
     }
     if let Some(rest) = words_after(words, "explain") {
-        return Ok(explain(alloc, rest, flags.ignore_case, &mut out, &mut err));
+        return Ok(explain(alloc, rest, flags, &mut out, &mut err));
     }
     let files = HostFiles { rt };
     Ok(run(alloc, &files, words, flags, &mut input, &mut out, &mut err))

@@ -1,3 +1,7 @@
+pub mod ExplanationLemmas
+pub mod JsonLemmas
 pub mod NoteLemmas
+pub mod PlaceLemmas
 pub mod RowLemmas
+pub mod TreeLemmas
 mod RowExamples

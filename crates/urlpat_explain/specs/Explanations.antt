@@ -1,48 +1,93 @@
 -- What `explain` answers to its words. Words and texts are bytes.
-use Rattle.std.specs.Prelude.{◌≡◌, ◌⊎◌, ℕ, Bool, List, [], ◌∷◌, ◌++◌, Option, None, Some}
+use Rattle.std.specs.Prelude.{◌≡◌, ◌⊎◌, ℕ, Bool, true, false, List, [], ◌∷◌, ◌++◌, Ok, Option, None, Some, option_copied, string_bytes}
 use Rattle.std.specs.Io.KnownBytes.{Appends}
+use Rattle.std.specs.Str.{chars}
 use Rattle.url.specs.Parts.{Parts}
 use Rattle.urlpat_matching.specs.PatternWords.{IsPatternOf, base_of}
 use Rattle.urlpat_matching.specs.InputUrls.{IsRefusedText, IsUrlOf}
 use Rattle.urlpat_matching.specs.Status.{status_of}
-use Rattle.urlpat_explain.specs.Notes.{AreNotesOf}
+use Rattle.urlpat_explain.specs.Explained.{ExplainedView}
+use Rattle.urlpat_explain.specs.declared.explaining.{Asked.Asked, Explanation.Explanation}
+use Rattle.urlpat_explain.specs.Json.{IsExplanationJson}
+use Rattle.urlpat_explain.specs.Notes.{AreNotes}
 use Rattle.urlpat_explain.specs.Rows.{IsMatchTable, pattern_table}
-use Rattle.urlpattern_engine.specs.PatternRegexps.{pattern_answer}
+use Rattle.urlpat_words.specs.declared.flags.Flags.{Flags}
+use Rattle.urlpattern_create.specs.Compiled.{pattern_values}
+use Rattle.urlpattern_create.specs.FromString.{IsInitOfText}
+use Rattle.urlpattern_eight.specs.Eight.{Texts, Values}
+use Rattle.urlpattern_engine.specs.PatternRegexps.{pattern_answer, pattern_engine}
 use Rattle.urlpattern_engine.specs.declared.pattern_regexp.PatternRegexp.{PatternRegexp}
-use Rattle.urlpattern_init.specs.Inheritance.{texts_of_url}
+use Rattle.urlpattern_init.specs.Inheritance.{texts_of_url, values_view}
+use Rattle.urlpattern_init.specs.declared.init.UrlPatternInit.{UrlPatternInit}
 use Rattle.urlpattern_init.specs.declared.init.UrlPatternMatchInput.TheVariants as match_inputs
 use Rattle.urlpattern_pattern.specs.Match.{TestsInput}
 use Rattle.urlpattern_pattern.specs.Patterns.{PatternView}
 
 -- ---- words
 
--- the words after `explain` ask for this pattern, with the base URL that a word stands for, and this input, if there is one
-abbrev pub AskToExplain : (words : List (List ℕ)) → (pattern : List ℕ) → (base input : Option (List ℕ)) → Type 0
-AskToExplain (first ∷ word ∷ []) pattern base input = (pattern ≡ first) × (base ≡ base_of word) × (input ≡ None)
-AskToExplain (first ∷ word ∷ last ∷ []) pattern base input = (pattern ≡ first) × (base ≡ base_of word) × (input ≡ Some last)
-AskToExplain words pattern base input = ⊥
+-- What is asked: a constructor string, with a base URL and an input if there are such.
+pub record AskedView : Type 0 where
+  pub string : List ℕ
+  pub base : Option (List ℕ)
+  pub input : Option (List ℕ)
+
+abbrev pub asked_view : Asked → AskedView
+asked_view asked = record { string = asked.string.now; base = option_copied asked.base; input = option_copied asked.input }
+
+-- the words after `explain` ask this
+abbrev pub AskToExplain : (words : List (List ℕ)) → AskedView → Type 0
+AskToExplain (string ∷ word ∷ []) asked = asked ≡ record { string = string; base = base_of word; input = None }
+AskToExplain (string ∷ word ∷ last ∷ []) asked = asked ≡ record { string = string; base = base_of word; input = Some last }
+AskToExplain words asked = ⊥
 
 -- ---- explanations
 
--- whether the pattern matches the URL, as a status
-abbrev pub IsMatchStatus : PatternView PatternRegexp → Parts → (status : ℕ) → Type 0
-IsMatchStatus pattern url status = (matched : Bool) × TestsInput pattern_answer pattern (match_inputs.Url url) matched × (status ≡ status_of matched)
+-- the lines for the components of a pattern: with texts, if there are some
+abbrev pub IsTable : PatternView PatternRegexp → (texts : Option Texts) → (table : List ℕ) → Type 0
+IsTable pattern None table = table ≡ pattern_table pattern
+IsTable pattern (Some texts) table = IsMatchTable pattern texts table
 
--- the lines for the components of a pattern: with the texts of the input, if it is a URL
-abbrev pub IsTable : PatternView PatternRegexp → (base input : Option (List ℕ)) → (table : List ℕ) → (status : ℕ) → Type 0
-IsTable pattern base None table status = (table ≡ pattern_table pattern) × (status ≡ 0)
-IsTable pattern base (Some input) table status =
-    (IsRefusedText input base × (table ≡ pattern_table pattern) × (status ≡ 1))
-    ⊎ ((url : Parts) × IsUrlOf input base url × IsMatchTable pattern (texts_of_url url) table × IsMatchStatus pattern url status)
+-- what is printed of a pattern, with texts or without: JSON, or a line for each component and the notes
+abbrev pub IsShown : (json : Bool) → ExplainedView → (texts : Option Texts) → (text : List ℕ) → Type 0
+IsShown true explained texts text = IsExplanationJson explained texts text
+IsShown false explained texts text = (table notes : List ℕ) × IsTable explained.pattern texts table × AreNotes explained notes × (text ≡ table ++ notes)
 
--- the lines for the components of the pattern that the constructor string is compiled to, and after them the notes on it
-abbrev pub IsExplained : (ignores : Bool) → (pattern : List ℕ) → (base input : Option (List ℕ)) → (text : List ℕ) → (status : ℕ) → Type 0
-IsExplained ignores pattern base input text status =
-    (compiled : PatternView PatternRegexp) × IsPatternOf ignores pattern base compiled
-    × (table notes : List ℕ) × IsTable compiled base input table status × AreNotesOf pattern base notes × (text ≡ table ++ notes)
+-- it is printed with this status
+abbrev pub IsShownBy : (json : Bool) → ExplainedView → (texts : Option Texts) → (status : ℕ) → Explanation → Type 0
+IsShownBy json explained texts status found = IsShown json explained texts (string_bytes found.text) × (found.status ≡ status)
+
+-- the same of a URL: whether the pattern matches is the status
+abbrev pub IsShownOf : (json : Bool) → ExplainedView → Parts → Explanation → Type 0
+IsShownOf json explained url found =
+    (matched : Bool) × TestsInput pattern_answer explained.pattern (match_inputs.Url url) matched
+    × IsShownBy json explained (Some (texts_of_url url)) (status_of matched) found
+
+-- with an input: its texts are shown if it is a URL
+abbrev pub IsAnswer : (json : Bool) → ExplainedView → (base input : Option (List ℕ)) → Explanation → Type 0
+IsAnswer json explained base None found = IsShownBy json explained None 0 found
+IsAnswer json explained base (Some input) found =
+    (IsRefusedText input base × IsShownBy json explained None 1 found)
+    ⊎ ((url : Parts) × IsUrlOf input base url × IsShownOf json explained url found)
+
+-- the constructor string gives the texts of this init, and is compiled to this pattern
+abbrev pub IsExplanationOf : (json : Bool) → PatternView PatternRegexp → UrlPatternInit → AskedView → Explanation → Type 0
+IsExplanationOf json compiled init asked found =
+    (values : Values) × (pattern_values init ≡ Ok values)
+    × IsAnswer json (record { string = asked.string; pattern = compiled; given = values_view init; values = values }) asked.base asked.input found
+
+-- it is compiled to this pattern
+abbrev pub IsExplanationBy : (json : Bool) → PatternView PatternRegexp → AskedView → Explanation → Type 0
+IsExplanationBy json compiled asked found =
+    (init : UrlPatternInit) × IsInitOfText pattern_engine (chars asked.string) asked.base init × IsExplanationOf json compiled init asked found
+
+-- the explanation of what is asked
+abbrev pub IsExplanation : Flags → AskedView → Explanation → Type 0
+IsExplanation flags asked found =
+    (compiled : PatternView PatternRegexp) × IsPatternOf flags.ignore_case asked.string asked.base compiled
+    × IsExplanationBy flags.json compiled asked found
 
 -- what is printed for the words after `explain`, with this status
-abbrev pub Explains : (ignores : Bool) → (words : List (List ℕ)) → (status : ℕ) → (old new : Option (List ℕ)) → Type 0
-Explains ignores words status old new =
-    (pattern : List ℕ) × (base input : Option (List ℕ)) × AskToExplain words pattern base input
-    × (text : List ℕ) × IsExplained ignores pattern base input text status × Appends old new text
+abbrev pub Explains : Flags → (words : List (List ℕ)) → (status : ℕ) → (old new : Option (List ℕ)) → Type 0
+Explains flags words status old new =
+    (asked : AskedView) × (found : Explanation) × AskToExplain words asked × IsExplanation flags asked found
+    × (status ≡ found.status) × Appends old new (string_bytes found.text)

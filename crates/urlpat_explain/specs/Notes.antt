@@ -1,15 +1,11 @@
 -- The notes of `explain` on a pattern. What is printed is bytes.
-use Rattle.std.specs.Prelude.{◌≡◌, ◌==◌, ℕ, List, [], ◌++◌, codes, length, Option, None, Some, Ok, if◌then◌else◌}
+use Rattle.std.specs.Prelude.{◌≡◌, ◌==◌, ℕ, List, [], ◌++◌, codes, length, Option, None, Some, if◌then◌else◌}
 use Rattle.std.specs.List.{flat_map}
-use Rattle.std.specs.Str.{chars}
-use Rattle.urlpat_explain.specs.declared.notes.TheConstants.{DEFAULT_PORT, EMPTY_PORT, INHERITED, LEFT_OUT}
-use Rattle.urlpattern_create.specs.Compiled.{pattern_values}
-use Rattle.urlpattern_create.specs.FromString.{IsInitOfText}
+use Rattle.urlpat_explain.specs.Explained.{ExplainedView}
+use Rattle.urlpat_explain.specs.Places.{ArePlaceCells}
+use Rattle.urlpat_explain.specs.declared.notes.TheConstants.{DEFAULT_PORT, EMPTY_PORT, INHERITED, LEFT_OUT, PLACES}
 use Rattle.urlpattern_eight.specs.Eight.{Values, at, components, name_text}
 use Rattle.urlpattern_eight.specs.declared.eight.ComponentName.{ComponentName}
-use Rattle.urlpattern_engine.specs.PatternRegexps.{pattern_engine}
-use Rattle.urlpattern_init.specs.Inheritance.{values_view}
-use Rattle.urlpattern_init.specs.declared.init.UrlPatternInit.{UrlPatternInit}
 
 -- the name of a component that is not given and has a value, which is inherited
 abbrev pub inherited_name : ComponentName → (given value : Option (List ℕ)) → List ℕ
@@ -38,16 +34,14 @@ port_note (Some given) (Some value) = if length value == 0 then (if length given
 port_note (Some given) None = []
 port_note None value = []
 
--- the notes on an init with these texts, which results in these values
-abbrev pub notes_text : (given values : Values) → List ℕ
-notes_text given values =
+-- the notes on texts that are given, which result in these values
+abbrev pub value_notes : (given values : Values) → List ℕ
+value_notes given values =
     names_line INHERITED.now (inherited_names given values components) ++ names_line LEFT_OUT.now (left_out_names values components)
     ++ port_note given.port values.port
 
--- those on an init
-abbrev pub AreNotesOfInit : UrlPatternInit → (notes : List ℕ) → Type 0
-AreNotesOfInit init notes = (values : Values) × (pattern_values init ≡ Ok values) × (notes ≡ notes_text (values_view init) values)
-
--- those on a constructor string with this base URL
-abbrev pub AreNotesOf : (pattern : List ℕ) → (base : Option (List ℕ)) → (notes : List ℕ) → Type 0
-AreNotesOf pattern base notes = (init : UrlPatternInit) × IsInitOfText pattern_engine (chars pattern) base init × AreNotesOfInit init notes
+-- the places of the texts in the constructor string, and the notes on them
+abbrev pub AreNotes : ExplainedView → (notes : List ℕ) → Type 0
+AreNotes explained notes =
+    (places : List ℕ) × ArePlaceCells explained.string explained.given places
+    × (notes ≡ names_line PLACES.now places ++ value_notes explained.given explained.values)

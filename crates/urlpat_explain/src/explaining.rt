@@ -1,11 +1,14 @@
-//! The command `explain`: a line for each component of a pattern, and notes on what the pattern leaves out.
+//! The command `explain`: a line for each component of a pattern, and notes on what the pattern leaves out, or all of it as JSON.
 
 ghost use Rattle.std.specs.Prelude.{◌≡◌, ◌≢◌, ◌⊎◌, length, option_copied, string_bytes, IfNone, IfOk, IfSome};
 ghost use Rattle.urlpat_matching.specs.Status.{status_of};
-ghost use Rattle.urlpat_explain.specs.Explanations.{AskToExplain, Explains, IsExplained, IsTable};
+ghost use Rattle.urlpat_explain.specs.Explained.{explained_view, lent_texts};
+ghost use Rattle.urlpat_explain.specs.Explanations.{AskToExplain, Explains, IsAnswer, IsExplanation, IsExplanationBy, IsExplanationOf, IsShown, IsTable, asked_view};
 ghost use Rattle.urlpat_words.specs.Words.{words_view};
 ghost use Rattle.urlpattern_pattern.specs.Patterns.{pattern_view};
 
+use crate::explained::Explained;
+use crate::json::explanation_json;
 use crate::notes::push_notes;
 use crate::table::{match_table, pattern_table};
 use std::alloc::Global;
@@ -13,7 +16,11 @@ use std::io::Write;
 use urlpat_matching::{
     DONE, FAILED, Failure, NO_MATCH, base_of, compiled, fail, note_of, print, url_of, write_refusal,
 };
+use urlpat_words::Flags;
+use urlpattern_create::{init_of_text, pattern_values};
+use urlpattern_eight::Eight;
 use urlpattern_engine::PatternRegexp;
+use urlpattern_init::UrlPatternInit;
 use urlpattern_matches::url_texts;
 use urlpattern_pattern::UrlPattern;
 use urlpattern_syntax::Error;
@@ -21,8 +28,16 @@ use urlpattern_syntax::Error;
 /// The usage of `explain`.
 const EXPLAIN_USAGE: &str = "\
 usage: urlpat explain PATTERN BASE [INPUT]
-       add --ignore-case for patterns that ignore case
+       add --ignore-case for patterns that ignore case, --json for JSON
 ";
+
+/// What words ask to explain: a constructor string, its base URL, and an input.
+#[derive(Clone, Copy)]
+struct Asked<'a> {
+    string: &'a str,
+    base: Option<&'a str>,
+    input: Option<&'a str>,
+}
 
 /// An explanation, and the status to end with: whether the pattern matches the input, if there is one.
 #[derive(Drop)]
@@ -36,22 +51,22 @@ struct Explanation {
 pub fn explain<Out: Write, Err: Write>(
     alloc: Global,
     words: &[String],
-    ignore_case: bool,
+    flags: Flags,
     out: &mut Out,
     err: &mut Err,
 ) -> u8
     ensures status { (result ≡ DONE) ⊎ (result ≡ NO_MATCH) ⊎ (result ≡ FAILED) }
-    ensures answers { result ≢ FAILED → Explains ignore_case (words_view words.now) result (Out.contents out.old) (Out.contents out.new) }
+    ensures answers { result ≢ FAILED → Explains flags (words_view words.now) result (Out.contents out.old) (Out.contents out.new) }
 {
-    let Some((pattern, base, input)) = asked_by(words) else {
+    let Some(asked) = asked_by(words) else {
         let _ = err.write_all(EXPLAIN_USAGE.as_bytes());
         return FAILED;
     };
-    let found = match explained(alloc, pattern, base, ignore_case, input) {
+    let found = match explanation_for(alloc, asked, flags) {
         Ok(found) => found,
-        Err(error) => return write_refusal(alloc, pattern, base, error, err),
+        Err(error) => return write_refusal(alloc, asked.string, asked.base, error, err),
     };
-    let note = match input_note(alloc, base, input) {
+    let note = match input_note(alloc, asked.base, asked.input) {
         Ok(note) => note,
         Err(error) => return fail(&Failure::from(error), err),
     };
@@ -66,14 +81,22 @@ pub fn explain<Out: Write, Err: Write>(
     }
 }
 
-/// The pattern, the base URL and the input that words ask for. `None`: they are other words.
-fn asked_by(words: &[String]) -> Option<(&str, Option<&str>, Option<&str>)>
-    ensures asked { IfSome result (λ asked. AskToExplain (words_view words.now) asked.0.now (option_copied asked.1) (option_copied asked.2)) }
+/// What words ask to explain. `None`: they are other words.
+fn asked_by(words: &[String]) -> Option<Asked<'_>>
+    ensures asked { IfSome result (λ asked. AskToExplain (words_view words.now) (asked_view asked)) }
     ensures other { IfNone result ((length words.now ≢ 2) × (length words.now ≢ 3)) }
 {
     match words {
-        [pattern, base] => Some((pattern.as_str(), base_of(base), None)),
-        [pattern, base, input] => Some((pattern.as_str(), base_of(base), Some(input.as_str()))),
+        [string, base] => Some(Asked {
+            string,
+            base: base_of(base),
+            input: None,
+        }),
+        [string, base, input] => Some(Asked {
+            string,
+            base: base_of(base),
+            input: Some(input.as_str()),
+        }),
         _ => None,
     }
 }
@@ -95,53 +118,124 @@ fn input_note(
 /// The explanation of a pattern, with an input or without.
 ///
 /// The error is why the pattern or its base is refused, or that memory ran out.
-fn explained(
-    alloc: Global,
-    pattern: &str,
-    base: Option<&str>,
-    ignore_case: bool,
-    input: Option<&str>,
-) -> Result<Explanation, Error>
-    ensures text { IfOk result (λ found. IsExplained ignore_case pattern.now (option_copied base.entry) (option_copied input.entry) (string_bytes found.text) found.status) }
+fn explanation_for(alloc: Global, asked: Asked<'_>, flags: Flags) -> Result<Explanation, Error>
+    ensures text { IfOk result (IsExplanation flags (asked_view asked.entry)) }
     ensures status { IfOk result (λ found. (found.status ≡ DONE) ⊎ (found.status ≡ NO_MATCH)) }
 {
-    let whole = compiled(alloc, pattern, base, ignore_case)?;
-    let table = table_of(alloc, &whole, base, input);
-    drop(whole);
-    let mut found = table?;
-    push_notes(alloc, &mut found.text, pattern, base)?;
-    Ok(found)
+    let pattern = compiled(alloc, asked.string, asked.base, flags.ignore_case)?;
+    let found = explanation_by(alloc, asked, flags.json, &pattern);
+    drop(pattern);
+    found
 }
 
-/// A line for each component, with its text of the input, if that is a URL.
+/// The same with the pattern that is compiled.
+///
+/// The error is why the constructor string or its base is refused, or that memory ran out.
+fn explanation_by(
+    alloc: Global,
+    asked: Asked<'_>,
+    json: bool,
+    pattern: &UrlPattern<PatternRegexp>,
+) -> Result<Explanation, Error>
+    ensures text { IfOk result (IsExplanationBy json (pattern_view pattern.now) (asked_view asked.entry)) }
+    ensures status { IfOk result (λ found. (found.status ≡ DONE) ⊎ (found.status ≡ NO_MATCH)) }
+{
+    let init = init_of_text::<PatternRegexp>(alloc, asked.string, asked.base)?;
+    let found = explanation_of(alloc, asked, json, pattern, &init);
+    drop(init);
+    found
+}
+
+/// The same with the init of the constructor string.
 ///
 /// The error is that memory ran out.
-fn table_of(
+fn explanation_of(
     alloc: Global,
+    asked: Asked<'_>,
+    json: bool,
     pattern: &UrlPattern<PatternRegexp>,
+    init: &UrlPatternInit,
+) -> Result<Explanation, Error>
+    ensures text { IfOk result (IsExplanationOf json (pattern_view pattern.now) init.now (asked_view asked.entry)) }
+    ensures status { IfOk result (λ found. (found.status ≡ DONE) ⊎ (found.status ≡ NO_MATCH)) }
+{
+    let values = pattern_values(alloc, init)?;
+    let explained = Explained {
+        string: asked.string,
+        pattern,
+        init,
+        values: &values,
+    };
+    let found = answer(alloc, &explained, json, asked.base, asked.input);
+    drop(values);
+    found
+}
+
+/// What is explained, with the texts of the input, if that is a URL.
+///
+/// The error is that memory ran out.
+fn answer(
+    alloc: Global,
+    explained: &Explained<'_>,
+    json: bool,
     base: Option<&str>,
     input: Option<&str>,
 ) -> Result<Explanation, Error>
-    ensures text { IfOk result (λ found. IsTable (pattern_view pattern.now) (option_copied base.entry) (option_copied input.entry) (string_bytes found.text) found.status) }
+    ensures text { IfOk result (IsAnswer json (explained_view explained.now) (option_copied base.entry) (option_copied input.entry)) }
     ensures status { IfOk result (λ found. (found.status ≡ DONE) ⊎ (found.status ≡ NO_MATCH)) }
 {
     let Some(input) = input else {
-        let text = pattern_table(alloc, pattern)?;
+        let text = shown(alloc, explained, json, None)?;
         return Ok(Explanation { text, status: DONE });
     };
     let Some(url) = url_of(alloc, base, input)? else {
-        let text = pattern_table(alloc, pattern)?;
+        let text = shown(alloc, explained, json, None)?;
         return Ok(Explanation {
             text,
             status: NO_MATCH,
         });
     };
-    let text = match_table(alloc, pattern, &url_texts(&url))?;
-    let matched = pattern.test_url(alloc, &url)?;
+    let text = shown(alloc, explained, json, Some(&url_texts(&url)))?;
+    let matched = explained.pattern.test_url(alloc, &url)?;
     Ok(Explanation {
         text,
         status: status_of(matched),
     })
+}
+
+/// What is printed of a pattern: JSON, or a line for each component and the notes. Texts of a URL may be given.
+///
+/// The error is that memory ran out.
+fn shown(
+    alloc: Global,
+    explained: &Explained<'_>,
+    json: bool,
+    texts: Option<&Eight<&str>>,
+) -> Result<String, Error>
+    ensures { IfOk result (λ text. IsShown json (explained_view explained.now) (lent_texts texts.entry) (string_bytes text)) }
+{
+    if json {
+        return explanation_json(alloc, explained, texts);
+    }
+    let mut text = table(alloc, explained.pattern, texts)?;
+    push_notes(alloc, &mut text, explained)?;
+    Ok(text)
+}
+
+/// A line for each component, with its text, if texts are given.
+///
+/// The error is that memory ran out.
+fn table(
+    alloc: Global,
+    pattern: &UrlPattern<PatternRegexp>,
+    texts: Option<&Eight<&str>>,
+) -> Result<String, Error>
+    ensures { IfOk result (λ table. IsTable (pattern_view pattern.now) (lent_texts texts.entry) (string_bytes table)) }
+{
+    match texts {
+        Some(texts) => match_table(alloc, pattern, texts),
+        None => Ok(pattern_table(alloc, pattern)?),
+    }
 }
 
 /// The status of a run whose input is matched, or not.

@@ -1,17 +1,22 @@
-//! Notes on a pattern: what it inherits from the base URL, what it leaves out, and what its port is.
+//! Notes on a pattern: where its components are in the constructor string, what it inherits from the base URL, what it leaves out, and
+//! what its port is.
 
-ghost use Rattle.std.specs.Prelude.{◌≡◌, ◌++◌, option_copied, string_bytes, IfOk, OnOk};
+ghost use Rattle.std.specs.Prelude.{◌≡◌, ◌++◌, string_bytes, IfOk, OnOk};
 ghost use Rattle.urlpat_matching.specs.GroupLines.{GetsLines};
-ghost use Rattle.urlpat_explain.specs.Notes.{AreNotesOf, AreNotesOfInit, inherited_name, left_out_name, names_line, notes_text, port_note};
+ghost use Rattle.urlpat_explain.specs.Explained.{explained_view};
+ghost use Rattle.urlpat_explain.specs.Notes.{AreNotes, inherited_name, left_out_name, names_line, port_note, value_notes};
+ghost use Rattle.urlpat_explain.specs.Places.{ArePlaceCells, place_cell};
 ghost use Rattle.urlpattern_init.specs.Inheritance.{values_view};
 ghost use Rattle.urlpattern_syntax.specs.Text.{option_text};
 
+use crate::explained::Explained;
 use std::alloc::{AllocError, Global};
-use urlpattern_create::{init_of_text, pattern_values};
 use urlpattern_eight::ComponentName;
-use urlpattern_engine::PatternRegexp;
+use urlpattern_faults::Span;
 use urlpattern_init::UrlPatternInit;
-use urlpattern_syntax::Error;
+
+/// What is said of components that are in the constructor string.
+const PLACES: &str = "bytes of the pattern:";
 
 /// What is said of components that are inherited.
 const INHERITED: &str = "inherited from the base URL:";
@@ -25,44 +30,57 @@ const EMPTY_PORT: &str = "the port is empty: only the default port of the protoc
 /// What is said of a port that is emptied.
 const DEFAULT_PORT: &str = "the port is the default port of the protocol, which a URL leaves out\n";
 
-/// Appends the notes on the pattern of a constructor string.
-///
-/// The error is why the string or its base is refused, or that memory ran out.
+/// Appends the notes on a constructor string.
 pub fn push_notes(
     alloc: Global,
     text: &mut String,
-    pattern: &str,
-    base: Option<&str>,
-) -> Result<(), Error>
-    ensures { OnOk result (GetsLines (AreNotesOf pattern.now (option_copied base.entry)) text.old text.new) }
+    explained: &Explained<'_>,
+) -> Result<(), AllocError>
+    ensures { OnOk result (GetsLines (AreNotes (explained_view explained.now)) text.old text.new) }
 {
-    let init = init_of_text::<PatternRegexp>(alloc, pattern, base)?;
-    let notes = notes_of(alloc, &init);
-    drop(init);
-    let notes = notes?;
+    let places = places_of(alloc, explained)?;
+    let notes = value_notes(alloc, explained.init, explained.values)?;
+    push_names(text, PLACES, &places)?;
     text.push_str(&notes)?;
     Ok(())
 }
 
-/// The notes on the pattern of an init.
-///
-/// The error is that memory ran out.
-fn notes_of(alloc: Global, init: &UrlPatternInit) -> Result<String, Error>
-    ensures { IfOk result (λ notes. AreNotesOfInit init.now (string_bytes notes)) }
+/// The components that are in the constructor string, each with its place.
+fn places_of(alloc: Global, explained: &Explained<'_>) -> Result<String, AllocError>
+    ensures { IfOk result (λ cells. ArePlaceCells (explained_view explained.now).string (explained_view explained.now).given (string_bytes cells)) }
 {
-    let values = pattern_values(alloc, init)?;
-    let notes = notes_text(alloc, init, &values);
-    drop(values);
-    Ok(notes?)
+    let mut cells = String::new(alloc);
+    for name in ComponentName::all() {
+        push_place(alloc, &mut cells, name, explained.place(name))?;
+    }
+    Ok(cells)
 }
 
-/// The notes on the pattern of an init that results in these values.
-fn notes_text(
+/// Appends a component and its place, if it has one.
+fn push_place(
+    alloc: Global,
+    cells: &mut String,
+    name: ComponentName,
+    place: Option<Span>,
+) -> Result<(), AllocError>
+    ensures { OnOk result (string_bytes cells.new ≡ string_bytes cells.old ++ place_cell name place) }
+{
+    let Some(Span { start, end }) = place else {
+        return Ok(());
+    };
+    let name = name.as_str();
+    let cell = format!(in alloc; " {name} {start}..{end}")?;
+    cells.push_str(&cell)?;
+    Ok(())
+}
+
+/// The notes on the texts of an init, which result in these values.
+fn value_notes(
     alloc: Global,
     init: &UrlPatternInit,
     values: &UrlPatternInit,
 ) -> Result<String, AllocError>
-    ensures { IfOk result (λ notes. string_bytes notes ≡ notes_text (values_view init.now) (values_view values.now)) }
+    ensures { IfOk result (λ notes. string_bytes notes ≡ value_notes (values_view init.now) (values_view values.now)) }
 {
     let mut inherited = String::new(alloc);
     let mut left_out = String::new(alloc);

@@ -36,7 +36,7 @@ put-none key tree (member other found rest) none others =
     let parts = parts_have_none (has_float found) (members_have_float rest) others in
     put_at-none (slice_cmp nat_cmp key other) key other tree found rest none parts.0 parts.1 (put-none key tree rest none parts.1)
 
-each-none : (trees : ComponentName → Data) → ((name : ComponentName) → has_float (trees name) ≡ false) → (names : List ComponentName) (listed : Members)
+pub each-none : (trees : ComponentName → Data) → ((name : ComponentName) → has_float (trees name) ≡ false) → (names : List ComponentName) (listed : Members)
     → members_have_float listed ≡ false → members_have_float (all_with listed (map (λ name. (name_text name, Some (trees name))) names)) ≡ false
 each-none trees none [] listed before = before
 each-none trees none (name ∷ names) listed before =

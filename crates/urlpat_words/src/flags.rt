@@ -44,7 +44,6 @@ fn flags_of(words: &[String]) -> (bool, bool) {
     match command {
         Some(command) => match command.as_str() {
             "component" | "covers" | "link" | "unreachable" => (false, false),
-            "explain" => (true, false),
             _ => (true, true),
         },
         None => (false, false),

@@ -31,7 +31,7 @@ usage: urlpat PATTERN URL
   component    shows what the pattern of one component is compiled to
 
 BASE is a URL for the pattern and the input, or - for none. With --ignore-case, which may stand anywhere, the patterns of match, first,
-filter, route and explain ignore case. With --json, which may stand anywhere too, match, first, filter and route print JSON.
+filter, route and explain ignore case. With --json, which may stand anywhere too, these commands print JSON.
 `urlpat COMMAND --help` says more of a command.
 
 example: urlpat 'https://example.com/users/:id' https://example.com/users/7
@@ -118,12 +118,14 @@ example: urlpat route routes.txt https://example.com/ <urls.txt
 /// The help on `explain`.
 const EXPLAIN_HELP: &str = "\
 Prints a line for each component of a pattern: its name and its pattern, and with an input its text, `matches` or `differs`, and what
-its groups capture. Empty texts are shown as two quotation marks. Lines after that say what is inherited from the base URL, what is left
-out, and what an empty port means. Ends with status 1 if the pattern does not match the input.
+its groups capture. Empty texts are shown as two quotation marks. Lines after that say which bytes of the pattern each component is, what
+is inherited from the base URL, what is left out, and what an empty port means. Ends with status 1 if the pattern does not match the input.
 
 usage: urlpat explain PATTERN BASE [INPUT]
 
-BASE is a URL for the pattern and the input, or - for none. With --ignore-case the pattern ignores case.
+BASE is a URL for the pattern and the input, or - for none. With --ignore-case the pattern ignores case. With --json an object is printed,
+which has for each component `pattern`, `origin` (`given`, `inherited` or `left out`), `start` and `end` if it is in the pattern, and with
+an input `input`, `matches` and `groups`.
 
 example: urlpat explain /users/:id https://example.com/ /users/7
 ";

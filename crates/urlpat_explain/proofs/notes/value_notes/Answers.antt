@@ -3,7 +3,7 @@ use Rattle.urlpat_explain.specs.Notes.{inherited_names, left_out_names, names_li
 use Rattle.urlpat_explain.specs.declared.notes.TheConstants.{INHERITED, LEFT_OUT}
 use Rattle.urlpattern_eight.specs.Eight.{components}
 use Rattle.urlpattern_init.specs.Inheritance.{values_view}
-use Rattle.urlpat_explain.proofs.notes.notes_text.Goals as goal
+use Rattle.urlpat_explain.proofs.notes.value_notes.Goals as goal
 
 pub returns : goal.returns
 returns c =

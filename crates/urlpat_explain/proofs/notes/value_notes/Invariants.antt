@@ -1,7 +1,7 @@
 use Rattle.std.proofs.Common.{◌≡◌, string_bytes, take}
 use Rattle.urlpat_explain.specs.Notes.{inherited_names, left_out_names}
 use Rattle.urlpattern_init.specs.Inheritance.{values_view}
-use Rattle.urlpat_explain.proofs.notes.notes_text.Given as goal
+use Rattle.urlpat_explain.proofs.notes.value_notes.Given as goal
 
 abbrev pub invariant-loop-name : goal.invariant-loop-name
 invariant-loop-name l =

@@ -1,0 +1,48 @@
+-- Lemmas on the members of objects.
+use Rattle.std.proofs.Common.{◌≡◌, ◌⊎◌, ◌∙◌, ℕ, List, [], ◌∷◌, ◌++◌, ap, ap₂, inl, inr, map, refl, sym, zip}
+use Rattle.std.specs.Borrow.{Bor}
+use Rattle.std.proofs.lemmas.Str.{encodes-chars}
+use Rattle.std.specs.Prelude.{Option, Some, String, string_bytes}
+use Rattle.std.specs.Str.{IsUtf8}
+use Rattle.std.specs.declared.alloc.Global.{Global}
+use Rattle.serde_json.specs.Data.{Data, Members, no_members, object, put, string}
+use Rattle.urlpat_explain.specs.Json.{Named, capture_tree, groups_named}
+use Rattle.urlpat_matching.proofs.MatchLemmas.{bytes_of_text}
+use Rattle.urlpattern_inputs.specs.Trees.{all_with, object_of, with}
+use Rattle.urlpattern_matches.specs.GroupTexts.{texts_of}
+use Rattle.urlpattern_syntax.specs.Text.{option_text, text_of}
+
+-- members that are put after others
+pub all_with-append : (listed : Members) (first second : Named) → all_with listed (first ++ second) ≡ all_with (all_with listed first) second
+all_with-append listed [] second = refl
+all_with-append listed (named ∷ first) second = all_with-append (with listed named) first second
+
+abbrev pub named_of : List (String Global) → List (Option (Bor (List ℕ))) → Named
+named_of names captures = groups_named (zip (texts_of names) (map option_text captures))
+
+-- the next group is put after those before it
+pub groups-put : (names names_left : List (String Global)) (captures captures_left : List (Option (Bor (List ℕ)))) (name : String Global) (capture : Option (Bor (List ℕ)))
+    (tree : Data) (old new whole : Members) → names ≡ name ∷ names_left → captures ≡ capture ∷ captures_left → tree ≡ capture_tree (option_text capture)
+    → new ≡ put (string_bytes name) tree old → all_with old (named_of names captures) ≡ whole → all_with new (named_of names_left captures_left) ≡ whole
+groups-put names names_left captures captures_left name capture tree old new whole first second is_tree is_put was =
+    ap (λ (members : Members). all_with members (named_of names_left captures_left))
+    (is_put ∙ ap₂ (λ (key : List ℕ) (it : Data). put key it old) (bytes_of_text name (text_of name) refl) is_tree)
+    ∙ ap (all_with old) (sym (ap₂ named_of first second)) ∙ was
+
+none-left : (names : List (String Global)) (captures : List (Option (Bor (List ℕ)))) → (names ≡ []) ⊎ (captures ≡ []) → named_of names captures ≡ []
+none-left names captures (inl none) = ap (λ (ns : List (String Global)). named_of ns captures) none
+none-left [] captures (inr none) = refl
+none-left (name ∷ names) captures (inr none) = ap (λ (cs : List (Option (Bor (List ℕ)))). named_of (name ∷ names) cs) none
+
+pub groups-all : (names : List (String Global)) (captures : List (Option (Bor (List ℕ)))) (members whole : Members) → (names ≡ []) ⊎ (captures ≡ [])
+    → all_with members (named_of names captures) ≡ whole → members ≡ whole
+groups-all names captures members whole none was = sym (ap (all_with members) (none-left names captures none)) ∙ was
+
+-- what a group captured, as it is lent
+pub capture-some : (capture : Option (Bor (List ℕ))) (text : Bor (List ℕ)) → capture ≡ Some text → IsUtf8 text.now → string text.now ≡ capture_tree (option_text capture)
+capture-some capture text is utf8 =
+    ap string (sym (encodes-chars text.now utf8)) ∙ ap (λ (lent : Option (Bor (List ℕ))). capture_tree (option_text lent)) (sym is)
+
+-- members that are put after those of a new object
+pub object-of : (listed : Members) (first second : Named) → listed ≡ all_with (all_with no_members first) second → object listed ≡ object_of (first ++ second)
+object-of listed first second is = ap object (is ∙ sym (all_with-append no_members first second))

@@ -1,0 +1,16 @@
+use Rattle.urlpat_explain.proofs.ExplanationLemmas.{if_ok}
+use Rattle.urlpat_explain.specs.Explanations.{IsAnswer, IsExplanationOf, asked_view}
+use Rattle.urlpattern_init.specs.Inheritance.{values_view}
+use Rattle.urlpattern_pattern.specs.Patterns.{pattern_view}
+use Rattle.urlpat_explain.proofs.explaining.explanation_of.Goals as goal
+
+pub returns-clause-text : goal.returns-clause-text
+returns-clause-text c =
+    let asked = asked_view c.args.asked in
+    let pattern = pattern_view c.args.pattern.now in
+    let init = c.args.init.now in
+    let values = values_view c.in_ok-values.values in
+    if_ok c.answer-found.result
+    (IsAnswer c.args.json (record { string = asked.string; pattern = pattern; given = values_view init; values = values }) asked.base asked.input)
+    (IsExplanationOf c.args.json pattern init asked)
+    (λ found is. (values, c.in_ok-values.ensures.ok, is)) c.answer-found.ensures.text

@@ -1,0 +1,30 @@
+-- What `explain` is about: a constructor string and what is made of it.
+use Rattle.std.specs.Prelude.{ℕ, List, Option, option_map}
+use Rattle.std.specs.Borrow.{Bor}
+use Rattle.urlpat_explain.specs.declared.explained.Explained.{Explained}
+use Rattle.urlpattern_eight.specs.Eight.{Texts, Values}
+use Rattle.urlpattern_eight.specs.declared.eight.Eight.{Eight}
+use Rattle.urlpattern_engine.specs.declared.pattern_regexp.PatternRegexp.{PatternRegexp}
+use Rattle.urlpattern_init.specs.Inheritance.{values_view}
+use Rattle.urlpattern_matches.specs.GroupTexts.{borrowed_texts}
+use Rattle.urlpattern_pattern.specs.Patterns.{PatternView, pattern_view}
+
+-- A constructor string, as bytes; the pattern that it is compiled to; the texts that it gives to components; and the values that
+-- they result in.
+pub record ExplainedView : Type 0 where
+  pub string : List ℕ
+  pub pattern : PatternView PatternRegexp
+  pub given : Values
+  pub values : Values
+
+abbrev pub explained_view : Explained → ExplainedView
+explained_view explained = record {
+  string = explained.string.now;
+  pattern = pattern_view explained.pattern.now;
+  given = values_view explained.init.now;
+  values = values_view explained.values.now;
+}
+
+-- texts that are lent, if there are some
+abbrev pub lent_texts : Option (Bor (Eight (Bor (List ℕ)))) → Option Texts
+lent_texts texts = option_map (λ lent. borrowed_texts lent.now) texts
