@@ -80,7 +80,10 @@ impl Writer<'_> {
         if let Some(text) = self.whole_draft(component)? {
             return Ok(text);
         }
-        match self.named_draft(component)? {
+        if is_plain(component.pattern_string.as_str()) {
+            return self.plain_text(component);
+        }
+        match self.passed_draft(component)? {
             Some(text) => Ok(text),
             None => self.text(component),
         }
