@@ -80,8 +80,9 @@ impl Writer<'_> {
         if let Some(text) = self.whole_draft(component)? {
             return Ok(text);
         }
-        if is_plain(component.pattern_string.as_str()) {
-            return self.plain_text(component);
+        let pattern = component.pattern_string.as_str();
+        if component.has_regexp_group || is_plain(pattern) {
+            return self.text(component);
         }
         match self.passed_draft(component)? {
             Some(text) => Ok(text),
