@@ -8,7 +8,7 @@ use Rattle.urlpattern_links.specs.Links.{MayCapture, MayCaptureAll, text_of_part
 use Rattle.urlpattern_meaning.specs.PartMeaning.{Captures}
 use Rattle.urlpattern_meaning.specs.Printing.{HaveTexts, admits_asterisk, first_part, goes_on, joined, printed_after, printed_part}
 use Rattle.urlpattern_meaning.specs.RoundTrip.{AllHaveFields, AreNamed, AreUnskipped, HasFields, IsNamed, IsUnskipped, following_number}
-use Rattle.urlpattern_syntax.specs.Options.{OptionsView}
+use Rattle.urlpattern_syntax.specs.Options.{OptionsView, pathname_options}
 use Rattle.urlpattern_syntax.specs.Parts.{PartView}
 use Rattle.urlpattern_syntax.specs.declared.parser.{PartType.PartType}
 use Rattle.urlpattern_syntax.specs.RegexpText.{group_names, is_plain}
@@ -102,6 +102,11 @@ IsPassed manner plain pattern pass =
 abbrev pub KeepsPassed : WritingManner → (plain plain_after : Bool) → (before after : Pass) → Type 0
 KeepsPassed manner plain plain_after before after = (pattern : List ℕ) → IsPassed manner plain pattern before → IsPassed manner plain_after pattern after
 
+-- so that the whole is completed
+abbrev pub CompletesPassed : WritingManner → (before after : Pass) → Type 0
+CompletesPassed manner before after =
+    (pattern : List ℕ) → IsPassed manner true pattern before → IsCompleted manner pattern (map option_text after.captures.items) (text_of after.text)
+
 -- ---- groups
 
 abbrev pub part_of : Group → PartView
@@ -130,6 +135,18 @@ pub record IsFront (options : OptionsView) (place : Place) (part : PartView) (re
 -- a group of the pass stands there
 abbrev pub IsFrontGroup : OptionsView → Place → Group → Type 0
 IsFrontGroup options place group = IsFront options place (part_of group) (chars group.rest.now) group.number
+
+-- it stands at each place of a path with this left, after so many groups without a name of their own
+abbrev pub IsPathFront : (left : List ℕ) → (number : ℕ) → Group → Type 0
+IsPathFront left number group =
+    (admits : Bool) (names : List (List ℕ)) →
+    IsFrontGroup pathname_options (record { left = left; admits = admits; number = number; names = names }) group
+
+-- the same where there is no prefix code point, and an asterisk is no modifier
+abbrev pub IsBareFront : (left : List ℕ) → (number : ℕ) → Group → Type 0
+IsBareFront left number group =
+    (options : OptionsView) (names : List (List ℕ)) → options.prefix ≡ [] →
+    IsFrontGroup options (record { left = left; admits = true; number = number; names = names }) group
 
 -- the group may capture this, and is to
 abbrev pub IsToCapture : WritingManner → PartView → Option (List ℕ) → Type 0

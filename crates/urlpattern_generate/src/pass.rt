@@ -1,23 +1,15 @@
 //! Drafts in one pass over a pattern text whose groups are names and asterisks. Nothing is parsed into parts.
 
-ghost use Rattle.std.specs.Prelude.{◌≡◌, ◌&&◌, ◌++◌, ◌<◌, ◌≤◌, ◌⊎◌, [], ℕ, Bool, IfOk, IfSome, IsTrue, List, Ok, OnOk, Some, bytes_eq, codes, false, length, map, not, true};
-ghost use Rattle.std.specs.Char.{is_ascii_digit};
-ghost use Rattle.std.specs.Borrow.{Bor};
-ghost use Rattle.std.specs.List.{list_all};
-ghost use Rattle.std.specs.Str.{chars};
-ghost use Rattle.urlpattern_generate.specs.Manners.{text_given, given_groups};
+ghost use Rattle.std.specs.Prelude.{◌≡◌, ◌&&◌, ◌++◌, ◌<◌, ◌≤◌, [], ℕ, IfOk, IfSome, IsTrue, List, Ok, OnOk, Some, bytes_eq, codes, false, length, not, true};
+ghost use Rattle.std.specs.{Borrow.Bor, Char.is_ascii_digit, List.list_all, Str.chars};
 ghost use Rattle.url.specs.Ascii.{slash};
-ghost use Rattle.urlpattern_generate.specs.Asked.{capture_not_given};
-ghost use Rattle.urlpattern_generate.specs.Passing.{IsBegun, IsCompleted, IsFrontGroup, IsPassed, IsToCapture, KeepsPassed, PassesGroup, is_run_character, may_go_on, part_of, place_of};
-ghost use Rattle.urlpattern_generate.specs.Writers.{Drafts, manner_of_writer};
-ghost use Rattle.urlpattern_links.specs.CopySearch.{AreSomeWith, IsCutAtFirst};
-ghost use Rattle.urlpattern_links.specs.Links.{MayCapture, text_of_group};
+ghost use Rattle.urlpattern_generate.specs.{Asked.capture_not_given, Writers.Drafts, Writers.manner_of_writer};
+ghost use Rattle.urlpattern_generate.specs.Passing.{CompletesPassed, IsBareFront, IsBegun, IsFrontGroup, IsPathFront, IsToCapture, KeepsPassed, PassesGroup, is_run_character, may_go_on, part_of, place_of};
+ghost use Rattle.urlpattern_links.specs.{CopySearch.AreSomeWith, CopySearch.IsCutAtFirst, Links.MayCapture, Links.text_of_group};
 ghost use Rattle.urlpattern_meaning.specs.PartMeaning.{IsWildcardText};
-ghost use Rattle.urlpattern_syntax.specs.Options.{OptionsView, pathname_options};
+ghost use Rattle.urlpattern_syntax.specs.{Options.OptionsView, Options.pathname_options, RegexpText.is_unmodified, RegexpText.modifier_text};
+ghost use Rattle.urlpattern_syntax.specs.{Text.begins_with, Text.is_name_part, Text.option_text, Text.text_of, Tokens.SkipsBy};
 ghost use Rattle.urlpattern_syntax.specs.declared.parser.PartType.TheVariants.{FullWildcard, SegmentWildcard};
-ghost use Rattle.urlpattern_syntax.specs.RegexpText.{is_unmodified, modifier_text};
-ghost use Rattle.urlpattern_syntax.specs.Text.{begins_with, is_name_part, option_text, text_of};
-ghost use Rattle.urlpattern_syntax.specs.Tokens.{SkipsBy};
 
 use crate::captures::begins_with_digit;
 use crate::groups::{given_text, is_same_text};
@@ -77,8 +69,7 @@ impl Writer<'_> {
 
     /// Passes over the whole pattern text. Returns whether that was possible.
     fn pass_all<'d>(&'d self, pass: &mut Pass<'d>) -> Result<bool, AllocError>
-        ensures { IfOk result (λ all. IsTrue all → (pattern : List ℕ) → IsPassed (manner_of_writer self.now) true pattern pass.old →
-            IsCompleted (manner_of_writer self.now) pattern (map option_text pass.new.captures.items) (text_of pass.new.text)) }
+        ensures { IfOk result (λ all. IsTrue all → CompletesPassed (manner_of_writer self.now) pass.old pass.new) }
     {
         loop {
             self.pass_run(pass)?;
@@ -120,7 +111,9 @@ impl Writer<'_> {
     {
         let mut rest = text;
         while let Some((first, after)) = split_first(rest) {
-            if !is_of_run(first) || first == '/' && self.is_path() && begins_group(after) {
+            if !is_of_run(first)
+                || first == '/' && self.is_path() && matches!(after.as_bytes(), [b':' | b'*', ..])
+            {
                 break;
             }
             rest = after;
@@ -158,11 +151,10 @@ impl Writer<'_> {
         let Some(value) = given_text(self.groups, self.component, group.name) else {
             return group.capture_not_given();
         };
-        if self.may_take(group, value) {
-            Some(Some(value))
-        } else {
-            None
+        if !self.may_take(group, value) {
+            return None;
         }
+        Some(Some(value))
     }
 
     /// Whether a group may capture a value, which is canonical as it is.
@@ -301,8 +293,7 @@ fn path_group<'d>(pass: &Pass<'d>) -> Option<Group<'d>>
 
 /// The group of a name after a slash and a colon.
 fn named_group(number: usize, text: &str) -> Option<Group<'_>>
-    ensures front { IfSome result (λ group. (admits : Bool) (names : List (List ℕ)) →
-        IsFrontGroup pathname_options (record { left = codes "/:" ++ chars text.now; admits = admits; number = number; names = names }) group) }
+    ensures front { IfSome result (λ group. IsPathFront (codes "/:" ++ chars text.now) number group) }
     ensures len { IfSome result (λ group. length group.rest.now ≤ length text.now) }
 {
     let (first, after) = split_first(text)?;
@@ -324,10 +315,8 @@ fn named_group(number: usize, text: &str) -> Option<Group<'_>>
 
 /// The group of an asterisk, the first without a name.
 fn asterisk<'d>(prefix: &'d str, number: usize, rest: &'d str) -> Option<Group<'d>>
-    ensures path { IfSome result (λ group. chars prefix.now ≡ codes "/" → (admits : Bool) (names : List (List ℕ)) →
-        IsFrontGroup pathname_options (record { left = codes "/*" ++ chars rest.now; admits = admits; number = number; names = names }) group) }
-    ensures other { IfSome result (λ group. chars prefix.now ≡ [] → (options : OptionsView) (names : List (List ℕ)) → options.prefix ≡ [] →
-        IsFrontGroup options (record { left = codes "*" ++ chars rest.now; admits = true; number = number; names = names }) group) }
+    ensures path { IfSome result (λ group. chars prefix.now ≡ codes "/" → IsPathFront (codes "/*" ++ chars rest.now) number group) }
+    ensures other { IfSome result (λ group. chars prefix.now ≡ [] → IsBareFront (codes "*" ++ chars rest.now) number group) }
     ensures len { IfSome result (λ group. group.rest.now ≡ rest.now) }
 {
     if number > 0 {
@@ -389,11 +378,6 @@ fn may_go_on(text: &str) -> bool
         Some((first, _)) => is_name_part(first) || matches!(first, '*' | '(' | '{'),
         None => false,
     }
-}
-
-/// Whether a group begins with the first character.
-fn begins_group(text: &str) -> bool {
-    matches!(text.as_bytes(), [b':' | b'*' | b'(', ..])
 }
 
 /// Whether a character stands for itself wherever it is.

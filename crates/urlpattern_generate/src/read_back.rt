@@ -39,7 +39,8 @@ impl Writer<'_> {
         text: &str,
         captures: &[Option<&str>],
     ) -> Result<bool, AllocError>
-        ensures { IfOk result (λ found. IsTrue found → Answers R.answer (matcher_view matcher.now) (chars text.now) (Some (map option_text captures.now))) }
+        ensures { IfOk result (λ found. IsTrue found →
+            Answers R.answer (matcher_view matcher.now) (chars text.now) (Some (map option_text captures.now))) }
     {
         match matcher.matches(self.alloc, text) {
             Ok(Some(found)) => Ok(are_equal(&found, captures)),
