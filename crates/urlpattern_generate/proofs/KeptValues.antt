@@ -1,16 +1,16 @@
 -- Values that are canonical as they are.
-use Rattle.std.proofs.Common.{◌≡◌, ◌≢◌, ◌∙◌, ◌+◌, ◌<◌, ◌≤◌, ℕ, add-one, drop, get_or, Bool, true, false, not, ◌&&◌, ◌==◌, List, [], ◌∷◌, ◌++◌, append_assoc, length, All, Some, Ok, ap, arith, refl, subst, sym}
-use Rattle.std.proofs.lemmas.Bool.{and_parts, cond-false, eqb-true, false≢true, not-true}
+use Rattle.std.proofs.Common.{◌≡◌, ◌∙◌, ◌+◌, ◌<◌, ◌≤◌, ℕ, add-one, drop, get_or, Bool, true, false, not, ◌&&◌, ◌==◌, List, [], ◌∷◌, ◌++◌, append_assoc, length, All, Some, Ok, ap, arith, refl, subst, sym}
+use Rattle.std.proofs.lemmas.Bool.{and_from, and_parts, cond-false, eqb-true, false≢true, not-true}
 use Rattle.std.proofs.lemmas.Bool.Decides.{nat_tests}
 use Rattle.std.proofs.Math.Seq.{drop-cons}
 use Rattle.std.proofs.lemmas.List.{append-nil, drop_all}
 use Rattle.std.proofs.lemmas.List.Elements.{All-cons, All-head, All-nil, All-push, All-tail, All-weaker}
-use Rattle.std.proofs.lemmas.Str.{IsUtf8-from_ascii, chars-IsAscii}
+use Rattle.std.proofs.lemmas.Str.{chars-IsAscii}
 use Rattle.std.proofs.lemmas.Str.Ascii.{IsAscii-from_all}
-use Rattle.std.specs.Char.{is_ascii_digit, is_ascii_lowercase, is_digit, to_ascii_lowercase}
+use Rattle.std.specs.Char.{is_ascii_digit, is_digit, to_ascii_lowercase}
 use Rattle.std.specs.List.{list_all}
-use Rattle.std.specs.Prelude.{IsAscii, Option, ◌||◌, codes, if◌then◌else◌, slice_index, unwrap_or}
-use Rattle.std.specs.Str.{IsUtf8, chars}
+use Rattle.std.specs.Prelude.{IsAscii, IsTrue, Option, ◌||◌, codes, if◌then◌else◌, slice_index, unwrap_or}
+use Rattle.std.specs.Str.{chars}
 use Rattle.percent_encoding.specs.Percent.{IsKept}
 use Rattle.percent_encoding.specs.declared.ascii_set.AsciiSet.{AsciiSet}
 use Rattle.url.proofs.InputLemmas.{All_from_list_all, IsNot, Passes, is_empty_nonempty, rsplit_once_none}
@@ -34,6 +34,7 @@ use Rattle.urlpattern_eight.specs.declared.eight.ComponentName.TheVariants.{Prot
 use Rattle.urlpattern_generate.proofs.HostTexts.{host_visible, hostname_kept}
 use Rattle.urlpattern_generate.proofs.SetTexts.{AreVisible, by_bytes, hash_kept, is_visible, path_stays, pathname_kept, search_kept}
 use Rattle.urlpattern_generate.specs.Manners.{canonical_for}
+use Rattle.urlpattern_syntax.specs.Text.{lacks, line_feed}
 use Rattle.urlpattern_generate.specs.Kept.{is_dot_mark, is_kept_character, is_kept_path, is_kept_value, is_label_character}
 
 -- ---- characters that are kept
@@ -243,13 +244,33 @@ kept_alone component true false bytes kept = kept_for component bytes kept
 kept_alone component true true bytes kept = absurd (false≢true kept)
 kept_alone component false is_ipv6 bytes kept = absurd (false≢true kept)
 
--- ---- a value as a segment
+-- ---- a value without line feeds
 
-path_ascii : (bytes : List ℕ) → is_kept_path false bytes ≡ true → IsAscii bytes
-path_ascii bytes kept = IsAscii-from_all bytes (All-weaker (Passes is_kept_character) (λ b. b < 128) kept_ascii bytes (path_characters false bytes kept))
+no_line : (b : ℕ) (test : ℕ → Bool) → test 10 ≡ false → test b ≡ true → not (b == 10) ≡ true
+no_line b test line passes = by_test (b == 10) refl
+  where
+    by_test : (is : Bool) → (b == 10) ≡ is → not is ≡ true
+    by_test true e = absurd (false≢true (sym line ∙ ap test (sym (eqb-true b 10 e)) ∙ passes))
+    by_test false e = refl
 
-pub kept_utf8 : (bytes : List ℕ) → is_kept_path false bytes ≡ true → IsUtf8 bytes
-kept_utf8 bytes kept = IsUtf8-from_ascii bytes (path_ascii bytes kept)
+lines : (test : ℕ → Bool) → test 10 ≡ false → (bytes : List ℕ) → IsAscii bytes → All (Passes test) bytes → IsTrue (lacks line_feed (chars bytes))
+lines test line bytes ascii all = subst (λ text. IsTrue (lacks line_feed text)) (sym (chars-IsAscii bytes ascii)) (lack bytes all)
+  where
+    lack : (text : List ℕ) → All (Passes test) text → IsTrue (lacks line_feed text)
+    lack [] h = refl
+    lack (b ∷ text) h = and_from (not (b == 10)) (lacks line_feed text) (no_line b test line (All-head (Passes test) b text h)) (lack text (All-tail (Passes test) b text h))
 
-pub kept_some : (bytes : List ℕ) → is_kept_path false bytes ≡ true → (length bytes == 0) ≡ false → chars bytes ≢ []
-kept_some bytes kept some none = let empty = ap length (sym (chars-IsAscii bytes (path_ascii bytes kept)) ∙ none) in grind (arith, nat_tests)
+text_lines : (bytes : List ℕ) → All (Passes is_kept_character) bytes → IsTrue (lacks line_feed (chars bytes))
+text_lines bytes all = lines is_kept_character refl bytes (IsAscii-from_all bytes (All-weaker (Passes is_kept_character) (λ b. b < 128) kept_ascii bytes all)) all
+
+pub kept_line : (component : ComponentName) (bytes : List ℕ) → is_kept_value component bytes ≡ true → IsTrue (lacks line_feed (chars bytes))
+kept_line Protocol bytes kept = absurd (false≢true kept)
+kept_line Username bytes kept = absurd (false≢true kept)
+kept_line Password bytes kept = absurd (false≢true kept)
+kept_line Port bytes kept = absurd (false≢true kept)
+kept_line Hostname bytes kept =
+    let all = All_from_list_all is_label_character bytes kept in
+    lines is_label_character refl bytes (IsAscii-from_all bytes (All-weaker (Passes is_label_character) (λ b. b < 128) label_ascii bytes all)) all
+kept_line Pathname bytes kept = text_lines bytes (path_characters false bytes kept)
+kept_line Search bytes kept = text_lines bytes (All_from_list_all is_kept_character bytes kept)
+kept_line Hash bytes kept = text_lines bytes (All_from_list_all is_kept_character bytes kept)

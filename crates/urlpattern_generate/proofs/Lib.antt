@@ -2,8 +2,10 @@ pub mod AskedLemmas
 pub mod GeneratingLemmas
 pub mod GivenLemmas
 pub mod HostTexts
+pub mod KeptTexts
 pub mod KeptValues
-pub mod NamedReadings
+pub mod Passes
+pub mod PassTexts
 pub mod PlainReadings
 pub mod SameCaptures
 pub mod SetTexts

@@ -17,3 +17,10 @@ AreSameFrom found wanted i = map option_text (drop i found) ≡ given_captures (
 
 abbrev pub AreSame : Found → Wanted → Type 0
 AreSame found wanted = map option_text found ≡ given_captures wanted
+
+-- the same of captures that are lent
+abbrev pub AreEqualFrom : (found lent : Found) → ℕ → Type 0
+AreEqualFrom found lent i = map option_text (drop i found) ≡ map option_text (drop i lent)
+
+abbrev pub AreEqual : (found lent : Found) → Type 0
+AreEqual found lent = map option_text found ≡ map option_text lent

@@ -1,5 +1,5 @@
 -- Values that stay as they are where they are set on the URL of the questions about them.
-use Rattle.std.proofs.Common.{◌≡◌, ◌∙◌, ◌<◌, ℕ, Bool, true, false, not, ◌&&◌, ◌==◌, ltb, List, [], ◌∷◌, length, All, None, Some, Ok, ap, arith, get_or, refl, subst, sym, ⊎_elim}
+use Rattle.std.proofs.Common.{◌≡◌, ◌∙◌, ◌<◌, ℕ, Bool, false, not, ◌&&◌, ◌==◌, ltb, List, [], ◌∷◌, length, All, None, Some, Ok, ap, arith, get_or, refl, subst, sym, ⊎_elim}
 use Rattle.std.proofs.lemmas.Bool.{and_right, cond-false}
 use Rattle.std.proofs.lemmas.Bool.Decides.{nat_tests}
 use Rattle.std.proofs.lemmas.List.Elements.{All-weaker}

@@ -3,5 +3,6 @@ pub mod GenerateErrorText
 pub mod Generating
 pub mod Kept
 pub mod Manners
+pub mod Passing
 pub mod PlainPatterns
 pub mod Writers

@@ -146,7 +146,7 @@ fn empty_or_none(alloc: Global, part: &Part) -> Option<String>
 }
 
 /// Whether a text begins with a digit.
-fn begins_with_digit(text: &str) -> bool
+pub(crate) fn begins_with_digit(text: &str) -> bool
     ensures { result ≡ begins_with is_ascii_digit (chars text.now) }
 {
     match text.chars().next() {

@@ -80,7 +80,11 @@ impl Writer<'_> {
         if let Some(text) = self.whole_draft(component)? {
             return Ok(text);
         }
-        match self.named_draft(component)? {
+        let pattern = component.pattern_string.as_str();
+        if component.has_regexp_group || is_plain(pattern) {
+            return self.text(component);
+        }
+        match self.passed_draft(component)? {
             Some(text) => Ok(text),
             None => self.text(component),
         }

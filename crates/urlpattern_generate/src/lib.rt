@@ -6,7 +6,7 @@ mod component;
 mod error;
 mod groups;
 mod kept;
-mod named;
+mod pass;
 mod plain;
 mod read_back;
 mod writer;

@@ -32,6 +32,23 @@ impl Writer<'_> {
         Ok(are_captures(&found, captures))
     }
 
+    /// Whether a matcher finds these captures in a text.
+    pub(crate) fn is_found<R: RegExp>(
+        &self,
+        matcher: &Matcher<R>,
+        text: &str,
+        captures: &[Option<&str>],
+    ) -> Result<bool, AllocError>
+        ensures { IfOk result (λ found. IsTrue found →
+            Answers R.answer (matcher_view matcher.now) (chars text.now) (Some (map option_text captures.now))) }
+    {
+        match matcher.matches(self.alloc, text) {
+            Ok(Some(found)) => Ok(are_equal(&found, captures)),
+            Ok(None) => Ok(false),
+            Err(_) => Err(AllocError),
+        }
+    }
+
     /// Whether a text is canonical.
     pub(crate) fn is_canonical(&self, text: &str) -> Result<bool, AllocError>
         ensures { IfOk result (λ is. TellsCanonical is (manner_of_writer self.now).canonical text.now) }
@@ -88,4 +105,19 @@ fn is_same(capture: Option<&str>, other: Option<&str>) -> bool
         (None, None) => true,
         _ => false,
     }
+}
+
+/// Whether two lists of captures that are lent are the same.
+fn are_equal(found: &[Option<&str>], captures: &[Option<&str>]) -> bool
+    ensures { IsTrue result ↔ (map option_text found.now ≡ map option_text captures.now) }
+{
+    if found.len() != captures.len() {
+        return false;
+    }
+    for i in 0..found.len() {
+        if !is_same(found[i], captures[i]) {
+            return false;
+        }
+    }
+    true
 }

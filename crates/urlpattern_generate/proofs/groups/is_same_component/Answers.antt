@@ -1,5 +1,4 @@
-use Rattle.std.proofs.Common.{◌≡◌, rules}
-use Rattle.std.specs.Prelude.{IsTrue}
+use Rattle.std.proofs.Common.{rules}
 use Rattle.urlpattern_generate.proofs.GivenLemmas.{names_tested}
 use Rattle.urlpattern_generate.proofs.groups.is_same_component.Goals as goal
 

@@ -1,0 +1,34 @@
+-- Texts that are kept, as there is a `String` of them.
+use Rattle.std.proofs.Common.{◌≡◌, ◌<◌, ◌^◌, ℕ, arith, lit<, List, [], length, Ok, String, refl}
+use Rattle.std.proofs.lemmas.Grind.{merely}
+use Rattle.std.proofs.lemmas.Str.{IsUtf8-from_ascii, chars-IsAscii}
+use Rattle.std.proofs.lemmas.Str.Ascii.{IsAscii-cons, IsAscii-nil}
+use Rattle.std.specs.Prelude.{IsAscii, codes}
+use Rattle.std.specs.Str.{IsUtf8, chars}
+use Rattle.std.specs.declared.alloc.Global.{Global}
+use Rattle.urlpattern_generate.proofs.PlainReadings.{kept}
+use Rattle.urlpattern_generate.specs.Manners.{unchanged}
+
+-- a `String` of other bytes
+of_bytes : (string : String Global) (bytes : List ℕ) → IsUtf8 bytes → length bytes < 2 ^ 63 → String Global
+of_bytes string bytes u few = record string { bytes = record string.bytes { items = bytes; len = length bytes; cap = length bytes; ok = (refl, omega arith); small = few }; ok = merely u }
+
+kept_ascii : (string : String Global) (text : List ℕ) → IsAscii text → length text < 2 ^ 63 → unchanged text (Ok text)
+unfolding of_bytes
+kept_ascii string text ascii few = kept text (of_bytes string text (IsUtf8-from_ascii text ascii) few) (chars-IsAscii text ascii)
+
+-- the same of any bytes of a text
+pub kept_bytes : (string : String Global) (bytes : List ℕ) → IsUtf8 bytes → length bytes < 2 ^ 63 → unchanged (chars bytes) (Ok (chars bytes))
+unfolding of_bytes
+kept_bytes string bytes u few = kept (chars bytes) (of_bytes string bytes u few) refl
+
+pub kept_slash : (string : String Global) → unchanged (codes "/") (Ok (codes "/"))
+kept_slash string = kept_ascii string (codes "/") (IsAscii-cons 47 [] (omega arith) IsAscii-nil) (lit< tt)
+
+pub kept_nothing : (string : String Global) → unchanged [] (Ok [])
+kept_nothing string = kept_ascii string [] IsAscii-nil (lit< tt)
+
+-- a slash has one byte
+pub slash_is : chars (codes "/") ≡ codes "/"
+unfolding chars
+slash_is = refl

@@ -1,0 +1,461 @@
+-- What completes a pattern text that is passed over once: a run of characters, a group, and the end.
+use Rattle.std.proofs.Common.{◌≡◌, ◌≢◌, ◌∙◌, ◌⊎◌, ℕ, suc, Bool, true, false, not, ◌&&◌, ◌||◌, List, [], ◌∷◌, ◌++◌, append_assoc, map, None, Some, String, Option, ap, arith, inl, inr, refl, subst, sym}
+use Rattle.std.proofs.lemmas.Bool.{and_parts, false≢true, not-true, or_left, or_right}
+use Rattle.std.proofs.lemmas.List.{append-nil, append_cancel_right}
+use Rattle.std.proofs.lemmas.List.Elements.{All-cons, All-nil, All-weaker, Contains-append_left, Contains-push}
+use Rattle.std.proofs.lemmas.List.Kept.{AllPairs-cons}
+use Rattle.std.specs.Fmt.{digits}
+use Rattle.std.specs.List.{list_all}
+use Rattle.std.specs.Prelude.{All, AllPairs, Contains, bytes_eq, codes, filter, if◌then◌else◌}
+use Rattle.std.specs.declared.alloc.Global.{Global}
+use Rattle.urlpattern_eight.specs.declared.eight.ComponentName.{ComponentName}
+use Rattle.urlpattern_eight.specs.declared.eight.ComponentName.TheVariants.{Protocol, Username, Password, Hostname, Port, Pathname, Search, Hash}
+use Rattle.urlpattern_generate.proofs.KeptTexts.{kept_nothing, kept_slash}
+use Rattle.urlpattern_generate.specs.Generating.{IsWrittenText}
+use Rattle.urlpattern_generate.specs.Manners.{WritingManner, options_for, unchanged}
+use Rattle.urlpattern_generate.specs.Passing.{AreKept, AreNewAfter, Completes, IsCompleted, IsFront, IsKeptPart, IsKeptText, IsToCapture, Place, goes_on_first, is_plain_first, is_run_character, may_go_on}
+use Rattle.urlpattern_links.specs.Links.{OfEachGroup, OfFirst, captures_after, text_of_group, text_of_part, text_of_parts}
+use Rattle.urlpattern_meaning.proofs.PrintedTexts.{escaped_first, escaped_none, escaped_one}
+use Rattle.urlpattern_meaning.proofs.PrintingLaws.{plain_printed}
+use Rattle.urlpattern_meaning.proofs.ReadsBack.{reads_back, standard_point}
+use Rattle.urlpattern_meaning.proofs.StandingItems.{EachText}
+use Rattle.urlpattern_meaning.specs.Matching.{Answers, MatcherView}
+use Rattle.urlpattern_meaning.specs.PartMeaning.{Captures}
+use Rattle.urlpattern_meaning.specs.Printing.{admits_asterisk, encoded_texts, escaped_pattern, first_part, goes_on, has_custom_name, in_braces, is_asterisk, joined, joined_with, last_of, needs_braces, pattern_marks, printed, printed_after, printed_part, takes_before}
+use Rattle.urlpattern_meaning.specs.RoundTrip.{AreNamed, HasUnskipped, IsPrintable, IsStandard, IsUnskipped}
+use Rattle.urlpattern_syntax.proofs.NameCharacters.{name_not_digited}
+use Rattle.urlpattern_syntax.specs.Options.{OptionsView, pathname_options}
+use Rattle.urlpattern_syntax.specs.Parts.{PartView, fixed_text}
+use Rattle.urlpattern_syntax.specs.Reading.{Reads}
+use Rattle.urlpattern_syntax.specs.RegexpText.{escaped, group_names, is_empty, is_fixed_text, is_plain, is_unmodified, modifier_text}
+use Rattle.urlpattern_syntax.specs.Text.{begins_with, is_among, is_name_part}
+use Rattle.urlpattern_syntax.specs.Tokens.{IsName, SkipsBy, is_ignored}
+use Rattle.urlpattern_syntax.specs.declared.parser.PartModifier.{PartModifier}
+use Rattle.urlpattern_syntax.specs.declared.parser.PartModifier.TheVariants as modifiers
+use Rattle.urlpattern_syntax.specs.declared.parser.PartType.{PartType}
+use Rattle.urlpattern_syntax.specs.declared.parser.PartType.TheVariants.{FixedText, FullWildcard, Regexp, SegmentWildcard}
+
+-- ---- parts that are not joined
+
+-- a test is false if it leads to what is false
+is_false : (b : Bool) → (b ≡ true → false ≡ true) → b ≡ false
+is_false true leads = absurd (false≢true (leads refl))
+is_false false leads = refl
+
+apart_cons : (part : PartView) (parts : List PartView) → joined parts ≡ parts → is_plain part && is_plain_first (first_part parts) ≡ false → joined (part ∷ parts) ≡ part ∷ parts
+apart_cons part [] e n = refl
+apart_cons part (next ∷ parts) e n =
+    ap (joined_with part) e
+    ∙ ap (λ both. if both then record part { value = part.value ++ next.value } ∷ parts else part ∷ next ∷ parts) n
+
+-- ---- a run of characters that stand for themselves
+
+run_text : (run rest : List ℕ) → list_all is_run_character run ≡ true → escaped_pattern run ++ rest ≡ run ++ rest
+run_text [] rest all = escaped_none rest
+run_text (c ∷ run) rest all =
+    let parts = and_parts (is_run_character c) (list_all is_run_character run) all in
+    let plain = and_parts (not (is_among pattern_marks c)) (not (is_ignored c)) parts.0 in
+    escaped_first c run rest ∙ ap (λ mark. escaped_one mark c ++ (escaped_pattern run ++ rest)) (not-true (is_among pattern_marks c) plain.0)
+    ∙ ap (λ text. c ∷ text) (run_text run rest parts.1)
+
+run_unskipped : (run : List ℕ) → list_all is_run_character run ≡ true → IsUnskipped run
+run_unskipped [] all = refl
+run_unskipped (c ∷ run) all =
+    let parts = and_parts (is_run_character c) (list_all is_run_character run) all in
+    let plain = and_parts (not (is_among pattern_marks c)) (not (is_ignored c)) parts.0 in
+    ap (λ kept. kept && list_all (λ d. not (is_ignored d)) run) plain.1 ∙ run_unskipped run parts.1
+
+pub run_completes : (manner : WritingManner) (admits : Bool) (number : ℕ) (names : List (List ℕ)) (run rest : List ℕ) (parts : List PartView) (captures : Captures) (text : List ℕ) →
+    run ≢ [] → list_all is_run_character run ≡ true → IsKeptText run →
+    Completes manner false (record { left = rest; admits = true; number = number; names = names }) parts captures text →
+    Completes manner true (record { left = run ++ rest; admits = admits; number = number; names = names }) (fixed_text run modifiers.None ∷ parts) captures (run ++ text)
+run_completes manner admits number names [] rest parts captures text some all kept h = absurd (some refl)
+run_completes manner admits number names (c ∷ run) rest parts captures text some all kept h =
+    let part = fixed_text (c ∷ run) modifiers.None in
+    record {
+      printed = λ before e.
+          ap (λ own. own ++ printed_after manner.options (Some part) parts) (plain_printed manner.options before part (first_part parts) refl)
+          ∙ ap (λ after. escaped_pattern (c ∷ run) ++ after) (h.printed (Some part) refl) ∙ run_text (c ∷ run) rest all;
+      apart = apart_cons part parts h.apart (is_false (is_plain_first (first_part parts)) h.begins);
+      begins = λ plain. refl;
+      goes = λ goes. or_left (is_name_part c) (is_among (codes "*({") c) goes;
+      fields = ((refl, refl), h.fields);
+      named = (refl, h.named);
+      new = h.new;
+      filled = (λ fixed. some, h.filled);
+      unskipped = (run_unskipped (c ∷ run) all, h.unskipped);
+      kept = (kept, h.kept);
+      asked = (tt, h.asked);
+      may = (tt, h.may);
+      written = ap (λ more. (c ∷ run) ++ more) h.written;
+    }
+
+-- no run is there
+pub none_completes : (manner : WritingManner) (place : Place) (parts : List PartView) (captures : Captures) (text : List ℕ) → Completes manner false place parts captures text → Completes manner true place parts captures text
+none_completes manner place parts captures text h = record {
+  printed = h.printed;
+  apart = h.apart;
+  begins = λ plain. refl;
+  goes = h.goes;
+  fields = h.fields;
+  named = h.named;
+  new = h.new;
+  filled = h.filled;
+  unskipped = h.unskipped;
+  kept = h.kept;
+  asked = h.asked;
+  may = h.may;
+  written = h.written;
+}
+
+-- nothing is left
+pub end_completes : (manner : WritingManner) (plain : Bool) (place : Place) → place.left ≡ [] → Completes manner plain place [] [] []
+end_completes manner plain place e = record {
+  printed = λ before admits. sym e;
+  apart = refl;
+  begins = λ none. absurd (false≢true none);
+  goes = λ none. absurd (false≢true none);
+  fields = tt;
+  named = tt;
+  new = tt;
+  filled = tt;
+  unskipped = tt;
+  kept = tt;
+  asked = refl;
+  may = refl;
+  written = refl;
+}
+
+-- the run between a text and the rest of it
+pub run_is : (test : ℕ → Bool) (text run rest : List ℕ) → text ≡ run ++ rest → SkipsBy test text rest → list_all test run ≡ true
+run_is test text run rest cut skips = subst (λ of. list_all test of ≡ true) (append_cancel_right skips.0 run rest (sym skips.1 ∙ cut)) skips.2
+
+-- ---- what completes the rest completes the whole
+
+-- so it is where these captures and this text are of the parts before
+abbrev pub Leads : WritingManner → (plain : Bool) → (pattern : List ℕ) → Place → Captures → (text : List ℕ) → Type 0
+Leads manner plain pattern place before written =
+    (parts : List PartView) (captures : Captures) (text : List ℕ) → Completes manner plain place parts captures text → IsCompleted manner pattern (before ++ captures) (written ++ text)
+
+pub run_leads : (manner : WritingManner) (pattern : List ℕ) (before : Captures) (written : List ℕ) (admits : Bool) (number : ℕ) (names : List (List ℕ)) (run rest : List ℕ) →
+    run ≢ [] → list_all is_run_character run ≡ true → IsKeptText run →
+    Leads manner true pattern (record { left = run ++ rest; admits = admits; number = number; names = names }) before written →
+    Leads manner false pattern (record { left = rest; admits = true; number = number; names = names }) before (written ++ run)
+run_leads manner pattern before written admits number names run rest some all kept leads parts captures text h =
+    subst (IsCompleted manner pattern (before ++ captures)) (sym (append_assoc written run text))
+    (leads (fixed_text run modifiers.None ∷ parts) captures (run ++ text) (run_completes manner admits number names run rest parts captures text some all kept h))
+
+-- the same of a pass, by what it has after the run
+pub run_passed : (manner : WritingManner) (pattern : List ℕ) (before : Captures) (written : List ℕ) (place : Place) (run rest text : List ℕ) → run ≢ [] → list_all is_run_character run ≡ true → IsKeptText run →
+    place.left ≡ run ++ rest → text ≡ written ++ run → Leads manner true pattern place before written →
+    Leads manner false pattern (record { left = rest; admits = true; number = place.number; names = place.names }) before text
+run_passed manner pattern before written place run rest text some all kept cut is leads =
+    subst (Leads manner false pattern (record { left = rest; admits = true; number = place.number; names = place.names }) before) (sym is)
+    (run_leads manner pattern before written place.admits place.number place.names run rest some all kept
+    (subst (λ of. Leads manner true pattern (record { left = of; admits = place.admits; number = place.number; names = place.names }) before written) cut leads))
+
+-- where nothing is left the whole is completed
+pub end_leads : (manner : WritingManner) (pattern : List ℕ) (before : Captures) (written : List ℕ) (place : Place) → place.left ≡ [] → Leads manner false pattern place before written → IsCompleted manner pattern before written
+end_leads manner pattern before written place e leads =
+    subst (λ own. IsCompleted manner pattern own written) (append-nil before) (subst (IsCompleted manner pattern (before ++ [])) (append-nil written) (leads [] [] [] (end_completes manner false place e)))
+
+-- ---- a group
+
+not_fixed : (kind : PartType) → kind ≢ FixedText → is_fixed_text kind ≡ false
+not_fixed FixedText group = absurd (group refl)
+not_fixed Regexp group = refl
+not_fixed SegmentWildcard group = refl
+not_fixed FullWildcard group = refl
+
+each_more : (Is : PartView → Option (List ℕ) → Type 0) (kind : PartType) (part : PartView) (capture : Option (List ℕ)) (parts : List PartView) (captures : Captures) → kind ≢ FixedText →
+    Is part capture → OfEachGroup Is parts captures → OfFirst Is kind part (capture ∷ captures) × OfEachGroup Is parts (captures_after kind (capture ∷ captures))
+each_more Is FixedText part capture parts captures group is more = absurd (group refl)
+each_more Is Regexp part capture parts captures group is more = (is, more)
+each_more Is SegmentWildcard part capture parts captures group is more = (is, more)
+each_more Is FullWildcard part capture parts captures group is more = (is, more)
+
+text_more : (kind : PartType) (part : PartView) (capture : Option (List ℕ)) (parts : List PartView) (captures : Captures) (text : List ℕ) → kind ≢ FixedText → text ≡ text_of_parts parts captures →
+    text_of_group part capture ++ text ≡ text_of_part kind part (capture ∷ captures) ++ text_of_parts parts (captures_after kind (capture ∷ captures))
+text_more FixedText part capture parts captures text group is = absurd (group refl)
+text_more Regexp part capture parts captures text group is = ap (λ more. text_of_group part capture ++ more) is
+text_more SegmentWildcard part capture parts captures text group is = ap (λ more. text_of_group part capture ++ more) is
+text_more FullWildcard part capture parts captures text group is = ap (λ more. text_of_group part capture ++ more) is
+
+unskipped_more : (kind : PartType) (part : PartView) → kind ≢ FixedText → IsUnskipped part.prefix → IsUnskipped part.suffix → HasUnskipped kind part
+unskipped_more FixedText part group prefix suffix = absurd (group refl)
+unskipped_more Regexp part group prefix suffix = (prefix, suffix)
+unskipped_more SegmentWildcard part group prefix suffix = (prefix, suffix)
+unskipped_more FullWildcard part group prefix suffix = (prefix, suffix)
+
+kept_more : (kind : PartType) (part : PartView) → kind ≢ FixedText → IsKeptText part.prefix → IsKeptText part.suffix → IsKeptPart kind part
+kept_more FixedText part group prefix suffix = absurd (group refl)
+kept_more Regexp part group prefix suffix = (prefix, suffix)
+kept_more SegmentWildcard part group prefix suffix = (prefix, suffix)
+kept_more FullWildcard part group prefix suffix = (prefix, suffix)
+
+-- the names of a group and of the parts after it
+names_more : (fixed : Bool) (part : PartView) (parts : List PartView) → fixed ≡ false →
+    map (λ (one : PartView). one.name) (if not fixed then part ∷ filter (λ one. not (is_fixed_text one.kind)) parts else filter (λ one. not (is_fixed_text one.kind)) parts) ≡ part.name ∷ group_names parts
+names_more true part parts e = absurd (false≢true (sym e))
+names_more false part parts e = refl
+
+pub group_completes : (manner : WritingManner) (place : Place) (part : PartView) (rest : List ℕ) (number : ℕ) (capture : Option (List ℕ)) (string : String Global) (parts : List PartView) (captures : Captures) (text : List ℕ) →
+    IsFront manner.options place part rest number → IsToCapture manner part capture → ¬ Contains place.names part.name →
+    Completes manner true (record { left = rest; admits = not (is_unmodified part.modifier); number = number; names = place.names ++ part.name ∷ [] }) parts captures text →
+    Completes manner false place (part ∷ parts) (capture ∷ captures) (text_of_group part capture ++ text)
+group_completes manner place part rest number capture string parts captures text front takes new h =
+    let group = not_fixed part.kind front.is_group in
+    let unplain : is_plain part ≡ false = ap (λ fixed. fixed && is_unmodified part.modifier) group in
+    record {
+      printed = λ before e.
+          ap (λ after. printed_part manner.options before part (first_part parts) ++ after) (h.printed (Some part) (ap (λ fixed. fixed || not (is_unmodified part.modifier)) group))
+          ∙ front.printed before (first_part parts) e h.goes;
+      apart = apart_cons part parts h.apart (ap (λ plain. plain && is_plain_first (first_part parts)) unplain);
+      begins = λ plain. absurd (false≢true (sym unplain ∙ plain));
+      goes = front.goes;
+      fields = (front.fields, h.fields);
+      named = (front.named, subst (λ n. AreNamed n parts) (sym front.numbered) h.named);
+      new = subst (AreNewAfter place.names) (sym (names_more (is_fixed_text part.kind) part parts group)) (new, h.new);
+      filled = (λ fixed. absurd (false≢true (sym group ∙ fixed)), h.filled);
+      unskipped = (unskipped_more part.kind part front.is_group front.unskipped (subst IsUnskipped (sym front.suffixed) refl), h.unskipped);
+      kept = (kept_more part.kind part front.is_group (prefix_kept part.prefix front.prefixed) (subst IsKeptText (sym front.suffixed) (kept_nothing string)), h.kept);
+      asked = each_more _ part.kind part capture parts captures front.is_group takes.0 h.asked;
+      may = each_more _ part.kind part capture parts captures front.is_group takes.1 h.may;
+      written = text_more part.kind part capture parts captures text front.is_group h.written;
+    }
+  where
+    prefix_kept : (prefix : List ℕ) → (prefix ≡ []) ⊎ (prefix ≡ codes "/") → IsKeptText prefix
+    prefix_kept prefix (inl e) = subst IsKeptText (sym e) (kept_nothing string)
+    prefix_kept prefix (inr e) = subst IsKeptText (sym e) (kept_slash string)
+
+pub group_leads : (manner : WritingManner) (pattern : List ℕ) (before : Captures) (written : List ℕ) (place : Place) (part : PartView) (rest : List ℕ) (number : ℕ) (capture : Option (List ℕ)) (string : String Global) →
+    IsFront manner.options place part rest number → IsToCapture manner part capture → ¬ Contains place.names part.name → Leads manner false pattern place before written →
+    Leads manner true pattern (record { left = rest; admits = not (is_unmodified part.modifier); number = number; names = place.names ++ part.name ∷ [] }) (before ++ capture ∷ []) (written ++ text_of_group part capture)
+group_leads manner pattern before written place part rest number capture string front takes new leads parts captures text h =
+    subst (λ own. IsCompleted manner pattern own ((written ++ text_of_group part capture) ++ text)) (sym (append_assoc before (capture ∷ []) captures))
+    (subst (IsCompleted manner pattern (before ++ capture ∷ captures)) (sym (append_assoc written (text_of_group part capture) text))
+    (leads (part ∷ parts) (capture ∷ captures) (text_of_group part capture ++ text) (group_completes manner place part rest number capture string parts captures text front takes new h)))
+
+-- the same of a pass, by what it has after the group
+pub group_passed : (manner : WritingManner) (pattern : List ℕ) (before : Captures) (written : List ℕ) (place : Place) (part : PartView) (rest : List ℕ) (number : ℕ) (capture : Option (List ℕ)) (string : String Global)
+    (admits : Bool) (names : List (List ℕ)) (own : Captures) (text : List ℕ) →
+    IsFront manner.options place part rest number → IsToCapture manner part capture → ¬ Contains place.names part.name → Leads manner false pattern place before written →
+    admits ≡ not (is_unmodified part.modifier) → names ≡ place.names ++ part.name ∷ [] → own ≡ before ++ capture ∷ [] → text ≡ written ++ text_of_group part capture →
+    Leads manner true pattern (record { left = rest; admits = admits; number = number; names = names }) own text
+group_passed manner pattern before written place part rest number capture string admits names own text front takes new leads is_admits is_names is_own is_text =
+    subst (λ of. Leads manner true pattern (record { left = rest; admits = of; number = number; names = names }) own text) (sym is_admits)
+    (subst (λ of. Leads manner true pattern (record { left = rest; admits = not (is_unmodified part.modifier); number = number; names = of }) own text) (sym is_names)
+    (subst (λ of. Leads manner true pattern (record { left = rest; admits = not (is_unmodified part.modifier); number = number; names = place.names ++ part.name ∷ [] }) of text) (sym is_own)
+    (subst (Leads manner true pattern (record { left = rest; admits = not (is_unmodified part.modifier); number = number; names = place.names ++ part.name ∷ [] }) (before ++ capture ∷ [])) (sym is_text)
+    (group_leads manner pattern before written place part rest number capture string front takes new leads))))
+
+-- ---- a name after a slash
+
+-- the name alone takes nothing of what follows
+nothing_taken : (modifier : PartModifier) (next : Option PartView) (rest : List ℕ) → (goes_on_first next ≡ true → begins_with may_go_on rest ≡ true) → is_unmodified modifier && begins_with may_go_on rest ≡ false →
+    is_unmodified modifier && goes_on_first next ≡ false
+nothing_taken modifiers.None next rest goes stops = is_false (goes_on_first next) (λ t. sym stops ∙ goes t)
+nothing_taken modifier next rest goes stops = refl
+
+abbrev name_part : (name : List ℕ) → PartModifier → PartView
+name_part name modifier = record { kind = SegmentWildcard; value = []; modifier = modifier; name = name; prefix = codes "/"; suffix = [] }
+
+-- as it is printed, by whether it has a name of its own and by whether braces are needed
+abbrev name_shape : (custom braces : Bool) (name : List ℕ) → PartModifier → List ℕ
+name_shape custom braces name modifier =
+    in_braces braces (
+    codes "/" ++ (if custom then codes ":" ++ name else []) ++ (if custom then [] else codes "([^/]+?)")
+    ++ ((if custom && false then codes "\\" else []) ++ []))
+    ++ modifier_text modifier
+
+name_printed : (before next : Option PartView) (name : List ℕ) (modifier : PartModifier) →
+    printed_part pathname_options before (name_part name modifier) next ≡ name_shape (has_custom_name (name_part name modifier)) (needs_braces pathname_options before (name_part name modifier) next) name modifier
+unfolding printed_part escaped
+name_printed before next name modifier = refl
+
+name_unbraced : (before next : Option PartView) (name : List ℕ) (modifier : PartModifier) → is_unmodified modifier && goes_on_first next ≡ false → needs_braces pathname_options before (name_part name modifier) next ≡ false
+name_unbraced None None name modifier e = refl
+name_unbraced (Some before) None name modifier e = refl
+name_unbraced None (Some next) name modifier e = and_last (has_custom_name (name_part name modifier)) (is_unmodified modifier) (goes_on next) e
+  where
+    and_last : (a b c : Bool) → b && c ≡ false → (((a && b) && c) || false) ≡ false
+    and_last true true c e = ap (λ x. x || false) e
+    and_last true false c e = refl
+    and_last false b c e = refl
+name_unbraced (Some before) (Some next) name modifier e = and_last (has_custom_name (name_part name modifier)) (is_unmodified modifier) (goes_on next) e
+  where
+    and_last : (a b c : Bool) → b && c ≡ false → (((a && b) && c) || false) ≡ false
+    and_last true true c e = ap (λ x. x || false) e
+    and_last true false c e = refl
+    and_last false b c e = refl
+
+pub name_front : (admits : Bool) (number : ℕ) (names : List (List ℕ)) (text name rest : List ℕ) (modifier : PartModifier) → IsName name → text ≡ name ++ (modifier_text modifier ++ rest) →
+    is_unmodified modifier && begins_with may_go_on rest ≡ false →
+    IsFront pathname_options (record { left = codes "/:" ++ text; admits = admits; number = number; names = names }) (name_part name modifier) rest number
+name_front admits number names text name rest modifier is_name cut stops =
+    let custom : has_custom_name (name_part name modifier) ≡ true = ap not (name_not_digited name is_name) in
+    record {
+      printed = λ before next e goes.
+          ap (λ own. own ++ rest)
+          (name_printed before next name modifier
+          ∙ ap (λ own. name_shape own (needs_braces pathname_options before (name_part name modifier) next) name modifier) custom
+          ∙ ap (λ braces. name_shape true braces name modifier) (name_unbraced before next name modifier (nothing_taken modifier next rest goes stops)))
+          ∙ ap (λ own. codes "/:" ++ (own ++ modifier_text modifier ++ rest)) (append-nil (name ++ []) ∙ append-nil name)
+          ∙ ap (λ own. codes "/:" ++ own) (append_assoc name (modifier_text modifier) rest ∙ sym cut);
+      is_group = λ e. cc e;
+      goes = λ goes. absurd (false≢true goes);
+      fields = (refl, λ other. absurd (other custom));
+      named = inl is_name;
+      numbered = ap (λ own. if own then number else suc number) custom;
+      unskipped = refl;
+      prefixed = inr refl;
+      suffixed = refl;
+    }
+
+-- ---- an asterisk
+
+abbrev star_part : (prefix : List ℕ) → PartView
+star_part prefix = record { kind = FullWildcard; value = []; modifier = modifiers.None; name = codes "0"; prefix = prefix; suffix = [] }
+
+abbrev star_shape : (asterisk braces : Bool) → (prefix : List ℕ) → List ℕ
+star_shape asterisk braces prefix = in_braces braces (prefix ++ ((if asterisk then codes "*" else codes "(.*)") ++ [])) ++ []
+
+star_printed : (options : OptionsView) (before next : Option PartView) → printed_part options before (star_part []) next ≡ star_shape (is_asterisk before (star_part []) (needs_braces options before (star_part []) next)) (needs_braces options before (star_part []) next) []
+unfolding printed_part escaped
+star_printed options before next = refl
+
+slash_star_printed : (options : OptionsView) (before next : Option PartView) →
+    printed_part options before (star_part (codes "/")) next ≡ star_shape (is_asterisk before (star_part (codes "/")) (needs_braces options before (star_part (codes "/")) next)) (needs_braces options before (star_part (codes "/")) next) (codes "/")
+unfolding printed_part escaped
+slash_star_printed options before next = refl
+
+-- no part without a prefix takes the end of the text before it, where there is no prefix code point
+takes_none : (options : OptionsView) (before : Option PartView) (part : PartView) → options.prefix ≡ [] → takes_before options before part ≡ false
+takes_none options None part e = refl
+takes_none options (Some before) part e =
+    ap (λ prefix. is_empty part.prefix && is_fixed_text before.kind && not (is_empty before.value) && bytes_eq (last_of before.value) prefix) e
+    ∙ by_value (is_empty part.prefix) (is_fixed_text before.kind) before.value
+  where
+    last_some : (c : ℕ) (text : List ℕ) → bytes_eq (last_of (c ∷ text)) [] ≡ false
+    last_some c [] = refl
+    last_some c (d ∷ text) = last_some d text
+
+    by_value : (a b : Bool) (value : List ℕ) → a && b && not (is_empty value) && bytes_eq (last_of value) [] ≡ false
+    by_value true true [] = refl
+    by_value true true (c ∷ text) = last_some c text
+    by_value true false value = refl
+    by_value false b value = refl
+
+star_unbraced : (options : OptionsView) (before next : Option PartView) → options.prefix ≡ [] → needs_braces options before (star_part []) next ≡ false
+star_unbraced options before None e = takes_none options before (star_part []) e
+star_unbraced options before (Some next) e = takes_none options before (star_part []) e
+
+pub star_front : (options : OptionsView) (names : List (List ℕ)) (rest : List ℕ) → options.prefix ≡ [] →
+    IsFront options (record { left = codes "*" ++ rest; admits = true; number = 0; names = names }) (star_part []) rest 1
+unfolding digits
+star_front options names rest e = record {
+  printed = λ before next admits goes.
+      ap (λ own. own ++ rest)
+      (star_printed options before next
+      ∙ ap (λ braces. star_shape (is_asterisk before (star_part []) braces) braces []) (star_unbraced options before next e)
+      ∙ ap (λ asterisk. star_shape asterisk false []) (or_left (admits_asterisk before || false) false (or_left (admits_asterisk before) false admits)));
+  is_group = λ e. cc e;
+  goes = λ goes. or_right (is_name_part 42) (is_among (codes "*({") 42) refl;
+  fields = refl;
+  named = inr refl;
+  numbered = refl;
+  unskipped = refl;
+  prefixed = inl refl;
+  suffixed = refl;
+}
+
+slash_star_unbraced : (before next : Option PartView) → needs_braces pathname_options before (star_part (codes "/")) next ≡ false
+slash_star_unbraced None None = refl
+slash_star_unbraced (Some before) None = refl
+slash_star_unbraced None (Some next) = refl
+slash_star_unbraced (Some before) (Some next) = refl
+
+pub slash_star_front : (admits : Bool) (names : List (List ℕ)) (rest : List ℕ) →
+    IsFront pathname_options (record { left = codes "/*" ++ rest; admits = admits; number = 0; names = names }) (star_part (codes "/")) rest 1
+unfolding digits
+slash_star_front admits names rest = record {
+  printed = λ before next e goes.
+      ap (λ own. own ++ rest)
+      (slash_star_printed pathname_options before next
+      ∙ ap (λ braces. star_shape (is_asterisk before (star_part (codes "/")) braces) braces (codes "/")) (slash_star_unbraced before next)
+      ∙ ap (λ asterisk. star_shape asterisk false (codes "/")) (or_right (admits_asterisk before || false) true refl));
+  is_group = λ e. cc e;
+  goes = λ goes. absurd (false≢true goes);
+  fields = refl;
+  named = inr refl;
+  numbered = refl;
+  unskipped = refl;
+  prefixed = inr refl;
+  suffixed = refl;
+}
+
+-- ---- the whole pattern text
+
+-- What is to be shown of names that are new after others.
+record AreDistinctAfter (earlier names : List (List ℕ)) : Type 0 where
+  pub new : All (λ name. ¬ Contains earlier name) names
+  pub distinct : AllPairs (λ name other. name ≢ other) names
+
+distinct_after : (earlier names : List (List ℕ)) → AreNewAfter earlier names → AreDistinctAfter earlier names
+distinct_after earlier [] h = record { new = All-nil (λ name. ¬ Contains earlier name); distinct = λ i j d lt within. absurd (omega arith) }
+distinct_after earlier (name ∷ names) h =
+    let more = distinct_after (earlier ++ name ∷ []) names h.1 in
+    record {
+      new = All-cons (λ other. ¬ Contains earlier other) name names h.0
+          (All-weaker (λ other. ¬ Contains (earlier ++ name ∷ []) other) (λ other. ¬ Contains earlier other)
+          (λ other none has. none (Contains-append_left earlier (name ∷ []) other has)) names more.new);
+      distinct = AllPairs-cons (λ one other. one ≢ other) name names
+          (All-weaker (λ other. ¬ Contains (earlier ++ name ∷ []) other) (λ other. name ≢ other)
+          (λ other none e. none (subst (Contains (earlier ++ name ∷ [])) e (Contains-push earlier name))) names more.new)
+          more.distinct;
+    }
+
+kept_first : (kind : PartType) (part : PartView) (texts : List (List ℕ)) → IsKeptPart kind part → EachText IsKeptText texts →
+    EachText IsKeptText ((if is_fixed_text kind then part.value ∷ [] else part.prefix ∷ part.suffix ∷ []) ++ texts)
+kept_first FixedText part texts kept more = (kept, more)
+kept_first Regexp part texts kept more = (kept.0, (kept.1, more))
+kept_first SegmentWildcard part texts kept more = (kept.0, (kept.1, more))
+kept_first FullWildcard part texts kept more = (kept.0, (kept.1, more))
+
+kept_texts : (parts : List PartView) → AreKept parts → EachText IsKeptText (encoded_texts parts)
+kept_texts [] kept = tt
+kept_texts (part ∷ parts) kept = kept_first part.kind part (encoded_texts parts) kept.0 (kept_texts parts kept.1)
+
+standard : (component : ComponentName) (hierarchical : Bool) → IsStandard (options_for component hierarchical)
+standard Protocol hierarchical = inl (refl, refl)
+standard Username hierarchical = inl (refl, refl)
+standard Password hierarchical = inl (refl, refl)
+standard Hostname hierarchical = inr (inl (refl, refl))
+standard Port hierarchical = inl (refl, refl)
+standard Pathname true = inr (inr (refl, refl))
+standard Pathname false = inl (refl, refl)
+standard Search hierarchical = inl (refl, refl)
+standard Hash hierarchical = inl (refl, refl)
+
+pub completed_written : {E : Type 0} (answer : E → List ℕ → Option Captures) (matcher : MatcherView E) (manner : WritingManner) (component : ComponentName) (hierarchical : Bool) (pattern : List ℕ) (captures : Captures) (text : List ℕ) →
+    manner.options ≡ options_for component hierarchical → IsCompleted manner pattern captures text → Answers answer matcher text (Some captures) → IsWrittenText answer matcher manner pattern text
+completed_written answer matcher manner component hierarchical pattern captures text options (parts, h) answers =
+    let printable : IsPrintable manner.options parts = record {
+      point = standard_point manner.options (subst IsStandard (sym options) (standard component hierarchical));
+      pattern_parts = record { fields = h.fields; names = h.named; distinct = (distinct_after [] (group_names parts) h.new).distinct };
+      texts = h.filled;
+      unskipped = h.unskipped;
+    } in
+    let back : Reads (printed manner.options parts) manner.options unchanged (joined parts) =
+    reads_back manner.options unchanged IsKeptText parts printable (subst (λ of. EachText IsKeptText (encoded_texts of)) (sym h.apart) (kept_texts parts h.kept)) (λ of kept. kept) in
+    record {
+      parts = parts;
+      captures = captures;
+      is_asked = record {
+        reads = subst (λ of. Reads of manner.options unchanged parts) (h.printed None refl) (subst (Reads (printed manner.options parts) manner.options unchanged) h.apart back);
+        are_asked = h.asked;
+      };
+      may_capture = h.may;
+      is_written = h.written;
+      is_matched = answers;
+    }

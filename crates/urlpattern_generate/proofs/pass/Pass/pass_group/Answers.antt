@@ -1,0 +1,22 @@
+use Rattle.std.proofs.Common.{◌≡◌, ◌∙◌, ap, map, not, rules}
+use Rattle.std.proofs.lemmas.List.{map_push}
+use Rattle.std.specs.Borrow.{Bor}
+use Rattle.std.specs.Prelude.{List, ℕ}
+use Rattle.std.specs.Str.{chars}
+use Rattle.urlpattern_generate.proofs.Passes.{group_passed}
+use Rattle.urlpattern_generate.specs.Passing.{part_of, place_of}
+use Rattle.urlpattern_syntax.specs.RegexpText.{is_unmodified}
+use Rattle.urlpattern_syntax.specs.Text.{option_text, text_of}
+use Rattle.urlpattern_generate.proofs.pass.Pass.pass_group.Goals as goal
+
+pub returns-clause-passed : goal.returns-clause-passed
+returns-clause-passed c manner pattern front takes new passed =
+    let old = c.args.self.now in
+    let group = c.args.group.now in
+    let admits : c.ne-self.result ≡ not (is_unmodified group.modifier) = search rules in
+    group_passed manner pattern (map option_text old.captures.items) (text_of old.text) (place_of old) (part_of group) (chars group.rest.now) group.number (option_text c.args.capture) old.text
+    c.ne-self.result (map (λ (name : Bor (List ℕ)). chars name.now) c.push-2.new.self.items) (map option_text c.push.new.self.items) (text_of c.push_group.new.text)
+    front takes new passed admits
+    (ap (map (λ (name : Bor (List ℕ)). chars name.now)) c.in_ok-push-2.ensures.items ∙ map_push (λ (name : Bor (List ℕ)). chars name.now) old.names.items group.name)
+    (ap (map option_text) c.in_ok-push.ensures.items ∙ map_push option_text old.captures.items c.args.capture)
+    c.in_ok-push_group.ensures

@@ -1,0 +1,163 @@
+-- A pattern text that is passed over once, while a text is drafted for it: what is left of it, and what the parts of the rest give.
+use Rattle.std.specs.Prelude.{◌≡◌, ◌≢◌, ◌⊎◌, ◌&&◌, ◌||◌, ℕ, Bool, false, true, not, List, [], ◌∷◌, ◌++◌, map, Contains, Option, Some, None, Ok, codes}
+use Rattle.std.specs.Str.{chars}
+use Rattle.urlpattern_generate.specs.Asked.{AreAsked, IsAsked}
+use Rattle.urlpattern_generate.specs.Manners.{WritingManner, unchanged}
+use Rattle.urlpattern_generate.specs.declared.pass.{Group.Group, Pass.Pass}
+use Rattle.urlpattern_links.specs.Links.{MayCapture, MayCaptureAll, text_of_parts}
+use Rattle.urlpattern_meaning.specs.PartMeaning.{Captures}
+use Rattle.urlpattern_meaning.specs.Printing.{HaveTexts, admits_asterisk, first_part, goes_on, joined, printed_after, printed_part}
+use Rattle.urlpattern_meaning.specs.RoundTrip.{AllHaveFields, AreNamed, AreUnskipped, HasFields, IsNamed, IsUnskipped, following_number}
+use Rattle.urlpattern_syntax.specs.Options.{OptionsView, pathname_options}
+use Rattle.urlpattern_syntax.specs.Parts.{PartView}
+use Rattle.urlpattern_syntax.specs.declared.parser.{PartType.PartType}
+use Rattle.urlpattern_syntax.specs.RegexpText.{group_names, is_plain}
+use Rattle.urlpattern_syntax.specs.Text.{begins_with, is_among, is_name_part, option_text, text_of}
+use Rattle.urlpattern_syntax.specs.Tokens.{is_ignored}
+
+-- ---- characters
+
+-- a character that stands for itself wherever it is in a pattern text
+abbrev pub is_run_character : ℕ → Bool
+is_run_character c = not (is_among (codes "+*?:{}()\\") c) && not (is_ignored c)
+
+-- a name would take what begins with such a character
+abbrev pub may_go_on : ℕ → Bool
+may_go_on c = is_name_part c || is_among (codes "*({") c
+
+-- ---- places in a pattern text
+
+-- What is left of a pattern text, and what of the parts before it counts: whether an asterisk is no modifier there, how many groups have no
+-- name of their own, and the names of all.
+pub record Place : Type 0 where
+  pub left : List ℕ
+  pub admits : Bool
+  pub number : ℕ
+  pub names : List (List ℕ)
+
+abbrev pub goes_on_first : Option PartView → Bool
+goes_on_first None = false
+goes_on_first (Some part) = goes_on part
+
+abbrev pub is_plain_first : Option PartView → Bool
+is_plain_first None = false
+is_plain_first (Some part) = is_plain part
+
+-- no name stands among those before it
+abbrev pub AreNewAfter : (earlier names : List (List ℕ)) → Type 0
+AreNewAfter earlier [] = Unit {0}
+AreNewAfter earlier (name ∷ names) = (¬ Contains earlier name) × AreNewAfter (earlier ++ name ∷ []) names
+
+-- there is a text of these characters
+abbrev pub IsKeptText : List ℕ → Type 0
+IsKeptText text = unchanged text (Ok text)
+
+abbrev pub IsKeptPart : PartType → PartView → Type 0
+IsKeptPart PartType.FixedText part = IsKeptText part.value
+IsKeptPart kind part = IsKeptText part.prefix × IsKeptText part.suffix
+
+abbrev pub AreKept : List PartView → Type 0
+AreKept [] = Unit {0}
+AreKept (part ∷ parts) = IsKeptPart part.kind part × AreKept parts
+
+-- These parts are what is left of the pattern text, their groups are to capture this, and the text is theirs. `plain`: a plain fixed text
+-- may be the first of them.
+pub record Completes (manner : WritingManner) (plain : Bool) (place : Place) (parts : List PartView) (captures : Captures) (text : List ℕ) : Type 0 where
+  pub printed : (before : Option PartView) → admits_asterisk before ≡ place.admits → printed_after manner.options before parts ≡ place.left
+  pub apart : joined parts ≡ parts
+  pub begins : is_plain_first (first_part parts) ≡ true → plain ≡ true
+  pub goes : goes_on_first (first_part parts) ≡ true → begins_with may_go_on place.left ≡ true
+  pub fields : AllHaveFields manner.options parts
+  pub named : AreNamed place.number parts
+  pub new : AreNewAfter place.names (group_names parts)
+  pub filled : HaveTexts parts
+  pub unskipped : AreUnskipped parts
+  pub kept : AreKept parts
+  pub asked : AreAsked manner parts captures
+  pub may : MayCaptureAll manner.options parts captures
+  pub written : text ≡ text_of_parts parts captures
+
+-- the whole pattern text has such parts, with these captures and this text
+abbrev pub IsCompleted : WritingManner → (pattern : List ℕ) → Captures → (text : List ℕ) → Type 0
+IsCompleted manner pattern captures text =
+    (parts : List PartView) × Completes manner true (record { left = pattern; admits = true; number = 0; names = [] }) parts captures text
+
+-- ---- what is passed
+
+abbrev pub place_of : Pass → Place
+place_of pass = record {
+  left = chars pass.left.now;
+  admits = pass.admits_asterisk;
+  number = pass.number;
+  names = map (λ name. chars name.now) pass.names.items;
+}
+
+-- with what completes the rest the pattern text is completed
+abbrev pub IsPassed : WritingManner → (plain : Bool) → (pattern : List ℕ) → Pass → Type 0
+IsPassed manner plain pattern pass =
+    (parts : List PartView) (captures : Captures) (text : List ℕ) → Completes manner plain (place_of pass) parts captures text →
+    IsCompleted manner pattern (map option_text pass.captures.items ++ captures) (text_of pass.text ++ text)
+
+-- what is passed of a pattern text stays so
+abbrev pub KeepsPassed : WritingManner → (plain plain_after : Bool) → (before after : Pass) → Type 0
+KeepsPassed manner plain plain_after before after = (pattern : List ℕ) → IsPassed manner plain pattern before → IsPassed manner plain_after pattern after
+
+-- so that the whole is completed
+abbrev pub CompletesPassed : WritingManner → (before after : Pass) → Type 0
+CompletesPassed manner before after =
+    (pattern : List ℕ) → IsPassed manner true pattern before → IsCompleted manner pattern (map option_text after.captures.items) (text_of after.text)
+
+-- ---- groups
+
+abbrev pub part_of : Group → PartView
+part_of group = record {
+  kind = group.kind;
+  value = [];
+  modifier = group.modifier;
+  name = chars group.name.now;
+  prefix = chars group.prefix.now;
+  suffix = [];
+}
+
+-- The part is the first of what is left at a place, and this follows it, after so many groups without a name of their own.
+pub record IsFront (options : OptionsView) (place : Place) (part : PartView) (rest : List ℕ) (number : ℕ) : Type 0 where
+  pub printed : (before next : Option PartView) → admits_asterisk before ≡ place.admits → (goes_on_first next ≡ true → begins_with may_go_on rest ≡ true) →
+      printed_part options before part next ++ rest ≡ place.left
+  pub is_group : part.kind ≢ PartType.FixedText
+  pub goes : goes_on part ≡ true → begins_with may_go_on place.left ≡ true
+  pub fields : HasFields options part.kind part
+  pub named : IsNamed place.number part.kind part.name
+  pub numbered : following_number place.number part.kind part ≡ number
+  pub unskipped : IsUnskipped part.prefix
+  pub prefixed : (part.prefix ≡ []) ⊎ (part.prefix ≡ codes "/")
+  pub suffixed : part.suffix ≡ []
+
+-- a group of the pass stands there
+abbrev pub IsFrontGroup : OptionsView → Place → Group → Type 0
+IsFrontGroup options place group = IsFront options place (part_of group) (chars group.rest.now) group.number
+
+-- it stands at each place of a path with this left, after so many groups without a name of their own
+abbrev pub IsPathFront : (left : List ℕ) → (number : ℕ) → Group → Type 0
+IsPathFront left number group =
+    (admits : Bool) (names : List (List ℕ)) →
+    IsFrontGroup pathname_options (record { left = left; admits = admits; number = number; names = names }) group
+
+-- the same where there is no prefix code point, and an asterisk is no modifier
+abbrev pub IsBareFront : (left : List ℕ) → (number : ℕ) → Group → Type 0
+IsBareFront left number group =
+    (options : OptionsView) (names : List (List ℕ)) → options.prefix ≡ [] →
+    IsFrontGroup options (record { left = left; admits = true; number = number; names = names }) group
+
+-- the group may capture this, and is to
+abbrev pub IsToCapture : WritingManner → PartView → Option (List ℕ) → Type 0
+IsToCapture manner part capture = IsAsked manner part capture × MayCapture manner.options part capture
+
+-- the pass goes on after the group
+abbrev pub PassesGroup : (before : Pass) → Group → Option (List ℕ) → (after : Pass) → Type 0
+PassesGroup before group capture after =
+    (manner : WritingManner) (pattern : List ℕ) → IsFrontGroup manner.options (place_of before) group → IsToCapture manner (part_of group) capture →
+    ¬ Contains (map (λ name. chars name.now) before.names.items) (chars group.name.now) → IsPassed manner false pattern before → IsPassed manner true pattern after
+
+-- nothing is passed of this pattern text
+abbrev pub IsBegun : (pattern : List ℕ) → Pass → Type 0
+IsBegun pattern pass = (manner : WritingManner) → IsPassed manner true pattern pass
