@@ -7,10 +7,11 @@ use Rattle.std.proofs.lemmas.Str.{encodes-append, length-le-encodes}
 use Rattle.std.specs.Prelude.{IsTrue}
 use lib.Utf8.{scalars, encodes}
 use Rattle.regex_hir.proofs.AttemptLemmas.{cond_some, is_some_and_parts, option_and_then_some}
+use Rattle.regex_hir.specs.Meaning.{alt_all}
 use Rattle.regex_hir.specs.Re.{Re}
 use Rattle.regex_syntax.proofs.BranchLemmas.{ends_branch, group_inside}
 use Rattle.regex_syntax.specs.Brackets.{Nested}
-use Rattle.regex_syntax.specs.Grammar.{Names, Place, atom, item, read}
+use Rattle.regex_syntax.specs.Grammar.{Names, Place, atom, branches, item, join_parts, read}
 use Rattle.regex_syntax.specs.Reading.{Text, ◌∈◌, first, is_empty}
 use Rattle.regex_syntax.specs.Verdict.{default_config}
 use Rattle.urlpattern_custom.proofs.BranchesClosed.{inside_closed}
@@ -18,8 +19,10 @@ use Rattle.urlpattern_custom.proofs.Closing.{Calm, closed}
 use Rattle.urlpattern_custom.proofs.Denoting.{Denotes, denotes_bare}
 use Rattle.urlpattern_custom.proofs.GroupsOf.{IsInside, free_close, one_branch}
 use Rattle.urlpattern_custom.proofs.ItemsOf.{at_text, items_go_on}
+use Rattle.urlpattern_custom.proofs.Catching.{groupless_bare}
+use Rattle.urlpattern_custom.proofs.Senses.{fulfils_quiet, quiet}
 use Rattle.urlpattern_custom.proofs.Takes.{Takes, matches_takes, takes_matches}
-use Rattle.urlpattern_custom.specs.Expressions.{ExpressionTakes, TakesWhole, stands_alone, takes_characters}
+use Rattle.urlpattern_custom.specs.Expressions.{ExpressionTakes, TakesWhole, captures_nothing, is_groupless, stands_alone, takes_characters}
 use Rattle.urlpattern_regex.proofs.AtomsRead.{full}
 use Rattle.urlpattern_regex.proofs.ItemsRead.{Free}
 
@@ -107,7 +110,18 @@ denotes_expression expression alone = record {
       (λ takes. rw reads (whole.0 takes), λ is. whole.1 (rw reads at is));
 }
 
-pub custom_inside : (expression : List ℕ) → IsTrue (stands_alone expression) → IsInside expression (ExpressionTakes expression)
+-- an expression that captures nothing opens no group
+silent_alone : (expression : List ℕ) (alone : IsReadAlone expression) → captures_nothing expression ≡ true → (length alone.end.names ≡ 1) × (is_groupless alone.tree.value ≡ true)
+unfolding captures_nothing join_parts
+silent_alone expression alone h =
+    let found = is_some_and_parts (branches (2 * length expression + 2) (at_text (None ∷ []) expression)) _ h in
+    let both = and_parts _ _ found.2 in
+    let same = same_Some _ _ (sym (ap (join_parts alt_all) found.1) ∙ alone.inside) in (
+      sym (ap (λ (result : Nested Re × Place). length result.1.names) same) ∙ eqb-true (length found.0.1.names) 1 both.0,
+      sym (ap (λ (result : Nested Re × Place). is_groupless result.0.value) same) ∙ both.1,
+    )
+
+pub custom_inside : (expression : List ℕ) → IsTrue (stands_alone expression) → IsInside expression (quiet (IsTrue (captures_nothing expression)) (ExpressionTakes expression))
 custom_inside expression h =
     let alone = read_alone expression h in
     let p = at_text (None ∷ []) expression in
@@ -115,8 +129,13 @@ custom_inside expression h =
       starts = λ rest. free_alone expression rest (2 * length expression + 2) (None ∷ []) alone.tree alone.end alone.inside;
       reads = λ rest n names found end e.
           let alike = inside_closed rest 1 (length names) (2 * length expression + 2) n p names (alone.calm, omega arith) in
-          let holds = rw (alone.inside, e) at alike.holds in (
-            ap (λ (q : Place). q.text) holds.1 ∙ ap (λ t. closed rest t) alone.ends,
-            denotes_bare alone.tree.value found.value (ExpressionTakes expression) holds.0 (denotes_expression expression alone),
-          );
+          let holds = rw (alone.inside, e) at alike.holds in
+          record {
+            at_close = ap (λ (q : Place). q.text) holds.1 ∙ ap (λ t. closed rest t) alone.ends;
+            numbers = λ k. omega (arith, holds.2.1, (silent_alone expression alone k).0);
+            fulfils =
+                fulfils_quiet (IsTrue (captures_nothing expression)) (ExpressionTakes expression) (length names) found.value
+                (denotes_bare alone.tree.value found.value (ExpressionTakes expression) holds.0 (denotes_expression expression alone))
+                (λ k. sym (groupless_bare found.value) ∙ ap is_groupless holds.0 ∙ groupless_bare alone.tree.value ∙ (silent_alone expression alone k).1);
+          };
     }

@@ -27,10 +27,10 @@ reads_in_groups expression rest steps names h = by (branches steps (at_text name
     by None e = tt
     by (Some found) e =
         let inside = (custom_inside expression h).reads rest steps names (join alt_all found.0) found.1 (ap (join_parts alt_all) e) in (
-          inside.0,
+          inside.at_close,
           λ text fine.
-              let whole = whole_takes (join alt_all found.0).value inside.1.plain text fine in
-              let same = inside.1.same text fine in
+              let whole = whole_takes (join alt_all found.0).value inside.fulfils.denotes.plain text fine in
+              let same = inside.fulfils.denotes.same text fine in
               (λ takes. same.0 (whole.1 takes), λ takes. whole.0 (same.1 takes)),
         )
 

@@ -1,6 +1,7 @@
 -- Groups that the grammar of `regex` reads, wherever they stand, as items that take exactly certain texts: of items, or of an
 -- expression that stands alone.
-use Rattle.std.proofs.Common.{◌≡◌, ℕ, zero, suc, ◌^◌, List, [], ◌∷◌, ◌++◌, length, true, false, Option, Some, None, nat_lt, refl, sym, ap, ◌∙◌, subst, append_assoc, append-nil}
+use Rattle.std.proofs.Common.{◌≡◌, ℕ, zero, suc, ◌+◌, ◌^◌, List, [], ◌∷◌, ◌++◌, length, true, false, Option, Some, None, nat_lt, refl, sym, ap, ◌∙◌, subst, append_assoc, append-nil, arith}
+use Rattle.std.proofs.lemmas.List.{length_push}
 use Rattle.std.proofs.lemmas.Option.{none-some, same_Some}
 use Rattle.regex_hir.proofs.AttemptLemmas.{cond_some, option_and_then_some}
 use Rattle.regex_hir.specs.Meaning.{cat_all, alt_all}
@@ -10,7 +11,7 @@ use Rattle.regex_syntax.specs.Brackets.{Nested, join}
 use Rattle.regex_syntax.specs.Grammar.{Names, Place, Opening, opens, item, items, branches, join_parts, opening, capture, set_flags, rest_of_group}
 use Rattle.regex_syntax.specs.Reading.{Text, first, skip, is_at}
 use Rattle.regex_syntax.specs.Verdict.{default_config}
-use Rattle.urlpattern_custom.proofs.Denoting.{Texts, Denotes, denotes_alone}
+use Rattle.urlpattern_custom.proofs.Senses.{Sense, Fulfils, fulfils_alone, fulfils_group, whole}
 use Rattle.urlpattern_custom.proofs.ItemsOf.{at_text, values, AreItemsOf, IsItemOf, ItemFound, items_stop}
 use Rattle.urlpattern_regex.proofs.AtomsRead.{full}
 use Rattle.urlpattern_regex.proofs.ItemsRead.{Free, begins_no, free_lazy, level}
@@ -18,11 +19,16 @@ use Rattle.urlpattern_syntax.specs.RegexpText.{captured, grouped}
 
 -- ---- what is inside of a group
 
--- before a closing parenthesis, wherever the text stands, it is read as a pattern that takes these texts
-pub record IsInside (t : Text) (Is : List ℕ → Type 0) : Type 0 where
+-- what is found up to the closing parenthesis is a pattern in this sense
+pub record InsideFound (s : Sense) (rest : Text) (before : Names) (found : Nested Re) (end : Place) : Type 0 where
+  pub at_close : end.text ≡ 41 ∷ rest
+  pub numbers : s.Known → length end.names ≡ length before + s.count
+  pub fulfils : Fulfils s (length before) found.value
+
+-- before a closing parenthesis, wherever the text stands, it is read as a pattern in this sense
+pub record IsInside (t : Text) (s : Sense) : Type 0 where
   pub starts : (rest : Text) → Free (t ++ 41 ∷ rest)
-  pub reads : (rest : Text) (n : ℕ) (names : Names) (found : Nested Re) (end : Place) → group_inside n (at_text names (t ++ 41 ∷ rest)) ≡ Some (found, end)
-      → (end.text ≡ 41 ∷ rest) × Denotes found.value Is
+  pub reads : (rest : Text) (n : ℕ) (names : Names) (found : Nested Re) (end : Place) → group_inside n (at_text names (t ++ 41 ∷ rest)) ≡ Some (found, end) → InsideFound s rest names found end
 
 -- one branch
 pub record OneBranch (n : ℕ) (p : Place) (found : Nested Re) (end : Place) : Type 0 where
@@ -71,46 +77,56 @@ pub free_close : (rest : Text) → Free (41 ∷ rest)
 unfolding first
 free_close rest = refl
 
-pub items_inside : (t : Text) (Is : Texts) → AreItemsOf t Is → IsInside t Is
-items_inside t Is a = record {
+pub items_inside : (t : Text) (s : Sense) → AreItemsOf t s → IsInside t s
+items_inside t s a = record {
   starts = λ rest. a.starts (41 ∷ rest) (free_close rest);
   reads = λ rest n names found end e.
       let branch = one_branch n (at_text names (t ++ 41 ∷ rest)) found end e in
       let is = a.reads (41 ∷ rest) (free_close rest) branch.steps names branch.parts branch.after branch.read_items in
       let stop = items_stop is.steps is.names (41 ∷ rest) is.more branch.after (closes rest) is.goes_on in
       let all : branch.parts ≡ is.own = is.cut ∙ ap (λ more. is.own ++ more) stop.0 ∙ append-nil is.own in
-      let at_close : is_at "|" branch.after.text ≡ false = ap (λ (p : Place). is_at "|" p.text) stop.1 ∙ close_text rest in
-      let goes = branch.goes at_close in
-      (ap (λ (p : Place). p.text) (goes.1 ∙ stop.1), subst (λ (tree : Nested Re). Denotes tree.value Is) (sym (goes.0 ∙ ap (λ parts. join alt_all (join cat_all parts ∷ [])) all)) (denotes_alone (cat_all (values is.own)) Is is.denotes));
+      let at_mark : is_at "|" branch.after.text ≡ false = ap (λ (p : Place). is_at "|" p.text) stop.1 ∙ close_text rest in
+      let goes = branch.goes at_mark in
+      let ends : end ≡ at_text is.names (41 ∷ rest) = goes.1 ∙ stop.1 in
+      record {
+        at_close = ap (λ (p : Place). p.text) ends;
+        numbers = λ k. ap (λ (p : Place). length p.names) ends ∙ is.numbers k;
+        fulfils =
+            subst (λ (tree : Nested Re). Fulfils s (length names) tree.value) (sym (goes.0 ∙ ap (λ parts. join alt_all (join cat_all parts ∷ [])) all))
+            (fulfils_alone s (length names) (cat_all (values is.own)) is.fulfils);
+      };
 }
 
 -- ---- groups
 
--- what closes a group
-closed_group : (inner : Place → Option (Nested Re × Place)) (make : Re → Re) (inside : Place) (t : Text) (Is : Texts) (rest : Text) (found : Nested Re) (end : Place)
-    → ((found : Nested Re) (end : Place) → inner inside ≡ Some (found, end) → (end.text ≡ 41 ∷ rest) × Denotes found.value Is)
-    → ((re : Re) → Denotes re Is → Denotes (make re) Is)
-    → rest_of_group inner default_config (opens make) inside ≡ Some (found, end) → ItemFound Is rest found end
+-- what closes a group, whose inside is in one sense, and itself in another
+closed_group : (inner : Place → Option (Nested Re × Place)) (make : Re → Re) (inside : Place) (s u : Sense) (rest : Text) (before : Names) (found : Nested Re) (end : Place)
+    → ((tree : Nested Re) (after : Place) → inner inside ≡ Some (tree, after) → InsideFound s rest inside.names tree after)
+    → ((re : Re) → Fulfils s (length inside.names) re → Fulfils u (length before) (make re))
+    → (u.Known → s.Known) → ((n : ℕ) → n ≡ length inside.names + s.count → n ≡ length before + u.count)
+    → rest_of_group inner default_config (opens make) inside ≡ Some (found, end) → ItemFound u rest before found end
 unfolding first
-closed_group inner make inside t Is rest found end reads makes e =
+closed_group inner make inside s u rest before found end reads makes known counted e =
     let tree = option_and_then_some _ (inner inside) (found, end) e in
     let is = reads tree.0.0 tree.0.1 tree.1 in
-    let core = level make tree.0.0 in
-    record { core = core; names = tree.0.1.names; repeats = rw (is.0) at tree.2; denotes = makes tree.0.0.value is.1 }
+    record {
+      core = level make tree.0.0;
+      names = tree.0.1.names;
+      repeats = rw (is.at_close) at tree.2;
+      numbers = λ k. counted (length tree.0.1.names) (is.numbers (known k));
+      fulfils = makes tree.0.0.value is.fulfils;
+    }
 
 brackets : (t rest : Text) → (t ++ 41 ∷ []) ++ rest ≡ t ++ 41 ∷ rest
 brackets t rest = append_assoc t (41 ∷ []) rest
 
-denotes_group : (k : ℕ) (Is : Texts) (re : Re) → Denotes re Is → Denotes (group k re) Is
-denotes_group k Is re d = record { plain = d.plain; same = d.same }
-
-pub grouped_item : (t : Text) (Is : Texts) → IsInside t Is → IsItemOf (grouped t) Is
+pub grouped_item : (t : Text) (s : Sense) → IsInside t s → IsItemOf (grouped t) s
 unfolding item opening set_flags first skip
-grouped_item t Is a = record {
+grouped_item t s a = record {
   opens = λ rest. (refl, rw (full 40 (63 ∷ 58 ∷ ((t ++ 41 ∷ []) ++ rest))) refl);
   reads = λ rest n names found end e.
-      closed_group (group_inside n) (λ re. re) (at_text names (t ++ 41 ∷ rest)) t Is rest found end (λ tree after f. a.reads rest n names tree after f) (λ re d. d)
-      (ap (λ s. item (group_inside n) (at_text names (40 ∷ 63 ∷ 58 ∷ s))) (sym (brackets t rest)) ∙ e);
+      closed_group (group_inside n) (λ re. re) (at_text names (t ++ 41 ∷ rest)) s s rest names found end (λ tree after f. a.reads rest n names tree after f) (λ re f. f) (λ k. k) (λ m same. same)
+      (ap (λ v. item (group_inside n) (at_text names (40 ∷ 63 ∷ 58 ∷ v))) (sym (brackets t rest)) ∙ e);
 }
 
 -- brackets that capture are read as such
@@ -118,18 +134,24 @@ opens_as : (names : Names) (t : Text) → Free t → opening (at_text names (40 
 unfolding opening first skip
 opens_as names t free = rw (opening, begins_no (80 ∷ 60 ∷ []) t free, begins_no (60 ∷ []) t free, free_lazy t free)
 
-pub captured_item : (t : Text) (Is : Texts) → IsInside t Is → IsItemOf (captured t) Is
+one_more : (names : Names) → length (names ++ None ∷ []) ≡ suc (length names)
+one_more names = let none : Option (List ℕ) = None in omega (arith, length_push names none)
+
+fulfils_captured : (s : Sense) (names : Names) (re : Re) → Fulfils s (length (names ++ None ∷ [])) re → Fulfils (whole s) (length names) (group (length names) re)
+fulfils_captured s names re f = fulfils_group s (length names) re (subst (λ g. Fulfils s g re) (one_more names) f)
+
+pub captured_item : (t : Text) (s : Sense) → IsInside t s → IsItemOf (captured t) (whole s)
 unfolding item capture first
-captured_item t Is a = record {
+captured_item t s a = record {
   opens = λ rest. (refl, rw (full 40 ((t ++ 41 ∷ []) ++ rest)) refl);
   reads = λ rest n names found end e.
       let inside = t ++ 41 ∷ rest in
-      let f : item (group_inside n) (at_text names (40 ∷ inside)) ≡ Some (found, end) = ap (λ s. item (group_inside n) (at_text names (40 ∷ s))) (sym (brackets t rest)) ∙ e in
+      let f : item (group_inside n) (at_text names (40 ∷ inside)) ≡ Some (found, end) = ap (λ v. item (group_inside n) (at_text names (40 ∷ v))) (sym (brackets t rest)) ∙ e in
       let how = option_and_then_some _ (opening (at_text names (40 ∷ inside))) (found, end) f in
       let opened = cond_some (nat_lt (length names) (2 ^ 32)) _ how.0 (sym (opens_as names inside (a.starts rest)) ∙ how.1) in
       let same = same_Some _ _ opened.1 in
-      let k = length names in
       let next = at_text (names ++ None ∷ []) inside in
-      closed_group (group_inside n) (group k) next t Is rest found end (λ tree after g. a.reads rest n (names ++ None ∷ []) tree after g) (denotes_group k Is)
+      closed_group (group_inside n) (group (length names)) next s (whole s) rest names found end (λ tree after g. a.reads rest n (names ++ None ∷ []) tree after g) (fulfils_captured s names) (λ k. k)
+      (λ m is. omega (arith, is, one_more names))
       (ap (λ (o : Opening × Place). rest_of_group (group_inside n) default_config o.0 o.1) same ∙ how.2);
 }

@@ -1,5 +1,5 @@
 -- Texts that the grammar of `regex` reads, wherever they stand, as items that take exactly certain texts.
-use Rattle.std.proofs.Common.{◌≡◌, ℕ, zero, suc, ◌+◌, List, [], ◌∷◌, ◌++◌, map, length, true, false, Some, refl, sym, ap, ◌∙◌, subst, append_assoc, append-nil, arith}
+use Rattle.std.proofs.Common.{max, ◌≡◌, ℕ, zero, suc, ◌+◌, List, [], ◌∷◌, ◌++◌, map, length, true, false, Some, refl, sym, ap, ◌∙◌, subst, append_assoc, append-nil, arith}
 use Rattle.std.proofs.lemmas.Bool.{and_parts, and_from}
 use Rattle.std.proofs.lemmas.Option.{none-some, same_Some}
 use Rattle.regex_hir.proofs.AttemptLemmas.{option_and_then_some}
@@ -7,12 +7,14 @@ use Rattle.regex_hir.specs.Meaning.{cat_all, repeat}
 use Rattle.regex_hir.specs.Re.{Re}
 use Rattle.regex_syntax.proofs.BranchLemmas.{ends_branch, group_inside, more_repetitions, repetitions_end, repetitions_go}
 use Rattle.regex_syntax.specs.Brackets.{Nested}
-use Rattle.regex_syntax.specs.Grammar.{Names, Place, atom, bounds, repetitions, with_repetitions, item, items}
+use Rattle.regex_syntax.specs.Grammar.{group_count, Names, Place, atom, bounds, repetitions, with_repetitions, item, items}
 use Rattle.regex_syntax.specs.Reading.{Text, ◌>>=◌, first, skip, is_at}
 use Rattle.regex_syntax.specs.Verdict.{default_config}
-use Rattle.urlpattern_custom.proofs.Denoting.{Texts, Denotes, Joined, Nothing, Quantified, AreSameTexts, joined_same, denotes_same, denotes_empty, denotes_last, denotes_quantified}
+use Rattle.urlpattern_custom.proofs.Denoting.{Texts, Denotes, Joined, Nothing, Quantified, AreSameTexts, joined_same}
 use Rattle.urlpattern_custom.proofs.Takes.{Takes}
-use Rattle.urlpattern_custom.specs.Expressions.{takes_characters}
+use Rattle.urlpattern_custom.specs.Expressions.{is_groupless, takes_characters}
+use Rattle.urlpattern_custom.proofs.Catching.{Catches, Then, catches_append}
+use Rattle.urlpattern_custom.proofs.Senses.{Sense, SameSense, Fulfils, fulfils_empty, fulfils_last, fulfils_perhaps, fulfils_quantified, fulfils_quiet, fulfils_same, joined, perhaps, quiet}
 use Rattle.urlpattern_meaning.specs.Dialect.{Quantifier, Once, Optional, ZeroOrMore, OneOrMore, LazyOneOrMore, quantifier_text}
 use Rattle.urlpattern_regex.proofs.ItemsRead.{Free, OpensItem, free_lazy, repeated_as}
 
@@ -55,37 +57,63 @@ denotes_append trees others A B d e = record {
   same = same_then _ _ _ (append_takes trees others) (joined_same _ A _ B d.same e.same);
 }
 
+values_append : (trees others : List (Nested Re)) → values (trees ++ others) ≡ values trees ++ values others
+values_append [] others = refl
+values_append (tree ∷ trees) others = ap (λ (all : List Re). tree.value ∷ all) (values_append trees others)
+
+groupless_append : (trees others : List (Nested Re)) → is_groupless (cat_all (values trees)) ≡ true → is_groupless (cat_all (values others)) ≡ true → is_groupless (cat_all (values (trees ++ others))) ≡ true
+groupless_append [] others p q = q
+groupless_append (tree ∷ trees) others p q = and_from _ _ (and_parts _ _ p).0 (groupless_append trees others (and_parts _ _ p).1 q)
+
+append_count : (trees others : List (Nested Re)) → group_count (cat_all (values (trees ++ others))) ≡ max (group_count (cat_all (values trees))) (group_count (cat_all (values others)))
+append_count [] others = omega arith
+append_count (tree ∷ trees) others = omega (arith, append_count trees others)
+
+-- the second is read after the groups of the first
+fulfils_append : (s u : Sense) (g h : ℕ) (trees others : List (Nested Re)) → (s.Known → h ≡ g + s.count) → Fulfils s g (cat_all (values trees)) → Fulfils u h (cat_all (values others))
+    → Fulfils (joined s u) g (cat_all (values (trees ++ others)))
+fulfils_append s u g h trees others after a b = record {
+  denotes = denotes_append trees others s.Is u.Is a.denotes b.denotes;
+  catches = λ k.
+      subst (λ all. Catches g (s.count + u.count) (cat_all all) (Then s.Cap u.Cap)) (sym (values_append trees others))
+      (catches_append g s.count u.count (values trees) (values others) s.Cap u.Cap (a.catches k.0) (subst (λ j. Catches j u.count (cat_all (values others)) u.Cap) (after k.0) (b.catches k.1)));
+  groupless = λ k none. groupless_append trees others (a.groupless k.0 (omega (arith, none))) (b.groupless k.1 (omega (arith, none)));
+  numbered = λ k. omega (arith, append_count trees others, a.numbered k.0, b.numbered k.1, after k.0);
+}
+
 -- ---- items
 
--- What is found begins with items that take these texts, and goes on with what is read in the rest.
-pub record ItemsFound (Is : List ℕ → Type 0) (rest : Text) (found : List (Nested Re)) (end : Place) : Type 0 where
+-- What is found begins with items in this sense, and goes on with what is read in the rest.
+pub record ItemsFound (s : Sense) (rest : Text) (before : Names) (found : List (Nested Re)) (end : Place) : Type 0 where
   pub own : List (Nested Re)
   pub more : List (Nested Re)
   pub steps : ℕ
   pub names : Names
   pub cut : found ≡ own ++ more
   pub goes_on : items steps (at_text names rest) ≡ Some (more, end)
-  pub denotes : Denotes (cat_all (values own)) Is
+  pub numbers : s.Known → length names ≡ length before + s.count
+  pub fulfils : Fulfils s (length before) (cat_all (values own))
 
--- wherever the text stands, before what is no quantifier, it is read as items that take these texts
-pub record AreItemsOf (t : Text) (Is : List ℕ → Type 0) : Type 0 where
+-- wherever the text stands, before what is no quantifier, it is read as items in this sense
+pub record AreItemsOf (t : Text) (s : Sense) : Type 0 where
   pub starts : (rest : Text) → Free rest → Free (t ++ rest)
-  pub reads : (rest : Text) → Free rest → (n : ℕ) (names : Names) (found : List (Nested Re)) (end : Place) → items n (at_text names (t ++ rest)) ≡ Some (found, end) → ItemsFound Is rest found end
+  pub reads : (rest : Text) → Free rest → (n : ℕ) (names : Names) (found : List (Nested Re)) (end : Place) → items n (at_text names (t ++ rest)) ≡ Some (found, end) → ItemsFound s rest names found end
 
 cut_again : {A : Type 0} (all first rest second last : List A) → all ≡ first ++ rest → rest ≡ second ++ last → all ≡ (first ++ second) ++ last
 cut_again all first rest second last e f = e ∙ ap (λ t. first ++ t) f ∙ sym (append_assoc first second last)
 
-pub no_items : AreItemsOf [] Nothing
+pub no_items : AreItemsOf [] (quiet (Unit {0}) Nothing)
 no_items = record {
   starts = λ rest free. free;
-  reads = λ rest free n names found end e. record { own = []; more = found; steps = n; names = names; cut = refl; goes_on = e; denotes = denotes_empty };
+  reads = λ rest free n names found end e.
+      record { own = []; more = found; steps = n; names = names; cut = refl; goes_on = e; numbers = λ k. omega arith; fulfils = fulfils_empty (length names) };
 }
 
-pub append_items : (t u : Text) (A B : Texts) → AreItemsOf t A → AreItemsOf u B → AreItemsOf (t ++ u) (Joined A B)
-append_items t u A B a b = record {
-  starts = λ rest free. subst Free (sym (append_assoc t u rest)) (a.starts (u ++ rest) (b.starts rest free));
+pub append_items : (t v : Text) (s u : Sense) → AreItemsOf t s → AreItemsOf v u → AreItemsOf (t ++ v) (joined s u)
+append_items t v s u a b = record {
+  starts = λ rest free. subst Free (sym (append_assoc t v rest)) (a.starts (v ++ rest) (b.starts rest free));
   reads = λ rest free n names found end e.
-      let front = a.reads (u ++ rest) (b.starts rest free) n names found end (ap (λ s. items n (at_text names s)) (sym (append_assoc t u rest)) ∙ e) in
+      let front = a.reads (v ++ rest) (b.starts rest free) n names found end (ap (λ s. items n (at_text names s)) (sym (append_assoc t v rest)) ∙ e) in
       let back = b.reads rest free front.steps front.names front.more end front.goes_on in
       record {
         own = front.own ++ back.own;
@@ -94,35 +122,48 @@ append_items t u A B a b = record {
         names = back.names;
         cut = cut_again found front.own front.more back.own back.more front.cut back.cut;
         goes_on = back.goes_on;
-        denotes = denotes_append front.own back.own A B front.denotes back.denotes;
+        numbers = λ k. omega (arith, front.numbers k.0, back.numbers k.1);
+        fulfils = fulfils_append s u (length names) (length front.names) front.own back.own front.numbers front.fulfils back.fulfils;
       };
 }
 
-pub same_items : (t : Text) (A B : Texts) → AreSameTexts A B → AreItemsOf t A → AreItemsOf t B
-same_items t A B p a = record {
+pub same_items : (t : Text) (s u : Sense) → SameSense s u → AreItemsOf t s → AreItemsOf t u
+same_items t s u p a = record {
   starts = a.starts;
   reads = λ rest free n names found end e.
       let is = a.reads rest free n names found end e in
-      record { own = is.own; more = is.more; steps = is.steps; names = is.names; cut = is.cut; goes_on = is.goes_on; denotes = denotes_same _ A B p is.denotes };
+      record {
+        own = is.own;
+        more = is.more;
+        steps = is.steps;
+        names = is.names;
+        cut = is.cut;
+        goes_on = is.goes_on;
+        numbers = λ k. omega (arith, is.numbers (p.known k), p.count);
+        fulfils = fulfils_same s u (length names) _ p is.fulfils;
+      };
 }
 
 -- ---- one item
 
-pub record ItemFound (Is : List ℕ → Type 0) (rest : Text) (found : Nested Re) (end : Place) : Type 0 where
+pub record ItemFound (s : Sense) (rest : Text) (before : Names) (found : Nested Re) (end : Place) : Type 0 where
   pub core : Nested Re
   pub names : Names
   pub repeats : with_repetitions core (at_text names rest) ≡ Some (found, end)
-  pub denotes : Denotes core.value Is
+  pub numbers : s.Known → length names ≡ length before + s.count
+  pub fulfils : Fulfils s (length before) core.value
 
--- wherever the text stands, it is read as an item that takes these texts, before its quantifier
-pub record IsItemOf (t : Text) (Is : List ℕ → Type 0) : Type 0 where
+-- wherever the text stands, it is read as an item in this sense, before its quantifier
+pub record IsItemOf (t : Text) (s : Sense) : Type 0 where
   pub opens : (rest : Text) → OpensItem (t ++ rest)
-  pub reads : (rest : Text) (n : ℕ) (names : Names) (found : Nested Re) (end : Place) → item (group_inside n) (at_text names (t ++ rest)) ≡ Some (found, end) → ItemFound Is rest found end
+  pub reads : (rest : Text) (n : ℕ) (names : Names) (found : Nested Re) (end : Place) → item (group_inside n) (at_text names (t ++ rest)) ≡ Some (found, end) → ItemFound s rest names found end
 
-pub same_item : (t : Text) (A B : Texts) → AreSameTexts A B → IsItemOf t A → IsItemOf t B
-same_item t A B p a = record {
+pub same_item : (t : Text) (s u : Sense) → SameSense s u → IsItemOf t s → IsItemOf t u
+same_item t s u p a = record {
   opens = a.opens;
-  reads = λ rest n names found end e. let is = a.reads rest n names found end e in record { core = is.core; names = is.names; repeats = is.repeats; denotes = denotes_same _ A B p is.denotes };
+  reads = λ rest n names found end e.
+      let is = a.reads rest n names found end e in
+      record { core = is.core; names = is.names; repeats = is.repeats; numbers = λ k. omega (arith, is.numbers (p.known k), p.count); fulfils = fulfils_same s u (length names) _ p is.fulfils };
 }
 
 -- an item, and what is read after it
@@ -194,8 +235,10 @@ repeated_once q core names rest free part after e =
     let same = same_Some _ _ (sym (quantified q core names rest free) ∙ e) in
     (sym (ap (λ (result : Nested Re × Place). result.0) same), ap (λ (result : Nested Re × Place). result.1) same)
 
-pub quantified_items : (t : Text) (Is : Texts) (q : Quantifier) → IsItemOf t Is → AreItemsOf (t ++ quantifier_text q) (Quantified q Is)
-quantified_items t Is q a = record {
+-- an item with its quantifier
+repeated_items : (t : Text) (s u : Sense) (q : Quantifier) → u.count ≡ s.count → (u.Known → s.Known) → ((g : ℕ) (sub : Nested Re) → Fulfils s g sub.value → Fulfils u g (repeated_as q sub).value) → IsItemOf t s
+    → AreItemsOf (t ++ quantifier_text q) u
+repeated_items t s u q count known conv a = record {
   starts = λ rest free. subst Free (sym (append_assoc t (quantifier_text q) rest)) (a.opens (quantifier_text q ++ rest)).0;
   reads = λ rest free n names found end e.
       let split = append_assoc t (quantifier_text q) rest in
@@ -209,18 +252,26 @@ quantified_items t Is q a = record {
         names = one.names;
         cut = is.all;
         goes_on = ap (items is.steps) same.1 ∙ is.more;
-        denotes = denotes_last is.part.value (Quantified q Is) (subst (λ (tree : Nested Re). Denotes tree.value (Quantified q Is)) (sym same.0) (denotes_quantified q one.core Is one.denotes));
+        numbers = λ k. omega (arith, one.numbers (known k), count);
+        fulfils = fulfils_last u (length names) is.part.value (subst (λ (tree : Nested Re). Fulfils u (length names) tree.value) (sym same.0) (conv (length names) one.core one.fulfils));
       };
 }
 
-pub once_items : (t : Text) (Is : Texts) → IsItemOf t Is → AreItemsOf t Is
-once_items t Is a = subst (λ s. AreItemsOf s Is) (append-nil t) (quantified_items t Is Once a)
+pub quantified_items : (t : Text) (K : Type 0) (Is : Texts) (q : Quantifier) → IsItemOf t (quiet K Is) → AreItemsOf (t ++ quantifier_text q) (quiet K (Quantified q Is))
+quantified_items t K Is q a = repeated_items t (quiet K Is) (quiet K (Quantified q Is)) q refl (λ k. k) (λ g sub f. fulfils_quantified K Is q g sub f) a
+
+pub once_items : (t : Text) (s : Sense) → IsItemOf t s → AreItemsOf t s
+once_items t s a = subst (λ v. AreItemsOf v s) (append-nil t) (repeated_items t s s Once refl (λ k. k) (λ g sub f. f) a)
+
+pub perhaps_items : (t : Text) (s : Sense) → IsItemOf t s → AreItemsOf (t ++ quantifier_text Optional) (perhaps s)
+perhaps_items t s a = repeated_items t s (perhaps s) Optional refl (λ k. k) (λ g sub f. fulfils_perhaps s g sub f) a
 
 -- an item that is no group
 pub atom_item : (t : Text) (sub : Nested Re) (Is : Texts) → ((rest : Text) → OpensItem (t ++ rest)) → ((rest : Text) → is_at "(" (t ++ rest) ≡ false) → ((rest : Text) → atom default_config (t ++ rest) ≡ Some (sub, rest))
-    → Denotes sub.value Is → IsItemOf t Is
+    → Denotes sub.value Is → is_groupless sub.value ≡ true → IsItemOf t (quiet (Unit {0}) Is)
 unfolding item
-atom_item t sub Is begins no_group reads d = record {
+atom_item t sub Is begins no_group reads d groupless = record {
   opens = begins;
-  reads = λ rest n names found end e. record { core = sub; names = names; repeats = rw (item, no_group rest, reads rest) at e; denotes = d };
+  reads = λ rest n names found end e.
+      record { core = sub; names = names; repeats = rw (item, no_group rest, reads rest) at e; numbers = λ k. omega arith; fulfils = fulfils_quiet (Unit {0}) Is (length names) sub.value d (λ k. groupless) };
 }

@@ -6,6 +6,9 @@ pub mod ItemsClosed
 pub mod BranchesClosed
 pub mod Takes
 pub mod Denoting
+pub mod Runs
+pub mod Catching
+pub mod Senses
 pub mod ItemsOf
 pub mod GroupsOf
 pub mod CustomGroups
@@ -17,6 +20,4 @@ pub mod ValuesTaken
 pub mod TakenMeanings
 pub mod MatchersTaken
 pub mod CustomLaws
-pub mod Runs
-pub mod Catching
 pub mod ExpressionExamples

@@ -20,7 +20,8 @@ use Rattle.urlpattern_custom.proofs.CustomGroups.{custom_inside}
 use Rattle.urlpattern_custom.proofs.Denoting.{Denotes, Joined, Quantified, AreSameTexts, denotes_same}
 use Rattle.urlpattern_custom.proofs.GroupsOf.{IsInside, items_inside}
 use Rattle.urlpattern_custom.proofs.ItemsOf.{AreItemsOf, IsItemOf, no_items, append_items, same_items, quantified_items, once_items, atom_item}
-use Rattle.urlpattern_custom.specs.PartTexts.{IsPieceOf, StandsAlone}
+use Rattle.urlpattern_custom.proofs.Senses.{Sense, joined_quiet, quiet, quiet_same}
+use Rattle.urlpattern_custom.specs.PartTexts.{CapturesNothing, IsPieceOf, StandsAlone}
 use Rattle.urlpattern_meaning.specs.Dialect.{Character, Plain, Escaped, character_of, character_text, ZeroOrMore, LazyOneOrMore, Dot, AnyBut, Literal, AtomMeans, IsCharacter, IsClassCharacter, IsOneBut, atom_text}
 use Rattle.urlpattern_meaning.specs.PartMeaning.{IsWildcardText}
 use Rattle.urlpattern_meaning.proofs.PartTreeAllowed.{text_allowed, wildcard_allowed}
@@ -54,9 +55,9 @@ unfolding first
 not_open (Plain c) h rest = differs regexp_marks c 40 h refl
 not_open (Escaped c) h rest = refl
 
-character_item : (ch : Character) → IsCharacter ch → IsScalar (character_of ch) → IsItemOf (character_text ch) (λ text. text ≡ character_of ch ∷ [])
+character_item : (ch : Character) → IsCharacter ch → IsScalar (character_of ch) → IsItemOf (character_text ch) (quiet (Unit {0}) (λ text. text ≡ character_of ch ∷ []))
 character_item ch h scalar =
-    atom_item (character_text ch) (itself (character_of ch)) _ (opens_item (Literal ch) h) (not_open ch h) (λ rest. read_character ch rest h) (denotes_character (character_of ch) scalar)
+    atom_item (character_text ch) (itself (character_of ch)) _ (opens_item (Literal ch) h) (not_open ch h) (λ rest. read_character ch rest h) (denotes_character (character_of ch) scalar) refl
 
 -- ---- fixed texts
 
@@ -74,7 +75,7 @@ one_then c text w good = (
   λ is. (c ∷ [], text, is, refl, refl),
 )
 
-pub fixed_items : (options : OptionsView) (text : List ℕ) → scalars text ≡ true → AreItemsOf (escaped_regexp options text) (λ t. t ≡ text)
+pub fixed_items : (options : OptionsView) (text : List ℕ) → scalars text ≡ true → AreItemsOf (escaped_regexp options text) (quiet (Unit {0}) (λ t. t ≡ text))
 unfolding escaped
 fixed_items options [] good = no_items
 fixed_items options (c ∷ text) good =
@@ -84,10 +85,11 @@ fixed_items options (c ∷ text) good =
     let is : character_of (character marks c) ≡ c = same_character (is_among marks c) c in
     let scalar : IsScalar (character_of (character marks c)) = subst IsScalar (sym is) both.0 in
     let one = once_items _ _ (character_item (character marks c) is_character scalar) in
-    same_items _ _ _ (one_then c text)
-    (append_items _ (escaped_regexp options text) (λ t. t ≡ c ∷ []) (λ t. t ≡ text)
-    (subst (λ s. AreItemsOf s (λ t. t ≡ c ∷ [])) (written (is_among marks c) c) (subst (λ (d : ℕ). AreItemsOf (character_text (character marks c)) (λ t. t ≡ d ∷ [])) is one))
-    (fixed_items options text both.1))
+    let written_one : AreItemsOf (if is_among marks c then codes "\\" ++ c ∷ [] else c ∷ []) (quiet (Unit {0}) (λ t. t ≡ c ∷ [])) =
+    subst (λ s. AreItemsOf s (quiet (Unit {0}) (λ t. t ≡ c ∷ []))) (written (is_among marks c) c)
+    (subst (λ (d : ℕ). AreItemsOf (character_text (character marks c)) (quiet (Unit {0}) (λ t. t ≡ d ∷ []))) is one) in
+    same_items _ _ _ (joined_quiet (Unit {0}) (Unit {0}) (Unit {0}) (λ t. t ≡ c ∷ []) (λ t. t ≡ text) (λ t. t ≡ c ∷ text) (one_then c text) (λ k. (tt, tt)))
+    (append_items _ (escaped_regexp options text) _ _ written_one (fixed_items options text both.1))
 
 -- ---- classes
 
@@ -116,20 +118,21 @@ denotes_but : (c : ℕ) → Denotes (any_but c).value (IsOneBut c)
 unfolding one_of negate
 denotes_but c = denotes_set (negate default_config (λ d. (d == c) || false)) (λ d. not (d == c)) (λ d scalar. below d scalar (not ((d == c) || false)) ∙ ap not (or-false (d == c)))
 
-dot_item : IsItemOf (atom_text Dot) (λ text. AtomMeans Dot text [])
-unfolding first
-dot_item = atom_item (codes ".") any_character _ (opens_item Dot tt) (λ rest. refl) read_dot (denotes_same any_character.value (IsOneBut line_feed) _ (λ text good. (λ is. (is, refl), λ is. is.0)) denotes_dot)
+dot_item : IsItemOf (atom_text Dot) (quiet (Unit {0}) (λ text. AtomMeans Dot text []))
+unfolding first one_of
+dot_item = atom_item (codes ".") any_character _ (opens_item Dot tt) (λ rest. refl) read_dot (denotes_same any_character.value (IsOneBut line_feed) _ (λ text good. (λ is. (is, refl), λ is. is.0)) denotes_dot) refl
 
-class_item : (ch : Character) → IsClassCharacter ch → IsItemOf (atom_text (AnyBut ch)) (λ text. AtomMeans (AnyBut ch) text [])
-unfolding first
+class_item : (ch : Character) → IsClassCharacter ch → IsItemOf (atom_text (AnyBut ch)) (quiet (Unit {0}) (λ text. AtomMeans (AnyBut ch) text []))
+unfolding first one_of
 class_item ch h =
     atom_item (atom_text (AnyBut ch)) (any_but (character_of ch)) _ (opens_item (AnyBut ch) h) (λ rest. refl)
     (λ rest. ap (λ t. atom default_config (91 ∷ 94 ∷ t)) (append_assoc (character_text ch) (93 ∷ []) rest) ∙ read_class ch rest h)
-    (denotes_same (any_but (character_of ch)).value (IsOneBut (character_of ch)) _ (λ text good. (λ is. (is, refl), λ is. is.0)) (denotes_but (character_of ch)))
+    (denotes_same (any_but (character_of ch)).value (IsOneBut (character_of ch)) _ (λ text good. (λ is. (is, refl), λ is. is.0)) (denotes_but (character_of ch))) refl
 
 -- ---- wildcards
 
-segment_item : (options : OptionsView) (delimiter : Option ℕ) → options.delimiter ≡ delimiter → IsItemOf (atom_text (segment_atom (escaped_marks options.syntax) delimiter)) (λ text. AtomMeans (segment_atom (escaped_marks options.syntax) delimiter) text [])
+segment_item : (options : OptionsView) (delimiter : Option ℕ) → options.delimiter ≡ delimiter
+    → IsItemOf (atom_text (segment_atom (escaped_marks options.syntax) delimiter)) (quiet (Unit {0}) (λ text. AtomMeans (segment_atom (escaped_marks options.syntax) delimiter) text []))
 segment_item options None e = dot_item
 segment_item options (Some c) e =
     let allowed = (wildcard_allowed options SegmentWildcard tt).allowed in
@@ -162,11 +165,16 @@ full_same options text good =
 
 -- ---- what a part's group matches
 
-pub piece_inside : (options : OptionsView) (kind : PartType) (value : List ℕ) → kind ≢ FixedText → StandsAlone kind value → IsInside (matched_by options kind value) (IsPieceOf options kind value)
-piece_inside options FixedText value h alone = absurd (h refl)
-piece_inside options Regexp value h alone = custom_inside value alone
-piece_inside options SegmentWildcard value h alone =
-    items_inside _ _ (same_items _ _ _ (segments_same options)
-    (subst (λ t. AreItemsOf t (Quantified LazyOneOrMore (λ text. AtomMeans (segment_atom (escaped_marks options.syntax) options.delimiter) text []))) (segment_text options.syntax options.delimiter)
-    (quantified_items _ _ LazyOneOrMore (segment_item options options.delimiter refl))))
-piece_inside options FullWildcard value h alone = items_inside _ _ (same_items _ _ _ (full_same options) (quantified_items _ _ ZeroOrMore dot_item))
+abbrev pub piece_sense : OptionsView → PartType → (value : List ℕ) → Sense
+piece_sense options kind value = quiet (CapturesNothing kind value) (IsPieceOf options kind value)
+
+pub piece_inside : (options : OptionsView) (kind : PartType) (value : List ℕ) → kind ≢ FixedText → StandsAlone kind value → IsInside (matched_by options kind value) (piece_sense options kind value)
+piece_inside options FixedText value h stands = absurd (h refl)
+piece_inside options Regexp value h stands = custom_inside value stands
+piece_inside options SegmentWildcard value h stands =
+    let Atoms : List ℕ → Type 0 = λ text. AtomMeans (segment_atom (escaped_marks options.syntax) options.delimiter) text [] in
+    items_inside _ _ (same_items _ (quiet (Unit {0}) (Quantified LazyOneOrMore Atoms)) _ (quiet_same (Unit {0}) (Unit {0}) _ _ (segments_same options) (λ k. k))
+    (subst (λ t. AreItemsOf t (quiet (Unit {0}) (Quantified LazyOneOrMore Atoms))) (segment_text options.syntax options.delimiter)
+    (quantified_items _ (Unit {0}) Atoms LazyOneOrMore (segment_item options options.delimiter refl))))
+piece_inside options FullWildcard value h stands =
+    items_inside _ _ (same_items _ _ _ (quiet_same (Unit {0}) (Unit {0}) _ _ (full_same options) (λ k. k)) (quantified_items _ (Unit {0}) (λ text. AtomMeans Dot text []) ZeroOrMore dot_item))

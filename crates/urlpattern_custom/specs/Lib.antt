@@ -1,3 +1,4 @@
 pub mod Expressions
 pub mod PartTexts
+pub mod PartCaptures
 pub mod LawsOfTexts

@@ -1,6 +1,6 @@
 -- Which texts parts take, custom ones among them: whatever they capture.
 use Rattle.std.specs.Prelude.{◌≡◌, All, ℕ, List, [], ◌∷◌, ◌++◌, IsTrue}
-use Rattle.urlpattern_custom.specs.Expressions.{ExpressionTakes, stands_alone}
+use Rattle.urlpattern_custom.specs.Expressions.{ExpressionTakes, captures_nothing, stands_alone}
 use Rattle.urlpattern_meaning.specs.PartMeaning.{Allows, IsWildcardText}
 use Rattle.urlpattern_syntax.specs.{Options.OptionsView, Parts.PartView}
 use Rattle.urlpattern_syntax.specs.declared.parser.PartType.{PartType}
@@ -32,3 +32,11 @@ StandsAlone kind value = Unit {0}
 
 abbrev pub AllStandAlone : List PartView → Type 0
 AllStandAlone parts = All (λ part. StandsAlone part.kind part.value) parts
+
+-- the expression of a custom part captures nothing
+abbrev pub CapturesNothing : PartType → (value : List ℕ) → Type 0
+CapturesNothing PartType.Regexp value = IsTrue (captures_nothing value)
+CapturesNothing kind value = Unit {0}
+
+abbrev pub AllCaptureNothing : List PartView → Type 0
+AllCaptureNothing parts = All (λ part. CapturesNothing part.kind part.value) parts

@@ -1,0 +1,127 @@
+-- What a pattern takes and captures, and what has to be known for its captures.
+use Rattle.std.proofs.Common.{◌≡◌, ◌↔◌, ℕ, zero, suc, ◌+◌, List, [], ◌∷◌, ◌++◌, map, Bool, true, false, ◌&&◌, refl, sym, ap, ◌∙◌, subst, arith, max, true≢false}
+use Rattle.std.proofs.lemmas.Bool.{and_parts, and_from}
+use lib.Utf8.{scalars}
+use Rattle.regex_hir.specs.Meaning.{cat_all}
+use Rattle.regex_hir.specs.Re.{Re, empty, byte_in, cat, alt, group, plus}
+use Rattle.regex_syntax.specs.Brackets.{Nested}
+use Rattle.regex_syntax.specs.Grammar.{group_count}
+use Rattle.urlpattern_custom.proofs.Catching.{Caps, Catches, Only, Perhaps, Then, Whole, catches_alone, catches_append, catches_group, catches_last, catches_perhaps, catches_same, catches_silent}
+use Rattle.urlpattern_custom.proofs.Denoting.{Texts, Denotes, Joined, Nothing, Quantified, AreSameTexts, good_cut, joined_same, denotes_same, denotes_empty, denotes_alone, denotes_last, denotes_quantified}
+use Rattle.urlpattern_custom.proofs.Takes.{Takes}
+use Rattle.urlpattern_custom.specs.Expressions.{is_groupless, takes_characters}
+use Rattle.urlpattern_meaning.specs.Dialect.{Quantifier, Once, Optional, ZeroOrMore, OneOrMore, LazyOneOrMore}
+use Rattle.urlpattern_meaning.specs.PartMeaning.{Captures}
+use Rattle.urlpattern_regex.proofs.ItemsRead.{repeated_as}
+
+-- Which texts are taken; with how many captures, and which, if this is known.
+pub record Sense : Type 1 where
+  pub Is : List ℕ → Type 0
+  pub count : ℕ
+  pub Cap : List ℕ → Captures → Type 0
+  pub Known : Type 0
+
+-- no captures
+abbrev pub quiet : Type 0 → Texts → Sense
+quiet Known Is = record { Is = Is; count = 0; Cap = Only Is; Known = Known }
+
+abbrev pub joined : Sense → Sense → Sense
+joined s u = record { Is = Joined s.Is u.Is; count = s.count + u.count; Cap = Then s.Cap u.Cap; Known = s.Known × u.Known }
+
+abbrev pub whole : Sense → Sense
+whole s = record { Is = s.Is; count = suc s.count; Cap = Whole s.Cap; Known = s.Known }
+
+abbrev pub perhaps : Sense → Sense
+perhaps s = record { Is = Quantified Optional s.Is; count = s.count; Cap = Perhaps s.count s.Cap; Known = s.Known }
+
+-- the second says what the first says
+pub record SameSense (s u : Sense) : Type 0 where
+  pub texts : AreSameTexts s.Is u.Is
+  pub count : u.count ≡ s.count
+  pub caps : (text : List ℕ) (captures : Captures) → scalars text ≡ true → s.Cap text captures → u.Cap text captures
+  pub known : u.Known → s.Known
+
+pub quiet_same : (K L : Type 0) (A B : Texts) → AreSameTexts A B → (L → K) → SameSense (quiet K A) (quiet L B)
+quiet_same K L A B p known = record { texts = p; count = refl; caps = λ text captures good is. ((p text good).0 is.0, is.1); known = known }
+
+pub joined_quiet : (K L M : Type 0) (A B C : Texts) → AreSameTexts (Joined A B) C → (M → K × L) → SameSense (joined (quiet K A) (quiet L B)) (quiet M C)
+joined_quiet K L M A B C p known = record {
+  texts = p;
+  count = omega arith;
+  caps = λ text captures good (first, rest, own, others, cut, all, a, b). ((p text good).0 (first, rest, cut, a.0, b.0), all ∙ ap (λ c. c ++ others) a.1 ∙ b.1);
+  known = known;
+}
+
+-- ---- patterns
+
+-- the pattern, whose groups are from g on, takes these texts, and captures so if that is known
+pub record Fulfils (s : Sense) (g : ℕ) (re : Re) : Type 0 where
+  pub denotes : Denotes re s.Is
+  pub catches : s.Known → Catches g s.count re s.Cap
+  pub groupless : s.Known → s.count ≡ 0 → is_groupless re ≡ true
+  pub numbered : s.Known → max g (group_count re) ≡ g + s.count
+
+pub groupless_count : (re : Re) → is_groupless re ≡ true → group_count re ≡ 0
+groupless_count (cat a b) h = let both = and_parts _ _ h in omega (arith, groupless_count a both.0, groupless_count b both.1)
+groupless_count (alt a b) h = let both = and_parts _ _ h in omega (arith, groupless_count a both.0, groupless_count b both.1)
+groupless_count (group n a) h = absurd (true≢false (sym h))
+groupless_count (plus greedy a) h = groupless_count a h
+groupless_count re h = refl
+
+pub fulfils_same : (s u : Sense) (g : ℕ) (re : Re) → SameSense s u → Fulfils s g re → Fulfils u g re
+fulfils_same s u g re p f = record {
+  denotes = denotes_same re s.Is u.Is p.texts f.denotes;
+  catches = λ k. catches_same g s.count u.count re s.Cap u.Cap p.count p.caps (f.catches (p.known k));
+  groupless = λ k none. f.groupless (p.known k) (sym p.count ∙ none);
+  numbered = λ k. omega (arith, f.numbered (p.known k), p.count);
+}
+
+pub fulfils_quiet : (K : Type 0) (Is : Texts) (g : ℕ) (re : Re) → Denotes re Is → (K → is_groupless re ≡ true) → Fulfils (quiet K Is) g re
+fulfils_quiet K Is g re d h =
+    record { denotes = d; catches = λ k. catches_silent g re Is d (h k); groupless = λ k none. h k; numbered = λ k. omega (arith, groupless_count re (h k)) }
+
+pub fulfils_empty : (g : ℕ) → Fulfils (quiet (Unit {0}) Nothing) g empty
+fulfils_empty g = fulfils_quiet (Unit {0}) Nothing g empty denotes_empty (λ k. refl)
+
+pub fulfils_alone : (s : Sense) (g : ℕ) (a : Re) → Fulfils s g a → Fulfils s g (alt a (byte_in []))
+fulfils_alone s g a f = record {
+  denotes = denotes_alone a s.Is f.denotes;
+  catches = λ k. catches_alone g s.count a s.Cap (f.catches k);
+  groupless = λ k none. and_from _ _ (f.groupless k none) refl;
+  numbered = λ k. omega (arith, f.numbered k);
+}
+
+pub fulfils_last : (s : Sense) (g : ℕ) (a : Re) → Fulfils s g a → Fulfils s g (cat a empty)
+fulfils_last s g a f = record {
+  denotes = denotes_last a s.Is f.denotes;
+  catches = λ k. catches_last g s.count a s.Cap (f.catches k);
+  groupless = λ k none. and_from _ _ (f.groupless k none) refl;
+  numbered = λ k. omega (arith, f.numbered k);
+}
+
+pub fulfils_group : (s : Sense) (g : ℕ) (a : Re) → Fulfils s (suc g) a → Fulfils (whole s) g (group g a)
+fulfils_group s g a f = record {
+  denotes = record { plain = f.denotes.plain; same = f.denotes.same };
+  catches = λ k. catches_group g s.count a s.Cap (f.catches k);
+  groupless = λ k none. absurd (omega (arith, none));
+  numbered = λ k. omega (arith, f.numbered k);
+}
+
+pub fulfils_perhaps : (s : Sense) (g : ℕ) (sub : Nested Re) → Fulfils s g sub.value → Fulfils (perhaps s) g (repeated_as Optional sub).value
+fulfils_perhaps s g sub f = record {
+  denotes = denotes_quantified Optional sub s.Is f.denotes;
+  catches = λ k. catches_perhaps g s.count sub.value s.Cap (f.catches k);
+  groupless = λ k none. and_from _ _ (and_from _ _ (f.groupless k none) refl) refl;
+  numbered = λ k. omega (arith, f.numbered k);
+}
+
+groupless_repeated : (q : Quantifier) (sub : Nested Re) → is_groupless sub.value ≡ true → is_groupless (repeated_as q sub).value ≡ true
+groupless_repeated Once sub h = h
+groupless_repeated Optional sub h = and_from _ _ (and_from _ _ h refl) refl
+groupless_repeated ZeroOrMore sub h = and_from _ _ h refl
+groupless_repeated OneOrMore sub h = h
+groupless_repeated LazyOneOrMore sub h = h
+
+pub fulfils_quantified : (K : Type 0) (Is : Texts) (q : Quantifier) (g : ℕ) (sub : Nested Re) → Fulfils (quiet K Is) g sub.value → Fulfils (quiet K (Quantified q Is)) g (repeated_as q sub).value
+fulfils_quantified K Is q g sub f =
+    fulfils_quiet K (Quantified q Is) g (repeated_as q sub).value (denotes_quantified q sub Is f.denotes) (λ k. groupless_repeated q sub (f.groupless k refl))
