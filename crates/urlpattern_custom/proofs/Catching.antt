@@ -188,7 +188,7 @@ catches_group g count a A c = record {
 
 -- ---- lists of patterns
 
-append_runs : (hay : List ℕ) (trees others : List Re) (i j : ℕ) (writes : Writes) → Runs hay (cat_all (trees ++ others)) i j writes → Runs hay (cat (cat_all trees) (cat_all others)) i j writes
+pub append_runs : (hay : List ℕ) (trees others : List Re) (i j : ℕ) (writes : Writes) → Runs hay (cat_all (trees ++ others)) i j writes → Runs hay (cat (cat_all trees) (cat_all others)) i j writes
 append_runs hay [] others i j writes run = (i, [], writes, (refl, refl), run, refl)
 append_runs hay (tree ∷ trees) others i j writes (l, own, more, first, second, all) =
     let (k, front, back, f, b, both) = append_runs hay trees others l j more second in

@@ -57,7 +57,7 @@ denotes_append trees others A B d e = record {
   same = same_then _ _ _ (append_takes trees others) (joined_same _ A _ B d.same e.same);
 }
 
-values_append : (trees others : List (Nested Re)) → values (trees ++ others) ≡ values trees ++ values others
+pub values_append : (trees others : List (Nested Re)) → values (trees ++ others) ≡ values trees ++ values others
 values_append [] others = refl
 values_append (tree ∷ trees) others = ap (λ (all : List Re). tree.value ∷ all) (values_append trees others)
 
@@ -65,7 +65,7 @@ groupless_append : (trees others : List (Nested Re)) → is_groupless (cat_all (
 groupless_append [] others p q = q
 groupless_append (tree ∷ trees) others p q = and_from _ _ (and_parts _ _ p).0 (groupless_append trees others (and_parts _ _ p).1 q)
 
-append_count : (trees others : List (Nested Re)) → group_count (cat_all (values (trees ++ others))) ≡ max (group_count (cat_all (values trees))) (group_count (cat_all (values others)))
+pub append_count : (trees others : List (Nested Re)) → group_count (cat_all (values (trees ++ others))) ≡ max (group_count (cat_all (values trees))) (group_count (cat_all (values others)))
 append_count [] others = omega arith
 append_count (tree ∷ trees) others = omega (arith, append_count trees others)
 

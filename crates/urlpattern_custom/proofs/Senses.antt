@@ -62,8 +62,8 @@ pub record Fulfils (s : Sense) (g : ℕ) (re : Re) : Type 0 where
   pub numbered : s.Known → max g (group_count re) ≡ g + s.count
 
 pub groupless_count : (re : Re) → is_groupless re ≡ true → group_count re ≡ 0
-groupless_count (cat a b) h = let both = and_parts _ _ h in omega (arith, groupless_count a both.0, groupless_count b both.1)
-groupless_count (alt a b) h = let both = and_parts _ _ h in omega (arith, groupless_count a both.0, groupless_count b both.1)
+groupless_count (cat a b) h = let both = and_parts (is_groupless a) (is_groupless b) h in omega (arith, groupless_count a both.0, groupless_count b both.1)
+groupless_count (alt a b) h = let both = and_parts (is_groupless a) (is_groupless b) h in omega (arith, groupless_count a both.0, groupless_count b both.1)
 groupless_count (group n a) h = absurd (true≢false (sym h))
 groupless_count (plus greedy a) h = groupless_count a h
 groupless_count re h = refl

@@ -17,7 +17,7 @@ use Rattle.regex_syntax.specs.Grammar.{Names, read}
 use Rattle.regex_syntax.specs.Verdict.{Reads, default_config}
 use Rattle.urlpattern_core.specs.FirstWays.{KeepsCase}
 use Rattle.urlpattern_core.specs.Regexes.{IsRegexOf, regex_engine}
-use Rattle.urlpattern_custom.proofs.PartItems.{parts_items}
+use Rattle.urlpattern_custom.proofs.PartItems.{parts_items, parts_sense}
 use Rattle.urlpattern_custom.proofs.WholeRead.{between_lines, search_is, whole_read}
 use Rattle.urlpattern_custom.specs.LawsOfTexts.{HasRoom, IsSomeIfTaken, ValuesAnswerTaken}
 use Rattle.urlpattern_custom.specs.PartTexts.{AllStandAlone, PartsTake}
@@ -44,8 +44,8 @@ read_taken : (options : OptionsView) (parts : List PartView) (found : Nested Re 
 read_taken options parts found alone good reads groups text fine =
     let t = flat_map (part_regexp options) parts in
     let inside = scalars_parts t (codes "$") (scalars_parts (codes "^") (t ++ codes "$") good).1 in
-    let whole = whole_read t (PartsTake options parts) (parts_items options parts alone inside.0) found reads in
-    let search = search_is whole.own (PartsTake options parts) whole.denotes text fine in
+    let whole = (whole_read t (parts_sense options parts) (parts_items options parts alone inside.0) found reads).pattern in
+    let search = search_is whole.own (PartsTake options parts) whole.fulfils.denotes text fine in
     let same : is_some (re_answer found.0.value groups text) ≡ is_some (find_str (between_lines whole.own).value (encode_utf8_all text) 0) =
     mapped _ (find_str found.0.value (encode_utf8_all text) 0) ∙ ap (λ (tree : Nested Re). is_some (find_str tree.value (encode_utf8_all text) 0)) whole.is in
     (λ some. search.0 (sym same ∙ some), λ is. same ∙ search.1 is)
@@ -59,6 +59,13 @@ answers_taken options parts answer alone good some reads text fine =
     let same : answer text ≡ re_answer found.0.0.value (length found.0.1) text = (rw (found.1) at reads) text fine in
     let is = read_taken options parts found.0 alone good found.1 (length found.0.1) text fine in
     (λ a. is.0 (sym (ap is_some same) ∙ a), λ takes. ap is_some same ∙ is.1 takes)
+
+-- ---- captures
+
+-- what an answer captures, if it is what the grammar reads
+captured_by : (options : OptionsView) (parts : List PartView) (found : Nested Re × Names) (whole : WholeNamed (flat_map (part_regexp options) parts) (parts_sense options parts) _ found) → AllCaptureNothing parts
+    → (text : List ℕ) → IsTrue (all_scalars text) → IsSomeIfTaken options parts text (re_answer found.0.value (length found.1) text) → IsCaptured options parts text (re_answer found.0.value (length found.1) text)
+captured_by options parts found whole silent text fine taken = ?
 
 -- ---- values
 

@@ -1,35 +1,45 @@
 -- What the grammar of `regex` reads from `^` to `$` is found in exactly the texts that the items between them take.
-use Rattle.std.proofs.Common.{◌≡◌, ◌↔◌, ℕ, zero, suc, ◌+◌, ◌*◌, ◌<◌, ◌≤◌, List, [], ◌∷◌, ◌++◌, length, true, false, Some, None, IsSome, is_some, if◌then◌else◌, refl, sym, ap, ◌∙◌, subst, inl, inr, arith, length-append, append-nil, true≢false}
-use Rattle.std.proofs.lemmas.Bool.{cond-true}
+use Rattle.std.proofs.Common.{max, ap₂, map, option_map, ne_eqb, ◌==◌, ◌≡◌, ◌↔◌, ℕ, zero, suc, ◌+◌, ◌*◌, ◌<◌, ◌≤◌, List, [], ◌∷◌, ◌++◌, length, true, false, Some, None, IsSome, is_some, if◌then◌else◌, refl, sym, ap, ◌∙◌, subst, inl, inr, arith, length-append, append-nil, true≢false}
+use Rattle.std.proofs.lemmas.Bool.{cond-true, cond-false}
 use Rattle.std.proofs.lemmas.Option.{same_Some, slice_get_past, slice_get-get_or}
 use Rattle.std.proofs.lemmas.Str.{encodes-append, length-le-encodes, IsCharBoundary-start}
 use lib.Utf8.{scalars, encodes}
 use Rattle.regex.proofs.Utf8Lemmas.{test_of_IsCharBoundary}
 use Rattle.regex_hir.proofs.AttemptLemmas.{attempt_complete, attempt_sound, cond_some, option_and_then_some}
 use Rattle.regex_hir.proofs.FindLemmas.{IsFirst-of_first_between, first_between_here}
-use Rattle.regex_hir.proofs.OptionLemmas.{value_of_IsSome}
+use Rattle.regex_hir.proofs.OptionLemmas.{option_or-None, value_of_IsSome}
 use Rattle.regex_hir.proofs.TextLemmas.{byte_before-zero, byte_before-add-one}
-use Rattle.regex_hir.specs.Find.{Match, find_str}
+use Rattle.regex_hir.specs.Find.{Match, find_str, last_write, slot_of}
 use Rattle.regex_hir.specs.Looks.{holds, holds_between}
 use Rattle.regex_hir.specs.Matches.{Matches}
 use Rattle.regex_hir.specs.Meaning.{cat_all, alt_all}
-use Rattle.regex_hir.specs.Re.{Re, Rest, accept, attempt}
+use Rattle.regex_hir.specs.Re.{Re, Rest, Trace, accept, attempt}
 use Rattle.regex_hir.specs.Text.{is_boundary}
 use Rattle.regex_hir.specs.declared.look.Look.TheVariants.{Start, End}
 use Rattle.regex_syntax.proofs.BranchLemmas.{ends_branch, group_inside}
 use Rattle.regex_syntax.specs.Brackets.{Nested, join}
-use Rattle.regex_syntax.specs.Grammar.{Names, Place, atom, char_meaning, item, items, read}
+use Rattle.regex_syntax.proofs.GroupLemmas.{length-names_below}
+use Rattle.regex_syntax.specs.Grammar.{Names, Place, atom, char_meaning, item, items, names_below, read}
+use Rattle.regex_syntax.specs.Grammar as grammar
 use Rattle.regex_syntax.specs.Reading.{Text, first, is_at, is_empty}
 use Rattle.regex_syntax.specs.Verdict.{default_config}
+use Rattle.urlpattern_custom.proofs.Catching.{append_runs}
 use Rattle.urlpattern_custom.proofs.Denoting.{Denotes}
+use Rattle.urlpattern_custom.proofs.Runs.{Runs, attempt_runs}
+use Rattle.urlpattern_custom.proofs.Senses.{Sense, Fulfils}
 use Rattle.urlpattern_custom.proofs.GroupsOf.{one_branch}
-use Rattle.urlpattern_custom.proofs.ItemsOf.{AreItemsOf, at_text, items_go_on, items_stop, quantified, values}
+use Rattle.urlpattern_custom.proofs.ItemsOf.{AreItemsOf, append_count, at_text, items_go_on, items_stop, quantified, values, values_append}
 use Rattle.urlpattern_custom.proofs.Takes.{Takes, matches_takes, nothing_in, takes_matches}
 use Rattle.urlpattern_meaning.specs.Dialect.{Once}
 use Rattle.urlpattern_regex.proofs.AtomsRead.{full}
 use Rattle.urlpattern_regex.proofs.ItemsRead.{Free}
 use Rattle.urlpattern_regex.proofs.TreeTextsRead.{first_line, last_line}
-use Rattle.urlpattern_regex.proofs.WayAnswers.{at}
+use Rattle.urlpattern_regex.proofs.GroupSlots.{Shown, Spans, text_at}
+use Rattle.urlpattern_regex.proofs.WayAnswers.{Writes, after_writes, at}
+use Rattle.urlpattern_meaning.specs.PartMeaning.{Captures}
+use Rattle.regex.specs.Writes.{both, group_of}
+use Rattle.std.specs.List.{range_with_len}
+use Rattle.std.specs.Option.{option_or}
 
 -- ---- what is read
 
@@ -52,15 +62,15 @@ whole_is found all part parts own more e f g h i =
     e
     ∙ ap (λ items. join alt_all (join cat_all items ∷ [])) (f ∙ ap (λ first. first ∷ parts) g ∙ ap (λ rest. first_line ∷ rest) (h ∙ ap (λ last. own ++ last) i))
 
-module _ (t : Text) (Is : List ℕ → Type 0) (a : AreItemsOf t Is) where
+module _ (t : Text) (s : Sense) (a : AreItemsOf t s) where
   abbrev inside : Text
   inside = t ++ 36 ∷ []
 
-  -- what is found begins with such items
+  -- what is found is such items between the lines, with as many groups
   pub record WholeFound (found : Nested Re) : Type 0 where
     pub own : List (Nested Re)
     pub is : found ≡ between_lines own
-    pub denotes : Denotes (cat_all (values own)) Is
+    pub fulfils : Fulfils s 1 (cat_all (values own))
 
   last_read : (n : ℕ) (names : Names) (more : List (Nested Re)) (end : Place) → items n (at_text names (36 ∷ [])) ≡ Some (more, end) → (more ≡ last_line ∷ []) × (is_at "|" end.text ≡ false)
   unfolding first atom char_meaning
@@ -72,9 +82,10 @@ module _ (t : Text) (Is : List ℕ → Type 0) (a : AreItemsOf t Is) where
         ap (λ (p : Place). is_at "|" p.text) stop.1,
       )
 
-  inside_read : (n : ℕ) (names : Names) (found : Nested Re) (end : Place) → group_inside n (at_text names (94 ∷ inside)) ≡ Some (found, end) → WholeFound found
+  inside_read : (n : ℕ) (found : Nested Re) (end : Place) → group_inside n (at_text (None ∷ []) (94 ∷ inside)) ≡ Some (found, end) → WholeFound found
   unfolding first atom char_meaning
-  inside_read n names found end e =
+  inside_read n found end e =
+      let names : Names = None ∷ [] in
       let branch = one_branch n (at_text names (94 ∷ inside)) found end e in
       let begins : ends_branch (94 ∷ inside) ≡ false = rw (full 94 inside) refl in
       let is = items_go_on branch.steps names (94 ∷ inside) branch.parts branch.after begins branch.read_items in
@@ -84,17 +95,34 @@ module _ (t : Text) (Is : List ℕ → Type 0) (a : AreItemsOf t Is) where
       record {
         own = items_found.own;
         is = whole_is found branch.parts is.part is.parts items_found.own items_found.more (branch.goes last.1).0 is.all leaf.0 items_found.cut last.0;
-        denotes = items_found.denotes;
+        fulfils = items_found.fulfils;
       }
 
-  pub whole_read : (found : Nested Re × Names) → read default_config (94 ∷ inside) ≡ Some found → WholeFound found.0
+  -- the pattern, and how many names it has
+  pub record WholeNamed (found : Nested Re × Names) : Type 0 where
+    pub pattern : WholeFound found.0
+    pub numbers : s.Known → length found.1 ≡ 1 + s.count
+
+  named : (tree : Nested Re) (names : Names) → WholeFound tree → WholeNamed (tree, names_below tree.value names (max 1 (grammar.group_count tree.value)))
+  named tree names w = record {
+    pattern = w;
+    numbers = λ k.
+        omega (
+          arith,
+          length-names_below tree.value names (max 1 (grammar.group_count tree.value)),
+          ap (λ (other : Nested Re). grammar.group_count other.value) w.is,
+          append_count w.own (last_line ∷ []),
+          w.fulfils.numbered k,
+        );
+  }
+
+  pub whole_read : (found : Nested Re × Names) → read default_config (94 ∷ inside) ≡ Some found → WholeNamed found
   unfolding read
   whole_read found e =
       let n = 2 * length (94 ∷ inside) + 2 in
       let whole = option_and_then_some _ (group_inside n (at_text (None ∷ []) (94 ∷ inside))) found e in
       let ended = cond_some (is_empty whole.0.1.text) _ found whole.2 in
-      let same : whole.0.0 ≡ found.0 = ap (λ (result : Nested Re × Names). result.0) (same_Some _ _ ended.1) in
-      subst WholeFound same (inside_read n (None ∷ []) whole.0.0 whole.0.1 whole.1)
+      subst WholeNamed (same_Some _ _ ended.1) (named whole.0.0 whole.0.1.names (inside_read n whole.0.0 whole.0.1 whole.1))
 
 -- ---- where it is found
 
@@ -179,3 +207,61 @@ module _ (own : List (Nested Re)) (Is : List ℕ → Type 0) (d : Denotes (cat_a
 
   pub search_is : IsSome (find_str whole hay 0) ↔ Is text
   search_is = (λ some. let m = value_of_IsSome (find_str whole hay 0) some in found_is m.0 m.1, is_found)
+
+-- ---- what its groups capture
+
+group_slot : (m : Match) (k : ℕ) → 2 ≤ k → slot_of m k ≡ last_write m.trace.writes k
+unfolding slot_of
+group_slot m k high =
+    ap₂ option_or
+    (ap (option_or (last_write m.trace.writes k)) (cond-false (1 == k) (Some m.trace.end) None (ne_eqb 1 k (omega arith))) ∙ option_or-None _)
+    (cond-false (0 == k) (Some m.start) None (ne_eqb 0 k (omega arith)))
+    ∙ option_or-None _
+
+texts_shown : (hay : List ℕ) (m : Match) (g : ℕ) (captures : Captures) → 1 ≤ g → Spans hay g captures m.trace.writes → map (λ k. option_map (text_at hay) (group_of m k)) (range_with_len g (length captures)) ≡ captures
+texts_shown hay m g [] some s = refl
+texts_shown hay m g (c ∷ captures) some s =
+    ap₂ ◌∷◌
+    (ap₂ (λ a b. option_map (text_at hay) (both a b)) (group_slot m (2 * g) (omega arith)) (group_slot m (2 * g + 1) (omega arith)) ∙ s.0)
+    (texts_shown hay m (g + 1) captures (omega arith) (subst (λ n. Spans hay n captures m.trace.writes) (omega arith) s.1))
+
+module _ (own : List (Nested Re)) (s : Sense) (f : Fulfils s 1 (cat_all (values own))) (known : s.Known) (text : List ℕ) (good : scalars text ≡ true) where
+  abbrev bytes : List ℕ
+  bytes = encodes text
+
+  abbrev pattern : Re
+  pattern = (between_lines own).value
+
+  -- the whole text is taken with these captures, which the writes show
+  abbrev IsCaught : Writes → Type 0
+  IsCaught writes = (captures : Captures) × s.Cap text captures × (length captures ≡ s.count) × Shown bytes 1 captures writes
+
+  -- the line at the end writes nothing
+  ends_run : (k j : ℕ) (writes : Writes) → Runs bytes (cat_all (last_line.value ∷ [])) k j writes → (holds End bytes k ≡ true) × (writes ≡ [])
+  ends_run k j writes (e, last, nothing, ((ended, here), no_last), (stays, no_more), both_are) = (ended, both_are ∙ ap₂ (λ (x y : Writes). x ++ y) no_last no_more)
+
+  run_is : (i j : ℕ) (writes : Writes) → i ≤ length bytes → Runs bytes pattern i j writes → IsCaught writes
+  run_is i j writes le (inl (l, none, more, ((start, same), no_first), run, all)) =
+      let zero_is : l ≡ 0 = same ∙ at_zero bytes i le start in
+      let split = append_runs bytes (values own) (last_line.value ∷ []) l j more (subst (λ trees. Runs bytes (cat_all trees) l j more) (values_append own (last_line ∷ [])) run) in
+      let last = ends_run split.0 j split.2 split.4 in
+      let c = (f.catches known).sound text good [] text refl split.0 split.1 (subst (λ h. Runs bytes (cat_all (values own)) h split.0 split.1) zero_is split.3) in
+      let ended : holds End bytes (at c.taken) ≡ true = ap (holds End bytes) (sym c.ends) ∙ last.0 in
+      let whole_text : text ≡ c.taken = all_taken own s.Is f.denotes text good c.taken c.rest c.cut ended in
+      let written : writes ≡ split.1 = all ∙ ap (λ (ws : Writes). ws ++ more) no_first ∙ split.5 ∙ ap (λ ws. split.1 ++ ws) last.1 ∙ append-nil split.1 in
+      (c.captures, subst (λ t. s.Cap t c.captures) (sym whole_text) c.is, c.counted, subst (λ ws. Shown bytes 1 c.captures ws) (sym written) c.shown)
+  run_is i j writes le (inr none) = absurd (nothing_in none.0.0 none.0.2)
+
+  pub found_captures : (m : Match) → find_str pattern bytes 0 ≡ Some m → s.Cap text (map (λ k. option_map (text_at bytes) (group_of m k)) (range_with_len 1 s.count))
+  unfolding find_str
+  found_captures m e =
+      let first = IsFirst-of_first_between (λ i. if is_boundary bytes i then attempt bytes pattern accept i else None) 0 (length bytes) m e in
+      let here = cond_some (is_boundary bytes m.start) (attempt bytes pattern accept m.start) m.trace first.here in
+      let c = attempt_runs bytes pattern accept m.start m.trace here.1 in
+      let writes : m.trace.writes ≡ c.own =
+      ap (λ (t : Trace). t.writes) c.all ∙ ap (λ (t : Trace). c.own ++ t.writes) (sym (same_Some _ _ c.gave)) ∙ append-nil c.own in
+      let caught = run_is m.start c.at c.own first.to c.leads in
+      let texts = texts_shown bytes m 1 caught.0 (omega arith) (subst (Spans bytes 1 caught.0) (sym writes) caught.3.1) in
+      let all : map (λ k. option_map (text_at bytes) (group_of m k)) (range_with_len 1 s.count) ≡ caught.0 =
+      ap (λ n. map (λ k. option_map (text_at bytes) (group_of m k)) (range_with_len 1 n)) (sym caught.2) ∙ texts in
+      subst (s.Cap text) (sym all) caught.1

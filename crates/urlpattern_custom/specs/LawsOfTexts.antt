@@ -1,5 +1,5 @@
 -- Laws on the texts that custom regular expressions, parts, values of an engine and matchers take.
-use Rattle.std.specs.Prelude.{⊤, ◌≡◌, ◌↔◌, ℕ, ◌^◌, ◌≤◌, false, List, ◌++◌, length, codes, Option, IfSome, IsSome, IsTrue}
+use Rattle.std.specs.Prelude.{⊤, ◌≡◌, ◌↔◌, ℕ, ◌^◌, ◌≤◌, false, List, ◌++◌, length, codes, Option, Some, None, IfSome, IsSome, IsTrue}
 use Rattle.std.specs.Str.{all_scalars}
 use Rattle.regex_syntax.specs.Brackets.{join}
 use Rattle.regex_syntax.specs.Grammar.{Names, branches}
@@ -10,7 +10,8 @@ use Rattle.urlpattern_core.specs.FirstWays.{Keeping, Taking}
 use Rattle.urlpattern_core.specs.Generated.{AreGenerated}
 use Rattle.urlpattern_core.specs.declared.regexp.RegExp.{Ghosts as Engine}
 use Rattle.urlpattern_custom.specs.Expressions.{ExpressionTakes, TakesWhole, stands_alone}
-use Rattle.urlpattern_custom.specs.PartTexts.{AllStandAlone, PartsTake}
+use Rattle.urlpattern_custom.specs.PartTexts.{AllCaptureNothing, AllStandAlone, PartsTake}
+use Rattle.urlpattern_custom.specs.PartCaptures.{PartsCapture}
 use Rattle.urlpattern_meaning.specs.FirstAnswers.{TookText}
 use Rattle.urlpattern_meaning.specs.Matching.{EachAnswerIs, IsMadeOf, MatcherView}
 use Rattle.urlpattern_meaning.specs.PartMeaning.{Captures, PartsMean}
@@ -35,6 +36,11 @@ PartsTakeMeanings =
 abbrev pub IsSomeIfTaken : OptionsView → List PartView → (text : List ℕ) → Option Captures → Type 0
 IsSomeIfTaken options parts text result = IsSome result ↔ PartsTake options parts text
 
+-- the result is what the parts capture of the text, or `None` where they do not take it
+abbrev pub IsCaptured : OptionsView → List PartView → (text : List ℕ) → Option Captures → Type 0
+IsCaptured options parts text (Some captures) = PartsCapture options parts text captures
+IsCaptured options parts text None = ¬ PartsTake options parts text
+
 -- how long a regular expression may be
 abbrev pub Room : Type 1
 Room = (regexp : List ℕ) → Type 0
@@ -50,6 +56,13 @@ ValuesAnswerTaken {E} engine Keeps Fits =
     engine.IsMade value (regexp_text options parts) flags →
     (text : List ℕ) → IsTrue (all_scalars text) → IsSomeIfTaken options parts text (engine.answer value text)
 
+-- the same, of parts whose custom ones capture nothing themselves, with what is captured
+abbrev pub ValuesCapture : {E : Type 0} → Engine E → Keeping → Room → Type 0
+ValuesCapture {E} engine Keeps Fits =
+    (options : OptionsView) (flags : List ℕ) (parts : List PartView) (value : E) → Keeps flags → AllStandAlone parts → AllCaptureNothing parts → Fits (regexp_text options parts) →
+    engine.IsMade value (regexp_text options parts) flags →
+    (text : List ℕ) → IsTrue (all_scalars text) → IsCaptured options parts text (engine.answer value text)
+
 -- The matcher is made by the engine of parts whose custom ones stand alone, case is kept, and the engine took the text, in this sense,
 -- where it was needed.
 pub record IsTakenAlone {E : Type 0} (engine : Engine E) (Fits : (regexp : List ℕ) → Type 0) (Took : Taking E) (options : OptionsView) (flags : List ℕ) (parts : List PartView) (matcher : MatcherView E) : Type 0 where
@@ -64,6 +77,12 @@ abbrev pub MatchersAnswerTaken : {E : Type 0} → Engine E → Room → Taking E
 MatchersAnswerTaken {E} engine Fits Took =
     (options : OptionsView) (flags : List ℕ) (parts : List PartView) (matcher : MatcherView E) → IsTakenAlone engine Fits Took options flags parts matcher →
     EachAnswerIs engine.answer matcher (IsSomeIfTaken options parts)
+
+-- the same, of parts whose custom ones capture nothing themselves, with what is captured
+abbrev pub MatchersCapture : {E : Type 0} → Engine E → Room → Taking E → Type 0
+MatchersCapture {E} engine Fits Took =
+    (options : OptionsView) (flags : List ℕ) (parts : List PartView) (matcher : MatcherView E) → IsTakenAlone engine Fits Took options flags parts matcher → AllCaptureNothing parts →
+    EachAnswerIs engine.answer matcher (IsCaptured options parts)
 
 -- the engine was given flags that ignore case where the options do, and took the text where it was needed
 abbrev pub TookAlone : {E : Type 0} → Taking E
