@@ -10,10 +10,11 @@ use Rattle.urlpattern_core.specs.FirstWays.{KeepsCase}
 use Rattle.urlpattern_core.specs.Regexes.{regex_engine}
 use Rattle.urlpattern_custom.proofs.CustomGroups.{custom_inside, whole_takes}
 use Rattle.urlpattern_custom.proofs.ItemsOf.{at_text}
+use Rattle.urlpattern_custom.proofs.MatchersCapture.{matchers_capture}
 use Rattle.urlpattern_custom.proofs.MatchersTaken.{matchers_taken, shorter_room}
-use Rattle.urlpattern_custom.proofs.ValuesTaken.{pattern_values_taken, regex_values_taken}
+use Rattle.urlpattern_custom.proofs.ValuesTaken.{pattern_values_capture, pattern_values_taken, regex_values_capture, regex_values_taken}
 use Rattle.urlpattern_custom.specs.Expressions.{ExpressionTakes, TakesWhole}
-use Rattle.urlpattern_custom.specs.LawsOfTexts.{HasRoom, MatchersAnswerTaken, ReadsInGroups, TookAlone}
+use Rattle.urlpattern_custom.specs.LawsOfTexts.{HasRoom, MatchersAnswerTaken, MatchersCapture, ReadsInGroups, TookAlone}
 use Rattle.urlpattern_engine.specs.PatternRegexps.{pattern_engine}
 use Rattle.urlpattern_meaning.specs.FirstAnswers.{TookText}
 use Rattle.urlpattern_meaning.specs.Matching.{InnerView, Literal, RegExp, SingleCapture}
@@ -47,3 +48,9 @@ regex_matchers_taken = matchers_taken regex_engine (λ flags. ⊤) (λ regexp. �
 
 pub pattern_matchers_taken : MatchersAnswerTaken pattern_engine HasRoom TookAlone
 pattern_matchers_taken = matchers_taken pattern_engine KeepsCase HasRoom _ pattern_values_taken shorter_room (λ options flags inner kept took. took_any inner (KeepsCase flags) (took.0 ∙ kept) took.1)
+
+pub regex_matchers_capture : MatchersCapture regex_engine (λ regexp. ⊤) (λ options flags. TookText (λ value. ⊤))
+regex_matchers_capture = matchers_capture regex_engine (λ flags. ⊤) (λ regexp. ⊤) _ regex_values_capture (λ options parts middle le fits. tt) (λ options flags inner kept took. took)
+
+pub pattern_matchers_capture : MatchersCapture pattern_engine HasRoom TookAlone
+pattern_matchers_capture = matchers_capture pattern_engine KeepsCase HasRoom _ pattern_values_capture shorter_room (λ options flags inner kept took. took_any inner (KeepsCase flags) (took.0 ∙ kept) took.1)

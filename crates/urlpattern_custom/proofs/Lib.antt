@@ -19,5 +19,6 @@ pub mod WholeRead
 pub mod ValuesTaken
 pub mod TakenMeanings
 pub mod MatchersTaken
+pub mod MatchersCapture
 pub mod CustomLaws
 pub mod ExpressionExamples

@@ -59,7 +59,7 @@ end_takes options (Some part) IsThere text goes = (
 )
 
 -- the middle of the text is what the rest takes
-abbrev TakesBetween : OptionsView → (front : Option PartView) → List PartView → (back : Option PartView) → List ℕ → Type 0
+abbrev pub TakesBetween : OptionsView → (front : Option PartView) → List PartView → (back : Option PartView) → List ℕ → Type 0
 TakesBetween options front middle back text = (inner : List ℕ) × (text ≡ end_text front ++ inner ++ end_text back) × PartsTake options middle inner
 
 three_take : (options : OptionsView) (parts others last : List PartView) → AreSameTexts (PartsTake options (parts ++ others ++ last)) (Joined (Joined (PartsTake options parts) (PartsTake options others)) (PartsTake options last))
@@ -67,7 +67,7 @@ three_take options parts others last =
     same_then _ _ _ (takes_append options (parts ++ others) last)
     (joined_same (PartsTake options (parts ++ others)) _ (PartsTake options last) (PartsTake options last) (takes_append options parts others) (same_texts (PartsTake options last)))
 
-peeled_takes : (options : OptionsView) (parts : List PartView) (front : Option PartView) (middle : List PartView) (back : Option PartView) (text : List ℕ) → ArePeeled parts front middle back → IsTrue (all_scalars text) →
+pub peeled_takes : (options : OptionsView) (parts : List PartView) (front : Option PartView) (middle : List PartView) (back : Option PartView) (text : List ℕ) → ArePeeled parts front middle back → IsTrue (all_scalars text) →
     PartsTake options parts text ↔ TakesBetween options front middle back text
 peeled_takes options parts front middle back text peeled fine =
     let three = three_take options (option_to_list front) middle (option_to_list back) text fine in (
@@ -86,7 +86,7 @@ peeled_takes options parts front middle back text peeled fine =
 
 -- ---- a matcher that asks an engine
 
-engine_taken : {E : Type 0} (answer : E → List ℕ → Option Captures) (options : OptionsView) (parts : List PartView) (front : Option PartView) (middle : List PartView) (back : Option PartView) (matcher : MatcherView E) (engine : E) (text : List ℕ) (result : Option Captures) →
+pub engine_taken : {E : Type 0} (answer : E → List ℕ → Option Captures) (options : OptionsView) (parts : List PartView) (front : Option PartView) (middle : List PartView) (back : Option PartView) (matcher : MatcherView E) (engine : E) (text : List ℕ) (result : Option Captures) →
     ArePeeled parts front middle back → HasEnds options matcher (end_text front) (end_text back) → matcher.inner ≡ RegExp (Ok engine) → options.ignore_case ≡ false →
     ((t : List ℕ) → IsTrue (all_scalars t) → IsSomeIfTaken options middle t (answer engine t)) → IsTrue (all_scalars text) → Answers answer matcher text result → IsSomeIfTaken options parts text result
 engine_taken answer options parts front middle back matcher engine text (Some captures) peeled ends is case taken fine (inner, has_middle, accepts) =
@@ -112,7 +112,7 @@ fast_one : {E : Type 0} (IsEngine : List ℕ → Result E ErrorView → Type 0) 
 fast_one IsEngine options Regexp modifier front part back matcher (engine, is, made) fast e = subst (λ i. IsFast i) (ap (λ m. m.inner) made) fast
 fast_one IsEngine options kind modifier front part back matcher made fast e = true≢false (sym (ap is_custom e))
 
-fast_plain : {E : Type 0} (IsEngine : List ℕ → Result E ErrorView → Type 0) (options : OptionsView) (front : List ℕ) (middle : List PartView) (back : List ℕ) (matcher : MatcherView E) →
+pub fast_plain : {E : Type 0} (IsEngine : List ℕ → Result E ErrorView → Type 0) (options : OptionsView) (front : List ℕ) (middle : List PartView) (back : List ℕ) (matcher : MatcherView E) →
     IsMadeBetween IsEngine options front middle back matcher → IsFast matcher.inner → All IsNotCustom middle
 fast_plain IsEngine options front [] back matcher made fast = All-nil IsNotCustom
 fast_plain IsEngine options front (part ∷ []) back matcher made fast = All-cons IsNotCustom part [] (fast_one IsEngine options part.kind part.modifier front part back matcher made fast) (All-nil IsNotCustom)
@@ -140,13 +140,13 @@ end_plain : (end : Option PartView) (IsThere : Type 0) → IsRemoved end IsThere
 end_plain None IsThere goes = All-nil IsNotCustom
 end_plain (Some part) IsThere goes = All-cons IsNotCustom part [] (plain_kind part.kind part.modifier goes) (All-nil IsNotCustom)
 
-all_plain : (parts : List PartView) (front : Option PartView) (middle : List PartView) (back : Option PartView) → ArePeeled parts front middle back → All IsNotCustom middle → All IsNotCustom parts
+pub all_plain : (parts : List PartView) (front : Option PartView) (middle : List PartView) (back : Option PartView) → ArePeeled parts front middle back → All IsNotCustom middle → All IsNotCustom parts
 all_plain parts front middle back peeled h =
     subst (λ ps. All IsNotCustom ps) (sym peeled.cut)
     (all_append IsNotCustom (option_to_list front ++ middle) (option_to_list back)
     (all_append IsNotCustom (option_to_list front) middle (end_plain front _ peeled.front_removed) h) (end_plain back _ peeled.back_removed))
 
-middle_all : (P : PartView → Type 0) (parts : List PartView) (front : Option PartView) (middle : List PartView) (back : Option PartView) → ArePeeled parts front middle back → All P parts → All P middle
+pub middle_all : (P : PartView → Type 0) (parts : List PartView) (front : Option PartView) (middle : List PartView) (back : Option PartView) → ArePeeled parts front middle back → All P parts → All P middle
 middle_all P parts front middle back peeled h =
     all_right P (option_to_list front) middle (all_left P (option_to_list front ++ middle) (option_to_list back) (subst (λ ps. All P ps) peeled.cut h))
 
@@ -165,7 +165,7 @@ module _ (options : OptionsView) where
   right_length [] others = omega arith
   right_length (part ∷ parts) others = omega (arith, right_length parts others, length-append (part_regexp options part) (written (parts ++ others)))
 
-  middle_length : (parts : List PartView) (front : Option PartView) (middle : List PartView) (back : Option PartView) → ArePeeled parts front middle back → length (written middle) ≤ length (written parts)
+  pub middle_length : (parts : List PartView) (front : Option PartView) (middle : List PartView) (back : Option PartView) → ArePeeled parts front middle back → length (written middle) ≤ length (written parts)
   middle_length parts front middle back peeled =
       omega (arith, right_length (option_to_list front) middle, left_length (option_to_list front ++ middle) (option_to_list back), ap (λ ps. length (written ps)) peeled.cut)
 
@@ -183,14 +183,14 @@ made_one IsEngine options FullWildcard modifiers.None front part back matcher va
 made_one IsEngine options SegmentWildcard modifiers.None front part back matcher value made e = absurd (not_fast matcher.inner (SingleCapture options.delimiter false) value (ap (λ m. m.inner) made) tt e)
 made_one IsEngine options kind modifier front part back matcher value (other, is, made) e = made_value IsEngine _ value other is (sym e ∙ ap (λ m. m.inner) made)
 
-made_between : {E : Type 0} (IsEngine : List ℕ → Result E ErrorView → Type 0) (options : OptionsView) (front : List ℕ) (middle : List PartView) (back : List ℕ) (matcher : MatcherView E) (value : Result E ErrorView) →
+pub made_between : {E : Type 0} (IsEngine : List ℕ → Result E ErrorView → Type 0) (options : OptionsView) (front : List ℕ) (middle : List PartView) (back : List ℕ) (matcher : MatcherView E) (value : Result E ErrorView) →
     IsMadeBetween IsEngine options front middle back matcher → matcher.inner ≡ RegExp value → IsEngine (regexp_text options middle) value
 made_between IsEngine options front [] back matcher value made e = absurd (not_fast matcher.inner (Literal (front ++ back)) value (ap (λ m. m.inner) made) tt e)
 made_between IsEngine options front (part ∷ []) back matcher value made e = made_one IsEngine options part.kind part.modifier front part back matcher value made e
 made_between IsEngine options front (part ∷ next ∷ parts) back matcher value (other, is, made) e = made_value IsEngine _ value other is (sym e ∙ ap (λ m. m.inner) made)
 
 -- what needs no engine
-fast_taken : {E : Type 0} (answer : E → List ℕ → Option Captures) (options : OptionsView) (parts : List PartView) (matcher : MatcherView E) (text : List ℕ) (result : Option Captures) → All IsNotCustom parts →
+pub fast_taken : {E : Type 0} (answer : E → List ℕ → Option Captures) (options : OptionsView) (parts : List PartView) (matcher : MatcherView E) (text : List ℕ) (result : Option Captures) → All IsNotCustom parts →
     ((captures : Captures) → Matches answer matcher text captures ↔ PartsMean options parts text captures) → Answers answer matcher text result → IsSomeIfTaken options parts text result
 fast_taken answer options parts matcher text (Some captures) plain same matches = (λ some. means_takes options parts text captures ((same captures).0 matches), λ takes. refl)
 fast_taken answer options parts matcher text None plain same never = (

@@ -1,5 +1,5 @@
 -- A value of an engine answers captures exactly to the texts that the parts take that it was made of.
-use Rattle.std.proofs.Common.{◌≡◌, ℕ, suc, ◌^◌, ◌≤◌, List, ◌++◌, length, Bool, true, false, Option, Some, None, IsSome, IsSomeAnd, is_some, option_map, refl, sym, ap, ◌∙◌, subst, arith, codes, length-append, encode_utf8_all}
+use Rattle.std.proofs.Common.{◌-◌, true≢false, ◌≡◌, ℕ, suc, ◌^◌, ◌≤◌, List, ◌++◌, length, Bool, true, false, Option, Some, None, IsSome, IsSomeAnd, is_some, option_map, refl, sym, ap, ◌∙◌, subst, arith, codes, length-append, encode_utf8_all}
 use Rattle.std.proofs.lemmas.Str.{IsUtf8-string_bytes, scalars-chars}
 use Rattle.std.specs.declared.alloc.Global.{Global}
 use Rattle.std.specs.List.{flat_map}
@@ -9,18 +9,23 @@ use lib.Utf8.{scalars}
 use Rattle.regex.specs.Strings.{regex_source}
 use Rattle.regex.specs.declared.string.regex.Regex.{Regex}
 use Rattle.regex_hir.specs.declared.hir.Hir.{Hir}
-use Rattle.regex_hir.specs.Find.{find_str}
+use Rattle.regex.specs.Writes.{group_of}
+use Rattle.regex_hir.specs.Find.{Match, find_str}
+use Rattle.regex_hir.specs.Meaning.{cat_all}
 use Rattle.regex_hir.specs.Re.{Re}
 use Rattle.regex_hir.proofs.OptionLemmas.{value_of_IsSome}
 use Rattle.regex_syntax.specs.Brackets.{Nested}
 use Rattle.regex_syntax.specs.Grammar.{Names, read}
 use Rattle.regex_syntax.specs.Verdict.{Reads, default_config}
 use Rattle.urlpattern_core.specs.FirstWays.{KeepsCase}
-use Rattle.urlpattern_core.specs.Regexes.{IsRegexOf, regex_engine}
-use Rattle.urlpattern_custom.proofs.PartItems.{parts_items, parts_sense}
-use Rattle.urlpattern_custom.proofs.WholeRead.{between_lines, search_is, whole_read}
-use Rattle.urlpattern_custom.specs.LawsOfTexts.{HasRoom, IsSomeIfTaken, ValuesAnswerTaken}
-use Rattle.urlpattern_custom.specs.PartTexts.{AllStandAlone, PartsTake}
+use Rattle.urlpattern_core.specs.Regexes.{IsRegexOf, group_texts, regex_engine}
+use Rattle.urlpattern_custom.proofs.PartItems.{parts_count, parts_items, parts_sense}
+use Rattle.urlpattern_custom.proofs.ItemsOf.{values}
+use Rattle.urlpattern_custom.proofs.Senses.{Fulfils}
+use Rattle.urlpattern_custom.proofs.WholeRead.{between_lines, found_captures, search_is, whole_read}
+use Rattle.urlpattern_custom.specs.LawsOfTexts.{HasRoom, IsCaptured, IsSomeIfTaken, ValuesAnswerTaken, ValuesCapture}
+use Rattle.urlpattern_custom.specs.PartCaptures.{PartsCapture}
+use Rattle.urlpattern_custom.specs.PartTexts.{AllCaptureNothing, AllStandAlone, PartsTake}
 use Rattle.urlpattern_engine.proofs.EngineLaws.{pattern_values_read, regex_values_read}
 use Rattle.urlpattern_engine.specs.Automatons.{config_for}
 use Rattle.urlpattern_engine.specs.PatternRegexps.{IsExpressionOf, pattern_engine}
@@ -62,10 +67,34 @@ answers_taken options parts answer alone good some reads text fine =
 
 -- ---- captures
 
--- what an answer captures, if it is what the grammar reads
-captured_by : (options : OptionsView) (parts : List PartView) (found : Nested Re × Names) (whole : WholeNamed (flat_map (part_regexp options) parts) (parts_sense options parts) _ found) → AllCaptureNothing parts
-    → (text : List ℕ) → IsTrue (all_scalars text) → IsSomeIfTaken options parts text (re_answer found.0.value (length found.1) text) → IsCaptured options parts text (re_answer found.0.value (length found.1) text)
-captured_by options parts found whole silent text fine taken = ?
+-- what is found in the text captures what the parts capture
+captured_by : (options : OptionsView) (parts : List PartView) (own : List (Nested Re)) → Fulfils (parts_sense options parts) 1 (cat_all (values own)) → AllCaptureNothing parts → (count : ℕ) → count ≡ parts_count parts
+    → (text : List ℕ) → IsTrue (all_scalars text) → (o : Option Match) → find_str (between_lines own).value (encode_utf8_all text) 0 ≡ o
+    → IsSomeIfTaken options parts text (option_map (λ m. group_texts (encode_utf8_all text) count (group_of m)) o) → IsCaptured options parts text (option_map (λ m. group_texts (encode_utf8_all text) count (group_of m)) o)
+captured_by options parts own f silent count is text fine None e taken = λ takes. true≢false (sym (taken.1 takes))
+captured_by options parts own f silent count is text fine (Some m) e taken =
+    subst (λ n. PartsCapture options parts text (group_texts (encode_utf8_all text) n (group_of m))) (sym is) (found_captures own (parts_sense options parts) f silent text fine m e)
+
+read_captured : (options : OptionsView) (parts : List PartView) (found : Nested Re × Names) → AllStandAlone parts → AllCaptureNothing parts → scalars (regexp_text options parts) ≡ true → read default_config (regexp_text options parts) ≡ Some found
+    → (text : List ℕ) → IsTrue (all_scalars text) → IsCaptured options parts text (re_answer found.0.value (length found.1) text)
+read_captured options parts found alone silent good reads text fine =
+    let t = flat_map (part_regexp options) parts in
+    let inside = scalars_parts t (codes "$") (scalars_parts (codes "^") (t ++ codes "$") good).1 in
+    let named = whole_read t (parts_sense options parts) (parts_items options parts alone inside.0) found reads in
+    let count : length found.1 - 1 ≡ parts_count parts = omega (arith, named.numbers silent) in
+    let same : find_str (between_lines named.pattern.own).value (encode_utf8_all text) 0 ≡ find_str found.0.value (encode_utf8_all text) 0 =
+    ap (λ (tree : Nested Re). find_str tree.value (encode_utf8_all text) 0) (sym named.pattern.is) in
+    captured_by options parts named.pattern.own named.pattern.fulfils silent (length found.1 - 1) count text fine (find_str found.0.value (encode_utf8_all text) 0) same
+    (read_taken options parts found alone good reads (length found.1) text fine)
+
+answers_captured : (options : OptionsView) (parts : List PartView) (answer : List ℕ → Option Captures) → AllStandAlone parts → AllCaptureNothing parts → scalars (regexp_text options parts) ≡ true
+    → IsSome (read default_config (regexp_text options parts))
+    → IfSome (read default_config (regexp_text options parts)) (λ (pattern, names). (text : List ℕ) → IsTrue (all_scalars text) → answer text ≡ re_answer pattern.value (length names) text)
+    → (text : List ℕ) → IsTrue (all_scalars text) → IsCaptured options parts text (answer text)
+answers_captured options parts answer alone silent good some reads text fine =
+    let found = value_of_IsSome (read default_config (regexp_text options parts)) some in
+    let same : answer text ≡ re_answer found.0.0.value (length found.0.1) text = (rw (found.1) at reads) text fine in
+    subst (IsCaptured options parts text) (sym same) (read_captured options parts found.0 alone silent good found.1 text fine)
 
 -- ---- values
 
@@ -132,4 +161,17 @@ pub pattern_values_taken : ValuesAnswerTaken pattern_engine KeepsCase HasRoom
 pattern_values_taken options flags parts value keeps alone room made =
     let regexp = regexp_text options parts in
     answers_taken options parts (pattern_engine.answer value) alone (expression_good value.ignore_case regexp value.expression made.of_text)
+    (expression_some value.ignore_case regexp value.expression (made.by_flags ∙ keeps) made.of_text room) (pattern_values_read regexp flags value keeps made)
+
+-- ---- what values capture
+
+pub regex_values_capture : ValuesCapture regex_engine (λ flags. ⊤) (λ regexp. ⊤)
+regex_values_capture options flags parts regex any alone silent fits made =
+    let regexp = regexp_text options parts in
+    answers_captured options parts (regex_engine.answer regex) alone silent (text_good regex.pattern.source regexp made.of_text) (regex_reads regexp regex made) (regex_values_read regexp flags regex any made)
+
+pub pattern_values_capture : ValuesCapture pattern_engine KeepsCase HasRoom
+pattern_values_capture options flags parts value keeps alone silent room made =
+    let regexp = regexp_text options parts in
+    answers_captured options parts (pattern_engine.answer value) alone silent (expression_good value.ignore_case regexp value.expression made.of_text)
     (expression_some value.ignore_case regexp value.expression (made.by_flags ∙ keeps) made.of_text room) (pattern_values_read regexp flags value keeps made)

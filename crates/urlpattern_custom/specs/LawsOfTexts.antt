@@ -32,6 +32,12 @@ PartsTakeMeanings =
     (options : OptionsView) (parts : List PartView) (text : List ℕ) → AreGenerated parts →
     PartsTake options parts text ↔ ((captures : Captures) × PartsMean options parts text captures)
 
+-- and they capture what they mean
+abbrev pub PartsCaptureMeanings : Type 0
+PartsCaptureMeanings =
+    (options : OptionsView) (parts : List PartView) (text : List ℕ) (captures : Captures) → AreGenerated parts →
+    PartsCapture options parts text captures ↔ PartsMean options parts text captures
+
 -- the result is captures exactly if the parts take the text
 abbrev pub IsSomeIfTaken : OptionsView → List PartView → (text : List ℕ) → Option Captures → Type 0
 IsSomeIfTaken options parts text result = IsSome result ↔ PartsTake options parts text

@@ -5,7 +5,7 @@
 ghost use Rattle.std.specs.Prelude.{⊤};
 ghost use Rattle.urlpattern_core.specs.Regexes.{regex_engine};
 ghost use Rattle.urlpattern_core.specs.FirstWays.{KeepsCase};
-ghost use Rattle.urlpattern_custom.specs.LawsOfTexts.{HasRoom, MatchersAnswerTaken, PartsTakeMeanings, ReadsInGroups, TookAlone, ValuesAnswerTaken};
+ghost use Rattle.urlpattern_custom.specs.LawsOfTexts.{HasRoom, MatchersAnswerTaken, MatchersCapture, PartsCaptureMeanings, PartsTakeMeanings, ReadsInGroups, TookAlone, ValuesAnswerTaken, ValuesCapture};
 ghost use Rattle.urlpattern_engine.specs.PatternRegexps.{pattern_engine};
 ghost use Rattle.urlpattern_meaning.specs.FirstAnswers.{TookText};
 
@@ -18,9 +18,10 @@ pub fn expressions_are_read_in_groups()
     ensures { ReadsInGroups }
 {}
 
-/// Parts of which none is custom take exactly the texts that they mean, whatever they capture.
+/// Parts of which none is custom take exactly the texts that they mean, and capture what they mean.
 pub fn parts_take_the_texts_that_they_mean()
-    ensures { PartsTakeMeanings }
+    ensures takes { PartsTakeMeanings }
+    ensures captures { PartsCaptureMeanings }
 {}
 
 /// A value of an engine that was made of the regular expression of parts answers captures to a text of characters exactly if the text
@@ -38,4 +39,21 @@ pub fn values_answer_the_texts_that_parts_take()
 pub fn matchers_answer_the_texts_that_parts_take()
     ensures own { MatchersAnswerTaken pattern_engine HasRoom TookAlone }
     ensures regex { MatchersAnswerTaken regex_engine (λ regexp. ⊤) (λ options flags. TookText (λ value. ⊤)) }
+{}
+
+/// A value of an engine answers what the parts capture, or `None` where they do not take the text: a custom part captures its copies
+/// without the first prefix and the last suffix, as any group.
+///
+/// It is asked of each custom expression that it stands alone and captures nothing itself. Of `PatternRegexp` it is asked that it was made
+/// without the flag `i`, of a regular expression of no more than 2³² characters.
+pub fn values_answer_what_parts_capture()
+    ensures own { ValuesCapture pattern_engine KeepsCase HasRoom }
+    ensures regex { ValuesCapture regex_engine (λ flags. ⊤) (λ regexp. ⊤) }
+{}
+
+/// A matcher answers what its parts capture to a text of characters without line feed, or `None` where they do not take it, custom parts
+/// among them, if case is kept and the engine took the regular expression where it was needed.
+pub fn matchers_answer_what_parts_capture()
+    ensures own { MatchersCapture pattern_engine HasRoom TookAlone }
+    ensures regex { MatchersCapture regex_engine (λ regexp. ⊤) (λ options flags. TookText (λ value. ⊤)) }
 {}
