@@ -1,15 +1,14 @@
 -- What the groups of a pattern capture, in the texts that it takes.
-use Rattle.std.proofs.Common.{◌≡◌, ◌↔◌, ℕ, zero, suc, ◌+◌, ◌*◌, List, [], ◌∷◌, ◌++◌, map, replicate, length, Bool, true, false, ◌&&◌, Option, Some, None, ◌⊎◌, inl, inr, ⊎_elim, refl, sym, ap, ap₂, ◌∙◌, subst, append_assoc, append-nil, arith, true≢false, length-append}
-use Rattle.std.proofs.lemmas.Bool.{and_parts, and_from}
+use Rattle.std.proofs.Common.{◌≡◌, ℕ, suc, ◌+◌, ◌*◌, List, [], ◌∷◌, ◌++◌, replicate, length, true, ◌&&◌, Option, Some, None, ◌⊎◌, inl, inr, ⊎_elim, refl, sym, ap, ap₂, ◌∙◌, subst, append_assoc, append-nil, arith, true≢false, length-append}
+use Rattle.std.proofs.lemmas.Bool.{and_parts}
 use Rattle.std.proofs.lemmas.List.{length-replicate}
 use lib.Utf8.{scalars, encodes}
 use Rattle.regex_hir.specs.Meaning.{cat_all}
 use Rattle.regex_hir.specs.Re.{Re, empty, literal, byte_in, char_in, look, cat, alt, group, plus}
-use Rattle.regex_syntax.specs.Brackets.{Nested}
 use Rattle.urlpattern_custom.proofs.Bare.{bare}
-use Rattle.urlpattern_custom.proofs.Denoting.{Texts, AreSameTexts, Denotes, good_cut}
+use Rattle.urlpattern_custom.proofs.Denoting.{Texts, Denotes, good_cut}
 use Rattle.urlpattern_custom.proofs.Runs.{RunRounds, one_run, next_run, Runs, run_matches}
-use Rattle.urlpattern_custom.proofs.Takes.{Takes, matches_takes, nothing_in}
+use Rattle.urlpattern_custom.proofs.Takes.{matches_takes, nothing_in}
 use Rattle.urlpattern_custom.specs.Expressions.{is_groupless}
 use Rattle.urlpattern_meaning.specs.PartMeaning.{Captures}
 use Rattle.urlpattern_meaning.specs.Ways.{Way}

@@ -1,15 +1,15 @@
 -- Expressions that stand alone, and expressions that do not.
-use Rattle.std.proofs.Common.{◌≡◌, true, false, codes, refl}
+use Rattle.std.proofs.Common.{◌≡◌, true, false, codes, refl, inl}
 use Rattle.std.specs.Str.{chars}
 use lib.Utf8.{encode}
 use Rattle.regex_hir.specs.Meaning.{repeat}
 use Rattle.regex_hir.specs.Text.{char_at, has_bytes_at}
 use Rattle.regex_syntax.specs.Brackets.{bracket, bracket_start, set_items, operations, operator, posix, item_or, set_item, member, single, range, unite, after_hyphen}
-use Rattle.regex_syntax.specs.Grammar.{read, branches, items, item, atom, char_meaning, piece_meaning, join_parts, with_repetitions, repetitions, bounds, counted_bounds, upper_bound, names_below}
+use Rattle.regex_syntax.specs.Grammar.{read, branches, items, item, atom, char_meaning, piece_meaning, join_parts, with_repetitions, repetitions, bounds, counted_bounds, upper_bound, names_below, opening, capture, set_flags}
 use Rattle.regex_syntax.specs.Reading.{first, skip, take_up_to, take_run, decimal}
 use Rattle.regex_syntax.specs.Sets.{verbatim, one_of, negate_if, case_fold, is_member}
 use Rattle.regex_syntax.specs.Escapes.{escape, one_letter, boundary}
-use Rattle.urlpattern_custom.specs.Expressions.{stands_alone}
+use Rattle.urlpattern_custom.specs.Expressions.{ExpressionTakes, captures_nothing, stands_alone}
 
 choices : stands_alone (codes "en|fr") ≡ true
 unfolding stands_alone read branches items item atom char_meaning join_parts with_repetitions repetitions first skip verbatim names_below char_at has_bytes_at chars encode
@@ -45,3 +45,24 @@ comment = refl
 unpaired : stands_alone (codes "a)(b") ≡ false
 unfolding stands_alone read branches items item atom char_meaning join_parts with_repetitions repetitions first skip verbatim
 unpaired = refl
+
+-- ---- captures
+
+no_capture : captures_nothing (codes "(?:a|b)+") ≡ true
+unfolding captures_nothing branches items item atom char_meaning join_parts with_repetitions repetitions bounds repeat first skip verbatim opening set_flags
+no_capture = refl
+
+captures : captures_nothing (codes "(a)") ≡ false
+unfolding captures_nothing branches items item atom char_meaning join_parts with_repetitions repetitions first skip verbatim opening capture
+captures = refl
+
+-- the group is not in the pattern, but the next one has number 2
+never_taken : captures_nothing (codes "(a){0}b") ≡ false
+unfolding captures_nothing branches items item atom char_meaning join_parts with_repetitions repetitions bounds counted_bounds upper_bound decimal take_run take_up_to repeat first skip verbatim opening capture
+never_taken = refl
+
+-- ---- texts
+
+takes_choice : ExpressionTakes (codes "en|fr") (codes "en")
+unfolding read branches items item atom char_meaning join_parts with_repetitions repetitions first skip verbatim names_below has_bytes_at encode
+takes_choice = inl (1, (refl, refl), (2, (refl, refl), refl))

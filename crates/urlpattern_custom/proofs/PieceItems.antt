@@ -25,7 +25,7 @@ use Rattle.urlpattern_custom.specs.PartTexts.{CapturesNothing, IsPieceOf, Stands
 use Rattle.urlpattern_meaning.specs.Dialect.{Character, Plain, Escaped, character_of, character_text, ZeroOrMore, LazyOneOrMore, Dot, AnyBut, Literal, AtomMeans, IsCharacter, IsClassCharacter, IsOneBut, atom_text}
 use Rattle.urlpattern_meaning.specs.PartMeaning.{IsWildcardText}
 use Rattle.urlpattern_meaning.proofs.PartTreeAllowed.{text_allowed, wildcard_allowed}
-use Rattle.urlpattern_meaning.proofs.PartTrees.{alone, character, segment_atom}
+use Rattle.urlpattern_meaning.proofs.PartTrees.{character, segment_atom}
 use Rattle.urlpattern_meaning.proofs.TreeMeaning.{alone_means}
 use Rattle.urlpattern_meaning.proofs.WildcardItems.{wildcard_stands}
 use Rattle.urlpattern_regex.proofs.AtomsRead.{itself, any_character, any_but, read_character, read_dot, read_class, differs}

@@ -1,15 +1,13 @@
 -- What a pattern takes and captures, and what has to be known for its captures.
-use Rattle.std.proofs.Common.{◌≡◌, ◌↔◌, ℕ, zero, suc, ◌+◌, List, [], ◌∷◌, ◌++◌, map, Bool, true, false, ◌&&◌, refl, sym, ap, ◌∙◌, subst, arith, max, true≢false}
+use Rattle.std.proofs.Common.{◌≡◌, ℕ, suc, ◌+◌, List, [], ◌++◌, true, refl, sym, ap, ◌∙◌, arith, max, true≢false}
 use Rattle.std.proofs.lemmas.Bool.{and_parts, and_from}
 use lib.Utf8.{scalars}
-use Rattle.regex_hir.specs.Meaning.{cat_all}
 use Rattle.regex_hir.specs.Re.{Re, empty, byte_in, cat, alt, group, plus}
 use Rattle.regex_syntax.specs.Brackets.{Nested}
 use Rattle.regex_syntax.specs.Grammar.{group_count}
-use Rattle.urlpattern_custom.proofs.Catching.{Caps, Catches, Only, Perhaps, Then, Whole, catches_alone, catches_append, catches_group, catches_last, catches_perhaps, catches_same, catches_silent}
-use Rattle.urlpattern_custom.proofs.Denoting.{Texts, Denotes, Joined, Nothing, Quantified, AreSameTexts, good_cut, joined_same, denotes_same, denotes_empty, denotes_alone, denotes_last, denotes_quantified}
-use Rattle.urlpattern_custom.proofs.Takes.{Takes}
-use Rattle.urlpattern_custom.specs.Expressions.{is_groupless, takes_characters}
+use Rattle.urlpattern_custom.proofs.Catching.{Catches, Only, Perhaps, Then, Whole, catches_alone, catches_group, catches_last, catches_perhaps, catches_same, catches_silent}
+use Rattle.urlpattern_custom.proofs.Denoting.{Texts, Denotes, Joined, Nothing, Quantified, AreSameTexts, denotes_same, denotes_empty, denotes_alone, denotes_last, denotes_quantified}
+use Rattle.urlpattern_custom.specs.Expressions.{is_groupless}
 use Rattle.urlpattern_meaning.specs.Dialect.{Quantifier, Once, Optional, ZeroOrMore, OneOrMore, LazyOneOrMore}
 use Rattle.urlpattern_meaning.specs.PartMeaning.{Captures}
 use Rattle.urlpattern_regex.proofs.ItemsRead.{repeated_as}

@@ -35,7 +35,7 @@ use Rattle.urlpattern_regex.proofs.AtomsRead.{full}
 use Rattle.urlpattern_regex.proofs.ItemsRead.{Free}
 use Rattle.urlpattern_regex.proofs.TreeTextsRead.{first_line, last_line}
 use Rattle.urlpattern_regex.proofs.GroupSlots.{Shown, Spans, text_at}
-use Rattle.urlpattern_regex.proofs.WayAnswers.{Writes, after_writes, at}
+use Rattle.urlpattern_regex.proofs.WayAnswers.{Writes, at}
 use Rattle.urlpattern_meaning.specs.PartMeaning.{Captures}
 use Rattle.regex.specs.Writes.{both, group_of}
 use Rattle.std.specs.List.{range_with_len}
