@@ -6,6 +6,8 @@ use Rattle.regex_hir.specs.Meaning.{alt_all}
 use Rattle.regex_hir.specs.Re.{Re}
 use Rattle.regex_syntax.specs.Brackets.{Nested, join}
 use Rattle.regex_syntax.specs.Grammar.{Place, branches, join_parts}
+use Rattle.urlpattern_core.proofs.FirstMatchers.{flags_agree}
+use Rattle.urlpattern_core.specs.Components.{engine_flags}
 use Rattle.urlpattern_core.specs.FirstWays.{KeepsCase}
 use Rattle.urlpattern_core.specs.Regexes.{regex_engine}
 use Rattle.urlpattern_custom.proofs.CustomGroups.{custom_inside, whole_takes}
@@ -14,7 +16,7 @@ use Rattle.urlpattern_custom.proofs.MatchersCapture.{matchers_capture}
 use Rattle.urlpattern_custom.proofs.MatchersTaken.{matchers_taken, shorter_room}
 use Rattle.urlpattern_custom.proofs.ValuesTaken.{pattern_values_capture, pattern_values_taken, regex_values_capture, regex_values_taken}
 use Rattle.urlpattern_custom.specs.Expressions.{ExpressionTakes, TakesWhole}
-use Rattle.urlpattern_custom.specs.LawsOfTexts.{HasRoom, MatchersAnswerTaken, MatchersCapture, ReadsInGroups, TookAlone}
+use Rattle.urlpattern_custom.specs.LawsOfTexts.{ComponentsCapture, HasRoom, MatchersAnswerTaken, MatchersCapture, ReadsInGroups, TookAlone}
 use Rattle.urlpattern_engine.specs.PatternRegexps.{pattern_engine}
 use Rattle.urlpattern_meaning.specs.FirstAnswers.{TookText}
 use Rattle.urlpattern_meaning.specs.Matching.{InnerView, Literal, RegExp, SingleCapture}
@@ -54,3 +56,13 @@ regex_matchers_capture = matchers_capture regex_engine (λ flags. ⊤) (λ regex
 
 pub pattern_matchers_capture : MatchersCapture pattern_engine HasRoom TookAlone
 pattern_matchers_capture = matchers_capture pattern_engine KeepsCase HasRoom _ pattern_values_capture shorter_room (λ options flags inner kept took. took_any inner (KeepsCase flags) (took.0 ∙ kept) took.1)
+
+-- ---- components
+
+pub regex_components_capture : ComponentsCapture regex_engine (λ regexp. ⊤)
+regex_components_capture options parts component is alone silent fits kept took =
+    regex_matchers_capture options (engine_flags options) parts component.matcher (record { is_made = is.has_matcher; alone = alone; fits = fits; case_kept = kept; took = took }) silent
+
+pub pattern_components_capture : ComponentsCapture pattern_engine HasRoom
+pattern_components_capture options parts component is alone silent fits kept took =
+    pattern_matchers_capture options (engine_flags options) parts component.matcher (record { is_made = is.has_matcher; alone = alone; fits = fits; case_kept = kept; took = (flags_agree options, took) }) silent

@@ -20,5 +20,6 @@ pub mod ValuesTaken
 pub mod TakenMeanings
 pub mod MatchersTaken
 pub mod MatchersCapture
+pub mod CaptureCounts
 pub mod CustomLaws
 pub mod ExpressionExamples

@@ -5,7 +5,7 @@ use Rattle.regex_syntax.specs.Brackets.{join}
 use Rattle.regex_syntax.specs.Grammar.{Names, branches}
 use Rattle.regex_syntax.specs.Verdict.{default_config}
 use Rattle.regex_hir.specs.Meaning.{alt_all}
-use Rattle.urlpattern_core.specs.Components.{FlagsAgree, IsEngineOf}
+use Rattle.urlpattern_core.specs.Components.{ComponentView, FlagsAgree, IsComponentOf, IsEngineOf}
 use Rattle.urlpattern_core.specs.FirstWays.{Keeping, Taking}
 use Rattle.urlpattern_core.specs.Generated.{AreGenerated}
 use Rattle.urlpattern_core.specs.declared.regexp.RegExp.{Ghosts as Engine}
@@ -15,7 +15,7 @@ use Rattle.urlpattern_custom.specs.PartCaptures.{PartsCapture}
 use Rattle.urlpattern_meaning.specs.FirstAnswers.{TookText}
 use Rattle.urlpattern_meaning.specs.Matching.{EachAnswerIs, IsMadeOf, MatcherView}
 use Rattle.urlpattern_meaning.specs.PartMeaning.{Captures, PartsMean}
-use Rattle.urlpattern_syntax.specs.{Options.OptionsView, Parts.PartView, RegexpText.regexp_text}
+use Rattle.urlpattern_syntax.specs.{Options.OptionsView, Parts.PartView, RegexpText.group_names, RegexpText.regexp_text}
 
 -- Inside of a group, whatever is before and after it, the grammar reads an expression that stands alone up to the closing parenthesis,
 -- as a pattern that takes whole the texts that the expression takes.
@@ -37,6 +37,11 @@ abbrev pub PartsCaptureMeanings : Type 0
 PartsCaptureMeanings =
     (options : OptionsView) (parts : List PartView) (text : List ℕ) (captures : Captures) → AreGenerated parts →
     PartsCapture options parts text captures ↔ PartsMean options parts text captures
+
+-- what parts capture is one capture for each name
+abbrev pub CapturesAreAsNames : Type 0
+CapturesAreAsNames =
+    (options : OptionsView) (parts : List PartView) (text : List ℕ) (captures : Captures) → PartsCapture options parts text captures → length captures ≡ length (group_names parts)
 
 -- the result is captures exactly if the parts take the text
 abbrev pub IsSomeIfTaken : OptionsView → List PartView → (text : List ℕ) → Option Captures → Type 0
@@ -93,3 +98,9 @@ MatchersCapture {E} engine Fits Took =
 -- the engine was given flags that ignore case where the options do, and took the text where it was needed
 abbrev pub TookAlone : {E : Type 0} → Taking E
 TookAlone options flags inner = FlagsAgree options flags × TookText (λ value. ⊤) inner
+
+-- So does a component that the engine compiled to such parts, if case is kept and the engine took the text where its matcher needs one.
+abbrev pub ComponentsCapture : {E : Type 0} → Engine E → Room → Type 0
+ComponentsCapture {E} engine Fits =
+    (options : OptionsView) (parts : List PartView) (component : ComponentView E) → IsComponentOf engine options parts component → AllStandAlone parts → AllCaptureNothing parts →
+    Fits (regexp_text options parts) → options.ignore_case ≡ false → TookText (λ value. ⊤) component.matcher.inner → EachAnswerIs engine.answer component.matcher (IsCaptured options parts)

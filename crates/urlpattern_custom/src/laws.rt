@@ -5,7 +5,7 @@
 ghost use Rattle.std.specs.Prelude.{⊤};
 ghost use Rattle.urlpattern_core.specs.Regexes.{regex_engine};
 ghost use Rattle.urlpattern_core.specs.FirstWays.{KeepsCase};
-ghost use Rattle.urlpattern_custom.specs.LawsOfTexts.{HasRoom, MatchersAnswerTaken, MatchersCapture, PartsCaptureMeanings, PartsTakeMeanings, ReadsInGroups, TookAlone, ValuesAnswerTaken, ValuesCapture};
+ghost use Rattle.urlpattern_custom.specs.LawsOfTexts.{CapturesAreAsNames, ComponentsCapture, HasRoom, MatchersAnswerTaken, MatchersCapture, PartsCaptureMeanings, PartsTakeMeanings, ReadsInGroups, TookAlone, ValuesAnswerTaken, ValuesCapture};
 ghost use Rattle.urlpattern_engine.specs.PatternRegexps.{pattern_engine};
 ghost use Rattle.urlpattern_meaning.specs.FirstAnswers.{TookText};
 
@@ -56,4 +56,11 @@ pub fn values_answer_what_parts_capture()
 pub fn matchers_answer_what_parts_capture()
     ensures own { MatchersCapture pattern_engine HasRoom TookAlone }
     ensures regex { MatchersCapture regex_engine (λ regexp. ⊤) (λ options flags. TookText (λ value. ⊤)) }
+{}
+
+/// So does the matcher of a component that was compiled to such parts. There are as many captures as names.
+pub fn components_answer_what_parts_capture()
+    ensures names { CapturesAreAsNames }
+    ensures own { ComponentsCapture pattern_engine HasRoom }
+    ensures regex { ComponentsCapture regex_engine (λ regexp. ⊤) }
 {}
