@@ -9,8 +9,9 @@ ghost use Rattle.urlpattern_custom.specs.LawsOfTexts.{CapturesAreAsNames, Compon
 ghost use Rattle.urlpattern_engine.specs.PatternRegexps.{pattern_engine};
 ghost use Rattle.urlpattern_meaning.specs.FirstAnswers.{TookText};
 
-/// The grammar of the crate `regex` composes: inside of a group, whatever is before and after it, an expression that stands alone is
-/// read up to the closing parenthesis, as a pattern that takes the texts that the expression takes by itself.
+/// The grammar of the crate `regex` composes: inside of a group, whatever is before and after it, what it reads of an expression that
+/// stands alone ends at the closing parenthesis, and takes the texts that the expression takes by itself. Where it reads nothing, as
+/// where the name of a group occurs before, it rejects the longer expression.
 ///
 /// An expression stands alone if the grammar reads it by itself, without assertions and without classes of bytes, and if it has no `#`,
 /// which begins a comment under the flag `x`.
@@ -41,8 +42,8 @@ pub fn matchers_answer_the_texts_that_parts_take()
     ensures regex { MatchersAnswerTaken regex_engine (λ regexp. ⊤) (λ options flags. TookText (λ value. ⊤)) }
 {}
 
-/// A value of an engine answers what the parts capture, or `None` where they do not take the text: a custom part captures its copies
-/// without the first prefix and the last suffix, as any group.
+/// A value of an engine answers what the parts capture, or `None` where they do not take the text. A custom part captures its copies
+/// without the first prefix and the last suffix, as any group does.
 ///
 /// It is asked of each custom expression that it stands alone and captures nothing itself. Of `PatternRegexp` it is asked that it was made
 /// without the flag `i`, of a regular expression of no more than 2³² characters.
