@@ -3,6 +3,7 @@
 use Rattle.std.specs.Prelude.{⊤, ℕ, false, List, Option}
 use Rattle.urlpattern_core.specs.{Components.FlagsAgree, Components.IsEngineOf, Regexes.regex_engine, FirstWays.EachAnswersFirst}
 use Rattle.urlpattern_core.specs.declared.regexp.RegExp.{Ghosts as Engine}
+use Rattle.urlpattern_custom.specs.LawsOfTexts.{CapturesAreAsNames, HasRoom, MatchersCapture, TookAlone}
 use Rattle.urlpattern_engine.specs.PatternRegexps.{pattern_engine}
 use Rattle.urlpattern_meaning.specs.{Dialect.IsOnlyTreeOf, Dialect.Items, FirstAnswers.AnswersByFirstWay, FirstAnswers.TookText}
 use Rattle.urlpattern_meaning.specs.PartMeaning.{AreGenerated, Captures}
@@ -42,6 +43,12 @@ DefaultEngineAnswersTheFirstWay = EachAnswersFirst regex_engine (λ options flag
 -- One that `PatternRegexp` made does so too, without any premise on that.
 abbrev pub PatternEngineAnswersTheFirstWay : Type 0
 PatternEngineAnswersTheFirstWay = EachAnswersFirst pattern_engine (λ options flags inner. FlagsAgree options flags)
+
+-- Custom parts are no exception for these two, if their expressions stand alone and capture nothing: what is answered is what the parts
+-- capture, one capture for each name, or `None` where they do not take the text.
+abbrev pub CustomPartsAreAnswered : Type 0
+CustomPartsAreAnswered =
+    MatchersCapture regex_engine (λ regexp. ⊤) (λ options flags. TookText (λ regex. ⊤)) × MatchersCapture pattern_engine HasRoom TookAlone × CapturesAreAsNames
 
 -- The printed pattern of parts that were read reads as these parts, joined.
 abbrev pub PrintedReadsBack : Type 0

@@ -1,6 +1,6 @@
 //! The main theorem of the whole: what a pattern text is read as, what its parts mean, what is matched and what is printed.
 
-ghost use Rattle.urlpattern.specs.Theorem.{CapturesHaveNames, DefaultEngineAnswersTheFirstWay, ExecutesByMatchers, FirstWayIsOne, MatchersAnswerByMeaning, MatchersAnswerTheFirstWay, OneReading, OneTree, PatternEngineAnswersTheFirstWay, PrintedReadsAsNothingElse, PrintedReadsBack, TreesMeanTheParts};
+ghost use Rattle.urlpattern.specs.Theorem.{CapturesHaveNames, CustomPartsAreAnswered, DefaultEngineAnswersTheFirstWay, ExecutesByMatchers, FirstWayIsOne, MatchersAnswerByMeaning, MatchersAnswerTheFirstWay, OneReading, OneTree, PatternEngineAnswersTheFirstWay, PrintedReadsAsNothingElse, PrintedReadsBack, TreesMeanTheParts};
 
 use crate::regexp::RegExp;
 
@@ -22,6 +22,10 @@ use crate::regexp::RegExp;
 /// - `default_engine`: a matcher that `regex::Regex` made answers the first way, and this is what the parts mean or `None` where
 ///   they mean nothing, without a premise on the engine but that it took the regular expression where it was needed.
 /// - `pattern_engine`: the same of a matcher that `PatternRegexp` made, without any premise on the engine.
+/// - `custom`: custom parts are no exception for these two engines, if case is kept and the expressions stand alone and capture nothing
+///   themselves (`stands_alone`, `captures_nothing`): a matcher answers what the parts capture, where a custom part takes what its
+///   expression takes by itself. An engine that is needed has to take the regular expression, which has 2³² characters at most for
+///   `PatternRegexp`.
 /// - `reads_back`: the printed pattern of parts that were read under the standard's options reads as these parts,
 ///   neighbouring plain fixed texts joined, under each encoding that keeps their texts; no fixed text is empty, and none of
 ///   their texts has a tab or a line end.
@@ -39,6 +43,7 @@ pub fn main_theorem<R: RegExp>()
     ensures one_answer { FirstWayIsOne }
     ensures default_engine { DefaultEngineAnswersTheFirstWay }
     ensures pattern_engine { PatternEngineAnswersTheFirstWay }
+    ensures custom { CustomPartsAreAnswered }
     ensures reads_back { PrintedReadsBack }
     ensures nothing_else { PrintedReadsAsNothingElse }
     ensures executes { ExecutesByMatchers R.answer }
