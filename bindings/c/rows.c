@@ -1,11 +1,13 @@
 /* Asks what the lines of standard input say, and compares the answers. `.ci/bindings` writes them.
  *
- * A line has words, of which texts are hexadecimal, and `-` is no text. `add STATUS IGNORES PATTERN BASE` compiles a pattern into
- * a new handle, `init STATUS IGNORES JSON` an init, `more` another into the same, `exec STATUS URL BASE JSON` matches with the first, `groups STATUS URL BASE GROUPS`
- * writes its groups, `text COMPONENT TEXT` reads a component, `custom STATUS` asks for a custom regular expression, and
- * `first STATUS URL BASE INDEX` finds the first match. The last line counts the answers that are as they should be.
+ * A line has words, of which texts are hexadecimal, and `-` is no text. `add STATUS IGNORES PATTERN BASE` compiles a pattern into a new
+ * handle, `init STATUS IGNORES JSON` an init, `more` another into the same, `exec STATUS URL BASE JSON` matches with the first,
+ * `groups STATUS URL BASE GROUPS` writes its groups, `link STATUS TEXT GIVEN URL` asks for a URL with groups, `text COMPONENT TEXT` reads a
+ * component, `custom STATUS` asks for a custom regular expression, and `first STATUS URL BASE INDEX` finds the first match. The last line
+ * counts the answers that are as they should be.
  *
  * A group of GROUPS is a byte 1, the digit of its component, its name, a byte 2, `+` with what it captured, if it took part, and a byte 3.
+ * GIVEN has five numbers for each group, with commas between them.
  */
 #include "urlpattern.h"
 
@@ -14,7 +16,7 @@
 #include <string.h>
 
 enum { WORDS = 5, ROOM = 1 << 20, EDGE = 8, COMPONENTS = 8, SPANS = 1 << 12 };
-enum { BEGIN = 1, MIDDLE = 2, END = 3 };
+enum { BEGIN = 1, MIDDLE = 2, END = 3, NUMBERS = 5 };
 
 typedef struct {
     char *bytes;
@@ -24,6 +26,7 @@ typedef struct {
 static char line[8 * ROOM];
 static char buffer[ROOM], group[2 * ROOM];
 static urlpattern_span spans[SPANS];
+static urlpattern_given given[SPANS];
 static urlpattern_list patterns = URLPATTERN_EMPTY;
 static unsigned passed, failed;
 
@@ -155,6 +158,42 @@ static void ask_groups(char **words, unsigned number) {
     compare(is_right, number, status);
 }
 
+/* The groups that a word gives. Returns how many. */
+static size_t given_of(const char *word) {
+    size_t count = 0;
+    while (word[0] >= '0') {
+        unsigned long numbers[NUMBERS];
+        for (int at = 0; at < NUMBERS; at++) {
+            char *end;
+            numbers[at] = strtoul(word, &end, 10);
+            word = end[0] ? end + 1 : end;
+        }
+        given[count++] = (urlpattern_given){ (uint32_t)numbers[0], numbers[1], numbers[2], numbers[3], numbers[4] };
+    }
+    return count;
+}
+
+static uint32_t link_of(text groups, size_t count, size_t room, size_t *needed) {
+    return urlpattern_link(&patterns, 0, groups.bytes, groups.length, given, count, buffer, room, needed);
+}
+
+/* Whether the URL is written, or a reason why there is none; and whether a byte less is too little, and a part past the text is refused. */
+static void ask_link(char **words, unsigned number) {
+    uint32_t wanted = (uint32_t)atoi(words[1]), status;
+    text groups = text_of(words[2]), url = text_of(words[4]);
+    size_t count = given_of(words[3]), needed = 0, again = 0;
+    memset(buffer, EDGE, url.length + 1);
+    status = link_of(groups, count, sizeof buffer, &needed);
+    bool is_right = wanted == URLPATTERN_DONE ? is_written(status, needed, url) : status == wanted && needed > 0;
+    buffer[0] = EDGE;
+    is_right &= needed > 0 && link_of(groups, count, needed - 1, &again) == URLPATTERN_TOO_SMALL && again == needed && buffer[0] == EDGE;
+    given[count] = (urlpattern_given){ COMPONENTS - 1, groups.length, 0, groups.length, 1 };
+    is_right &= link_of(groups, count + 1, sizeof buffer, &again) == URLPATTERN_NO_PATTERN && buffer[0] == EDGE;
+    given[count] = (urlpattern_given){ COMPONENTS, 0, 0, 0, 0 };
+    is_right &= link_of(groups, count + 1, sizeof buffer, &again) == URLPATTERN_NO_PATTERN && buffer[0] == EDGE;
+    compare(is_right, number, status);
+}
+
 static void ask_text(char **words, unsigned number) {
     text wanted = text_of(words[2]);
     size_t needed = 0;
@@ -195,6 +234,8 @@ static void ask(char **words, unsigned number) {
         ask_exec(words, number);
     } else if (strcmp(words[0], "groups") == 0) {
         ask_groups(words, number);
+    } else if (strcmp(words[0], "link") == 0) {
+        ask_link(words, number);
     } else if (strcmp(words[0], "text") == 0) {
         ask_text(words, number);
     } else if (strcmp(words[0], "custom") == 0) {

@@ -4,7 +4,7 @@
  * A caller guarantees:
  *
  * - Each text is a pointer and a number of bytes that may be read there. The pointer is not null, even if there are no bytes. That the
- *   bytes are UTF-8 is checked.
+ *   bytes are UTF-8 is checked. So it is with groups that are given, a pointer and a number of elements.
  * - Each other pointer leads to a value of its type that may be written, and that nothing else uses during the call; a buffer to as
  *   many bytes, and an array to as many elements, as its size says. Neither pointer is null, even if the size is 0. No two arguments
  *   overlap, but for texts.
@@ -116,6 +116,23 @@ uint32_t urlpattern_captures(urlpattern_list *patterns, size_t index, const char
 uint32_t urlpattern_first_captures(urlpattern_list *patterns, const char *url, size_t length, const char *base, size_t base_length,
                                    size_t *index, char *buffer, size_t room, urlpattern_span *spans, size_t span_room,
                                    urlpattern_sizes *needed);
+
+/* What is given for a group: its name and a text for it, which are parts of one text. */
+typedef struct urlpattern_given {
+    uint32_t component; /* the number of the component, as of `urlpattern_component` */
+    size_t name_start;  /* the byte at which the name of the group begins */
+    size_t name_length; /* how many bytes the name has */
+    size_t start;       /* the byte at which the text for the group begins */
+    size_t length;      /* how many bytes it has */
+} urlpattern_given;
+
+/* Writes the URL that the pattern of this index matches with these groups, or why there is none. A name has to be given, unless it is
+ * optional; a wildcard that is not given is empty. What is given for a group that the pattern has not is ignored.
+ * DONE, REFUSED (there is no such URL, and the reason is written), OUT_OF_MEMORY, NO_PATTERN (also where there is no component of a
+ * number, or a part lies outside of the text or is not UTF-8), or TOO_SMALL. For DONE, REFUSED and TOO_SMALL `needed` is how many bytes
+ * the URL or the reason has. */
+uint32_t urlpattern_link(urlpattern_list *patterns, size_t index, const char *text, size_t length, const urlpattern_given *given,
+                         size_t count, char *buffer, size_t room, size_t *needed);
 
 /* Writes the name of a group, by its number in a component: a group that has none in the pattern is named by a number of its own.
  * DONE, NO_PATTERN, or TOO_SMALL, with `needed` as of `urlpattern_exec`. */

@@ -33,6 +33,16 @@ class _Place(ctypes.Structure):
     _fields_ = [("subject", ctypes.c_uint32), ("start", ctypes.c_size_t), ("end", ctypes.c_size_t)]
 
 
+class _Given(ctypes.Structure):
+    _fields_ = [
+        ("component", ctypes.c_uint32),
+        ("name_start", ctypes.c_size_t),
+        ("name_length", ctypes.c_size_t),
+        ("start", ctypes.c_size_t),
+        ("length", ctypes.c_size_t),
+    ]
+
+
 # A span, as the header declares it: the component, whether the group took part, its number, and where its text begins and how long it is.
 _SPAN = struct.Struct("@IINNN")
 
@@ -41,24 +51,41 @@ class _Sizes(ctypes.Structure):
     _fields_ = [("bytes", ctypes.c_size_t), ("spans", ctypes.c_size_t)]
 
 
+class _Numbers(dict):
+    """Numbers as arguments of C's type `size_t`. Those below ROOM are made once."""
+
+    def __missing__(self, number):
+        made = ctypes.c_size_t.from_param(number)
+        if number < ROOM:
+            self[number] = made
+        return made
+
+
+_SIZE = _Numbers()
+_NONE = _SIZE[0]
+_NO_TEXT = ctypes.c_char_p.from_param(b"")
+
+
 def _load():
     path = os.environ.get("URLPATTERN_LIBRARY") or os.path.join(os.path.dirname(os.path.abspath(__file__)), "liburlpattern.so")
     library = ctypes.PyDLL(path)
     handle, text, size, status = ctypes.POINTER(_Handle), ctypes.c_char_p, ctypes.c_size_t, ctypes.c_uint32
     texts, room = [text, size, text, size], [ctypes.c_char_p, size, ctypes.POINTER(size)]
-    spans = [ctypes.c_char_p, size, ctypes.c_char_p, size, ctypes.POINTER(_Sizes)]
+    # What matches a URL or writes a text takes arguments that have their types: to convert them takes longer than to match.
+    as_they_are = None
     for name, arguments, result in (
         ("add", [handle, *texts, ctypes.c_bool], status),
         ("add_init", [handle, text, size, ctypes.c_bool], status),
         ("free", [handle], None),
-        ("test", [handle, size, *texts], status),
-        ("first", [handle, *texts, ctypes.POINTER(size)], status),
-        ("mismatch", [handle, size, *texts, ctypes.POINTER(ctypes.c_uint32)], status),
-        ("exec", [handle, size, *texts, *room], status),
-        ("captures", [handle, size, *texts, *spans], status),
-        ("first_captures", [handle, *texts, ctypes.POINTER(size), *spans], status),
-        ("group_name", [handle, size, ctypes.c_uint32, size, *room], status),
-        ("component", [handle, size, ctypes.c_uint32, *room], status),
+        ("test", as_they_are, status),
+        ("first", as_they_are, status),
+        ("mismatch", as_they_are, status),
+        ("exec", as_they_are, status),
+        ("captures", as_they_are, status),
+        ("first_captures", as_they_are, status),
+        ("link", as_they_are, status),
+        ("group_name", as_they_are, status),
+        ("component", as_they_are, status),
         ("has_regexp_groups", [handle, size], status),
         ("version", [], ctypes.c_uint32),
         ("diagnose", [*texts, ctypes.c_bool, *room, ctypes.POINTER(_Place)], status),
@@ -71,7 +98,11 @@ def _load():
 
 _library = _load()
 _test = _library.urlpattern_test
+_first = _library.urlpattern_first
+_mismatch = _library.urlpattern_mismatch
+_exec = _library.urlpattern_exec
 _captures = _library.urlpattern_captures
+_first_captures = _library.urlpattern_first_captures
 
 
 def version():
@@ -90,19 +121,13 @@ class URLPatternError(ValueError):
         self.component = component
 
 
-def _bytes(text):
-    return b"" if text is None else text.encode()
-
-
-def _written(function, *arguments):
-    """Calls what writes a text, with as much room as it needs. Returns the status and the text."""
-    needed, room = ctypes.c_size_t(), ROOM
-    while True:
-        buffer = ctypes.create_string_buffer(room)
-        status = function(*arguments, buffer, room, ctypes.byref(needed))
-        if status != TOO_SMALL:
-            return status, buffer.raw[: needed.value].decode() if status == DONE else None
-        room = needed.value
+def _texts(url, base):
+    """A URL and its base, each with the number of its bytes, as arguments."""
+    url = url.encode()
+    if base is None:
+        return url, _SIZE[len(url)], _NO_TEXT, _NONE
+    base = base.encode()
+    return url, _SIZE[len(url)], base, _SIZE[len(base)]
 
 
 def _checked(status):
@@ -139,6 +164,8 @@ class URLPatternList:
         self._address = ctypes.byref(self._handle)
         self._length = 0
         self._names = {}
+        self._number, self._sizes = ctypes.c_size_t(), _Sizes()
+        self._number_at, self._sizes_at = ctypes.byref(self._number), ctypes.byref(self._sizes)
         self._room(ROOM, SPANS)
         for pattern in patterns:
             self.append(pattern)
@@ -154,7 +181,7 @@ class URLPatternList:
             arguments = text, len(text), ignore_case
         else:
             add, diagnose = _library.urlpattern_add, _library.urlpattern_diagnose
-            text, base = pattern.encode(), _bytes(base)
+            text, base = pattern.encode(), b"" if base is None else base.encode()
             arguments = text, len(text), base, len(base), ignore_case
         status = add(self._address, *arguments)
         if status == REFUSED:
@@ -168,20 +195,17 @@ class URLPatternList:
 
     def first(self, url, base=None):
         """The index of the first pattern that matches, or None."""
-        url, base, index = url.encode(), _bytes(base), ctypes.c_size_t()
-        status = _library.urlpattern_first(self._address, url, len(url), base, len(base), ctypes.byref(index))
-        return index.value if status != NO_PATTERN and _checked(status) else None
+        status = _first(self._address, *_texts(url, base), self._number_at)
+        return self._number.value if status != NO_PATTERN and _checked(status) else None
 
     def test(self, index, url, base=None):
         """Whether the pattern of this index matches."""
-        url, base = url.encode(), _bytes(base)
-        return _checked(_test(self._address, index, url, len(url), base, len(base)))
+        return _checked(_test(self._address, _SIZE[index], *_texts(url, base)))
 
     def mismatch(self, index, url, base=None):
         """The first component that the pattern of this index does not match, or None if it matches. ValueError: the text is no URL."""
-        url, base, component = url.encode(), _bytes(base), ctypes.c_uint32()
-        status = _library.urlpattern_mismatch(self._address, index, url, len(url), base, len(base), ctypes.byref(component))
-        if _checked(status):
+        component = ctypes.c_uint32()
+        if _checked(_mismatch(self._address, _SIZE[index], *_texts(url, base), ctypes.byref(component))):
             return None
         if component.value == len(COMPONENTS):
             raise ValueError("not a URL")
@@ -189,28 +213,41 @@ class URLPatternList:
 
     def exec(self, index, url, base=None):
         """The match of the pattern of this index, or None: a dict of components, each with `input` and `groups`."""
-        url, base = url.encode(), _bytes(base)
-        status, text = _written(_library.urlpattern_exec, self._address, index, url, len(url), base, len(base))
-        return json.loads(text) if _checked(status) else None
+        text = self._written(_exec, _SIZE[index], *_texts(url, base))
+        return None if text is None else json.loads(text)
 
     def _room(self, size, spans):
-        """Makes room for a match of this size."""
+        """Makes room for a text of this size, and for a match of so many spans."""
         self._buffer, self._spans = ctypes.create_string_buffer(size), ctypes.create_string_buffer(spans * _SPAN.size)
-        self._sizes = _Sizes()
-        self._memory = self._buffer, size, self._spans, spans, ctypes.byref(self._sizes)
+        self._text_memory = ctypes.byref(self._buffer), ctypes.c_size_t.from_param(size), self._number_at
+        self._memory = (*self._text_memory[:2], ctypes.byref(self._spans), ctypes.c_size_t.from_param(spans), self._sizes_at)
+
+    def _filled(self, function, *arguments):
+        """Calls what writes a text, with as much room as it needs. Returns the status."""
+        status = TOO_SMALL
+        while status == TOO_SMALL:
+            status = function(self._address, *arguments, *self._text_memory)
+            if status == TOO_SMALL:
+                self._room(self._number.value, SPANS)
+        return status
+
+    def _text(self):
+        """The text that is written."""
+        return self._buffer[: self._number.value].decode()
+
+    def _written(self, function, *arguments):
+        """The text that a call writes, or None if there is none."""
+        return self._text() if _checked(self._filled(function, *arguments)) else None
 
     def captures(self, index, url, base=None):
         """The groups of the match of the pattern of this index, or None: a list of tuples of the component, the name, and what the group
         captured, which is None where it took no part. They are in the order of the pattern, component by component."""
-        url, base = url.encode(), _bytes(base)
-        found = self._matched(_captures, index, url, len(url), base, len(base))
-        return self._groups(index) if found else None
+        return self._groups(index) if self._matched(_captures, _SIZE[index], *_texts(url, base)) else None
 
     def first_captures(self, url, base=None):
         """The index of the first pattern that matches, with its groups as `captures` gives them, or None."""
-        url, base, index = url.encode(), _bytes(base), ctypes.c_size_t()
-        found = self._length > 0 and self._matched(_library.urlpattern_first_captures, url, len(url), base, len(base), ctypes.byref(index))
-        return (index.value, self._groups(index.value)) if found else None
+        found = self._length > 0 and self._matched(_first_captures, *_texts(url, base), self._number_at)
+        return (self._number.value, self._groups(self._number.value)) if found else None
 
     def _matched(self, function, *arguments):
         """Whether there is a match, which is then written to the room for it."""
@@ -223,26 +260,38 @@ class URLPatternList:
 
     def _groups(self, index):
         """The groups of the match that is written."""
-        text, names = self._buffer[: self._sizes.bytes], self._names
-        found = []
-        for component, took_part, group, start, length in _SPAN.iter_unpack(self._spans[: self._sizes.spans * _SPAN.size]):
-            key = index, component, group
-            name = names.get(key) or self._name(key)
-            found.append((*name, text[start : start + length].decode() if took_part else None))
-        return found
+        text, spans = self._buffer[: self._sizes.bytes], self._spans[: self._sizes.spans * _SPAN.size]
+        names = self._names.get(index)
+        if names is None:
+            names = self._names[index] = [self._name(index, component, group) for component, _, group, _, _ in _SPAN.iter_unpack(spans)]
+        return [
+            (component, name, text[start : start + length].decode() if took_part else None)
+            for (component, name), (_, took_part, _, start, length) in zip(names, _SPAN.iter_unpack(spans))
+        ]
 
-    def _name(self, key):
-        """The component and the name of a group."""
-        status, text = _written(_library.urlpattern_group_name, self._address, *key)
+    def _name(self, index, component, group):
+        """The component and the name of a group. Each match of a pattern has the same groups."""
+        return COMPONENTS[component], self._written(_library.urlpattern_group_name, _SIZE[index], component, _SIZE[group])
+
+    def link(self, index, groups):
+        """The URL that the pattern of this index matches with these groups, each a tuple of the component, the name and the text, as `captures`
+        gives them; one whose text is None takes no part. ValueError: there is no such URL, and the message says why."""
+        text, given = b"", []
+        for component, name, value in groups:
+            if value is not None:
+                name, value = name.encode(), value.encode()
+                given.append((COMPONENTS.index(component), len(text), len(name), len(text) + len(name), len(value)))
+                text += name + value
+        given = (_Given * len(given))(*given)
+        status = self._filled(_library.urlpattern_link, _SIZE[index], text, _SIZE[len(text)], ctypes.byref(given), _SIZE[len(given)])
+        if status == REFUSED:
+            raise ValueError(self._text())
         _checked(status)
-        name = self._names[key] = COMPONENTS[key[1]], text
-        return name
+        return self._text()
 
     def component(self, index, name):
         """The pattern text of a component."""
-        status, text = _written(_library.urlpattern_component, self._address, index, COMPONENTS.index(name))
-        _checked(status)
-        return text
+        return self._written(_library.urlpattern_component, _SIZE[index], COMPONENTS.index(name))
 
     def has_regexp_groups(self, index):
         """Whether the pattern of this index has a custom regular expression."""
@@ -264,8 +313,10 @@ class URLPattern:
 
     def test(self, url, base=None):
         """Whether the pattern matches."""
-        url, base = url.encode(), b"" if base is None else base.encode()
-        status = _test(self._address, 0, url, len(url), base, len(base))
+        if base is not None:
+            return self._list.test(0, url, base)
+        url = url.encode()
+        status = _test(self._address, _NONE, url, _SIZE[len(url)], _NO_TEXT, _NONE)
         return status == DONE if status < REFUSED else _checked(status)
 
     def mismatch(self, url, base=None):
@@ -285,6 +336,11 @@ class URLPattern:
         """The groups of the match, or None: a list of tuples of the component, the name, and what the group captured, which is None where
         it took no part. It has what `exec` has, in the order of the pattern, and takes less time."""
         return self._list.captures(0, url, base)
+
+    def link(self, groups=()):
+        """The URL that the pattern matches with these groups, each a tuple of the component, the name and the text, as `captures` gives them;
+        one whose text is None takes no part. ValueError: there is no such URL, and the message says why."""
+        return self._list.link(0, groups)
 
     def __repr__(self):
         texts = {name: getattr(self, name) for name in COMPONENTS}

@@ -1,6 +1,7 @@
 //! Times the library's calls (`time FILE ..`), links (`link-times FILE ..`) and lookups among routes (`routes FILE`), draws times that standard input gives (`chart`), and asks questions
 //! that are made by a seed, on which calls have to agree (`questions SEED COUNT`, `lists SEED COUNT` for those on lists, and `pairs SEED COUNT` for those on pairs of
-//! patterns), or makes links of what was captured (`links SEED COUNT`). `rules FILE` times comparisons of all routes with each other.
+//! patterns), or makes links of what was captured (`links SEED COUNT`). `rules FILE` times comparisons of all routes with each other. `repeat FILE NAME CALL COUNT`
+//! calls one call so many times, for a tool that counts instructions.
 #![tactic(auto)]
 
 mod calls;
@@ -39,6 +40,9 @@ const LINKS: &str = "links";
 /// The word that asks for times of links.
 const LINK_TIMES: &str = "link-times";
 
+/// The word that asks for calls that are not timed.
+const REPEAT: &str = "repeat";
+
 /// The status of a run in which nothing differs.
 const SAME: u8 = 0;
 
@@ -70,6 +74,9 @@ fn run(rt: &HostRuntime) -> io::Result<bool> {
         [command, paths @ ..] if command.as_str() == LINK_TIMES => {
             timing::run_links(rt, paths, &mut rt.stdout())?;
             Ok(true)
+        }
+        [command, path, name, call, count] if command.as_str() == REPEAT => {
+            timing::repeat(rt, path, name, call, number(count)?)
         }
         [command, path] if command.as_str() == ROUTES => {
             timing::run_routes(rt, path, &mut rt.stdout())?;

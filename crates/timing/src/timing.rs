@@ -62,6 +62,21 @@ const CALLS: [Call; 9] = [
     Call::Maps,
 ];
 
+impl Call {
+    /// The call of a name.
+    fn named(name: &str) -> Option<Call> {
+        match name {
+            "parse" => Some(Call::Parse),
+            "exec" => Some(Call::ExecUrl),
+            "test" => Some(Call::TestUrl),
+            "captures" => Some(Call::Captures),
+            "test_url" => Some(Call::TestLent),
+            "Url::parse" => Some(Call::ParseUrl),
+            _ => None,
+        }
+    }
+}
+
 /// A pattern, what it was given as, and what it is asked about.
 #[derive(Drop)]
 struct Subject<'a, E: RegExp> {
@@ -244,6 +259,41 @@ pub fn run<R: Files + AllocGlobal + Clock, O: Write>(
     }
     lists::run(rt, out)?;
     hostile::run(rt, out)
+}
+
+/// Calls a call so many times for the pair of this name in a file, over `PatternRegexp`. Returns whether there are such a pair and
+/// such a call.
+pub fn repeat<R: Files + AllocGlobal>(
+    rt: &R,
+    path: &str,
+    name: &str,
+    call: &str,
+    count: u64,
+) -> io::Result<bool> {
+    let text = fs::read_to_string(rt, path)?;
+    for line in text.lines() {
+        match (
+            serde_json::from_str::<Value>(rt.alloc(), line),
+            Call::named(call),
+        ) {
+            (Ok(pair), Some(call)) if optional_text(&pair, "name") == Some(name) => {
+                return Ok(repeat_pair(rt.alloc(), &pair, call, count).is_ok());
+            }
+            _ => {}
+        }
+    }
+    Ok(false)
+}
+
+/// Calls a call of a pair so many times.
+fn repeat_pair(alloc: Global, pair: &Value, call: Call, count: u64) -> Result<(), Error> {
+    if let Some(given) = pair.get("pattern") {
+        let subject = Subject::<PatternRegexp>::new(alloc, given, pair)?;
+        for _ in 0..count {
+            subject.call(alloc, call)?;
+        }
+    }
+    Ok(())
 }
 
 /// Prints what the link of what each pair captures takes: its name, and a column each for the link and for `Url::parse` of its text.

@@ -247,9 +247,31 @@ impl<R: RegExp> UrlPatternList<R> {
         let mut hashes = AddressHashes::new();
         hashes.fill(url_address(url));
         match self.index.first_from(&hashes, 0) {
-            Some(index) => Ok(self.first_listed(alloc, &url_texts(url), &hashes, index)?),
+            Some(index) => self.listed_captures(alloc, url, &hashes, index),
             None => Ok(None),
         }
+    }
+
+    /// The first match of a URL by the pattern at an index, or by a later one. `None`: none of them matches the URL.
+    ///
+    /// The error is that memory ran out. Only an engine allocates. A function clears its variables when it is called, so those that
+    /// only a match needs are here.
+    #[inline(never)]
+    fn listed_captures<'p, 'u>(
+        &'p self,
+        alloc: Global,
+        url: &'u Url,
+        hashes: &AddressHashes,
+        index: usize,
+    ) -> Result<Option<(usize, UrlPatternCaptures<'p, 'u>)>, Error>
+        requires within { index < length self.now }
+        requires hashes { hashes_view hashes.now ≡ hashes_of (address_of (texts_of_url url.now)) }
+        ensures first { IfOk result (λ found. IsFirstMatchFrom R.answer (patterns_view self.now) (texts_of_url url.now) index (first_captures_view found)) }
+        ensures groups { IfOk result (HasGroupsInOrder R.answer (patterns_view self.now) (texts_of_url url.now)) }
+        ensures memory { OnlyOutOfMemory result }
+        ensures asked { IfErr result (λ _. AsksBeforeMatchFrom R.answer (patterns_view self.now) (texts_of_url url.now) index) }
+    {
+        Ok(self.first_listed(alloc, &url_texts(url), hashes, index)?)
     }
 
     /// The least index whose pattern matches an input that has its eight texts, and that match, borrowed from the pattern and

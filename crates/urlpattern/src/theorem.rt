@@ -1,6 +1,6 @@
 //! The main theorem of the whole: what a pattern text is read as, what its parts mean, what is matched and what is printed.
 
-ghost use Rattle.urlpattern.specs.Theorem.{CapturesHaveNames, CustomPartsAreAnswered, DefaultEngineAnswersTheFirstWay, ExecutesByMatchers, FirstWayIsOne, MatchersAnswerByMeaning, MatchersAnswerTheFirstWay, OneReading, OneTree, PatternEngineAnswersTheFirstWay, PrintedReadsAsNothingElse, PrintedReadsBack, TreesMeanTheParts};
+ghost use Rattle.urlpattern.specs.Theorem.{CapturesHaveNames, CustomPartsAreAnswered, CustomPartsAreAnsweredByTheFirstWay, DefaultEngineAnswersTheFirstWay, ExecutesByMatchers, FirstWayIsOne, MatchersAnswerByMeaning, MatchersAnswerTheFirstWay, OneReading, OneTree, PatternEngineAnswersTheFirstWay, PrintedReadsAsNothingElse, PrintedReadsBack, TreesMeanTheParts};
 
 use crate::regexp::RegExp;
 
@@ -26,6 +26,9 @@ use crate::regexp::RegExp;
 ///   themselves (`stands_alone`, `captures_nothing`): a matcher answers what the parts capture, where a custom part takes what its
 ///   expression takes by itself. An engine that is needed has to take the regular expression, which has 2³² characters at most for
 ///   `PatternRegexp`.
+/// - `custom_first`: of several captures such a matcher answers those of the first way of the parts (`parts_first_way`), in which the choices
+///   of a custom expression are tried in the order in which the grammar of `regex` prefers them. Without a custom part this is the first
+///   way of their tree.
 /// - `reads_back`: the printed pattern of parts that were read under the standard's options reads as these parts,
 ///   neighbouring plain fixed texts joined, under each encoding that keeps their texts; no fixed text is empty, and none of
 ///   their texts has a tab or a line end.
@@ -44,6 +47,7 @@ pub fn main_theorem<R: RegExp>()
     ensures default_engine { DefaultEngineAnswersTheFirstWay }
     ensures pattern_engine { PatternEngineAnswersTheFirstWay }
     ensures custom { CustomPartsAreAnswered }
+    ensures custom_first { CustomPartsAreAnsweredByTheFirstWay }
     ensures reads_back { PrintedReadsBack }
     ensures nothing_else { PrintedReadsAsNothingElse }
     ensures executes { ExecutesByMatchers R.answer }

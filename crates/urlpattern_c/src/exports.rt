@@ -4,6 +4,7 @@ ghost use Rattle.urlpattern_c.specs.Handles.{patterns_in};
 ghost use Rattle.urlpattern_calls.specs.Calls.{IsAdded, IsFirstReported, IsTested, ReturnsStatus};
 ghost use Rattle.urlpattern_calls.specs.Diagnoses.{IsDiagnosed, IsInitDiagnosed};
 ghost use Rattle.urlpattern_calls.specs.Inits.{IsInitAdded};
+ghost use Rattle.urlpattern_calls.specs.Links.{IsLinkReported};
 ghost use Rattle.urlpattern_calls.specs.Mismatches.{IsCustomReported, IsMismatchReported};
 ghost use Rattle.urlpattern_calls.specs.Spans.{AreCapturesReported, AreFirstCaptures};
 ghost use Rattle.urlpattern_calls.specs.Texts.{IsComponentWritten, IsExecReported, IsGroupNameWritten};
@@ -11,8 +12,9 @@ ghost use Rattle.urlpattern_calls.specs.Texts.{IsComponentWritten, IsExecReporte
 use crate::patterns::Patterns;
 use std::alloc::Global;
 use urlpattern_calls::{
-    Place, Sizes, Span, add, add_init, captures, diagnose, diagnose_init, execute, first,
-    first_captures, has_regexp_groups, mismatch, test, version, write_component, write_group_name,
+    Given, Place, Sizes, Span, add, add_init, captures, diagnose, diagnose_init, execute, first,
+    first_captures, has_regexp_groups, link, mismatch, test, version, write_component,
+    write_group_name,
 };
 
 /// Compiles a constructor string, with a base URL unless that is empty, and appends the pattern.
@@ -171,6 +173,27 @@ pub extern "C" fn urlpattern_first_captures(
 {
     let kept = patterns.take(alloc);
     let status = first_captures(alloc, &kept, url, base, index, buffer, spans, needed);
+    patterns.put(kept);
+    status.number()
+}
+
+/// Writes the URL of a pattern with groups that are given, or why there is none.
+#[unsafe(no_mangle)]
+pub extern "C" fn urlpattern_link(
+    alloc: Global,
+    patterns: &mut Patterns,
+    index: usize,
+    text: &[u8],
+    given: &[Given],
+    buffer: &mut [u8],
+    needed: &mut usize,
+) -> u32
+    ensures answer { ReturnsStatus
+        (IsLinkReported (patterns_in patterns.old) index text.now given.now buffer.old buffer.new needed.new) result }
+    ensures unchanged { patterns_in patterns.new ≡ patterns_in patterns.old }
+{
+    let kept = patterns.take(alloc);
+    let status = link(alloc, &kept, index, text, given, buffer, needed);
     patterns.put(kept);
     status.number()
 }

@@ -1,3 +1,4 @@
 pub mod CallLemmas
 pub mod InitLemmas
+pub mod LinkLemmas
 pub mod SpanLemmas

@@ -22,6 +22,10 @@ put_none at old _ =
     sym (take-append-drop at old) ∙ ap (λ front. front ++ drop at old) (sym (append-nil (take at old)))
     ∙ ap (λ n. take at old ++ [] ++ drop n old) (sym (add-zero at))
 
+pub put_empty : {A : Type 0} (at : ℕ) (added old : List A) → length added ≡ 0 → IsPut at added old old
+put_empty at [] old none = put_none at old
+put_empty at (x ∷ xs) old none = absurd (omega (arith, none))
+
 pub put_one : {A : Type 0} (at : ℕ) (one : A) (old : List A) → at + 1 ≤ length old → set old at one ≡ take at old ++ one ∷ [] ++ drop (at + 1) old
 put_one at one old fits =
     set_split old at one (omega (arith, fits)) ∙ ap (λ n. take at old ++ one ∷ drop n old) (sym (add-one at)) ∙ sym (append_assoc (take at old) (one ∷ []) (drop (at + 1) old))

@@ -2,6 +2,7 @@ pub mod Calls
 pub mod Diagnoses
 pub mod Inits
 pub mod Kept
+pub mod Links
 pub mod Mismatches
 pub mod Spans
 pub mod Statuses

@@ -124,6 +124,9 @@ fn put_text(text: &[u8], at: usize, buffer: &mut [u8]) -> Option<usize>
     ensures text { IfSome result (λ _. IsPut at text.now buffer.old buffer.new) }
 {
     let end = at.checked_add(text.len())?;
+    if at == end {
+        return Some(end);
+    }
     if end <= buffer.len() {
         buffer[at..end].copy_from_slice(text);
     }

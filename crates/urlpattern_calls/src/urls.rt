@@ -1,16 +1,19 @@
 //! The URLs that patterns are matched against.
-ghost use Rattle.std.specs.Prelude.{option_copied, IfErr, IfOk};
+ghost use Rattle.std.specs.Prelude.{◌≡◌, option_copied, IfErr, IfOk, Ok, Some};
+ghost use Rattle.url.specs.Parser as url_spec;
+ghost use Rattle.urlpattern.specs.Canonical.{Reports};
+ghost use Rattle.urlpattern.specs.Errors.{MemoryOr, OnlyOutOfMemory};
+ghost use Rattle.urlpattern.specs.Inputs.{longer_bytes, parsed_text};
 ghost use Rattle.urlpattern_calls.specs.Calls.{ParsesUrl, IsNoUrl, IsUrlUnderBase};
-ghost use Rattle.urlpattern.specs.Errors.{OnlyOutOfMemory};
 
 use crate::adding::given_base;
 use crate::status::Status;
 use std::alloc::Global;
-use std::borrow::CowStr;
 use std::str;
 use url::Url;
-use urlpattern::quirks::{StringOrInit, process_match_input};
-use urlpattern::{Error, UrlPatternMatchInput};
+use urlpattern::Error;
+use urlpattern::canonicalize_and_process::reported;
+use urlpattern_create::parse_url;
 
 /// The URL of a text, under a base URL unless that is empty.
 ///
@@ -39,15 +42,36 @@ fn found_url(alloc: Global, text: &str, base: Option<&str>) -> Result<Option<Url
     ensures found { IfOk result (ParsesUrl text.now (option_copied base.entry)) }
     ensures memory { OnlyOutOfMemory result }
 {
-    let input = StringOrInit::String(CowStr::Borrowed(text));
-    match process_match_input(alloc, input, base)? {
-        Some((found, inputs)) => {
-            drop(inputs);
-            match found {
-                UrlPatternMatchInput::Url(url) => Ok(Some(url)),
-                UrlPatternMatchInput::Init(_) => Ok(None),
-            }
-        }
-        None => Ok(None),
+    match parsed_url(alloc, text, base) {
+        Ok(url) => Ok(Some(url)),
+        Err(Error::Url(_)) => Ok(None),
+        Err(_) => Err(Error::OutOfMemory),
     }
+}
+
+/// The URL of a text, under a base URL if there is one.
+///
+/// The error is the refusal of `url`, or that memory ran out.
+fn parsed_url(alloc: Global, text: &str, base: Option<&str>) -> Result<Url, Error>
+    ensures ok { IfOk result (λ url. parsed_text (option_copied base.entry) text.now ≡ Ok url) }
+    ensures err { IfErr result (MemoryOr (Reports (parsed_text (option_copied base.entry) text.now)
+        (longer_bytes (option_copied base.entry) text.now))) }
+{
+    match base {
+        Some(base) => {
+            let url = parse_url(alloc, base)?;
+            joined(&url, text, text.len().max(base.len()))
+        }
+        None => parse_url(alloc, text),
+    }
+}
+
+/// The URL of a text under a base URL, where neither text has more than so many bytes.
+///
+/// The error is the refusal of `url`, or that memory ran out.
+fn joined(base: &Url, text: &str, bytes: usize) -> Result<Url, Error>
+    ensures ok { IfOk result (λ url. url_spec.parse_url (Some base.now) text.now ≡ Ok url) }
+    ensures err { IfErr result (MemoryOr (Reports (url_spec.parse_url (Some base.now) text.now) bytes)) }
+{
+    reported(base.join(text), bytes)
 }

@@ -143,6 +143,7 @@ pub fn pattern_of(values: &UrlPatternInit, component: ComponentName) -> Option<&
 }
 
 /// The component of a pattern text. A regular expression that the engine refuses is an error.
+#[inline(always)]
 fn compile_component<R: RegExp, F: Fn(&str) -> Result<String, Error> + Drop>(
     alloc: Global,
     pattern: Option<&str>,

@@ -15,14 +15,17 @@ use Rattle.regex_syntax.specs.Grammar.{Names, Place, atom, branches, item, join_
 use Rattle.regex_syntax.specs.Reading.{Text, ◌∈◌, first, is_empty}
 use Rattle.regex_syntax.specs.Verdict.{default_config}
 use Rattle.urlpattern_custom.proofs.BranchesClosed.{inside_closed}
+use Rattle.urlpattern_custom.proofs.Bare.{bare}
+use Rattle.urlpattern_custom.proofs.Choices.{Cuts, Tries, pattern_cuts, tries_pattern, ways_bare}
 use Rattle.urlpattern_custom.proofs.Closing.{Calm, closed}
 use Rattle.urlpattern_custom.proofs.Denoting.{Denotes, denotes_bare}
 use Rattle.urlpattern_custom.proofs.GroupsOf.{IsInside, free_close, one_branch}
 use Rattle.urlpattern_custom.proofs.ItemsOf.{at_text, items_go_on}
 use Rattle.urlpattern_custom.proofs.Catching.{groupless_bare}
-use Rattle.urlpattern_custom.proofs.Senses.{fulfils_quiet, quiet}
+use Rattle.urlpattern_custom.proofs.Senses.{Sense, Fulfils, fulfils_quiet, quiet}
 use Rattle.urlpattern_custom.proofs.Takes.{Takes, matches_takes, takes_matches}
 use Rattle.urlpattern_custom.specs.Expressions.{ExpressionTakes, TakesWhole, captures_nothing, is_groupless, stands_alone, takes_characters}
+use Rattle.urlpattern_custom.specs.PartWays.{expression_ways, pattern_ways, ways_of_reading}
 use Rattle.urlpattern_regex.proofs.AtomsRead.{full}
 use Rattle.urlpattern_regex.proofs.ItemsRead.{Free}
 
@@ -121,21 +124,39 @@ silent_alone expression alone h =
       sym (ap (λ (result : Nested Re × Place). is_groupless result.0.value) same) ∙ both.1,
     )
 
-pub custom_inside : (expression : List ℕ) → IsTrue (stands_alone expression) → IsInside expression (quiet (IsTrue (captures_nothing expression)) (ExpressionTakes expression))
+-- the ways of a pattern that is read in a group are those of the expression by itself
+ways_alone : (expression : List ℕ) (alone : IsReadAlone expression) (found : Re) → bare found ≡ bare alone.tree.value → pattern_ways found ≡ expression_ways expression
+ways_alone expression alone found e =
+    sym (ways_bare found) ∙ ap pattern_ways e ∙ ways_bare alone.tree.value
+    ∙ ap ways_of_reading (sym alone.is_read)
+
+-- what an expression takes, and in which ways; what it captures is known if that is nothing
+abbrev pub expression_sense : List ℕ → Sense
+expression_sense expression = quiet (IsTrue (captures_nothing expression)) (ExpressionTakes expression) (expression_ways expression)
+
+-- a pattern that is the expression's but for groups
+fulfils_expression : (expression : List ℕ) (alone : IsReadAlone expression) (g : ℕ) (found : Re) → bare found ≡ bare alone.tree.value → Fulfils (expression_sense expression) g found
+fulfils_expression expression alone g found e =
+    let denotes = denotes_bare alone.tree.value found (ExpressionTakes expression) e (denotes_expression expression alone) in
+    let silent : IsTrue (captures_nothing expression) → is_groupless found ≡ true = λ k.
+    sym (groupless_bare found) ∙ ap is_groupless e ∙ groupless_bare alone.tree.value ∙ (silent_alone expression alone k).1 in
+    let ways = ways_alone expression alone found e in
+    fulfils_quiet (IsTrue (captures_nothing expression)) (ExpressionTakes expression) (expression_ways expression) g found denotes silent (λ k. subst (λ choice. Cuts choice 0) ways (pattern_cuts found))
+    (λ k. subst (λ choice. Tries g choice found) ways (tries_pattern found denotes.plain (silent k) g))
+
+pub custom_inside : (expression : List ℕ) → IsTrue (stands_alone expression) → IsInside expression (expression_sense expression)
 custom_inside expression h =
     let alone = read_alone expression h in
     let p = at_text (None ∷ []) expression in
     record {
       starts = λ rest. free_alone expression rest (2 * length expression + 2) (None ∷ []) alone.tree alone.end alone.inside;
+      made = λ k g. (alone.tree, fulfils_expression expression alone g alone.tree.value refl);
       reads = λ rest n names found end e.
           let alike = inside_closed rest 1 (length names) (2 * length expression + 2) n p names (alone.calm, omega arith) in
           let holds = rw (alone.inside, e) at alike.holds in
           record {
             at_close = ap (λ (q : Place). q.text) holds.1 ∙ ap (λ t. closed rest t) alone.ends;
             numbers = λ k. omega (arith, holds.2.1, (silent_alone expression alone k).0);
-            fulfils =
-                fulfils_quiet (IsTrue (captures_nothing expression)) (ExpressionTakes expression) (length names) found.value
-                (denotes_bare alone.tree.value found.value (ExpressionTakes expression) holds.0 (denotes_expression expression alone))
-                (λ k. sym (groupless_bare found.value) ∙ ap is_groupless holds.0 ∙ groupless_bare alone.tree.value ∙ (silent_alone expression alone k).1);
+            fulfils = fulfils_expression expression alone (length names) found.value holds.0;
           };
     }

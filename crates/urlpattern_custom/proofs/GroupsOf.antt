@@ -28,6 +28,8 @@ pub record InsideFound (s : Sense) (rest : Text) (before : Names) (found : Neste
 -- before a closing parenthesis, wherever the text stands, it is read as a pattern in this sense
 pub record IsInside (t : Text) (s : Sense) : Type 0 where
   pub starts : (rest : Text) → Free (t ++ 41 ∷ rest)
+  -- there is such a pattern, whatever the grammar reads
+  pub made : s.Known → (g : ℕ) → (tree : Nested Re) × Fulfils s g tree.value
   pub reads : (rest : Text) (n : ℕ) (names : Names) (found : Nested Re) (end : Place) → group_inside n (at_text names (t ++ 41 ∷ rest)) ≡ Some (found, end) → InsideFound s rest names found end
 
 -- one branch
@@ -80,6 +82,7 @@ free_close rest = refl
 pub items_inside : (t : Text) (s : Sense) → AreItemsOf t s → IsInside t s
 items_inside t s a = record {
   starts = λ rest. a.starts (41 ∷ rest) (free_close rest);
+  made = λ k g. let is = a.made k g in (join alt_all (join cat_all is.0 ∷ []), fulfils_alone s g (cat_all (values is.0)) is.1);
   reads = λ rest n names found end e.
       let branch = one_branch n (at_text names (t ++ 41 ∷ rest)) found end e in
       let is = a.reads (41 ∷ rest) (free_close rest) branch.steps names branch.parts branch.after branch.read_items in
@@ -124,6 +127,7 @@ pub grouped_item : (t : Text) (s : Sense) → IsInside t s → IsItemOf (grouped
 unfolding item opening set_flags first skip
 grouped_item t s a = record {
   opens = λ rest. (refl, rw (full 40 (63 ∷ 58 ∷ ((t ++ 41 ∷ []) ++ rest))) refl);
+  made = a.made;
   reads = λ rest n names found end e.
       closed_group (group_inside n) (λ re. re) (at_text names (t ++ 41 ∷ rest)) s s rest names found end (λ tree after f. a.reads rest n names tree after f) (λ re f. f) (λ k. k) (λ m same. same)
       (ap (λ v. item (group_inside n) (at_text names (40 ∷ 63 ∷ 58 ∷ v))) (sym (brackets t rest)) ∙ e);
@@ -144,6 +148,7 @@ pub captured_item : (t : Text) (s : Sense) → IsInside t s → IsItemOf (captur
 unfolding item capture first
 captured_item t s a = record {
   opens = λ rest. (refl, rw (full 40 ((t ++ 41 ∷ []) ++ rest)) refl);
+  made = λ k g. let is = a.made k (suc g) in (level (group g) is.0, fulfils_group s g is.0.value is.1);
   reads = λ rest n names found end e.
       let inside = t ++ 41 ∷ rest in
       let f : item (group_inside n) (at_text names (40 ∷ inside)) ≡ Some (found, end) = ap (λ v. item (group_inside n) (at_text names (40 ∷ v))) (sym (brackets t rest)) ∙ e in

@@ -14,7 +14,10 @@ use Rattle.urlpattern_custom.proofs.Denoting.{Texts, Denotes, Joined, Nothing, Q
 use Rattle.urlpattern_custom.proofs.Takes.{Takes}
 use Rattle.urlpattern_custom.specs.Expressions.{is_groupless, takes_characters}
 use Rattle.urlpattern_custom.proofs.Catching.{Catches, Then, catches_append}
-use Rattle.urlpattern_custom.proofs.Senses.{Sense, SameSense, Fulfils, fulfils_empty, fulfils_last, fulfils_perhaps, fulfils_quantified, fulfils_quiet, fulfils_same, joined, perhaps, quiet}
+use Rattle.urlpattern_custom.proofs.Choices.{Cuts, Tries, cuts_followed, tries_append}
+use Rattle.urlpattern_custom.proofs.Senses.{Sense, SameSense, Fulfils, fulfils_empty, fulfils_last, fulfils_perhaps, fulfils_quantified, fulfils_quiet, fulfils_same, joined, no_text, perhaps, quiet}
+use Rattle.urlpattern_custom.specs.PartWays.{followed_by}
+use Rattle.urlpattern_meaning.specs.Ways.{Choice, quantified_ways}
 use Rattle.urlpattern_meaning.specs.Dialect.{Quantifier, Once, Optional, ZeroOrMore, OneOrMore, LazyOneOrMore, quantifier_text}
 use Rattle.urlpattern_regex.proofs.ItemsRead.{Free, OpensItem, free_lazy, repeated_as}
 
@@ -79,6 +82,10 @@ fulfils_append s u g h trees others after a b = record {
       (catches_append g s.count u.count (values trees) (values others) s.Cap u.Cap (a.catches k.0) (subst (λ j. Catches j u.count (cat_all (values others)) u.Cap) (after k.0) (b.catches k.1)));
   groupless = λ k none. groupless_append trees others (a.groupless k.0 (omega (arith, none))) (b.groupless k.1 (omega (arith, none)));
   numbered = λ k. omega (arith, append_count trees others, a.numbered k.0, b.numbered k.1, after k.0);
+  cuts = λ k. cuts_followed s.ways u.ways s.count u.count (a.cuts k.0) (b.cuts k.1);
+  tries = λ k.
+      subst (λ all. Tries g (followed_by s.ways u.ways) (cat_all all)) (sym (values_append trees others))
+      (tries_append g s.count s.ways u.ways (values trees) (values others) (a.cuts k.0) (a.tries k.0) (subst (λ j. Tries j u.ways (cat_all (values others))) (after k.0) (b.tries k.1)));
 }
 
 -- ---- items
@@ -97,14 +104,17 @@ pub record ItemsFound (s : Sense) (rest : Text) (before : Names) (found : List (
 -- wherever the text stands, before what is no quantifier, it is read as items in this sense
 pub record AreItemsOf (t : Text) (s : Sense) : Type 0 where
   pub starts : (rest : Text) → Free rest → Free (t ++ rest)
+  -- there are such items, whatever the grammar reads
+  pub made : s.Known → (g : ℕ) → (own : List (Nested Re)) × Fulfils s g (cat_all (values own))
   pub reads : (rest : Text) → Free rest → (n : ℕ) (names : Names) (found : List (Nested Re)) (end : Place) → items n (at_text names (t ++ rest)) ≡ Some (found, end) → ItemsFound s rest names found end
 
 cut_again : {A : Type 0} (all first rest second last : List A) → all ≡ first ++ rest → rest ≡ second ++ last → all ≡ (first ++ second) ++ last
 cut_again all first rest second last e f = e ∙ ap (λ t. first ++ t) f ∙ sym (append_assoc first second last)
 
-pub no_items : AreItemsOf [] (quiet (Unit {0}) Nothing)
+pub no_items : AreItemsOf [] (quiet (Unit {0}) Nothing no_text)
 no_items = record {
   starts = λ rest free. free;
+  made = λ k g. ([], fulfils_empty g);
   reads = λ rest free n names found end e.
       record { own = []; more = found; steps = n; names = names; cut = refl; goes_on = e; numbers = λ k. omega arith; fulfils = fulfils_empty (length names) };
 }
@@ -112,6 +122,10 @@ no_items = record {
 pub append_items : (t v : Text) (s u : Sense) → AreItemsOf t s → AreItemsOf v u → AreItemsOf (t ++ v) (joined s u)
 append_items t v s u a b = record {
   starts = λ rest free. subst Free (sym (append_assoc t v rest)) (a.starts (v ++ rest) (b.starts rest free));
+  made = λ k g.
+      let front = a.made k.0 g in
+      let back = b.made k.1 (g + s.count) in
+      (front.0 ++ back.0, fulfils_append s u g (g + s.count) front.0 back.0 (λ known. refl) front.1 back.1);
   reads = λ rest free n names found end e.
       let front = a.reads (v ++ rest) (b.starts rest free) n names found end (ap (λ s. items n (at_text names s)) (sym (append_assoc t v rest)) ∙ e) in
       let back = b.reads rest free front.steps front.names front.more end front.goes_on in
@@ -130,6 +144,7 @@ append_items t v s u a b = record {
 pub same_items : (t : Text) (s u : Sense) → SameSense s u → AreItemsOf t s → AreItemsOf t u
 same_items t s u p a = record {
   starts = a.starts;
+  made = λ k g. let is = a.made (p.known k) g in (is.0, fulfils_same s u g (cat_all (values is.0)) p is.1);
   reads = λ rest free n names found end e.
       let is = a.reads rest free n names found end e in
       record {
@@ -156,11 +171,14 @@ pub record ItemFound (s : Sense) (rest : Text) (before : Names) (found : Nested 
 -- wherever the text stands, it is read as an item in this sense, before its quantifier
 pub record IsItemOf (t : Text) (s : Sense) : Type 0 where
   pub opens : (rest : Text) → OpensItem (t ++ rest)
+  -- there is such an item, whatever the grammar reads
+  pub made : s.Known → (g : ℕ) → (core : Nested Re) × Fulfils s g core.value
   pub reads : (rest : Text) (n : ℕ) (names : Names) (found : Nested Re) (end : Place) → item (group_inside n) (at_text names (t ++ rest)) ≡ Some (found, end) → ItemFound s rest names found end
 
 pub same_item : (t : Text) (s u : Sense) → SameSense s u → IsItemOf t s → IsItemOf t u
 same_item t s u p a = record {
   opens = a.opens;
+  made = λ k g. let is = a.made (p.known k) g in (is.0, fulfils_same s u g is.0.value p is.1);
   reads = λ rest n names found end e.
       let is = a.reads rest n names found end e in
       record { core = is.core; names = is.names; repeats = is.repeats; numbers = λ k. omega (arith, is.numbers (p.known k), p.count); fulfils = fulfils_same s u (length names) _ p is.fulfils };
@@ -240,6 +258,7 @@ repeated_items : (t : Text) (s u : Sense) (q : Quantifier) → u.count ≡ s.cou
     → AreItemsOf (t ++ quantifier_text q) u
 repeated_items t s u q count known conv a = record {
   starts = λ rest free. subst Free (sym (append_assoc t (quantifier_text q) rest)) (a.opens (quantifier_text q ++ rest)).0;
+  made = λ k g. let one = a.made (known k) g in (repeated_as q one.0 ∷ [], fulfils_last u g (repeated_as q one.0).value (conv g one.0 one.1));
   reads = λ rest free n names found end e.
       let split = append_assoc t (quantifier_text q) rest in
       let is = items_go_on n names (t ++ (quantifier_text q ++ rest)) found end (a.opens (quantifier_text q ++ rest)).1 (ap (λ s. items n (at_text names s)) (sym split) ∙ e) in
@@ -257,8 +276,8 @@ repeated_items t s u q count known conv a = record {
       };
 }
 
-pub quantified_items : (t : Text) (K : Type 0) (Is : Texts) (q : Quantifier) → IsItemOf t (quiet K Is) → AreItemsOf (t ++ quantifier_text q) (quiet K (Quantified q Is))
-quantified_items t K Is q a = repeated_items t (quiet K Is) (quiet K (Quantified q Is)) q refl (λ k. k) (λ g sub f. fulfils_quantified K Is q g sub f) a
+pub quantified_items : (t : Text) (K : Type 0) (Is : Texts) (ways : Choice) (q : Quantifier) → IsItemOf t (quiet K Is ways) → AreItemsOf (t ++ quantifier_text q) (quiet K (Quantified q Is) (quantified_ways q 0 ways))
+quantified_items t K Is ways q a = repeated_items t (quiet K Is ways) (quiet K (Quantified q Is) (quantified_ways q 0 ways)) q refl (λ k. k) (λ g sub f. fulfils_quantified K Is ways q g sub f) a
 
 pub once_items : (t : Text) (s : Sense) → IsItemOf t s → AreItemsOf t s
 once_items t s a = subst (λ v. AreItemsOf v s) (append-nil t) (repeated_items t s s Once refl (λ k. k) (λ g sub f. f) a)
@@ -267,11 +286,18 @@ pub perhaps_items : (t : Text) (s : Sense) → IsItemOf t s → AreItemsOf (t ++
 perhaps_items t s a = repeated_items t s (perhaps s) Optional refl (λ k. k) (λ g sub f. fulfils_perhaps s g sub f) a
 
 -- an item that is no group
-pub atom_item : (t : Text) (sub : Nested Re) (Is : Texts) → ((rest : Text) → OpensItem (t ++ rest)) → ((rest : Text) → is_at "(" (t ++ rest) ≡ false) → ((rest : Text) → atom default_config (t ++ rest) ≡ Some (sub, rest))
-    → Denotes sub.value Is → is_groupless sub.value ≡ true → IsItemOf t (quiet (Unit {0}) Is)
+pub atom_item : (t : Text) (sub : Nested Re) (Is : Texts) (ways : Choice) → ((rest : Text) → OpensItem (t ++ rest)) → ((rest : Text) → is_at "(" (t ++ rest) ≡ false) → ((rest : Text) → atom default_config (t ++ rest) ≡ Some (sub, rest))
+    → Denotes sub.value Is → is_groupless sub.value ≡ true → Cuts ways 0 → ((g : ℕ) → Tries g ways sub.value) → IsItemOf t (quiet (Unit {0}) Is ways)
 unfolding item
-atom_item t sub Is begins no_group reads d groupless = record {
+atom_item t sub Is ways begins no_group reads d groupless cuts tries = record {
   opens = begins;
+  made = λ k g. (sub, fulfils_quiet (Unit {0}) Is ways g sub.value d (λ known. groupless) (λ known. cuts) (λ known. tries g));
   reads = λ rest n names found end e.
-      record { core = sub; names = names; repeats = rw (item, no_group rest, reads rest) at e; numbers = λ k. omega arith; fulfils = fulfils_quiet (Unit {0}) Is (length names) sub.value d (λ k. groupless) };
+      record {
+        core = sub;
+        names = names;
+        repeats = rw (item, no_group rest, reads rest) at e;
+        numbers = λ k. omega arith;
+        fulfils = fulfils_quiet (Unit {0}) Is ways (length names) sub.value d (λ k. groupless) (λ k. cuts) (λ k. tries (length names));
+      };
 }

@@ -10,7 +10,7 @@ use Rattle.urlpattern_core.specs.FirstWays.{Keeping, Taking}
 use Rattle.urlpattern_core.specs.declared.regexp.RegExp.{Ghosts as Engine}
 use Rattle.urlpattern_custom.proofs.Denoting.{Joined, AreSameTexts, joined_same}
 use Rattle.urlpattern_custom.proofs.ItemsOf.{joined_assoc, nothing_joined, same_then, same_texts}
-use Rattle.urlpattern_custom.proofs.PartItems.{one_copy}
+use Rattle.urlpattern_custom.proofs.GroupItems.{one_copy}
 use Rattle.urlpattern_custom.proofs.TakenMeanings.{means_takes, parts_take_meanings}
 use Rattle.urlpattern_custom.specs.LawsOfTexts.{HasRoom, IsSomeIfTaken, MatchersAnswerTaken, Room, ValuesAnswerTaken}
 use Rattle.urlpattern_custom.specs.PartTexts.{PartTakes, PartsTake, StandsAlone}

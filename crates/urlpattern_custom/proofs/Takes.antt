@@ -43,7 +43,7 @@ scalars_after : (before text : List ℕ) → scalars (before ++ text) ≡ true �
 scalars_after [] text h = h
 scalars_after (c ∷ before) text h = scalars_after before text (and_parts _ _ h).1
 
-at_push : (before : List ℕ) (c : ℕ) → at (before ++ c ∷ []) ≡ at before + len_utf8 c
+pub at_push : (before : List ℕ) (c : ℕ) → at (before ++ c ∷ []) ≡ at before + len_utf8 c
 at_push before c =
     ap length (encodes-append before (c ∷ [])) ∙ length-append (encodes before) (encodes (c ∷ []))
     ∙ ap (λ n. at before + n) (ap length (append-nil _) ∙ length-encode c)
@@ -56,7 +56,7 @@ unfolding in_ranges
 nothing_in c h = true≢false (sym h)
 
 -- the bytes of one character
-character_of : (bytes : List ℕ) → is_character bytes ≡ true → (c : ℕ) × (char_at bytes 0 ≡ Some c) × IsScalar c × (bytes ≡ encode_utf8 c)
+pub character_of : (bytes : List ℕ) → is_character bytes ≡ true → (c : ℕ) × (char_at bytes 0 ≡ Some c) × IsScalar c × (bytes ≡ encode_utf8 c)
 character_of bytes h = of_found (char_at bytes 0) refl h
   where
     of_found : (found : Option ℕ) → char_at bytes 0 ≡ found → is_some_and found (λ c. len_utf8 c == length bytes) ≡ true → (c : ℕ) × (char_at bytes 0 ≡ Some c) × IsScalar c × (bytes ≡ encode_utf8 c)
@@ -71,7 +71,7 @@ module _ (whole : List ℕ) (good : scalars whole ≡ true) where
   hay = encodes whole
 
   -- the character that stands after the front of the text
-  char_here : (before : List ℕ) (c : ℕ) (rest : List ℕ) → before ++ c ∷ rest ≡ whole → char_at hay (at before) ≡ Some c
+  pub char_here : (before : List ℕ) (c : ℕ) (rest : List ℕ) → before ++ c ∷ rest ≡ whole → char_at hay (at before) ≡ Some c
   char_here before c rest e =
       let scalar : IsScalar c = (and_parts _ _ (scalars_after before (c ∷ rest) (ap scalars e ∙ good))).0 in
       let stands : drop (at before) hay ≡ encode_utf8 c ++ encodes rest =

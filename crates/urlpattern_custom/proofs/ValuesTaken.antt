@@ -19,13 +19,16 @@ use Rattle.regex_syntax.specs.Grammar.{Names, read}
 use Rattle.regex_syntax.specs.Verdict.{Reads, default_config}
 use Rattle.urlpattern_core.specs.FirstWays.{KeepsCase}
 use Rattle.urlpattern_core.specs.Regexes.{IsRegexOf, group_texts, regex_engine}
+use Rattle.urlpattern_custom.proofs.FirstFound.{found_first}
 use Rattle.urlpattern_custom.proofs.PartItems.{parts_count, parts_items, parts_sense}
 use Rattle.urlpattern_custom.proofs.ItemsOf.{values}
 use Rattle.urlpattern_custom.proofs.Senses.{Fulfils}
 use Rattle.urlpattern_custom.proofs.WholeRead.{between_lines, found_captures, search_is, whole_read}
 use Rattle.urlpattern_custom.specs.LawsOfTexts.{HasRoom, IsCaptured, IsSomeIfTaken, ValuesAnswerTaken, ValuesCapture}
+use Rattle.urlpattern_custom.specs.LawsOfWays.{FirstWaysAreCaptured, ValuesAnswerFirstOfParts}
 use Rattle.urlpattern_custom.specs.PartCaptures.{PartsCapture}
 use Rattle.urlpattern_custom.specs.PartTexts.{AllCaptureNothing, AllStandAlone, PartsTake}
+use Rattle.urlpattern_custom.specs.PartWays.{parts_first_way, parts_ways}
 use Rattle.urlpattern_engine.proofs.EngineLaws.{pattern_values_read, regex_values_read}
 use Rattle.urlpattern_engine.specs.Automatons.{config_for}
 use Rattle.urlpattern_engine.specs.PatternRegexps.{IsExpressionOf, pattern_engine}
@@ -95,6 +98,49 @@ answers_captured options parts answer alone silent good some reads text fine =
     let found = value_of_IsSome (read default_config (regexp_text options parts)) some in
     let same : answer text ≡ re_answer found.0.0.value (length found.0.1) text = (rw (found.1) at reads) text fine in
     subst (IsCaptured options parts text) (sym same) (read_captured options parts found.0 alone silent good found.1 text fine)
+
+-- ---- the first way
+
+-- what is found in the text is what the first way of the parts captures
+read_first : (options : OptionsView) (parts : List PartView) (found : Nested Re × Names) → AllStandAlone parts → AllCaptureNothing parts → scalars (regexp_text options parts) ≡ true → read default_config (regexp_text options parts) ≡ Some found
+    → (text : List ℕ) → IsTrue (all_scalars text) → re_answer found.0.value (length found.1) text ≡ parts_first_way options parts text
+unfolding parts_first_way
+read_first options parts found alone silent good reads text fine =
+    let t = flat_map (part_regexp options) parts in
+    let inside = scalars_parts t (codes "$") (scalars_parts (codes "^") (t ++ codes "$") good).1 in
+    let named = whole_read t (parts_sense options parts) (parts_items options parts alone inside.0) found reads in
+    let own = named.pattern.own in
+    let f = named.pattern.fulfils in
+    let count : length found.1 - 1 ≡ parts_count parts = omega (arith, named.numbers silent) in
+    let bytes = encode_utf8_all text in
+    ap (λ (tree : Nested Re). option_map (λ m. group_texts bytes (length found.1 - 1) (group_of m)) (find_str tree.value bytes 0)) named.pattern.is
+    ∙ ap (λ n. option_map (λ m. group_texts bytes n (group_of m)) (find_str (between_lines own).value bytes 0)) count
+    ∙ found_first own (parts_ways options parts) (parts_count parts) (f.cuts silent) (f.tries silent) text fine
+
+-- it is what the parts capture, whatever the grammar reads
+pub first_captured : FirstWaysAreCaptured
+unfolding parts_first_way
+first_captured options parts text alone silent good fine =
+    let t = flat_map (part_regexp options) parts in
+    let inside = scalars_parts t (codes "$") (scalars_parts (codes "^") (t ++ codes "$") good).1 in
+    let is = (parts_items options parts alone inside.0).made silent 1 in
+    let count = parts_count parts in
+    let bytes = encode_utf8_all text in
+    let found = find_str (between_lines is.0).value bytes 0 in
+    let search = search_is is.0 (PartsTake options parts) is.1.denotes text fine in
+    let texts : Match → Captures = λ m. group_texts bytes count (group_of m) in
+    let same = mapped texts found in
+    subst (IsCaptured options parts text) (found_first is.0 (parts_ways options parts) count (is.1.cuts silent) (is.1.tries silent) text fine)
+    (captured_by options parts is.0 is.1 silent count refl text fine found refl (λ some. search.0 (sym same ∙ some), λ takes. same ∙ search.1 takes))
+
+answers_first : (options : OptionsView) (parts : List PartView) (answer : List ℕ → Option Captures) → AllStandAlone parts → AllCaptureNothing parts → scalars (regexp_text options parts) ≡ true
+    → IsSome (read default_config (regexp_text options parts))
+    → IfSome (read default_config (regexp_text options parts)) (λ (pattern, names). (text : List ℕ) → IsTrue (all_scalars text) → answer text ≡ re_answer pattern.value (length names) text)
+    → (text : List ℕ) → IsTrue (all_scalars text) → answer text ≡ parts_first_way options parts text
+answers_first options parts answer alone silent good some reads text fine =
+    let found = value_of_IsSome (read default_config (regexp_text options parts)) some in
+    let same : answer text ≡ re_answer found.0.0.value (length found.0.1) text = (rw (found.1) at reads) text fine in
+    same ∙ read_first options parts found.0 alone silent good found.1 text fine
 
 -- ---- values
 
@@ -174,4 +220,17 @@ pub pattern_values_capture : ValuesCapture pattern_engine KeepsCase HasRoom
 pattern_values_capture options flags parts value keeps alone silent room made =
     let regexp = regexp_text options parts in
     answers_captured options parts (pattern_engine.answer value) alone silent (expression_good value.ignore_case regexp value.expression made.of_text)
+    (expression_some value.ignore_case regexp value.expression (made.by_flags ∙ keeps) made.of_text room) (pattern_values_read regexp flags value keeps made)
+
+-- ---- which of several captures
+
+pub regex_values_first : ValuesAnswerFirstOfParts regex_engine (λ flags. ⊤) (λ regexp. ⊤)
+regex_values_first options flags parts regex any alone silent fits made =
+    let regexp = regexp_text options parts in
+    answers_first options parts (regex_engine.answer regex) alone silent (text_good regex.pattern.source regexp made.of_text) (regex_reads regexp regex made) (regex_values_read regexp flags regex any made)
+
+pub pattern_values_first : ValuesAnswerFirstOfParts pattern_engine KeepsCase HasRoom
+pattern_values_first options flags parts value keeps alone silent room made =
+    let regexp = regexp_text options parts in
+    answers_first options parts (pattern_engine.answer value) alone silent (expression_good value.ignore_case regexp value.expression made.of_text)
     (expression_some value.ignore_case regexp value.expression (made.by_flags ∙ keeps) made.of_text room) (pattern_values_read regexp flags value keeps made)

@@ -134,7 +134,7 @@ append_matches hay (tree ∷ trees) others i j = (
   λ (l, (k, one, more), last). (k, one, (append_matches hay trees others k j).1 (l, more, last)),
 )
 
-not_start : (hay : List ℕ) (i : ℕ) → 0 < i → i ≤ length hay → holds Start hay i ≡ false
+pub not_start : (hay : List ℕ) (i : ℕ) → 0 < i → i ≤ length hay → holds Start hay i ≡ false
 unfolding holds holds_between
 not_start hay (suc i) p le =
     let next : suc i ≡ i + 1 = omega arith in
@@ -145,15 +145,15 @@ at_zero : (hay : List ℕ) (i : ℕ) → i ≤ length hay → holds Start hay i 
 at_zero hay zero le h = refl
 at_zero hay (suc i) le h = absurd (true≢false (sym h ∙ not_start hay (suc i) (omega arith) le))
 
-starts : (hay : List ℕ) → holds Start hay 0 ≡ true
+pub starts : (hay : List ℕ) → holds Start hay 0 ≡ true
 unfolding holds holds_between
 starts hay = rw (byte_before-zero hay) refl
 
-not_end : (hay : List ℕ) (i : ℕ) → i < length hay → holds End hay i ≡ false
+pub not_end : (hay : List ℕ) (i : ℕ) → i < length hay → holds End hay i ≡ false
 unfolding holds holds_between
 not_end hay i less = rw (slice_get-get_or hay i 0 less) refl
 
-ends : (hay : List ℕ) (i : ℕ) → length hay ≤ i → holds End hay i ≡ true
+pub ends : (hay : List ℕ) (i : ℕ) → length hay ≤ i → holds End hay i ≡ true
 unfolding holds holds_between
 ends hay i le = rw (slice_get_past hay i le) refl
 
@@ -218,7 +218,7 @@ group_slot m k high =
     (cond-false (0 == k) (Some m.start) None (ne_eqb 0 k (omega arith)))
     ∙ option_or-None _
 
-texts_shown : (hay : List ℕ) (m : Match) (g : ℕ) (captures : Captures) → 1 ≤ g → Spans hay g captures m.trace.writes → map (λ k. option_map (text_at hay) (group_of m k)) (range_with_len g (length captures)) ≡ captures
+pub texts_shown : (hay : List ℕ) (m : Match) (g : ℕ) (captures : Captures) → 1 ≤ g → Spans hay g captures m.trace.writes → map (λ k. option_map (text_at hay) (group_of m k)) (range_with_len g (length captures)) ≡ captures
 texts_shown hay m g [] some s = refl
 texts_shown hay m g (c ∷ captures) some s =
     ap₂ ◌∷◌

@@ -6,6 +6,7 @@ ghost use Rattle.std.specs.Prelude.{⊤};
 ghost use Rattle.urlpattern_core.specs.Regexes.{regex_engine};
 ghost use Rattle.urlpattern_core.specs.FirstWays.{KeepsCase};
 ghost use Rattle.urlpattern_custom.specs.LawsOfTexts.{CapturesAreAsNames, ComponentsCapture, HasRoom, MatchersAnswerTaken, MatchersCapture, PartsCaptureMeanings, PartsTakeMeanings, ReadsInGroups, TookAlone, ValuesAnswerTaken, ValuesCapture};
+ghost use Rattle.urlpattern_custom.specs.LawsOfWays.{ComponentsAnswerFirstOfParts, FirstWaysAreCaptured, FirstWaysAreOfTrees, MatchersAnswerFirstOfParts, ValuesAnswerFirstOfParts};
 ghost use Rattle.urlpattern_engine.specs.PatternRegexps.{pattern_engine};
 ghost use Rattle.urlpattern_meaning.specs.FirstAnswers.{TookText};
 
@@ -64,4 +65,30 @@ pub fn components_answer_what_parts_capture()
     ensures names { CapturesAreAsNames }
     ensures own { ComponentsCapture pattern_engine HasRoom }
     ensures regex { ComponentsCapture regex_engine (λ regexp. ⊤) }
+{}
+
+/// Of several captures, a value of an engine answers those of the first way of the parts: an earlier choice is preferred to a later one, and
+/// inside of a custom part the choices of its expression are tried as the grammar reads it by itself. Without a custom part this is the first
+/// way of the tree of their regular expression. It is what the parts capture.
+///
+/// It is asked of each custom expression that it stands alone and captures nothing itself. Of `PatternRegexp` it is asked that it was made
+/// without the flag `i`, of a regular expression of no more than 2³² characters.
+pub fn values_answer_the_first_way_of_parts()
+    ensures trees { FirstWaysAreOfTrees }
+    ensures captured { FirstWaysAreCaptured }
+    ensures own { ValuesAnswerFirstOfParts pattern_engine KeepsCase HasRoom }
+    ensures regex { ValuesAnswerFirstOfParts regex_engine (λ flags. ⊤) (λ regexp. ⊤) }
+{}
+
+/// A matcher answers the first way of its parts to a text of characters without line feed, or `None` where there is none, if case is kept and
+/// the engine took the regular expression where it was needed.
+pub fn matchers_answer_the_first_way_of_parts()
+    ensures own { MatchersAnswerFirstOfParts pattern_engine HasRoom TookAlone }
+    ensures regex { MatchersAnswerFirstOfParts regex_engine (λ regexp. ⊤) (λ options flags. TookText (λ value. ⊤)) }
+{}
+
+/// So does the matcher of a component that was compiled to such parts.
+pub fn components_answer_the_first_way_of_parts()
+    ensures own { ComponentsAnswerFirstOfParts pattern_engine HasRoom }
+    ensures regex { ComponentsAnswerFirstOfParts regex_engine (λ regexp. ⊤) }
 {}

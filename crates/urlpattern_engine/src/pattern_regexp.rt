@@ -47,6 +47,7 @@ pub struct PatternRegexp {
 
 impl Drop for PatternRegexp {
     /// Drops the fields. Where an engine goes out of scope, the prover handles one call in place of each kind of expression.
+    #[inline(always)]
     fn drop(self) {
         let Self {
             expression: _expression,
@@ -172,12 +173,13 @@ impl RegExp for PatternRegexp {
 fn ignores_case(flags: &str) -> bool
     ensures { result ≡ ignores_case (chars flags.now) }
 {
-    flags.contains('i')
+    flags.chars().any(|flag| flag == 'i')
 }
 
 /// An expression that is matched by its steps.
 ///
 /// The error is that memory ran out.
+#[inline(always)]
 fn own(alloc: Global, pattern: &str, steps: Vec<Step>) -> Result<Steps, AllocError>
     ensures text { IfOk result (λ own. text_of own.text ≡ chars pattern.now) }
     ensures steps { IfOk result (λ own. own.steps ≡ steps) }

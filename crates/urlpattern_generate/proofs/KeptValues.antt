@@ -1,5 +1,5 @@
 -- Values that are canonical as they are.
-use Rattle.std.proofs.Common.{◌≡◌, ◌∙◌, ◌+◌, ◌<◌, ◌≤◌, ℕ, add-one, drop, get_or, Bool, true, false, not, ◌&&◌, ◌==◌, List, [], ◌∷◌, ◌++◌, append_assoc, length, All, Some, Ok, ap, arith, refl, subst, sym}
+use Rattle.std.proofs.Common.{◌≡◌, ◌∙◌, ◌+◌, ◌<◌, ◌≤◌, ℕ, add-one, drop, get_or, Bool, true, false, not, ◌&&◌, ◌==◌, List, [], ◌∷◌, ◌++◌, append_assoc, ◌⊎◌, length, All, None, Some, Ok, ap, arith, inl, inr, refl, subst, sym}
 use Rattle.std.proofs.lemmas.Bool.{and_from, and_parts, cond-false, eqb-true, false≢true, not-true}
 use Rattle.std.proofs.lemmas.Bool.Decides.{nat_tests}
 use Rattle.std.proofs.Math.Seq.{drop-cons}
@@ -7,13 +7,15 @@ use Rattle.std.proofs.lemmas.List.{append-nil, drop_all}
 use Rattle.std.proofs.lemmas.List.Elements.{All-cons, All-head, All-nil, All-push, All-tail, All-weaker}
 use Rattle.std.proofs.lemmas.Str.{chars-IsAscii}
 use Rattle.std.proofs.lemmas.Str.Ascii.{IsAscii-from_all}
-use Rattle.std.specs.Char.{is_ascii_digit, is_digit, to_ascii_lowercase}
+use Rattle.std.specs.Char.{encode_utf8, is_ascii_digit, is_digit, to_ascii_lowercase}
 use Rattle.std.specs.List.{list_all}
 use Rattle.std.specs.Prelude.{IsAscii, IsTrue, Option, ◌||◌, codes, if◌then◌else◌, slice_index, unwrap_or}
 use Rattle.std.specs.Str.{chars}
-use Rattle.percent_encoding.specs.Percent.{IsKept}
+use Rattle.percent_encoding.proofs.PercentLemmas.{percent_encode_unchanged}
+use Rattle.percent_encoding.specs.Percent.{IsKept, percent_encode}
 use Rattle.percent_encoding.specs.declared.ascii_set.AsciiSet.{AsciiSet}
 use Rattle.url.proofs.InputLemmas.{All_from_list_all, IsNot, Passes, is_empty_nonempty, rsplit_once_none}
+use Rattle.url.proofs.OnLiterals.{url_on_literals}
 use Rattle.url.proofs.PathLemmas.{no_segments, push_valid}
 use Rattle.url.proofs.SetLemmas.{kept_from_passes, passes_from_kept, passing_outside}
 use Rattle.url.specs.Ascii.{dot, lower_x, slash, upper_x}
@@ -21,21 +23,24 @@ use Rattle.url.specs.Host.{IsHostOf}
 use Rattle.url.specs.Input.{is_empty, lowercase}
 use Rattle.url.specs.Ipv4.{ends_in_a_number, is_number, last_label_of, number_of, parse_number, split_radix}
 use Rattle.url.specs.Parser.{and_then}
+use Rattle.url.specs.Parts.{Parts}
 use Rattle.url.specs.Path.{IsSegment, IsSegmentList, dot_count}
 use Rattle.url.specs.Scheme.{is_slash}
 use Rattle.url.specs.Setters as setters
 use Rattle.url.specs.declared.host.Host.TheVariants.{Domain}
 use Rattle.url.specs.declared.scheme.SchemeType.TheVariants.{SpecialNotFile}
-use Rattle.url.specs.declared.sets.TheConstants.{FORBIDDEN_DOMAIN, FRAGMENT, PATH, SPECIAL_QUERY}
-use Rattle.urlpattern_canonical.proofs.CanonicalLemmas.{pathname_of-bare}
-use Rattle.urlpattern_canonical.specs.Canonical.{after, canonical_hostname, dummy_url, hostname_of, pathname_of, without_guard}
+use Rattle.url.specs.declared.sets.TheConstants.{FORBIDDEN_DOMAIN, FRAGMENT, OPAQUE_PATH, OPAQUE_PATH_START, PATH, SPECIAL_QUERY}
+use Rattle.urlpattern_canonical.proofs.CanonicalLemmas.{after-ok, pathname_of-bare}
+use Rattle.urlpattern_canonical.specs.Canonical.{after, canonical_hostname, canonical_opaque_pathname, canonical_protocol, dummy_url, hostname_of, opaque_url, path_of, pathname_of, without_guard}
 use Rattle.urlpattern_eight.specs.declared.eight.ComponentName.{ComponentName}
 use Rattle.urlpattern_eight.specs.declared.eight.ComponentName.TheVariants.{Protocol, Username, Password, Hostname, Port, Pathname, Search, Hash}
 use Rattle.urlpattern_generate.proofs.HostTexts.{host_visible, hostname_kept}
-use Rattle.urlpattern_generate.proofs.SetTexts.{AreVisible, by_bytes, hash_kept, is_visible, path_stays, pathname_kept, search_kept}
+use Rattle.urlpattern_generate.proofs.PlainReadings.{empty_canonical}
+use Rattle.urlpattern_generate.proofs.SetTexts.{AreVisible, by_bytes, hash_kept, is_visible, path_stays, pathname_kept, search_kept, stripped}
 use Rattle.urlpattern_generate.specs.Manners.{canonical_for}
+use Rattle.urlpattern_syntax.proofs.TextLemmas.{chars_nothing}
 use Rattle.urlpattern_syntax.specs.Text.{lacks, line_feed}
-use Rattle.urlpattern_generate.specs.Kept.{is_dot_mark, is_kept_character, is_kept_path, is_kept_value, is_label_character}
+use Rattle.urlpattern_generate.specs.Kept.{is_dot_mark, is_kept_character, is_kept_opaque, is_kept_path, is_kept_value, is_label_character}
 
 -- ---- characters that are kept
 
@@ -220,29 +225,92 @@ module _ (begins : Bool) (bytes : List ℕ) (i other : ℕ) (within : i < length
 pub path_ends : (begins : Bool) (bytes : List ℕ) (i : ℕ) → length bytes ≤ i → true ≡ is_kept_path begins (drop i bytes)
 path_ends begins bytes i past = sym (ap (is_kept_path begins) (drop_all i bytes past))
 
+-- ---- an opaque path
+
+abbrev opaque : Parts
+opaque = record {
+  scheme = codes "data";
+  username = [];
+  password = [];
+  host = None;
+  port = None;
+  path = codes "dummy,test";
+  query = None;
+  fragment = None;
+}
+
+opaque_is : opaque_url ≡ Ok opaque
+unfolding url_on_literals
+opaque_is = refl
+
+opaque_set : (bytes : List ℕ) → All (Passes is_kept_character) bytes → (slice_index bytes 0 == slash) ≡ false → setters.new_path opaque bytes ≡ bytes
+opaque_set [] all bare = ap (λ text. text ++ percent_encode OPAQUE_PATH []) (percent_encode_unchanged OPAQUE_PATH_START [] (All-nil (IsKept OPAQUE_PATH_START))) ∙ percent_encode_unchanged OPAQUE_PATH [] (All-nil (IsKept OPAQUE_PATH))
+opaque_set (b ∷ bytes) all bare =
+    let kept = All-head (Passes is_kept_character) b bytes all in
+    let first = kept_from_passes is_of_segment OPAQUE_PATH_START refl b (kept_ascii b kept) (and_from (is_kept_character b) (not (b == slash)) kept (ap not bare)) in
+    ap (λ text. text ++ percent_encode OPAQUE_PATH bytes) (percent_encode_unchanged OPAQUE_PATH_START (b ∷ []) (All-cons (IsKept OPAQUE_PATH_START) b [] first (All-nil (IsKept OPAQUE_PATH_START))))
+    ∙ ap (λ text. b ∷ text) (percent_encode_unchanged OPAQUE_PATH bytes (are_kept OPAQUE_PATH refl bytes (All-tail (Passes is_kept_character) b bytes all)))
+
+opaque_kept : (bytes : List ℕ) → is_kept_opaque bytes ≡ true → canonical_opaque_pathname (chars bytes) ≡ Ok (chars bytes)
+opaque_kept bytes e =
+    let parts = and_parts (not (slice_index bytes 0 == slash)) (list_all is_kept_character bytes) e in
+    let all = All_from_list_all is_kept_character bytes parts.1 in
+    by_bytes (path_of opaque_url) bytes (are_visible bytes all)
+    (after-ok opaque_url (λ old. Ok (setters.set_path old bytes)) (λ new. new.path) opaque (setters.set_path opaque bytes) opaque_is refl
+    ∙ ap (λ text. Ok text) (ap (setters.new_path opaque) (stripped bytes (are_visible bytes all)) ∙ opaque_set bytes all (not-true (slice_index bytes 0 == slash) parts.0)))
+
+-- ---- protocols that are often used
+
+pub nothing_kept : canonical_protocol (chars []) ≡ Ok (chars [])
+unfolding chars
+nothing_kept = refl
+
+pub nothing_line : IsTrue (lacks line_feed (chars []))
+unfolding chars
+nothing_line = refl
+
+pub https_kept : canonical_protocol (chars (codes "https")) ≡ Ok (chars (codes "https"))
+unfolding url_on_literals chars encode_utf8
+https_kept = refl
+
+pub http_kept : canonical_protocol (chars (codes "http")) ≡ Ok (chars (codes "http"))
+unfolding url_on_literals chars encode_utf8
+http_kept = refl
+
+pub data_kept : canonical_protocol (chars (codes "data")) ≡ Ok (chars (codes "data"))
+unfolding url_on_literals chars encode_utf8
+data_kept = refl
+
+pub mailto_kept : canonical_protocol (chars (codes "mailto")) ≡ Ok (chars (codes "mailto"))
+unfolding url_on_literals chars encode_utf8
+mailto_kept = refl
+
 -- ---- any component
 
-kept_for : (component : ComponentName) (bytes : List ℕ) → is_kept_value component bytes ≡ true → canonical_for component true false (chars bytes) ≡ Ok (chars bytes)
-kept_for Protocol bytes e = absurd (false≢true e)
-kept_for Username bytes e = absurd (false≢true e)
-kept_for Password bytes e = absurd (false≢true e)
-kept_for Hostname bytes e = label_kept bytes e
-kept_for Port bytes e = absurd (false≢true e)
-kept_for Pathname bytes e = by_bytes pathname_of bytes (are_visible bytes (path_characters false bytes e)) (path_kept bytes e)
-kept_for Search bytes e =
+empty_kept : (component : ComponentName) (hierarchical : Bool) (bytes : List ℕ) → (length bytes == 0) ≡ true → canonical_for component hierarchical false (chars bytes) ≡ Ok (chars bytes)
+empty_kept component hierarchical [] e = subst (λ text. canonical_for component hierarchical false text ≡ Ok text) (sym chars_nothing) (empty_canonical component hierarchical false)
+empty_kept component hierarchical (b ∷ bytes) e = absurd (let some = eqb-true (length (b ∷ bytes)) 0 e in omega arith)
+
+kept_for : (component : ComponentName) (hierarchical : Bool) (bytes : List ℕ) → is_kept_value component hierarchical bytes ≡ true → canonical_for component hierarchical false (chars bytes) ≡ Ok (chars bytes)
+kept_for Protocol hierarchical bytes e = empty_kept Protocol hierarchical bytes e
+kept_for Username hierarchical bytes e = empty_kept Username hierarchical bytes e
+kept_for Password hierarchical bytes e = empty_kept Password hierarchical bytes e
+kept_for Hostname hierarchical bytes e = label_kept bytes e
+kept_for Port hierarchical bytes e = empty_kept Port hierarchical bytes e
+kept_for Pathname true bytes e = by_bytes pathname_of bytes (are_visible bytes (path_characters false bytes e)) (path_kept bytes e)
+kept_for Pathname false bytes e = opaque_kept bytes e
+kept_for Search hierarchical bytes e =
     let all = All_from_list_all is_kept_character bytes e in
     by_bytes (λ value. after dummy_url (λ old. Ok (setters.set_query old (Some value))) (λ new. unwrap_or new.query [])) bytes (are_visible bytes all)
     (search_kept bytes (are_visible bytes all) (are_kept SPECIAL_QUERY refl bytes all))
-kept_for Hash bytes e =
+kept_for Hash hierarchical bytes e =
     let all = All_from_list_all is_kept_character bytes e in
     by_bytes (λ value. after dummy_url (λ old. Ok (setters.set_fragment old (Some value))) (λ new. unwrap_or new.fragment [])) bytes (are_visible bytes all)
     (hash_kept bytes (are_visible bytes all) (are_kept FRAGMENT refl bytes all))
 
-pub kept_alone : (component : ComponentName) (hierarchical is_ipv6 : Bool) (bytes : List ℕ) → ((hierarchical && not is_ipv6) && is_kept_value component bytes) ≡ true →
+pub kept_alone : (component : ComponentName) (hierarchical is_ipv6 : Bool) (bytes : List ℕ) → is_ipv6 ≡ false → is_kept_value component hierarchical bytes ≡ true →
     canonical_for component hierarchical is_ipv6 (chars bytes) ≡ Ok (chars bytes)
-kept_alone component true false bytes kept = kept_for component bytes kept
-kept_alone component true true bytes kept = absurd (false≢true kept)
-kept_alone component false is_ipv6 bytes kept = absurd (false≢true kept)
+kept_alone component hierarchical is_ipv6 bytes other kept = subst (λ is. canonical_for component hierarchical is (chars bytes) ≡ Ok (chars bytes)) (sym other) (kept_for component hierarchical bytes kept)
 
 -- ---- a value without line feeds
 
@@ -263,14 +331,27 @@ lines test line bytes ascii all = subst (λ text. IsTrue (lacks line_feed text))
 text_lines : (bytes : List ℕ) → All (Passes is_kept_character) bytes → IsTrue (lacks line_feed (chars bytes))
 text_lines bytes all = lines is_kept_character refl bytes (IsAscii-from_all bytes (All-weaker (Passes is_kept_character) (λ b. b < 128) kept_ascii bytes all)) all
 
-pub kept_line : (component : ComponentName) (bytes : List ℕ) → is_kept_value component bytes ≡ true → IsTrue (lacks line_feed (chars bytes))
-kept_line Protocol bytes kept = absurd (false≢true kept)
-kept_line Username bytes kept = absurd (false≢true kept)
-kept_line Password bytes kept = absurd (false≢true kept)
-kept_line Port bytes kept = absurd (false≢true kept)
-kept_line Hostname bytes kept =
+empty_line : (bytes : List ℕ) → (length bytes == 0) ≡ true → IsTrue (lacks line_feed (chars bytes))
+empty_line [] e = subst (λ text. IsTrue (lacks line_feed text)) (sym chars_nothing) refl
+empty_line (b ∷ bytes) e = absurd (let some = eqb-true (length (b ∷ bytes)) 0 e in omega arith)
+
+pub kept_line : (component : ComponentName) (hierarchical : Bool) (bytes : List ℕ) → is_kept_value component hierarchical bytes ≡ true → IsTrue (lacks line_feed (chars bytes))
+kept_line Protocol hierarchical bytes kept = empty_line bytes kept
+kept_line Username hierarchical bytes kept = empty_line bytes kept
+kept_line Password hierarchical bytes kept = empty_line bytes kept
+kept_line Port hierarchical bytes kept = empty_line bytes kept
+kept_line Hostname hierarchical bytes kept =
     let all = All_from_list_all is_label_character bytes kept in
     lines is_label_character refl bytes (IsAscii-from_all bytes (All-weaker (Passes is_label_character) (λ b. b < 128) label_ascii bytes all)) all
-kept_line Pathname bytes kept = text_lines bytes (path_characters false bytes kept)
-kept_line Search bytes kept = text_lines bytes (All_from_list_all is_kept_character bytes kept)
-kept_line Hash bytes kept = text_lines bytes (All_from_list_all is_kept_character bytes kept)
+kept_line Pathname true bytes kept = text_lines bytes (path_characters false bytes kept)
+kept_line Pathname false bytes kept = text_lines bytes (All_from_list_all is_kept_character bytes (and_parts (not (slice_index bytes 0 == slash)) (list_all is_kept_character bytes) kept).1)
+kept_line Search hierarchical bytes kept = text_lines bytes (All_from_list_all is_kept_character bytes kept)
+kept_line Hash hierarchical bytes kept = text_lines bytes (All_from_list_all is_kept_character bytes kept)
+
+-- a protocol that is one of these
+pub protocol_line : (text : List ℕ) → text ≡ codes "https" ⊎ (text ≡ codes "http" ⊎ (text ≡ codes "data" ⊎ text ≡ codes "mailto")) → IsTrue (lacks line_feed (chars text))
+unfolding chars
+protocol_line text (inl e) = subst (λ of. IsTrue (lacks line_feed (chars of))) (sym e) refl
+protocol_line text (inr (inl e)) = subst (λ of. IsTrue (lacks line_feed (chars of))) (sym e) refl
+protocol_line text (inr (inr (inl e))) = subst (λ of. IsTrue (lacks line_feed (chars of))) (sym e) refl
+protocol_line text (inr (inr (inr e))) = subst (λ of. IsTrue (lacks line_feed (chars of))) (sym e) refl

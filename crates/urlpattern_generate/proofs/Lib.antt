@@ -1,4 +1,5 @@
 pub mod AskedLemmas
+pub mod Fronts
 pub mod GeneratingLemmas
 pub mod GivenLemmas
 pub mod HostTexts

@@ -1,53 +1,37 @@
 -- Texts that a pass over a pattern text reads and writes.
 use Rattle.std.proofs.Common.{◌≡◌, ◌≢◌, ◌∙◌, ◌⊎◌, ◌==◌, ℕ, zero, suc, Bool, false, true, not, List, [], ◌∷◌, ◌++◌, None, Some, ap, arith, inl, inr, length, map, refl, subst, sym}
-use Rattle.std.proofs.lemmas.Bool.{and_parts, eqb-false, false≢true, not-true}
+use Rattle.std.proofs.lemmas.Bool.{and_parts, eqb-false, eqb-true, false≢true, not-true}
 use Rattle.std.proofs.lemmas.Slice.Eq.{bytes_eq-Decides}
 use Rattle.std.specs.Borrow.{Bor}
 use Rattle.std.specs.Char.{is_ascii_digit}
 use Rattle.std.specs.List.{list_all}
 use Rattle.std.specs.Prelude.{Contains, IfSome, IsTrue, Option, bytes_eq, codes, if◌then◌else◌}
 use Rattle.std.specs.Str.{IsUtf8, chars}
-use Rattle.urlpattern_generate.proofs.Passes.{slash_star_front, star_front}
 use Rattle.urlpattern_generate.specs.Asked.{capture_by_modifier, capture_not_given, empty_or_none}
 use Rattle.urlpattern_generate.specs.Manners.{WritingManner}
-use Rattle.urlpattern_generate.specs.Passing.{Completes, IsCompleted, IsFront}
+use Rattle.urlpattern_generate.specs.Passing.{Completes, IsCompleted}
 use Rattle.urlpattern_links.specs.CopySearch.{AreSomeWith}
-use Rattle.urlpattern_links.specs.Links.{IsCopyText, MayCapture}
+use Rattle.urlpattern_links.specs.Links.{AreTextsWith, IsCopyText, MayCapture}
 use Rattle.urlpattern_meaning.specs.PartMeaning.{Allows, Captures, IsWildcardText}
-use Rattle.urlpattern_syntax.proofs.TextLemmas.{chars-some, chars_nothing}
+use Rattle.urlpattern_syntax.proofs.TextLemmas.{chars-empty, chars-some, chars_nothing}
 use Rattle.urlpattern_syntax.specs.Options.{OptionsView, pathname_options}
 use Rattle.urlpattern_syntax.specs.Parts.{PartView}
 use Rattle.urlpattern_syntax.specs.Text.{begins_with, lacks, line_feed}
 use Rattle.urlpattern_syntax.specs.declared.parser.PartModifier.{PartModifier}
 use Rattle.urlpattern_syntax.specs.declared.parser.PartModifier.TheVariants as modifiers
-use Rattle.urlpattern_syntax.specs.declared.parser.PartType.{PartType}
-use Rattle.urlpattern_syntax.specs.declared.parser.PartType.TheVariants.{FullWildcard, SegmentWildcard}
+use Rattle.urlpattern_syntax.specs.declared.parser.PartType.TheVariants.{FullWildcard, Regexp, SegmentWildcard}
 
 -- a text that is not empty, by the test of its bytes
 pub some_text : (bytes : List ℕ) → IsUtf8 bytes → (empty : Bool) → empty ≡ (length bytes == 0) → empty ≡ false → chars bytes ≢ []
 some_text bytes u empty is some = chars-some bytes u (eqb-false (length bytes) 0 (sym is ∙ some))
 
+-- a text that is empty
+pub no_text : (bytes : List ℕ) (empty : Bool) → empty ≡ (length bytes == 0) → empty ≡ true → chars bytes ≡ []
+no_text bytes empty is none = chars-empty bytes (eqb-true (length bytes) 0 (sym is ∙ none))
+
 -- a segment before others
 pub one_more : (Is : List ℕ → Type 0) (text front after : List ℕ) → text ≡ front ++ (codes "/" ++ after) → Is front → AreSomeWith Is (codes "/") after → AreSomeWith Is (codes "/") text
 one_more Is text front after cut is are = (suc are.0, (front, after, cut, is, are.1))
-
--- the group of an asterisk, as it is made
-abbrev star_group : (prefix : List ℕ) → PartView
-star_group prefix = record { kind = FullWildcard; value = []; modifier = modifiers.None; name = chars (codes "0"); prefix = prefix; suffix = [] }
-
-pub slash_star_is : (prefix : List ℕ) (number : ℕ) (admits : Bool) (names : List (List ℕ)) (rest : List ℕ) → prefix ≡ codes "/" → number ≡ 0 →
-    IsFront pathname_options (record { left = codes "/*" ++ rest; admits = admits; number = number; names = names }) (star_group prefix) rest 1
-unfolding chars
-slash_star_is prefix number admits names rest e none =
-    subst (λ n. IsFront pathname_options (record { left = codes "/*" ++ rest; admits = admits; number = n; names = names }) (star_group prefix) rest 1) (sym none)
-    (subst (λ p. IsFront pathname_options (record { left = codes "/*" ++ rest; admits = admits; number = 0; names = names }) (star_group p) rest 1) (sym e) (slash_star_front admits names rest))
-
-pub star_is : (prefix : List ℕ) (number : ℕ) (options : OptionsView) (names : List (List ℕ)) (rest : List ℕ) → prefix ≡ [] → number ≡ 0 → options.prefix ≡ [] →
-    IsFront options (record { left = codes "*" ++ rest; admits = true; number = number; names = names }) (star_group prefix) rest 1
-unfolding chars
-star_is prefix number options names rest e none bare =
-    subst (λ n. IsFront options (record { left = codes "*" ++ rest; admits = true; number = n; names = names }) (star_group prefix) rest 1) (sym none)
-    (subst (λ p. IsFront options (record { left = codes "*" ++ rest; admits = true; number = 0; names = names }) (star_group p) rest 1) (sym e) (star_front options names rest bare))
 
 -- ---- segments
 
@@ -64,12 +48,14 @@ allows_more modifiers.ZeroOrMore n repeats = tt
 allows_more modifiers.OneOrMore n repeats = omega arith
 
 -- a group of segments with a slash before it may capture them
-pub segments_may : (kind : PartType) (modifier : PartModifier) (name prefix text : List ℕ) → kind ≡ SegmentWildcard → Repeats modifier → prefix ≡ codes "/" → AreSomeWith (IsWildcardText pathname_options SegmentWildcard) (codes "/") text →
-    MayCapture pathname_options (record { kind = kind; value = []; modifier = modifier; name = name; prefix = prefix; suffix = [] }) (Some text)
-segments_may kind modifier name prefix text is repeats slash are =
-    subst (λ of. MayCapture pathname_options (record { kind = of; value = []; modifier = modifier; name = name; prefix = prefix; suffix = [] }) (Some text)) (sym is)
-    (subst (λ of. MayCapture pathname_options (record { kind = SegmentWildcard; value = []; modifier = modifier; name = name; prefix = of; suffix = [] }) (Some text)) (sym slash)
-    (inr (are.0, allows_more modifier are.0 repeats, are.1)))
+pub segments_may : (part : PartView) (text : List ℕ) → part.kind ≡ SegmentWildcard → Repeats part.modifier → part.prefix ≡ codes "/" → part.suffix ≡ [] →
+    AreSomeWith (IsWildcardText pathname_options SegmentWildcard) (codes "/") text → MayCapture pathname_options part (Some text)
+segments_may part text is repeats slash bare are = inr (
+  are.0,
+  allows_more part.modifier are.0 repeats,
+  subst (λ kind. AreTextsWith (IsCopyText pathname_options kind) (part.suffix ++ part.prefix) are.0 text) (sym is)
+      (subst (λ between. AreTextsWith (IsWildcardText pathname_options SegmentWildcard) between are.0 text) (sym (ap (λ own. own ++ part.prefix) bare ∙ slash)) are.1),
+)
 
 pub repeats_by : (modifier : PartModifier) → (modifier ≡ modifiers.OneOrMore) ⊎ (modifier ≡ modifiers.ZeroOrMore) → Repeats modifier
 repeats_by modifier (inl is) = subst Repeats (sym is) tt
@@ -84,11 +70,12 @@ allows_one modifiers.ZeroOrMore = tt
 allows_one modifiers.OneOrMore = omega arith
 
 -- a text without line feeds
-pub wildcard_may : (options : OptionsView) (kind : PartType) (modifier : PartModifier) (name prefix text : List ℕ) → kind ≡ FullWildcard → IsTrue (lacks line_feed text) →
-    MayCapture options (record { kind = kind; value = []; modifier = modifier; name = name; prefix = prefix; suffix = [] }) (Some text)
-wildcard_may options kind modifier name prefix text is line =
-    subst (λ of. MayCapture options (record { kind = of; value = []; modifier = modifier; name = name; prefix = prefix; suffix = [] }) (Some text)) (sym is)
-    (inr (0, allows_one modifier, line))
+pub wildcard_may : (options : OptionsView) (part : PartView) (text : List ℕ) → part.kind ≡ FullWildcard → IsTrue (lacks line_feed text) → MayCapture options part (Some text)
+wildcard_may options part text is line = inr (0, allows_one part.modifier, subst (λ kind. IsCopyText options kind text) (sym is) line)
+
+-- any text, as its engine says
+pub expression_may : (options : OptionsView) (part : PartView) (text : List ℕ) → part.kind ≡ Regexp → MayCapture options part (Some text)
+expression_may options part text is = inr (0, allows_one part.modifier, subst (λ kind. IsCopyText options kind text) (sym is) tt)
 
 -- ---- what is not given
 

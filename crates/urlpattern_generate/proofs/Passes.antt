@@ -1,19 +1,18 @@
 -- What completes a pattern text that is passed over once: a run of characters, a group, and the end.
-use Rattle.std.proofs.Common.{◌≡◌, ◌≢◌, ◌∙◌, ◌⊎◌, ℕ, suc, Bool, true, false, not, ◌&&◌, ◌||◌, List, [], ◌∷◌, ◌++◌, append_assoc, map, None, Some, String, Option, ap, arith, inl, inr, refl, subst, sym}
-use Rattle.std.proofs.lemmas.Bool.{and_parts, false≢true, not-true, or_left, or_right}
+use Rattle.std.proofs.Common.{◌≡◌, ◌≢◌, ◌∙◌, ℕ, suc, Bool, true, false, not, ◌&&◌, ◌||◌, List, [], ◌∷◌, ◌++◌, append_assoc, map, None, Some, Option, ap, arith, inl, inr, refl, subst, sym}
+use Rattle.std.proofs.lemmas.Bool.{and_from, and_parts, and_right, false≢true, not-true, or_left, or_right}
+use Rattle.std.proofs.lemmas.List.Folds.{list_all-append}
 use Rattle.std.proofs.lemmas.List.{append-nil, append_cancel_right}
 use Rattle.std.proofs.lemmas.List.Elements.{All-cons, All-nil, All-weaker, Contains-append_left, Contains-push}
 use Rattle.std.proofs.lemmas.List.Kept.{AllPairs-cons}
-use Rattle.std.specs.Fmt.{digits}
 use Rattle.std.specs.List.{list_all}
 use Rattle.std.specs.Prelude.{All, AllPairs, Contains, bytes_eq, codes, filter, if◌then◌else◌}
-use Rattle.std.specs.declared.alloc.Global.{Global}
+use Rattle.std.specs.Str.{chars}
 use Rattle.urlpattern_eight.specs.declared.eight.ComponentName.{ComponentName}
 use Rattle.urlpattern_eight.specs.declared.eight.ComponentName.TheVariants.{Protocol, Username, Password, Hostname, Port, Pathname, Search, Hash}
-use Rattle.urlpattern_generate.proofs.KeptTexts.{kept_nothing, kept_slash}
 use Rattle.urlpattern_generate.specs.Generating.{IsWrittenText}
 use Rattle.urlpattern_generate.specs.Manners.{WritingManner, options_for, unchanged}
-use Rattle.urlpattern_generate.specs.Passing.{AreKept, AreNewAfter, Completes, IsCompleted, IsFront, IsKeptPart, IsKeptText, IsToCapture, Place, goes_on_first, is_plain_first, is_run_character, may_go_on}
+use Rattle.urlpattern_generate.specs.Passing.{AreKept, AreNewAfter, Completes, IsCompleted, IsFront, IsKeptPart, IsKeptText, IsLeftOut, IsRun, IsToCapture, Place, goes_on_first, is_group_mark, is_plain_first, is_run_character, may_go_on}
 use Rattle.urlpattern_links.specs.Links.{OfEachGroup, OfFirst, captures_after, text_of_group, text_of_part, text_of_parts}
 use Rattle.urlpattern_meaning.proofs.PrintedTexts.{escaped_first, escaped_none, escaped_one}
 use Rattle.urlpattern_meaning.proofs.PrintingLaws.{plain_printed}
@@ -21,7 +20,7 @@ use Rattle.urlpattern_meaning.proofs.ReadsBack.{reads_back, standard_point}
 use Rattle.urlpattern_meaning.proofs.StandingItems.{EachText}
 use Rattle.urlpattern_meaning.specs.Matching.{Answers, MatcherView}
 use Rattle.urlpattern_meaning.specs.PartMeaning.{Captures}
-use Rattle.urlpattern_meaning.specs.Printing.{admits_asterisk, encoded_texts, escaped_pattern, first_part, goes_on, has_custom_name, in_braces, is_asterisk, joined, joined_with, last_of, needs_braces, pattern_marks, printed, printed_after, printed_part, takes_before}
+use Rattle.urlpattern_meaning.specs.Printing.{encoded_texts, escaped_pattern, first_part, goes_on, has_custom_name, in_braces, joined, joined_with, last_of, needs_braces, pattern_marks, printed, printed_after, printed_part, takes_before}
 use Rattle.urlpattern_meaning.specs.RoundTrip.{AreNamed, HasUnskipped, IsPrintable, IsStandard, IsUnskipped}
 use Rattle.urlpattern_syntax.proofs.NameCharacters.{name_not_digited}
 use Rattle.urlpattern_syntax.specs.Options.{OptionsView, pathname_options}
@@ -58,24 +57,31 @@ run_text (c ∷ run) rest all =
     escaped_first c run rest ∙ ap (λ mark. escaped_one mark c ++ (escaped_pattern run ++ rest)) (not-true (is_among pattern_marks c) plain.0)
     ∙ ap (λ text. c ∷ text) (run_text run rest parts.1)
 
-run_unskipped : (run : List ℕ) → list_all is_run_character run ≡ true → IsUnskipped run
+pub run_alone : (run : List ℕ) → list_all is_run_character run ≡ true → escaped_pattern run ≡ run
+run_alone run all = sym (append-nil (escaped_pattern run)) ∙ run_text run [] all ∙ append-nil run
+
+pub run_unskipped : (run : List ℕ) → list_all is_run_character run ≡ true → IsUnskipped run
 run_unskipped [] all = refl
 run_unskipped (c ∷ run) all =
     let parts = and_parts (is_run_character c) (list_all is_run_character run) all in
     let plain = and_parts (not (is_among pattern_marks c)) (not (is_ignored c)) parts.0 in
     ap (λ kept. kept && list_all (λ d. not (is_ignored d)) run) plain.1 ∙ run_unskipped run parts.1
 
+-- what is in a run is no prefix of a group after it
+abbrev Ends : (prefix run rest : List ℕ) → Type 0
+Ends prefix run rest = begins_with is_group_mark rest ≡ true → run ≢ [] → bytes_eq (last_of run) prefix ≡ false
+
 pub run_completes : (manner : WritingManner) (admits : Bool) (number : ℕ) (names : List (List ℕ)) (run rest : List ℕ) (parts : List PartView) (captures : Captures) (text : List ℕ) →
-    run ≢ [] → list_all is_run_character run ≡ true → IsKeptText run →
+    run ≢ [] → list_all is_run_character run ≡ true → IsKeptText run → Ends manner.options.prefix run rest →
     Completes manner false (record { left = rest; admits = true; number = number; names = names }) parts captures text →
     Completes manner true (record { left = run ++ rest; admits = admits; number = number; names = names }) (fixed_text run modifiers.None ∷ parts) captures (run ++ text)
-run_completes manner admits number names [] rest parts captures text some all kept h = absurd (some refl)
-run_completes manner admits number names (c ∷ run) rest parts captures text some all kept h =
+run_completes manner admits number names [] rest parts captures text some all kept ends h = absurd (some refl)
+run_completes manner admits number names (c ∷ run) rest parts captures text some all kept ends h =
     let part = fixed_text (c ∷ run) modifiers.None in
     record {
-      printed = λ before e.
+      printed = λ before e apart.
           ap (λ own. own ++ printed_after manner.options (Some part) parts) (plain_printed manner.options before part (first_part parts) refl)
-          ∙ ap (λ after. escaped_pattern (c ∷ run) ++ after) (h.printed (Some part) refl) ∙ run_text (c ∷ run) rest all;
+          ∙ ap (λ after. escaped_pattern (c ∷ run) ++ after) (h.printed (Some part) refl (λ marked other. and_right _ _ (ends marked some))) ∙ run_text (c ∷ run) rest all;
       apart = apart_cons part parts h.apart (is_false (is_plain_first (first_part parts)) h.begins);
       begins = λ plain. refl;
       goes = λ goes. or_left (is_name_part c) (is_among (codes "*({") c) goes;
@@ -111,7 +117,7 @@ none_completes manner place parts captures text h = record {
 -- nothing is left
 pub end_completes : (manner : WritingManner) (plain : Bool) (place : Place) → place.left ≡ [] → Completes manner plain place [] [] []
 end_completes manner plain place e = record {
-  printed = λ before admits. sym e;
+  printed = λ before admits apart. sym e;
   apart = refl;
   begins = λ none. absurd (false≢true none);
   goes = λ none. absurd (false≢true none);
@@ -126,6 +132,25 @@ end_completes manner plain place e = record {
   written = refl;
 }
 
+-- ---- runs, character by character
+
+last_push : (text : List ℕ) (c : ℕ) → last_of (text ++ c ∷ []) ≡ c ∷ []
+last_push [] c = refl
+last_push (b ∷ []) c = refl
+last_push (b ∷ d ∷ text) c = last_push (d ∷ text) c
+
+pub run_none : (prefix text : List ℕ) → IsRun prefix text text
+run_none prefix text = record { run = []; cut = refl; all = refl; apart = λ marked some. absurd (some refl) }
+
+pub run_more : (prefix text rest after : List ℕ) (c : ℕ) → IsRun prefix text rest → rest ≡ c ∷ after → is_run_character c ≡ true → (begins_with is_group_mark after ≡ true → bytes_eq (c ∷ []) prefix ≡ false) →
+    IsRun prefix text after
+run_more prefix text rest after c is e h own = record {
+  run = is.run ++ c ∷ [];
+  cut = is.cut ∙ ap (λ x. is.run ++ x) e ∙ sym (append_assoc is.run (c ∷ []) after);
+  all = list_all-append is_run_character is.run (c ∷ []) ∙ and_from _ _ is.all (and_from _ _ h refl);
+  apart = λ marked some. ap (λ last. bytes_eq last prefix) (last_push is.run c) ∙ own marked;
+}
+
 -- the run between a text and the rest of it
 pub run_is : (test : ℕ → Bool) (text run rest : List ℕ) → text ≡ run ++ rest → SkipsBy test text rest → list_all test run ≡ true
 run_is test text run rest cut skips = subst (λ of. list_all test of ≡ true) (append_cancel_right skips.0 run rest (sym skips.1 ∙ cut)) skips.2
@@ -138,20 +163,22 @@ Leads manner plain pattern place before written =
     (parts : List PartView) (captures : Captures) (text : List ℕ) → Completes manner plain place parts captures text → IsCompleted manner pattern (before ++ captures) (written ++ text)
 
 pub run_leads : (manner : WritingManner) (pattern : List ℕ) (before : Captures) (written : List ℕ) (admits : Bool) (number : ℕ) (names : List (List ℕ)) (run rest : List ℕ) →
-    run ≢ [] → list_all is_run_character run ≡ true → IsKeptText run →
+    run ≢ [] → list_all is_run_character run ≡ true → IsKeptText run → Ends manner.options.prefix run rest →
     Leads manner true pattern (record { left = run ++ rest; admits = admits; number = number; names = names }) before written →
     Leads manner false pattern (record { left = rest; admits = true; number = number; names = names }) before (written ++ run)
-run_leads manner pattern before written admits number names run rest some all kept leads parts captures text h =
+run_leads manner pattern before written admits number names run rest some all kept ends leads parts captures text h =
     subst (IsCompleted manner pattern (before ++ captures)) (sym (append_assoc written run text))
-    (leads (fixed_text run modifiers.None ∷ parts) captures (run ++ text) (run_completes manner admits number names run rest parts captures text some all kept h))
+    (leads (fixed_text run modifiers.None ∷ parts) captures (run ++ text) (run_completes manner admits number names run rest parts captures text some all kept ends h))
 
 -- the same of a pass, by what it has after the run
-pub run_passed : (manner : WritingManner) (pattern : List ℕ) (before : Captures) (written : List ℕ) (place : Place) (run rest text : List ℕ) → run ≢ [] → list_all is_run_character run ≡ true → IsKeptText run →
+pub run_passed : (manner : WritingManner) (pattern : List ℕ) (before : Captures) (written : List ℕ) (place : Place) (run rest text : List ℕ) → run ≢ [] → IsRun manner.options.prefix place.left rest → IsKeptText run →
     place.left ≡ run ++ rest → text ≡ written ++ run → Leads manner true pattern place before written →
     Leads manner false pattern (record { left = rest; admits = true; number = place.number; names = place.names }) before text
-run_passed manner pattern before written place run rest text some all kept cut is leads =
-    subst (Leads manner false pattern (record { left = rest; admits = true; number = place.number; names = place.names }) before) (sym is)
-    (run_leads manner pattern before written place.admits place.number place.names run rest some all kept
+run_passed manner pattern before written place run rest text some is kept cut spelled leads =
+    let same : is.run ≡ run = append_cancel_right is.run run rest (sym is.cut ∙ cut) in
+    subst (Leads manner false pattern (record { left = rest; admits = true; number = place.number; names = place.names }) before) (sym spelled)
+    (run_leads manner pattern before written place.admits place.number place.names run rest some (subst (λ of. list_all is_run_character of ≡ true) same is.all) kept
+    (subst (λ of. Ends manner.options.prefix of rest) same is.apart)
     (subst (λ of. Leads manner true pattern (record { left = of; admits = place.admits; number = place.number; names = place.names }) before written) cut leads))
 
 -- where nothing is left the whole is completed
@@ -161,7 +188,7 @@ end_leads manner pattern before written place e leads =
 
 -- ---- a group
 
-not_fixed : (kind : PartType) → kind ≢ FixedText → is_fixed_text kind ≡ false
+pub not_fixed : (kind : PartType) → kind ≢ FixedText → is_fixed_text kind ≡ false
 not_fixed FixedText group = absurd (group refl)
 not_fixed Regexp group = refl
 not_fixed SegmentWildcard group = refl
@@ -199,17 +226,25 @@ names_more : (fixed : Bool) (part : PartView) (parts : List PartView) → fixed 
 names_more true part parts e = absurd (false≢true (sym e))
 names_more false part parts e = refl
 
-pub group_completes : (manner : WritingManner) (place : Place) (part : PartView) (rest : List ℕ) (number : ℕ) (capture : Option (List ℕ)) (string : String Global) (parts : List PartView) (captures : Captures) (text : List ℕ) →
-    IsFront manner.options place part rest number → IsToCapture manner part capture → ¬ Contains place.names part.name →
+-- no part takes the end of a group
+none_taken : (a b c : Bool) → (((a && false) && b) && c) ≡ false
+none_taken true b c = refl
+none_taken false b c = refl
+
+pub group_completes : (manner : WritingManner) (place : Place) (part : PartView) (rest : List ℕ) (number : ℕ) (capture : Option (List ℕ)) (parts : List PartView) (captures : Captures) (text : List ℕ) →
+    IsFront manner.options place part rest number → IsKeptText part.prefix → IsKeptText part.suffix → IsToCapture manner part capture → ¬ Contains place.names part.name →
     Completes manner true (record { left = rest; admits = not (is_unmodified part.modifier); number = number; names = place.names ++ part.name ∷ [] }) parts captures text →
     Completes manner false place (part ∷ parts) (capture ∷ captures) (text_of_group part capture ++ text)
-group_completes manner place part rest number capture string parts captures text front takes new h =
+group_completes manner place part rest number capture parts captures text front kept_prefix kept_suffix takes new h =
     let group = not_fixed part.kind front.is_group in
     let unplain : is_plain part ≡ false = ap (λ fixed. fixed && is_unmodified part.modifier) group in
     record {
-      printed = λ before e.
-          ap (λ after. printed_part manner.options before part (first_part parts) ++ after) (h.printed (Some part) (ap (λ fixed. fixed || not (is_unmodified part.modifier)) group))
-          ∙ front.printed before (first_part parts) e h.goes;
+      printed = λ before e apart.
+          ap (λ after. printed_part manner.options before part (first_part parts) ++ after)
+          (h.printed (Some part) (ap (λ fixed. fixed || not (is_unmodified part.modifier)) group)
+          (λ marked other. ap (λ fixed. ((is_empty other.prefix && fixed) && not (is_empty part.value)) && bytes_eq (last_of part.value) manner.options.prefix) group
+          ∙ none_taken (is_empty other.prefix) (not (is_empty part.value)) (bytes_eq (last_of part.value) manner.options.prefix)))
+          ∙ front.printed before (first_part parts) e apart h.goes;
       apart = apart_cons part parts h.apart (ap (λ plain. plain && is_plain_first (first_part parts)) unplain);
       begins = λ plain. absurd (false≢true (sym unplain ∙ plain));
       goes = front.goes;
@@ -217,37 +252,88 @@ group_completes manner place part rest number capture string parts captures text
       named = (front.named, subst (λ n. AreNamed n parts) (sym front.numbered) h.named);
       new = subst (AreNewAfter place.names) (sym (names_more (is_fixed_text part.kind) part parts group)) (new, h.new);
       filled = (λ fixed. absurd (false≢true (sym group ∙ fixed)), h.filled);
-      unskipped = (unskipped_more part.kind part front.is_group front.unskipped (subst IsUnskipped (sym front.suffixed) refl), h.unskipped);
-      kept = (kept_more part.kind part front.is_group (prefix_kept part.prefix front.prefixed) (subst IsKeptText (sym front.suffixed) (kept_nothing string)), h.kept);
+      unskipped = (unskipped_more part.kind part front.is_group front.unskipped_prefix front.unskipped_suffix, h.unskipped);
+      kept = (kept_more part.kind part front.is_group kept_prefix kept_suffix, h.kept);
       asked = each_more _ part.kind part capture parts captures front.is_group takes.0 h.asked;
       may = each_more _ part.kind part capture parts captures front.is_group takes.1 h.may;
       written = text_more part.kind part capture parts captures text front.is_group h.written;
     }
-  where
-    prefix_kept : (prefix : List ℕ) → (prefix ≡ []) ⊎ (prefix ≡ codes "/") → IsKeptText prefix
-    prefix_kept prefix (inl e) = subst IsKeptText (sym e) (kept_nothing string)
-    prefix_kept prefix (inr e) = subst IsKeptText (sym e) (kept_slash string)
 
-pub group_leads : (manner : WritingManner) (pattern : List ℕ) (before : Captures) (written : List ℕ) (place : Place) (part : PartView) (rest : List ℕ) (number : ℕ) (capture : Option (List ℕ)) (string : String Global) →
-    IsFront manner.options place part rest number → IsToCapture manner part capture → ¬ Contains place.names part.name → Leads manner false pattern place before written →
-    Leads manner true pattern (record { left = rest; admits = not (is_unmodified part.modifier); number = number; names = place.names ++ part.name ∷ [] }) (before ++ capture ∷ []) (written ++ text_of_group part capture)
-group_leads manner pattern before written place part rest number capture string front takes new leads parts captures text h =
-    subst (λ own. IsCompleted manner pattern own ((written ++ text_of_group part capture) ++ text)) (sym (append_assoc before (capture ∷ []) captures))
-    (subst (IsCompleted manner pattern (before ++ capture ∷ captures)) (sym (append_assoc written (text_of_group part capture) text))
-    (leads (part ∷ parts) (capture ∷ captures) (text_of_group part capture ++ text) (group_completes manner place part rest number capture string parts captures text front takes new h)))
-
--- the same of a pass, by what it has after the group
-pub group_passed : (manner : WritingManner) (pattern : List ℕ) (before : Captures) (written : List ℕ) (place : Place) (part : PartView) (rest : List ℕ) (number : ℕ) (capture : Option (List ℕ)) (string : String Global)
+-- of a pass, by what it has after the group
+pub group_passed : (manner : WritingManner) (pattern : List ℕ) (before : Captures) (written : List ℕ) (place : Place) (part : PartView) (rest : List ℕ) (number : ℕ) (capture : Option (List ℕ))
     (admits : Bool) (names : List (List ℕ)) (own : Captures) (text : List ℕ) →
-    IsFront manner.options place part rest number → IsToCapture manner part capture → ¬ Contains place.names part.name → Leads manner false pattern place before written →
+    IsFront manner.options place part rest number → IsKeptText part.prefix → IsKeptText part.suffix → IsToCapture manner part capture → ¬ Contains place.names part.name → Leads manner false pattern place before written →
     admits ≡ not (is_unmodified part.modifier) → names ≡ place.names ++ part.name ∷ [] → own ≡ before ++ capture ∷ [] → text ≡ written ++ text_of_group part capture →
     Leads manner true pattern (record { left = rest; admits = admits; number = number; names = names }) own text
-group_passed manner pattern before written place part rest number capture string admits names own text front takes new leads is_admits is_names is_own is_text =
-    subst (λ of. Leads manner true pattern (record { left = rest; admits = of; number = number; names = names }) own text) (sym is_admits)
-    (subst (λ of. Leads manner true pattern (record { left = rest; admits = not (is_unmodified part.modifier); number = number; names = of }) own text) (sym is_names)
-    (subst (λ of. Leads manner true pattern (record { left = rest; admits = not (is_unmodified part.modifier); number = number; names = place.names ++ part.name ∷ [] }) of text) (sym is_own)
-    (subst (Leads manner true pattern (record { left = rest; admits = not (is_unmodified part.modifier); number = number; names = place.names ++ part.name ∷ [] }) (before ++ capture ∷ [])) (sym is_text)
-    (group_leads manner pattern before written place part rest number capture string front takes new leads))))
+group_passed manner pattern before written place part rest number capture admits names own text front kept_prefix kept_suffix takes new leads is_admits is_names is_own is_text parts captures more h =
+    let k : Completes manner true (record { left = rest; admits = not (is_unmodified part.modifier); number = number; names = place.names ++ part.name ∷ [] }) parts captures more =
+    subst (λ of. Completes manner true (record { left = rest; admits = of; number = number; names = place.names ++ part.name ∷ [] }) parts captures more) is_admits
+    (subst (λ of. Completes manner true (record { left = rest; admits = admits; number = number; names = of }) parts captures more) is_names h) in
+    subst (λ (of : Captures). IsCompleted manner pattern of (text ++ more)) (sym (ap (λ (of : Captures). of ++ captures) is_own ∙ append_assoc before (capture ∷ []) captures))
+    (subst (IsCompleted manner pattern (before ++ capture ∷ captures)) (sym (ap (λ of. of ++ more) is_text ∙ append_assoc written (text_of_group part capture) more))
+    (leads (part ∷ parts) (capture ∷ captures) (text_of_group part capture ++ more)
+    (group_completes manner place part rest number capture parts captures more front kept_prefix kept_suffix takes new k)))
+
+-- no part without a prefix takes the end of the text before it, where there is no prefix code point
+takes_none : (options : OptionsView) (before : Option PartView) (part : PartView) → options.prefix ≡ [] → takes_before options before part ≡ false
+takes_none options None part e = refl
+takes_none options (Some before) part e =
+    ap (λ prefix. is_empty part.prefix && is_fixed_text before.kind && not (is_empty before.value) && bytes_eq (last_of before.value) prefix) e
+    ∙ by_value (is_empty part.prefix) (is_fixed_text before.kind) before.value
+  where
+    last_some : (c : ℕ) (text : List ℕ) → bytes_eq (last_of (c ∷ text)) [] ≡ false
+    last_some c [] = refl
+    last_some c (d ∷ text) = last_some d text
+
+    by_value : (a b : Bool) (value : List ℕ) → a && b && not (is_empty value) && bytes_eq (last_of value) [] ≡ false
+    by_value true true [] = refl
+    by_value true true (c ∷ text) = last_some c text
+    by_value true false value = refl
+    by_value false b value = refl
+
+-- ---- a fixed text that is left out
+
+left_printed : (options : OptionsView) (before next : Option PartView) (value : List ℕ) (modifier : PartModifier) →
+    printed_part options before (fixed_text value modifier) next ≡ in_braces (not (is_unmodified modifier)) (escaped_pattern value) ++ modifier_text modifier
+unfolding printed_part
+left_printed options before next value modifier = refl
+
+left_shape : (value modifier rest : List ℕ) → ((codes "{" ++ (value ++ codes "}")) ++ modifier) ++ rest ≡ codes "{" ++ (value ++ (codes "}" ++ (modifier ++ rest)))
+left_shape value modifier rest = simp append_assoc
+
+pub left_completes : (manner : WritingManner) (place : Place) (bytes : List ℕ) (modifier : PartModifier) (rest : List ℕ) (parts : List PartView) (captures : Captures) (text : List ℕ) →
+    manner.options.prefix ≡ [] → IsLeftOut bytes modifier place.left rest → IsKeptText (chars bytes) →
+    Completes manner true (record { left = rest; admits = true; number = place.number; names = place.names }) parts captures text →
+    Completes manner false place (fixed_text (chars bytes) modifier ∷ parts) captures text
+left_completes manner place bytes modifier rest parts captures text bare is kept h =
+    let part = fixed_text (chars bytes) modifier in
+    record {
+      printed = λ before e apart.
+          ap (λ own. own ++ printed_after manner.options (Some part) parts)
+          (left_printed manner.options before (first_part parts) (chars bytes) modifier
+          ∙ ap (λ plain. in_braces (not plain) (escaped_pattern (chars bytes)) ++ modifier_text modifier) is.modified
+          ∙ ap (λ own. (codes "{" ++ (own ++ codes "}")) ++ modifier_text modifier) (run_alone (chars bytes) is.all))
+          ∙ ap (λ after. ((codes "{" ++ (chars bytes ++ codes "}")) ++ modifier_text modifier) ++ after) (h.printed (Some part) refl (λ marked other. takes_none manner.options (Some part) other bare))
+          ∙ left_shape (chars bytes) (modifier_text modifier) rest ∙ sym is.cut;
+      apart = apart_cons part parts h.apart (ap (λ plain. plain && is_plain_first (first_part parts)) is.modified);
+      begins = λ plain. absurd (false≢true (sym is.modified ∙ plain));
+      goes = λ goes. ap (begins_with may_go_on) is.cut ∙ or_right (is_name_part 123) (is_among (codes "*({") 123) refl;
+      fields = ((refl, refl), h.fields);
+      named = (refl, h.named);
+      new = h.new;
+      filled = (λ fixed. is.some, h.filled);
+      unskipped = (run_unskipped (chars bytes) is.all, h.unskipped);
+      kept = (kept, h.kept);
+      asked = (tt, h.asked);
+      may = (tt, h.may);
+      written = h.written ∙ ap (λ fewest. fewest ++ text_of_parts parts captures) (sym is.fewest);
+    }
+
+pub left_passed : (manner : WritingManner) (pattern : List ℕ) (before : Captures) (written : List ℕ) (place : Place) (bytes : List ℕ) (modifier : PartModifier) (rest : List ℕ) →
+    manner.options.prefix ≡ [] → IsLeftOut bytes modifier place.left rest → IsKeptText (chars bytes) → Leads manner false pattern place before written →
+    Leads manner true pattern (record { left = rest; admits = true; number = place.number; names = place.names }) before written
+left_passed manner pattern before written place bytes modifier rest bare is kept leads parts captures text h =
+    leads (fixed_text (chars bytes) modifier ∷ parts) captures text (left_completes manner place bytes modifier rest parts captures text bare is kept h)
 
 -- ---- a name after a slash
 
@@ -295,7 +381,7 @@ pub name_front : (admits : Bool) (number : ℕ) (names : List (List ℕ)) (text 
 name_front admits number names text name rest modifier is_name cut stops =
     let custom : has_custom_name (name_part name modifier) ≡ true = ap not (name_not_digited name is_name) in
     record {
-      printed = λ before next e goes.
+      printed = λ before next e apart goes.
           ap (λ own. own ++ rest)
           (name_printed before next name modifier
           ∙ ap (λ own. name_shape own (needs_braces pathname_options before (name_part name modifier) next) name modifier) custom
@@ -307,92 +393,9 @@ name_front admits number names text name rest modifier is_name cut stops =
       fields = (refl, λ other. absurd (other custom));
       named = inl is_name;
       numbered = ap (λ own. if own then number else suc number) custom;
-      unskipped = refl;
-      prefixed = inr refl;
-      suffixed = refl;
+      unskipped_prefix = refl;
+      unskipped_suffix = refl;
     }
-
--- ---- an asterisk
-
-abbrev star_part : (prefix : List ℕ) → PartView
-star_part prefix = record { kind = FullWildcard; value = []; modifier = modifiers.None; name = codes "0"; prefix = prefix; suffix = [] }
-
-abbrev star_shape : (asterisk braces : Bool) → (prefix : List ℕ) → List ℕ
-star_shape asterisk braces prefix = in_braces braces (prefix ++ ((if asterisk then codes "*" else codes "(.*)") ++ [])) ++ []
-
-star_printed : (options : OptionsView) (before next : Option PartView) → printed_part options before (star_part []) next ≡ star_shape (is_asterisk before (star_part []) (needs_braces options before (star_part []) next)) (needs_braces options before (star_part []) next) []
-unfolding printed_part escaped
-star_printed options before next = refl
-
-slash_star_printed : (options : OptionsView) (before next : Option PartView) →
-    printed_part options before (star_part (codes "/")) next ≡ star_shape (is_asterisk before (star_part (codes "/")) (needs_braces options before (star_part (codes "/")) next)) (needs_braces options before (star_part (codes "/")) next) (codes "/")
-unfolding printed_part escaped
-slash_star_printed options before next = refl
-
--- no part without a prefix takes the end of the text before it, where there is no prefix code point
-takes_none : (options : OptionsView) (before : Option PartView) (part : PartView) → options.prefix ≡ [] → takes_before options before part ≡ false
-takes_none options None part e = refl
-takes_none options (Some before) part e =
-    ap (λ prefix. is_empty part.prefix && is_fixed_text before.kind && not (is_empty before.value) && bytes_eq (last_of before.value) prefix) e
-    ∙ by_value (is_empty part.prefix) (is_fixed_text before.kind) before.value
-  where
-    last_some : (c : ℕ) (text : List ℕ) → bytes_eq (last_of (c ∷ text)) [] ≡ false
-    last_some c [] = refl
-    last_some c (d ∷ text) = last_some d text
-
-    by_value : (a b : Bool) (value : List ℕ) → a && b && not (is_empty value) && bytes_eq (last_of value) [] ≡ false
-    by_value true true [] = refl
-    by_value true true (c ∷ text) = last_some c text
-    by_value true false value = refl
-    by_value false b value = refl
-
-star_unbraced : (options : OptionsView) (before next : Option PartView) → options.prefix ≡ [] → needs_braces options before (star_part []) next ≡ false
-star_unbraced options before None e = takes_none options before (star_part []) e
-star_unbraced options before (Some next) e = takes_none options before (star_part []) e
-
-pub star_front : (options : OptionsView) (names : List (List ℕ)) (rest : List ℕ) → options.prefix ≡ [] →
-    IsFront options (record { left = codes "*" ++ rest; admits = true; number = 0; names = names }) (star_part []) rest 1
-unfolding digits
-star_front options names rest e = record {
-  printed = λ before next admits goes.
-      ap (λ own. own ++ rest)
-      (star_printed options before next
-      ∙ ap (λ braces. star_shape (is_asterisk before (star_part []) braces) braces []) (star_unbraced options before next e)
-      ∙ ap (λ asterisk. star_shape asterisk false []) (or_left (admits_asterisk before || false) false (or_left (admits_asterisk before) false admits)));
-  is_group = λ e. cc e;
-  goes = λ goes. or_right (is_name_part 42) (is_among (codes "*({") 42) refl;
-  fields = refl;
-  named = inr refl;
-  numbered = refl;
-  unskipped = refl;
-  prefixed = inl refl;
-  suffixed = refl;
-}
-
-slash_star_unbraced : (before next : Option PartView) → needs_braces pathname_options before (star_part (codes "/")) next ≡ false
-slash_star_unbraced None None = refl
-slash_star_unbraced (Some before) None = refl
-slash_star_unbraced None (Some next) = refl
-slash_star_unbraced (Some before) (Some next) = refl
-
-pub slash_star_front : (admits : Bool) (names : List (List ℕ)) (rest : List ℕ) →
-    IsFront pathname_options (record { left = codes "/*" ++ rest; admits = admits; number = 0; names = names }) (star_part (codes "/")) rest 1
-unfolding digits
-slash_star_front admits names rest = record {
-  printed = λ before next e goes.
-      ap (λ own. own ++ rest)
-      (slash_star_printed pathname_options before next
-      ∙ ap (λ braces. star_shape (is_asterisk before (star_part (codes "/")) braces) braces (codes "/")) (slash_star_unbraced before next)
-      ∙ ap (λ asterisk. star_shape asterisk false (codes "/")) (or_right (admits_asterisk before || false) true refl));
-  is_group = λ e. cc e;
-  goes = λ goes. absurd (false≢true goes);
-  fields = refl;
-  named = inr refl;
-  numbered = refl;
-  unskipped = refl;
-  prefixed = inr refl;
-  suffixed = refl;
-}
 
 -- ---- the whole pattern text
 
@@ -452,7 +455,7 @@ completed_written answer matcher manner component hierarchical pattern captures 
       parts = parts;
       captures = captures;
       is_asked = record {
-        reads = subst (λ of. Reads of manner.options unchanged parts) (h.printed None refl) (subst (Reads (printed manner.options parts) manner.options unchanged) h.apart back);
+        reads = subst (λ of. Reads of manner.options unchanged parts) (h.printed None refl (λ marked part. refl)) (subst (Reads (printed manner.options parts) manner.options unchanged) h.apart back);
         are_asked = h.asked;
       };
       may_capture = h.may;

@@ -20,7 +20,7 @@ use Rattle.urlpattern_generate.specs.Generating.{AnswersOtherwise, AsksFor, IsAn
 use Rattle.urlpattern_generate.specs.Manners.{WritingManner, canonical_for, options_for, unchanged}
 use Rattle.urlpattern_generate.specs.PlainPatterns.{is_plain_character}
 use Rattle.urlpattern_generate.specs.declared.error.GenerateError.TheVariants.{ReadOtherwise}
-use Rattle.urlpattern_init.proofs.PlainTexts.{letters, plain_pieces, plain_pieces_are, plain_tokens}
+use Rattle.urlpattern_meaning.proofs.PlainTexts.{letters, plain_pieces, plain_pieces_are, plain_tokens}
 use Rattle.urlpattern_links.specs.Links.{OfEachGroup, text_of_parts}
 use Rattle.urlpattern_meaning.specs.Matching.{Answers, MatcherView}
 use Rattle.urlpattern_meaning.specs.PartMeaning.{Captures}

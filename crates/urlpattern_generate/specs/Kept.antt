@@ -1,5 +1,5 @@
 -- Values that are canonical as they are.
-use Rattle.std.specs.Prelude.{ℕ, Bool, List, [], ◌∷◌, false, true, not, ◌==◌, ◌&&◌, ◌||◌, codes}
+use Rattle.std.specs.Prelude.{ℕ, Bool, List, [], ◌∷◌, false, true, not, ◌==◌, ◌&&◌, ◌||◌, codes, length, slice_index}
 use Rattle.std.specs.Char.{is_ascii_alphanumeric, is_ascii_lowercase}
 use Rattle.std.specs.List.{list_all}
 use Rattle.url.specs.Ascii.{slash}
@@ -24,10 +24,15 @@ is_kept_path begins (c ∷ text) = (is_kept_character c && not (begins && is_dot
 abbrev pub is_label_character : ℕ → Bool
 is_label_character c = is_ascii_lowercase c || is_among (codes "-") c
 
--- the value is canonical in the component, where a pathname is a path of segments and a hostname is no IPv6 address
-abbrev pub is_kept_value : ComponentName → List ℕ → Bool
-is_kept_value Hostname value = list_all is_label_character value
-is_kept_value Pathname value = is_kept_path false value
-is_kept_value Search value = list_all is_kept_character value
-is_kept_value Hash value = list_all is_kept_character value
-is_kept_value component value = false
+-- each character is kept, and the first is no slash
+abbrev pub is_kept_opaque : List ℕ → Bool
+is_kept_opaque value = not (slice_index value 0 == slash) && list_all is_kept_character value
+
+-- the value is canonical in the component, where a pathname is a path of segments or opaque and a hostname is no IPv6 address
+abbrev pub is_kept_value : ComponentName → (hierarchical : Bool) → List ℕ → Bool
+is_kept_value Hostname hierarchical value = list_all is_label_character value
+is_kept_value Pathname true value = is_kept_path false value
+is_kept_value Pathname false value = is_kept_opaque value
+is_kept_value Search hierarchical value = list_all is_kept_character value
+is_kept_value Hash hierarchical value = list_all is_kept_character value
+is_kept_value component hierarchical value = length value == 0

@@ -1,19 +1,21 @@
 -- A pattern text that is passed over once, while a text is drafted for it: what is left of it, and what the parts of the rest give.
-use Rattle.std.specs.Prelude.{◌≡◌, ◌≢◌, ◌⊎◌, ◌&&◌, ◌||◌, ℕ, Bool, false, true, not, List, [], ◌∷◌, ◌++◌, map, Contains, Option, Some, None, Ok, codes}
-use Rattle.std.specs.Str.{chars}
+use Rattle.std.specs.Prelude.{◌≡◌, ◌≢◌, ◌&&◌, ◌||◌, ◌<◌, ◌^◌, ℕ, Bool, false, true, not, List, [], ◌∷◌, ◌++◌, bytes_eq, length, map, Contains, Option, Some, None, Ok, codes}
+use Rattle.std.specs.List.{list_all}
+use Rattle.std.specs.Str.{IsUtf8, chars}
 use Rattle.urlpattern_generate.specs.Asked.{AreAsked, IsAsked}
-use Rattle.urlpattern_generate.specs.Manners.{WritingManner, unchanged}
+use Rattle.urlpattern_eight.specs.declared.eight.ComponentName.{ComponentName}
+use Rattle.urlpattern_generate.specs.Manners.{WritingManner, options_for, unchanged}
 use Rattle.urlpattern_generate.specs.declared.pass.{Group.Group, Pass.Pass}
-use Rattle.urlpattern_links.specs.Links.{MayCapture, MayCaptureAll, text_of_parts}
+use Rattle.urlpattern_links.specs.Links.{MayCapture, MayCaptureAll, fewest_copies, text_of_parts}
 use Rattle.urlpattern_meaning.specs.PartMeaning.{Captures}
-use Rattle.urlpattern_meaning.specs.Printing.{HaveTexts, admits_asterisk, first_part, goes_on, joined, printed_after, printed_part}
+use Rattle.urlpattern_meaning.specs.Printing.{HaveTexts, admits_asterisk, first_part, goes_on, has_custom_name, is_segment, joined, last_of, printed_after, printed_match, printed_name, printed_part, takes_before}
 use Rattle.urlpattern_meaning.specs.RoundTrip.{AllHaveFields, AreNamed, AreUnskipped, HasFields, IsNamed, IsUnskipped, following_number}
-use Rattle.urlpattern_syntax.specs.Options.{OptionsView, pathname_options}
+use Rattle.urlpattern_syntax.specs.Options.{OptionsView}
 use Rattle.urlpattern_syntax.specs.Parts.{PartView}
-use Rattle.urlpattern_syntax.specs.declared.parser.{PartType.PartType}
-use Rattle.urlpattern_syntax.specs.RegexpText.{group_names, is_plain}
+use Rattle.urlpattern_syntax.specs.declared.parser.{PartModifier.PartModifier, PartType.PartType}
+use Rattle.urlpattern_syntax.specs.RegexpText.{full_wildcard, group_names, is_empty, is_plain, is_unmodified, modifier_text, segment_wildcard}
 use Rattle.urlpattern_syntax.specs.Text.{begins_with, is_among, is_name_part, option_text, text_of}
-use Rattle.urlpattern_syntax.specs.Tokens.{is_ignored}
+use Rattle.urlpattern_syntax.specs.Tokens.{IsRegexpBody, is_ignored}
 
 -- ---- characters
 
@@ -24,6 +26,18 @@ is_run_character c = not (is_among (codes "+*?:{}()\\") c) && not (is_ignored c)
 -- a name would take what begins with such a character
 abbrev pub may_go_on : ℕ → Bool
 may_go_on c = is_name_part c || is_among (codes "*({") c
+
+-- a group without prefix begins with such a character
+abbrev pub is_group_mark : ℕ → Bool
+is_group_mark c = is_among (codes ":*(") c
+
+-- `rest` follows a run of characters of the text that stand for themselves, and where a group begins there the last of them is no
+-- prefix of it
+pub record IsRun (prefix text rest : List ℕ) : Type 0 where
+  pub run : List ℕ
+  pub cut : text ≡ run ++ rest
+  pub all : list_all is_run_character run ≡ true
+  pub apart : begins_with is_group_mark rest ≡ true → run ≢ [] → bytes_eq (last_of run) prefix ≡ false
 
 -- ---- places in a pattern text
 
@@ -42,6 +56,10 @@ goes_on_first (Some part) = goes_on part
 abbrev pub is_plain_first : Option PartView → Bool
 is_plain_first None = false
 is_plain_first (Some part) = is_plain part
+
+-- a group without prefix that begins here takes nothing of the part before it
+abbrev pub IsApart : OptionsView → (before : Option PartView) → (left : List ℕ) → Type 0
+IsApart options before left = begins_with is_group_mark left ≡ true → (part : PartView) → takes_before options before part ≡ false
 
 -- no name stands among those before it
 abbrev pub AreNewAfter : (earlier names : List (List ℕ)) → Type 0
@@ -63,7 +81,8 @@ AreKept (part ∷ parts) = IsKeptPart part.kind part × AreKept parts
 -- These parts are what is left of the pattern text, their groups are to capture this, and the text is theirs. `plain`: a plain fixed text
 -- may be the first of them.
 pub record Completes (manner : WritingManner) (plain : Bool) (place : Place) (parts : List PartView) (captures : Captures) (text : List ℕ) : Type 0 where
-  pub printed : (before : Option PartView) → admits_asterisk before ≡ place.admits → printed_after manner.options before parts ≡ place.left
+  pub printed : (before : Option PartView) → admits_asterisk before ≡ place.admits → IsApart manner.options before place.left →
+      printed_after manner.options before parts ≡ place.left
   pub apart : joined parts ≡ parts
   pub begins : is_plain_first (first_part parts) ≡ true → plain ≡ true
   pub goes : goes_on_first (first_part parts) ≡ true → begins_with may_go_on place.left ≡ true
@@ -107,46 +126,90 @@ abbrev pub CompletesPassed : WritingManner → (before after : Pass) → Type 0
 CompletesPassed manner before after =
     (pattern : List ℕ) → IsPassed manner true pattern before → IsCompleted manner pattern (map option_text after.captures.items) (text_of after.text)
 
+-- ---- a fixed text that is left out
+
+-- The text begins with a fixed text of these bytes between braces, which this modifier allows to leave out, and `rest` follows.
+pub record IsLeftOut (bytes : List ℕ) (modifier : PartModifier) (text rest : List ℕ) : Type 0 where
+  pub cut : text ≡ codes "{" ++ (chars bytes ++ (codes "}" ++ (modifier_text modifier ++ rest)))
+  pub some : chars bytes ≢ []
+  pub all : list_all is_run_character (chars bytes) ≡ true
+  pub utf8 : IsUtf8 bytes
+  pub few : length bytes < 2 ^ 63
+  pub modified : is_unmodified modifier ≡ false
+  pub fewest : fewest_copies modifier (chars bytes) ≡ []
+
 -- ---- groups
 
-abbrev pub part_of : Group → PartView
-part_of group = record {
+-- the part of this kind, value and name, with a prefix, a suffix and a modifier
+abbrev pub affixed : Group → (prefix suffix : List ℕ) → PartModifier → PartView
+affixed group prefix suffix modifier = record {
   kind = group.kind;
-  value = [];
-  modifier = group.modifier;
+  value = chars group.value.now;
+  modifier = modifier;
   name = chars group.name.now;
-  prefix = chars group.prefix.now;
-  suffix = [];
+  prefix = prefix;
+  suffix = suffix;
 }
+
+abbrev pub part_of : Group → PartView
+part_of group = affixed group (chars group.prefix.now) (chars group.suffix.now) group.modifier
 
 -- The part is the first of what is left at a place, and this follows it, after so many groups without a name of their own.
 pub record IsFront (options : OptionsView) (place : Place) (part : PartView) (rest : List ℕ) (number : ℕ) : Type 0 where
-  pub printed : (before next : Option PartView) → admits_asterisk before ≡ place.admits → (goes_on_first next ≡ true → begins_with may_go_on rest ≡ true) →
-      printed_part options before part next ++ rest ≡ place.left
+  pub printed : (before next : Option PartView) → admits_asterisk before ≡ place.admits → IsApart options before place.left →
+      (goes_on_first next ≡ true → begins_with may_go_on rest ≡ true) → printed_part options before part next ++ rest ≡ place.left
   pub is_group : part.kind ≢ PartType.FixedText
   pub goes : goes_on part ≡ true → begins_with may_go_on place.left ≡ true
   pub fields : HasFields options part.kind part
   pub named : IsNamed place.number part.kind part.name
   pub numbered : following_number place.number part.kind part ≡ number
-  pub unskipped : IsUnskipped part.prefix
-  pub prefixed : (part.prefix ≡ []) ⊎ (part.prefix ≡ codes "/")
-  pub suffixed : part.suffix ≡ []
+  pub unskipped_prefix : IsUnskipped part.prefix
+  pub unskipped_suffix : IsUnskipped part.suffix
 
 -- a group of the pass stands there
 abbrev pub IsFrontGroup : OptionsView → Place → Group → Type 0
 IsFrontGroup options place group = IsFront options place (part_of group) (chars group.rest.now) group.number
 
--- it stands at each place of a path with this left, after so many groups without a name of their own
-abbrev pub IsPathFront : (left : List ℕ) → (number : ℕ) → Group → Type 0
-IsPathFront left number group =
+-- it stands at each place with this left, after so many groups without a name of their own
+abbrev pub IsFrontOf : OptionsView → (left : List ℕ) → (number : ℕ) → Group → Type 0
+IsFrontOf options left number group =
     (admits : Bool) (names : List (List ℕ)) →
-    IsFrontGroup pathname_options (record { left = left; admits = admits; number = number; names = names }) group
+    IsFrontGroup options (record { left = left; admits = admits; number = number; names = names }) group
 
--- the same where there is no prefix code point, and an asterisk is no modifier
-abbrev pub IsBareFront : (left : List ℕ) → (number : ℕ) → Group → Type 0
-IsBareFront left number group =
-    (options : OptionsView) (names : List (List ℕ)) → options.prefix ≡ [] →
-    IsFrontGroup options (record { left = left; admits = true; number = number; names = names }) group
+-- the same at each place at which an asterisk is no modifier, where the group has no prefix
+abbrev pub IsBareFront : OptionsView → (left : List ℕ) → (number : ℕ) → Group → Type 0
+IsBareFront options left number group =
+    (names : List (List ℕ)) → IsFrontGroup options (record { left = left; admits = true; number = number; names = names }) group
+
+-- The text begins with what stands for the part without its prefix, suffix and modifier, where it is an asterisk without name or a custom
+-- expression, and this follows.
+pub record IsPlaceholder (options : OptionsView) (number : ℕ) (text : List ℕ) (part : PartView) (rest : List ℕ) (after : ℕ) : Type 0 where
+  pub spelled : text ≡ printed_name part ++ (printed_match options part.kind part (not (has_custom_name part)) ++ rest)
+  pub is_group : part.kind ≢ PartType.FixedText
+  pub no_segment : is_segment part.kind ≡ false
+  pub marked : begins_with is_group_mark text ≡ true
+  pub goes : has_custom_name part ≡ false → begins_with may_go_on text ≡ true
+  pub fields : HasFields options part.kind part
+  pub named : IsNamed number part.kind part.name
+  pub numbered : following_number number part.kind part ≡ after
+
+-- it does, whatever prefix, suffix and modifier the group has, and in whichever component
+abbrev pub IsPlaceholderOf : (number : ℕ) → (text : List ℕ) → Group → Type 0
+IsPlaceholderOf number text group =
+    (component : ComponentName) (hierarchical : Bool) (prefix suffix : List ℕ) (modifier : PartModifier) →
+    IsPlaceholder (options_for component hierarchical) number text (affixed group prefix suffix modifier) (chars group.rest.now) group.number
+
+-- the expression is that of neither an asterisk nor a name
+abbrev pub IsNoWildcard : OptionsView → List ℕ → Type 0
+IsNoWildcard options value = (value ≢ segment_wildcard options) × (value ≢ full_wildcard)
+
+-- the text is a custom expression
+abbrev pub IsOwnExpression : OptionsView → List ℕ → Type 0
+IsOwnExpression options value = IsRegexpBody value × IsNoWildcard options value
+
+-- a group with this prefix and suffix stands between braces
+abbrev pub NeedsBraces : OptionsView → (prefix suffix : List ℕ) → Type 0
+NeedsBraces options prefix suffix = not (is_empty suffix) || (not (is_empty prefix) && not (bytes_eq prefix options.prefix)) ≡ true
 
 -- the group may capture this, and is to
 abbrev pub IsToCapture : WritingManner → PartView → Option (List ℕ) → Type 0

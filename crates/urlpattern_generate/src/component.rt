@@ -1,6 +1,6 @@
 //! The text of a component.
 
-ghost use Rattle.std.specs.Prelude.{◌≡◌, IfErr, IfOk};
+ghost use Rattle.std.specs.Prelude.{◌≡◌, IfErr, IfOk, IfSome};
 ghost use Rattle.urlpattern_generate.specs.Generating.{HasDraft, HasText, LacksText};
 ghost use Rattle.urlpattern_generate.specs.Manners.{given_groups, unchanged};
 ghost use Rattle.urlpattern_generate.specs.Writers.{Asks, CannotWrite, Drafts, Writes, WritesCanonical, manner_of_writer};
@@ -61,6 +61,9 @@ impl Writer<'_> {
         ensures generated { IfOk result (λ text. WritesCanonical R.answer component.now self.now (text_of text)) }
         ensures refused { IfErr result (CannotWrite R.answer component.now self.now) }
     {
+        if let Some(text) = self.kept_text(component) {
+            return Ok(text);
+        }
         let text = match self.text(component) {
             Ok(text) => text,
             Err(error) => return Err(error),
@@ -72,6 +75,16 @@ impl Writer<'_> {
         }
     }
 
+    /// The draft of the text of a component, if it is known to be canonical.
+    fn kept_text<R: RegExp>(&self, component: &Component<R>) -> Option<String>
+        ensures { IfSome result (λ text. WritesCanonical R.answer component.now self.now (text_of text)) }
+    {
+        let Ok(text) = self.draft(component) else {
+            return None;
+        };
+        if self.keeps(&text) { Some(text) } else { None }
+    }
+
     /// A draft of the text of a component.
     fn draft<R: RegExp>(&self, component: &Component<R>) -> Result<String, GenerateError>
         ensures drafted { IfOk result (λ text. Drafts R.answer component.now self.now (text_of text)) }
@@ -81,8 +94,8 @@ impl Writer<'_> {
             return Ok(text);
         }
         let pattern = component.pattern_string.as_str();
-        if component.has_regexp_group || is_plain(pattern) {
-            return self.text(component);
+        if is_plain(pattern) {
+            return self.plain_text(component);
         }
         match self.passed_draft(component)? {
             Some(text) => Ok(text),

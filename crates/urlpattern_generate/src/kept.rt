@@ -1,8 +1,12 @@
 //! Values that are canonical as they are.
 
 ghost use Rattle.std.specs.List.{list_all};
-ghost use Rattle.std.specs.Prelude.{◌≡◌, ◌&&◌, false, not};
-ghost use Rattle.urlpattern_generate.specs.Kept.{is_dot_mark, is_kept_character, is_kept_path, is_kept_value, is_label_character};
+ghost use Rattle.std.specs.Prelude.{◌≡◌, ◌&&◌, IsTrue, Ok, false, not};
+ghost use Rattle.std.specs.Str.{chars};
+ghost use Rattle.urlpattern_canonical.specs.Canonical.{canonical_protocol};
+ghost use Rattle.urlpattern_generate.specs.Kept.{is_dot_mark, is_kept_character, is_kept_opaque, is_kept_path, is_kept_value, is_label_character};
+ghost use Rattle.urlpattern_generate.specs.Writers.{manner_of_writer};
+ghost use Rattle.urlpattern_syntax.specs.Text.{lacks, line_feed};
 
 use crate::writer::Writer;
 use urlpattern_eight::ComponentName;
@@ -10,25 +14,55 @@ use urlpattern_eight::ComponentName;
 impl Writer<'_> {
     /// Whether a value is of those that the component is known to take as they are.
     pub(crate) fn keeps(&self, text: &str) -> bool
-        ensures { result ≡ ((self.now.hierarchical && not self.now.is_ipv6) && is_kept_value self.now.component text.now) }
+        ensures canonical { IsTrue result → (manner_of_writer self.now).canonical (chars text.now) ≡ Ok (chars text.now) }
+        ensures line { IsTrue result → IsTrue (lacks line_feed (chars text.now)) }
     {
-        self.hierarchical && !self.is_ipv6 && is_kept_value(self.component, text.as_bytes())
+        if self.is_ipv6 {
+            return false;
+        }
+        match self.component {
+            ComponentName::Protocol => is_kept_protocol(text),
+            component => is_kept_value(component, self.hierarchical, text.as_bytes()),
+        }
     }
 }
 
-/// Whether a value is canonical in a component, where a pathname is a path of segments and a hostname is no IPv6 address.
-fn is_kept_value(component: ComponentName, value: &[u8]) -> bool
-    ensures { result ≡ is_kept_value component value.now }
+/// Whether a protocol is of those that are often used.
+fn is_kept_protocol(text: &str) -> bool
+    ensures canonical { IsTrue result → canonical_protocol (chars text.now) ≡ Ok (chars text.now) }
+    ensures line { IsTrue result → IsTrue (lacks line_feed (chars text.now)) }
+{
+    match text {
+        "" => true,
+        "https" => true,
+        "http" => true,
+        "data" => true,
+        "mailto" => true,
+        _ => false,
+    }
+}
+
+/// Whether a value is canonical in a component, where a pathname is a path of segments or opaque and a hostname is no IPv6 address.
+fn is_kept_value(component: ComponentName, hierarchical: bool, value: &[u8]) -> bool
+    ensures { result ≡ is_kept_value component hierarchical value.now }
 {
     match component {
         ComponentName::Hostname => is_label(value),
-        ComponentName::Pathname => is_kept_path(value),
+        ComponentName::Pathname if hierarchical => is_kept_path(value),
+        ComponentName::Pathname => is_kept_opaque(value),
         ComponentName::Search | ComponentName::Hash => is_kept_text(value),
         ComponentName::Protocol
         | ComponentName::Username
         | ComponentName::Password
-        | ComponentName::Port => false,
+        | ComponentName::Port => value.is_empty(),
     }
+}
+
+/// Whether an opaque path escapes no character of a value, which is not begun by a slash.
+fn is_kept_opaque(value: &[u8]) -> bool
+    ensures { result ≡ is_kept_opaque value.now }
+{
+    !matches!(value, [b'/', ..]) && is_kept_text(value)
 }
 
 /// Whether a path escapes no character of a value, and no segment after a slash may be a dot segment.

@@ -4,6 +4,8 @@
 mod captures;
 mod component;
 mod error;
+mod expression;
+mod front;
 mod groups;
 mod kept;
 mod pass;

@@ -1,17 +1,18 @@
-//! Drafts in one pass over a pattern text whose groups are names and asterisks. Nothing is parsed into parts.
+//! Drafts in one pass over a pattern text. Nothing is parsed into parts.
 
-ghost use Rattle.std.specs.Prelude.{◌≡◌, ◌&&◌, ◌++◌, ◌<◌, ◌≤◌, [], ℕ, IfOk, IfSome, IsTrue, List, Ok, OnOk, Some, bytes_eq, codes, false, length, not, true};
+ghost use Rattle.std.specs.Prelude.{◌≡◌, ◌∷◌, ◌++◌, ◌<◌, ◌≤◌, [], ℕ, IfOk, IfSome, IsTrue, List, Ok, OnOk, Some, bytes_eq, codes, false, length, not, true};
 ghost use Rattle.std.specs.{Borrow.Bor, Char.is_ascii_digit, List.list_all, Str.chars};
 ghost use Rattle.url.specs.Ascii.{slash};
 ghost use Rattle.urlpattern_generate.specs.{Asked.capture_not_given, Writers.Drafts, Writers.manner_of_writer};
-ghost use Rattle.urlpattern_generate.specs.Passing.{CompletesPassed, IsBareFront, IsBegun, IsFrontGroup, IsPathFront, IsToCapture, KeepsPassed, PassesGroup, is_run_character, may_go_on, part_of, place_of};
+ghost use Rattle.urlpattern_generate.specs.Passing.{CompletesPassed, IsBegun, IsRun, IsToCapture, KeepsPassed, PassesGroup, is_group_mark, part_of};
 ghost use Rattle.urlpattern_links.specs.{CopySearch.AreSomeWith, CopySearch.IsCutAtFirst, Links.MayCapture, Links.text_of_group};
 ghost use Rattle.urlpattern_meaning.specs.PartMeaning.{IsWildcardText};
-ghost use Rattle.urlpattern_syntax.specs.{Options.OptionsView, Options.pathname_options, RegexpText.is_unmodified, RegexpText.modifier_text};
-ghost use Rattle.urlpattern_syntax.specs.{Text.begins_with, Text.is_name_part, Text.option_text, Text.text_of, Tokens.SkipsBy};
+ghost use Rattle.urlpattern_syntax.specs.{Options.OptionsView, Options.pathname_options};
+ghost use Rattle.urlpattern_syntax.specs.{Text.begins_with, Text.lacks, Text.line_feed, Text.option_text, Text.text_of};
 ghost use Rattle.urlpattern_syntax.specs.declared.parser.PartType.TheVariants.{FullWildcard, SegmentWildcard};
 
 use crate::captures::begins_with_digit;
+use crate::front::{after_left_out, begins_group, is_of_run};
 use crate::groups::{given_text, is_same_text};
 use crate::writer::Writer;
 use std::alloc::{AllocError, Global};
@@ -19,17 +20,17 @@ use urlpattern_core::component::Component;
 use urlpattern_core::regexp::RegExp;
 use urlpattern_eight::ComponentName;
 use urlpattern_syntax::parser::{PartModifier, PartType};
-use urlpattern_syntax::tokenizer::{before, is_name_part, is_name_start, split_first};
+use urlpattern_syntax::tokenizer::{before, split_first};
 
-/// How many groups most pattern texts have at most.
-const GROUPS: usize = 4;
+/// The bytes beside those of the pattern text for which room is made at first.
+const ROOM: usize = 32;
 
 /// What is left of a pattern text, and the draft up to there.
 #[derive(Drop)]
-struct Pass<'d> {
-    left: &'d str,
-    admits_asterisk: bool,
-    number: usize,
+pub(crate) struct Pass<'d> {
+    pub(crate) left: &'d str,
+    pub(crate) admits_asterisk: bool,
+    pub(crate) number: usize,
     names: Vec<&'d str>,
     captures: Vec<Option<&'d str>>,
     text: String,
@@ -37,13 +38,15 @@ struct Pass<'d> {
 
 /// A group at the front of a pattern text, and what follows it.
 #[derive(Drop)]
-struct Group<'d> {
-    kind: PartType,
-    prefix: &'d str,
-    name: &'d str,
-    modifier: PartModifier,
-    rest: &'d str,
-    number: usize,
+pub(crate) struct Group<'d> {
+    pub(crate) kind: PartType,
+    pub(crate) prefix: &'d str,
+    pub(crate) name: &'d str,
+    pub(crate) value: &'d str,
+    pub(crate) suffix: &'d str,
+    pub(crate) modifier: PartModifier,
+    pub(crate) rest: &'d str,
+    pub(crate) number: usize,
 }
 
 impl Writer<'_> {
@@ -57,7 +60,8 @@ impl Writer<'_> {
     ) -> Result<Option<String>, AllocError>
         ensures { IfOk result (λ draft. IfSome draft (λ text. Drafts R.answer component.now self.now (text_of text))) }
     {
-        let mut pass = Pass::new(self.alloc, &component.pattern_string)?;
+        let groups = component.group_name_list.len();
+        let mut pass = Pass::new(self.alloc, &component.pattern_string, groups)?;
         if !self.pass_all(&mut pass)? {
             return Ok(None);
         }
@@ -75,6 +79,9 @@ impl Writer<'_> {
             self.pass_run(pass)?;
             if pass.left.is_empty() {
                 return Ok(true);
+            }
+            if self.pass_left_out(pass) {
+                continue;
             }
             let Some(group) = self.front_group(pass) else {
                 return Ok(false);
@@ -106,14 +113,12 @@ impl Writer<'_> {
 
     /// What follows the characters that stand for themselves. A slash before a group of a path is its prefix.
     fn after_run<'t>(&self, text: &'t str) -> &'t str
-        ensures skips { SkipsBy is_run_character (chars text.now) (chars result.now) }
+        ensures run { IsRun (manner_of_writer self.now).options.prefix (chars text.now) (chars result.now) }
         ensures len { length result.now ≤ length text.now }
     {
         let mut rest = text;
         while let Some((first, after)) = split_first(rest) {
-            if !is_of_run(first)
-                || first == '/' && self.is_path() && matches!(after.as_bytes(), [b':' | b'*', ..])
-            {
+            if !is_of_run(first) || self.is_prefix(first, after) {
                 break;
             }
             rest = after;
@@ -121,27 +126,39 @@ impl Writer<'_> {
         rest
     }
 
+    /// Whether a character is the prefix of a group with which the text after it begins.
+    fn is_prefix(&self, first: char, after: &str) -> bool
+        ensures { result ≡ false → begins_with is_group_mark (chars after.now) ≡ true → bytes_eq (first ∷ []) (manner_of_writer self.now).options.prefix ≡ false }
+    {
+        if first != '/' {
+            return false;
+        }
+        self.is_path() && begins_group(after)
+    }
+
+    /// Passes over a fixed text between braces that may be left out, which it is. Returns whether one was there.
+    fn pass_left_out(&self, pass: &mut Pass<'_>) -> bool
+        ensures passed { KeepsPassed (manner_of_writer self.now) false result pass.old pass.new }
+        ensures len { length pass.new.left.now ≤ length pass.old.left.now }
+        ensures shorter { IsTrue result → length pass.new.left.now < length pass.old.left.now }
+    {
+        if self.is_path() {
+            return false;
+        }
+        let Some(rest) = after_left_out(pass.left) else {
+            return false;
+        };
+        pass.left = rest;
+        pass.admits_asterisk = true;
+        true
+    }
+
     /// Whether the component is a path of segments.
-    fn is_path(&self) -> bool
+    pub(crate) fn is_path(&self) -> bool
         ensures path { IsTrue result → (manner_of_writer self.now).options ≡ pathname_options }
         ensures other { result ≡ false → (manner_of_writer self.now).options.prefix ≡ [] }
     {
         self.hierarchical && matches!(self.component, ComponentName::Pathname)
-    }
-
-    /// The group at the front of what is left. `None`: none is there that is passed over.
-    fn front_group<'d>(&self, pass: &Pass<'d>) -> Option<Group<'d>>
-        ensures front { IfSome result (λ group. IsFrontGroup (manner_of_writer self.now).options (place_of pass.now) group) }
-        ensures len { IfSome result (λ group. length group.rest.now < length pass.now.left.now) }
-    {
-        if self.is_path() {
-            return path_group(pass);
-        }
-        let (first, after) = split_first(pass.left)?;
-        if first == '*' && pass.admits_asterisk {
-            return asterisk("", pass.number, after);
-        }
-        None
     }
 
     /// What a group is to capture, of which nothing has to be made canonical. `None`: something has, or it may not capture that.
@@ -162,24 +179,35 @@ impl Writer<'_> {
         ensures canonical { IsTrue result → (manner_of_writer self.now).canonical (chars value.now) ≡ Ok (chars value.now) }
         ensures may { IsTrue result → MayCapture (manner_of_writer self.now).options (part_of group.now) (Some (chars value.now)) }
     {
-        self.keeps(value)
-            && (group.kind == PartType::FullWildcard
-                || self.is_path() && group.takes_segments(value))
+        self.keeps(value) && self.may_hold(group, value)
+    }
+
+    /// Whether a group may capture a value without line feeds.
+    fn may_hold(&self, group: &Group<'_>, value: &str) -> bool
+        requires { IsTrue (lacks line_feed (chars value.now)) }
+        ensures { IsTrue result → MayCapture (manner_of_writer self.now).options (part_of group.now) (Some (chars value.now)) }
+    {
+        match group.kind {
+            PartType::FullWildcard => true,
+            PartType::Regexp => true,
+            PartType::SegmentWildcard => self.is_path() && group.takes_segments(value),
+            PartType::FixedText => false,
+        }
     }
 }
 
 impl<'d> Pass<'d> {
-    /// Nothing of a pattern text is passed.
-    fn new(alloc: Global, pattern: &'d str) -> Result<Self, AllocError>
+    /// Nothing of a pattern text is passed. There is room for so many groups.
+    fn new(alloc: Global, pattern: &'d str, groups: usize) -> Result<Self, AllocError>
         ensures { IfOk result (λ pass. IsBegun (chars pattern.now) pass) }
     {
         Ok(Self {
             left: pattern,
             admits_asterisk: true,
             number: 0,
-            names: Vec::with_capacity(alloc, GROUPS)?,
-            captures: Vec::with_capacity(alloc, GROUPS)?,
-            text: String::new(alloc),
+            names: Vec::with_capacity(alloc, groups)?,
+            captures: Vec::with_capacity(alloc, groups)?,
+            text: String::with_capacity(alloc, pattern.len().saturating_add(ROOM))?,
         })
     }
 
@@ -209,7 +237,10 @@ impl Group<'_> {
         match self.modifier {
             PartModifier::None | PartModifier::Optional => is_segment(value),
             PartModifier::OneOrMore | PartModifier::ZeroOrMore => {
-                is_same_text(self.prefix, "/") && are_segments(value)
+                if !is_same_text(self.prefix, "/") || !self.suffix.is_empty() {
+                    return false;
+                }
+                are_segments(value)
             }
         }
     }
@@ -244,6 +275,7 @@ fn push_group(text: &mut String, group: &Group<'_>, capture: Option<&str>) -> Re
         Some(value) => {
             text.push_str(group.prefix)?;
             text.push_str(value)?;
+            text.push_str(group.suffix)?;
             Ok(())
         }
     }
@@ -275,119 +307,6 @@ fn split_segment(text: &str) -> Option<(&str, &str)>
     ensures { IfSome result (λ cut. IsCutAtFirst slash text.now cut.0.now cut.1.now) }
 {
     text.split_once('/')
-}
-
-/// The group after a slash of a path.
-fn path_group<'d>(pass: &Pass<'d>) -> Option<Group<'d>>
-    ensures front { IfSome result (λ group. IsFrontGroup pathname_options (place_of pass.now) group) }
-    ensures len { IfSome result (λ group. length group.rest.now < length pass.now.left.now) }
-{
-    let (slash, after) = split_first(pass.left)?;
-    let (mark, rest) = split_first(after)?;
-    match (slash, mark) {
-        ('/', ':') => named_group(pass.number, rest),
-        ('/', '*') => asterisk("/", pass.number, rest),
-        _ => None,
-    }
-}
-
-/// The group of a name after a slash and a colon.
-fn named_group(number: usize, text: &str) -> Option<Group<'_>>
-    ensures front { IfSome result (λ group. IsPathFront (codes "/:" ++ chars text.now) number group) }
-    ensures len { IfSome result (λ group. length group.rest.now ≤ length text.now) }
-{
-    let (first, after) = split_first(text)?;
-    let end = after_name(after);
-    let name = before(text, end);
-    let (modifier, rest) = modifier(end);
-    if !is_name_start(first) || takes_rest(modifier, rest) {
-        return None;
-    }
-    Some(Group {
-        kind: PartType::SegmentWildcard,
-        prefix: "/",
-        name,
-        modifier,
-        rest,
-        number,
-    })
-}
-
-/// The group of an asterisk, the first without a name.
-fn asterisk<'d>(prefix: &'d str, number: usize, rest: &'d str) -> Option<Group<'d>>
-    ensures path { IfSome result (λ group. chars prefix.now ≡ codes "/" → IsPathFront (codes "/*" ++ chars rest.now) number group) }
-    ensures other { IfSome result (λ group. chars prefix.now ≡ [] → IsBareFront (codes "*" ++ chars rest.now) number group) }
-    ensures len { IfSome result (λ group. group.rest.now ≡ rest.now) }
-{
-    if number > 0 {
-        return None;
-    }
-    Some(Group {
-        kind: PartType::FullWildcard,
-        prefix,
-        name: "0",
-        modifier: PartModifier::None,
-        rest,
-        number: 1,
-    })
-}
-
-/// What follows the characters of a name.
-fn after_name(text: &str) -> &str
-    ensures skips { SkipsBy is_name_part (chars text.now) (chars result.now) }
-    ensures len { length result.now ≤ length text.now }
-{
-    let mut rest = text;
-    while let Some((first, after)) = split_first(rest) {
-        if !is_name_part(first) {
-            break;
-        }
-        rest = after;
-    }
-    rest
-}
-
-/// The modifier at the front of a text, and what follows it.
-fn modifier(text: &str) -> (PartModifier, &str)
-    ensures cut { chars text.now ≡ modifier_text result.0 ++ chars result.1.now }
-    ensures len { length result.1.now ≤ length text.now }
-{
-    match split_first(text) {
-        Some(('?', rest)) => (PartModifier::Optional, rest),
-        Some(('+', rest)) => (PartModifier::OneOrMore, rest),
-        Some(('*', rest)) => (PartModifier::ZeroOrMore, rest),
-        _ => (PartModifier::None, text),
-    }
-}
-
-/// Whether a name with this modifier would take what follows it.
-fn takes_rest(modifier: PartModifier, rest: &str) -> bool
-    ensures { result ≡ (is_unmodified modifier && begins_with may_go_on (chars rest.now)) }
-{
-    match modifier {
-        PartModifier::None => may_go_on(rest),
-        PartModifier::Optional | PartModifier::OneOrMore | PartModifier::ZeroOrMore => false,
-    }
-}
-
-/// Whether a name may go on with the first character, or what follows it is of its part.
-fn may_go_on(text: &str) -> bool
-    ensures { result ≡ begins_with may_go_on (chars text.now) }
-{
-    match split_first(text) {
-        Some((first, _)) => is_name_part(first) || matches!(first, '*' | '(' | '{'),
-        None => false,
-    }
-}
-
-/// Whether a character stands for itself wherever it is.
-fn is_of_run(c: char) -> bool
-    ensures { result ≡ is_run_character c }
-{
-    !matches!(
-        c,
-        '{' | '}' | '*' | '+' | '?' | '\\' | ':' | '(' | ')' | '\t' | '\n' | '\r'
-    )
 }
 
 /// Whether no group has this name.

@@ -9,7 +9,7 @@ ghost use Rattle.urlpattern_syntax.specs.Text.{text_of};
 
 use crate::error::GenerateError;
 use crate::groups::{given_text, is_same_text};
-use crate::read_back::is_captured;
+use crate::read_back::{is_captured, is_matched};
 use crate::writer::Writer;
 use std::alloc::AllocError;
 use urlpattern_core::component::Component;
@@ -26,6 +26,9 @@ impl Writer<'_> {
         ensures refused { IfErr result (CannotWrite R.answer component.now self.now) }
     {
         let text = component.pattern_string.clone()?;
+        if is_matched(&component.matcher, &text) {
+            return Ok(text);
+        }
         let captures = Vec::new(self.alloc);
         if self.is_read_back(&component.matcher, &text, &captures)? {
             Ok(text)

@@ -61,6 +61,13 @@ impl Writer<'_> {
     }
 }
 
+/// Whether a matcher takes a text by itself, and has no groups.
+pub(crate) fn is_matched<R: RegExp>(matcher: &Matcher<R>, text: &str) -> bool
+    ensures { IsTrue result → Answers R.answer (matcher_view matcher.now) (chars text.now) (Some []) }
+{
+    matches!(matcher.look(text), Some(Look::Matched))
+}
+
 /// Whether a matcher takes a text, and its one group captures this.
 pub(crate) fn is_captured<R: RegExp>(matcher: &Matcher<R>, text: &str, value: &str) -> bool
     ensures { IsTrue result → Answers R.answer (matcher_view matcher.now) (chars text.now) (Some (Some (chars value.now) ∷ [])) }

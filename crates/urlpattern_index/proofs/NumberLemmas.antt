@@ -16,7 +16,7 @@ use Rattle.std.specs.Slice.{IsItemAt}
 use Rattle.urlpattern_index.specs.FixedTexts.{AddressTexts, FixedTexts, HasTexts}
 use Rattle.urlpattern_index.specs.Keys.{AreEnough, Fits, FormView, Hashes, form_key, form_view, forms_for, group, group_of, hashes_of}
 use Rattle.urlpattern_index.specs.declared.form.Form.{Form}
-use Rattle.urlpattern_index.specs.Listed.{GetsPattern, FindsBy, Listing, without, IsFirstFrom, IsLeast, lesser, numbers_of}
+use Rattle.urlpattern_index.specs.Listed.{AreMarked, GetsPattern, FindsBy, Listing, LosesNumber, NumbersByKey, without, IsFirstFrom, IsLeast, lesser, numbers_of}
 
 -- ---- lists that do not fall
 
@@ -131,6 +131,12 @@ module _ (key : ℕ) where
       let later : Contains rest number → Listed first number x keys =
       λ h. let r = numbers-listed (first + 1) keys number h in (suc r.0, (let e : number ≡ (first + 1) + r.0 = r.1 in omega arith), r.2) in
       listed_cons first rest number x keys later (eqb key x) refl
+
+-- ---- marks
+
+-- the mark of a key whose numbers are removed may stay
+pub marked-remove : (marks : List Bool) (old new : NumbersByKey) (number : ℕ) → AreMarked marks old → LosesNumber old new number → AreMarked marks new
+marked-remove marks old new number marked loses = λ key unmarked. loses key ∙ ap (without number) (marked key unmarked)
 
 -- ---- a number that is lent
 

@@ -1,5 +1,5 @@
 -- What an index lists, and what it finds.
-use Rattle.std.specs.Prelude.{◌≡◌, ℕ, ◌+◌, ◌-◌, ◌≤◌, ◌==◌, if◌then◌else◌, List, [], ◌∷◌, Contains, filter, length, map, min, nat_eq, nat_lt, not, option_map, slice_get, unwrap_or, Option, None, Some, Vec}
+use Rattle.std.specs.Prelude.{◌≡◌, ℕ, ◌+◌, ◌-◌, ◌%◌, ◌≤◌, ◌==◌, ◌++◌, if◌then◌else◌, Bool, true, false, List, [], ◌∷◌, Contains, filter, length, map, min, nat_eq, nat_lt, not, option_map, slice_get, slice_index_or, unwrap_or, Option, None, Some, Vec}
 use Rattle.std.specs.HashMap.{HashMap, get}
 use Rattle.urlpattern_index.specs.FixedTexts.{AddressTexts, FixedTexts, HasTexts}
 use Rattle.urlpattern_index.specs.Keys.{Fits, FormView, Hashes, form_key, forms_for, hashes_of}
@@ -16,13 +16,29 @@ abbrev pub numbers_of : (key first : ℕ) → List ℕ → List ℕ
 numbers_of key first [] = []
 numbers_of key first (k ∷ keys) = if key == k then first ∷ numbers_of key (first + 1) keys else numbers_of key (first + 1) keys
 
--- the numbers that a map has at a key
-abbrev pub numbers_at : {A S : Type 0} → HashMap ℕ (Vec ℕ A) S → (key : ℕ) → List ℕ
-numbers_at numbers key = unwrap_or (option_map (λ listed. listed.items) (get nat_eq numbers key)) []
+-- what each key has
+abbrev pub NumbersByKey : Type 0
+NumbersByKey = (key : ℕ) → List ℕ
 
--- the map has the numbers of these keys
-abbrev pub AreListed : {A S : Type 0} → (keys : List ℕ) → HashMap ℕ (Vec ℕ A) S → Type 0
-AreListed keys numbers = (key : ℕ) → numbers_at numbers key ≡ numbers_of key 0 keys
+-- the numbers that a map has at a key
+abbrev pub numbers_at : {A S : Type 0} → HashMap ℕ (Vec ℕ A) S → NumbersByKey
+numbers_at numbers = λ key. unwrap_or (option_map (λ listed. listed.items) (get nat_eq numbers key)) []
+
+-- they are the numbers of these keys
+abbrev pub AreListed : (keys : List ℕ) → NumbersByKey → Type 0
+AreListed keys numbers = (key : ℕ) → numbers key ≡ numbers_of key 0 keys
+
+-- a key has numbers only if there is a mark for its remainder
+abbrev pub AreMarked : (marks : List Bool) → NumbersByKey → Type 0
+AreMarked marks numbers = (key : ℕ) → slice_index_or marks (key % 1024) true ≡ false → numbers key ≡ []
+
+-- a key has one more number, and the others have what they had
+abbrev pub GainsNumber : (old new : NumbersByKey) → (key number : ℕ) → Type 0
+GainsNumber old new key number = (other : ℕ) → new other ≡ old other ++ (if other == key then number ∷ [] else [])
+
+-- each key has what it had
+abbrev pub AreSame : (old new : NumbersByKey) → Type 0
+AreSame old new = (key : ℕ) → new key ≡ old key
 
 -- ---- a number less
 
@@ -33,6 +49,10 @@ lowered number other = if nat_lt number other then other - 1 else other
 -- the others, where those above it become less by one
 abbrev pub without : (number : ℕ) → List ℕ → List ℕ
 without number list = map (lowered number) (filter (λ other. not (other == number)) list)
+
+-- so it is with what each key has
+abbrev pub LosesNumber : (old new : NumbersByKey) → (number : ℕ) → Type 0
+LosesNumber old new number = (key : ℕ) → new key ≡ without number (old key)
 
 -- ---- least numbers
 

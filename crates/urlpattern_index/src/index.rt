@@ -10,9 +10,9 @@ ghost use Rattle.urlpattern_index.specs.Segments.{IsPlaceFor};
 use crate::address::AddressHashes;
 use crate::fixed::Fixed;
 use crate::form::{Form, GROUPS, Place};
+use crate::numbers::Numbers;
 use std::alloc::{AllocError, Global};
 use std::array;
-use std::collections::HashMap;
 use std::marker::Model;
 
 /// How many forms of keys a group has at most, beside the form of what nothing is known of.
@@ -24,7 +24,7 @@ pub struct Index {
     /// The key of each pattern.
     keys: Vec<u64>,
     /// The numbers of the patterns with a key, in ascending order.
-    numbers: HashMap<u64, Vec<usize>>,
+    numbers: Numbers,
     /// The forms of the keys, in groups by the number of segments.
     forms: [Vec<Form>; GROUPS],
 }
@@ -32,13 +32,13 @@ pub struct Index {
 impl Model for Index {
     ghost use Rattle.std.specs.Prelude.{map};
     ghost use Rattle.urlpattern_index.specs.Keys.{form_view};
-    ghost use Rattle.urlpattern_index.specs.Listed.{AreListed, Listing};
+    ghost use Rattle.urlpattern_index.specs.Listed.{AreListed, Listing, numbers_at};
 
     ghost Value = { Listing };
 
     ghost view = { λ index. record { keys = index.keys.items; forms = map (λ group. map (λ form. form_view form) group.items) index.forms } };
 
-    ghost invariant = { λ index. AreListed index.keys.items index.numbers };
+    ghost invariant = { λ index. AreListed index.keys.items (numbers_at index.numbers.by_key) };
 }
 
 impl Index {
@@ -51,7 +51,7 @@ impl Index {
         { Vec::new(alloc) };
         Self {
             keys: Vec::new(alloc),
-            numbers: HashMap::new(alloc),
+            numbers: Numbers::new(alloc),
             forms: array::from_fn(no_forms),
         }
     }
@@ -69,7 +69,7 @@ impl Index {
         let number = self.keys.len();
         self.keys.reserve(1)?;
         self.forms[group].reserve(1)?;
-        self.numbers.entry(key)?.or_default().push(number)?;
+        self.numbers.push(key, number)?;
         add_form(&mut self.forms[group], form, is_new);
         match self.keys.push(key) {
             Ok(()) => Ok(()),
@@ -82,10 +82,7 @@ impl Index {
         requires { number < length self.old.keys }
         ensures { self.new ≡ record self.old { keys = remove self.old.keys number } }
     {
-        self.numbers.retain(|_, listed| {
-            take_out(listed, number);
-            true
-        });
+        self.numbers.remove(number);
         self.keys.remove(number);
     }
 
@@ -118,8 +115,7 @@ impl Index {
         ensures { IsLeast (FindsFrom (form_view form.now) self.now.keys (hashes_view hashes.now) from) result }
     {
         let key = form.key(hashes)?;
-        let numbers = self.numbers.get(&key)?;
-        first_from(numbers, from)
+        first_from(self.numbers.get(key), from)
     }
 
     /// Where a pattern is listed. Where there are too many forms, it is by the one of what nothing is known of.
@@ -159,23 +155,6 @@ fn add_form(forms: &mut Vec<Form>, form: Form, is_new: bool)
         Ok(()) => {}
         Err(_) => unreachable!(),
     }
-}
-
-/// Removes a number from a list. Each above it becomes less by one.
-fn take_out(list: &mut Vec<usize>, number: usize)
-    ensures { list.new.items ≡ without number list.old.items }
-{
-    list.retain(|other| *other != number);
-    for index in 0..list.len() {
-        list[index] = lowered(number, list[index]);
-    }
-}
-
-/// The other number, less by one if it is above the number.
-fn lowered(number: usize, other: usize) -> usize
-    ensures { result ≡ lowered number other }
-{
-    if number < other { other - 1 } else { other }
 }
 
 /// The first number of an ascending list that is not below another.

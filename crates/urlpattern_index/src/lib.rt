@@ -11,6 +11,7 @@ mod fixed;
 mod form;
 mod hashes;
 mod index;
+mod numbers;
 mod reading;
 
 pub use address::AddressHashes;

@@ -3,7 +3,7 @@ use Rattle.std.proofs.Common.{◌≡◌, ◌⊎◌, ℕ, zero, suc, ◌+◌, ◌
 use Rattle.std.proofs.lemmas.Bool.{and_parts, both_ways, cases_eq, false≢true, not-true}
 use Rattle.std.specs.Char.{encode_utf8}
 use Rattle.std.specs.Prelude.{codes, IsTrue, IsSomeAnd, Option, slice_get}
-use Rattle.urlpattern_init.proofs.PlainTexts.{letters, plain_cut}
+use Rattle.urlpattern_meaning.proofs.PlainTexts.{letters, plain_cut}
 use Rattle.urlpattern_init.proofs.SplitUnique.{splits_one_given}
 use Rattle.urlpattern_init.specs.ConstructorString.{SplitsAs, SplitsInto}
 use Rattle.urlpattern_split.specs.Split.{EndsAt, IsAbsoluteSplit, IsRelativeSplit, IsTextBetween, ends_at, may_end}

@@ -15,7 +15,7 @@ use Rattle.urlpattern_core.specs.Components.{ComponentView, engine_flags, has_re
 use Rattle.urlpattern_engine.proofs.EngineLaws.{taken_first}
 use Rattle.urlpattern_engine.specs.PatternRegexps.{pattern_answer, pattern_engine}
 use Rattle.urlpattern_engine.specs.declared.pattern_regexp.PatternRegexp.{PatternRegexp}
-use Rattle.urlpattern_init.proofs.PlainTexts.{parts_of}
+use Rattle.urlpattern_meaning.proofs.PlainTexts.{parts_of}
 use Rattle.urlpattern_init.specs.UrlTexts.{IsLine}
 use Rattle.urlpattern_meaning.proofs.MatchingLaws.{middle_cancel}
 use Rattle.urlpattern_meaning.proofs.MeaningExamples.{alone_means, part_alone}

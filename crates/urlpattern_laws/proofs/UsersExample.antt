@@ -12,7 +12,7 @@ use Rattle.urlpattern_canonical.specs.Canonical.{canonical_hash, canonical_hostn
 use Rattle.urlpattern_canonical.specs.declared.canonicalize_and_process.ProcessType.TheVariants.{Pattern}
 use Rattle.urlpattern_engine.specs.PatternRegexps.{pattern_engine}
 use Rattle.urlpattern_engine.specs.declared.pattern_regexp.PatternRegexp.{PatternRegexp}
-use Rattle.urlpattern_init.proofs.PlainTexts.{parts_of, plain_parts}
+use Rattle.urlpattern_meaning.proofs.PlainTexts.{parts_of, plain_parts}
 use Rattle.urlpattern_init.proofs.SplitExamples.{users_split, users_text, users_values}
 pub use Rattle.urlpattern_init.proofs.UrlTexts.{chars-path, chars-scheme, host_by_text, no_port}
 use Rattle.urlpattern_init.specs.Inheritance.{processed_values, values_view}

@@ -20,10 +20,11 @@ ghost use Rattle.urlpattern_meaning.specs.PartMeaning.{Captures};
 pub use urlpattern_compiled::laws::reading_undoes_writing;
 use urlpattern_core::regexp::RegExp;
 pub use urlpattern_custom::laws::{
-    components_answer_what_parts_capture, expressions_are_read_in_groups,
+    components_answer_the_first_way_of_parts, components_answer_what_parts_capture,
+    expressions_are_read_in_groups, matchers_answer_the_first_way_of_parts,
     matchers_answer_the_texts_that_parts_take, matchers_answer_what_parts_capture,
-    parts_take_the_texts_that_they_mean, values_answer_the_texts_that_parts_take,
-    values_answer_what_parts_capture,
+    parts_take_the_texts_that_they_mean, values_answer_the_first_way_of_parts,
+    values_answer_the_texts_that_parts_take, values_answer_what_parts_capture,
 };
 pub use urlpattern_engine::laws::{
     matchers_by_pattern_regexp_answer_the_first_way, pattern_regexps_answer_as_regex_does,

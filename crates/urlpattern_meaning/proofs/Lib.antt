@@ -17,6 +17,7 @@ pub mod MatchingLaws
 pub mod TokenLaws
 pub mod Encodings
 pub mod ReadingLaws
+pub mod PlainTexts
 pub mod CallbackLaws
 pub mod KindValues
 pub mod NameLaws

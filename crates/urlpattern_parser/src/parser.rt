@@ -116,6 +116,7 @@ impl<F: Fn(&str) -> Result<String, Error>> PatternParser<'_, F> {
     }
 
     /// What the callback answers for a text.
+    #[inline(always)]
     fn ask(&self, text: &str) -> Result<String, Error>
         requires { F.IsAlwaysCallable self.now.encoding_callback }
         ensures ok { IfOk result (λ answer. parser_encoding F.Fn self.now (chars text.now) (Result.Ok (text_of answer))) }

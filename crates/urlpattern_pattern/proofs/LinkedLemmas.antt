@@ -1,7 +1,7 @@
 -- The URL of a pattern, by the texts of its components.
 use Rattle.std.proofs.Common.{◌≡◌, ◌∙◌, ℕ, true, false, List, Option, None, Some, Result, Ok, Err, String, ap, refl, subst, sym}
 use Rattle.std.proofs.lemmas.List.Elements.{All-weaker}
-use Rattle.std.specs.Prelude.{IfErr, IfOk, IfSome}
+use Rattle.std.specs.Prelude.{IfErr, IfOk, IfSome, MatchResult}
 use Rattle.std.specs.Result.{result_ok}
 use Rattle.std.specs.declared.alloc.Global.{Global}
 use Rattle.url.specs.Parts.{Parts}
@@ -32,18 +32,29 @@ pub texts_seen : {E : Type 0} (P : ComponentName → List ℕ → Type 0) (resul
 texts_seen P (Ok texts) h = λ name. subst (P name) (sym (at-each (λ other. text_of (at texts other)) name)) (h name).1
 texts_seen P (Err error) h = tt
 
+-- the same of what holds under a premise
+pub texts_known : {E K : Type 0} (P : ComponentName → List ℕ → Type 0) (result : Result (Eight (String Global)) E) → K →
+    IfOk result (λ texts. (name : ComponentName) → ComponentName × (K → P name (text_of (at texts name)))) → IfOk result (λ texts. (name : ComponentName) → P name (at (string_texts texts) name))
+texts_known P (Ok texts) known h = λ name. subst (P name) (sym (at-each (λ other. text_of (at texts other)) name)) ((h name).1 known)
+texts_known P (Err error) known h = tt
+
 -- the same of the first error
-pub first_answered : {A T E : Type 0} (result : Result T E) (Answers : ComponentName → Result A E → Type 0) →
-    IfErr result (IsFirstError (λ name answer. ComponentName × Answers name answer)) → IfErr result (IsFirstError Answers)
-first_answered (Ok value) Answers first = tt
-first_answered {A} (Err error) Answers (before, after, name, split, earlier, answers) = (
+pub first_answered : {A T E K : Type 0} (result : Result T E) (Answers : ComponentName → Result A E → Type 0) → K →
+    IfErr result (IsFirstError (λ name answer. ComponentName × (K → Answers name answer))) → IfErr result (IsFirstError Answers)
+first_answered (Ok value) Answers known first = tt
+first_answered {A} {K = K} (Err error) Answers known (before, after, name, split, earlier, answers) = (
   before,
   after,
   name,
   split,
-  All-weaker (λ other. (value : A) × (ComponentName × Answers other (Ok value))) (λ other. (value : A) × Answers other (Ok value)) (λ other h. (h.0, h.1.1)) before earlier,
-  answers.1,
+  All-weaker (λ other. (value : A) × (ComponentName × (K → Answers other (Ok value)))) (λ other. (value : A) × Answers other (Ok value)) (λ other h. (h.0, h.1.1 known)) before earlier,
+  answers.1 known,
 )
+
+-- a text or an error is answered
+pub answered_by : {T E : Type 0} (result : Result T E) (P : T → Type 0) (Q : E → Type 0) → IfOk result P → IfErr result Q → MatchResult result P Q
+answered_by (Ok value) P Q is other = is
+answered_by (Err error) P Q is other = other
 
 -- the manner of a pattern whose hostname is no IPv6 address makes a text canonical as that of a URL is
 canonical_under : (texts : ComponentName → List ℕ) → begins_ipv6 (texts Hostname) ≡ false → (component : ComponentName) (text : List ℕ) →

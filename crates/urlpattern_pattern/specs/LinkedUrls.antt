@@ -1,5 +1,5 @@
 -- The URL of a pattern whose groups capture what is given, and why there is none.
-use Rattle.std.specs.Prelude.{◌≢◌, ℕ, true, List, MatchResult, Option, Result, String}
+use Rattle.std.specs.Prelude.{◌≢◌, ℕ, Bool, true, List, MatchResult, Option, Result, String}
 use Rattle.std.specs.declared.alloc.Global.{Global}
 use Rattle.url.specs.Parts.{Parts}
 use Rattle.urlpattern_create.specs.Compiled.{IsPathKind}
@@ -42,6 +42,14 @@ DraftsTexts answer pattern groups texts =
 abbrev pub AnswersGroups : {E : Type 0} → (answer : E → List ℕ → Option Captures) → PatternView E → List GivenView → ComponentName → Result (String Global) GenerateError → Type 0
 AnswersGroups answer pattern groups component result =
     MatchResult result (λ text. GeneratesText answer pattern component groups (text_of text)) (MayRefuseGroups answer pattern component groups)
+
+-- the pathname of the pattern is hierarchical or not
+abbrev pub HasPathKind : {E : Type 0} → (answer : E → List ℕ → Option Captures) → PatternView E → (hierarchical : Bool) → Type 0
+HasPathKind answer pattern hierarchical = IsPathKind answer (printed_values pattern) (pattern Protocol).matcher hierarchical
+
+-- a component is so answered where the pathname is hierarchical or not
+abbrev pub AnswersUnder : {E : Type 0} → (answer : E → List ℕ → Option Captures) → PatternView E → List GivenView → (hierarchical : Bool) → ComponentName → Result (String Global) GenerateError → Type 0
+AnswersUnder answer pattern groups hierarchical component result = HasPathKind answer pattern hierarchical → AnswersGroups answer pattern groups component result
 
 -- why there is no link: the first component without text, or that its texts are those of no URL
 abbrev pub RefusesLink : {E : Type 0} → (answer : E → List ℕ → Option Captures) → PatternView E → List GivenView → NoLink → Type 0

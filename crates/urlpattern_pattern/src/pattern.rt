@@ -166,6 +166,15 @@ impl<R: RegExp> UrlPattern<R> {
 impl<R: RegExp> Drop for UrlPattern<R> {
     /// Drops the components. Where a pattern goes out of scope, the prover handles one call in place of eight.
     fn drop(self) {
-        drop(self.into_eight());
+        let Self {
+            protocol: _protocol,
+            username: _username,
+            password: _password,
+            hostname: _hostname,
+            port: _port,
+            pathname: _pathname,
+            search: _search,
+            hash: _hash,
+        } = self;
     }
 }

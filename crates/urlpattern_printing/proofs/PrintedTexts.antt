@@ -3,26 +3,26 @@ use Rattle.std.proofs.Common.{◌≡◌, ℕ, Bool, true, false, not, ◌&&◌, 
 use denote.Ref.{Bor}
 use Rattle.std.proofs.lemmas.Slice.Eq.{bytes_eq-Decides}
 use Rattle.std.proofs.Math.Dec.{eqb}
-use Rattle.std.proofs.lemmas.Bool.{eq-eqb, eqb-true}
+use Rattle.std.proofs.lemmas.Bool.{eq-eqb, eqb-true, false≢true}
 use Rattle.std.proofs.lemmas.Bool.Decides.{Decides-eqb, same_from_decides}
 use Rattle.std.proofs.lemmas.Str.{chars-append, chars-nil, chars_past_char, IsCharBoundary-at_seam, IsUtf8-encode, IsUtf8-past_char, IsUtf8-string_bytes, IsUtf8-take}
 use Rattle.std.proofs.Math.Seq.{take-append_seam}
 use Rattle.std.specs.Char.{IsScalar, encode_utf8}
 use Rattle.std.specs.Option.{option_eq}
-use Rattle.std.specs.Prelude.{option_copied, option_map, slice_get, string_bytes}
+use Rattle.std.specs.Prelude.{codes, if◌then◌else◌, option_copied, option_map, slice_get, string_bytes}
 use Rattle.std.specs.Str.{chars, IsUtf8}
 use Rattle.std.specs.declared.alloc.Global.{Global}
 use Rattle.urlpattern_printing.proofs.RegexpTexts.{not-fixed}
 use Rattle.urlpattern_printing.specs.Neighbours.{neighbour}
-use Rattle.urlpattern_meaning.specs.Printing.{escaped_pattern, first_part, in_braces, is_asterisk, last_of, needs_braces, printed_fixed, printed_group, printed_match, printed_after, printed_name, printed_part, printed_suffix}
+use Rattle.urlpattern_meaning.specs.Printing.{escaped_pattern, first_part, in_braces, is_asterisk, is_name_alone, last_of, needs_braces, printed_fixed, printed_group, printed_match, printed_after, printed_name, printed_part, printed_suffix}
 use Rattle.urlpattern_syntax.proofs.StringTexts.{chars-encode}
 use Rattle.urlpattern_syntax.proofs.TextLemmas.{bytes_same, chars-some}
 use Rattle.urlpattern_syntax.specs.declared.parser.Part.{Part}
 use Rattle.urlpattern_syntax.specs.declared.parser.PartType.TheVariants.{FixedText}
 use Rattle.urlpattern_syntax.specs.Options.{OptionsView}
 use Rattle.urlpattern_syntax.specs.Parts.{PartView, part_view}
-use Rattle.urlpattern_syntax.specs.RegexpText.{is_empty, is_unmodified, modifier_text}
-use Rattle.urlpattern_syntax.specs.Text.{text_of}
+use Rattle.urlpattern_syntax.specs.RegexpText.{escaped, is_empty, is_unmodified, modifier_text}
+use Rattle.urlpattern_syntax.specs.Text.{begins_with, is_name_part, text_of}
 
 -- ---- the last character
 
@@ -147,3 +147,22 @@ pub printed_part-group : (options : OptionsView) (before : Option PartView) (par
     → printed_part options before part next ≡ printed_group options before part (needs_braces options before part next)
 unfolding printed_part
 printed_part-group options before part next other = rw (not-fixed part.kind other)
+
+-- ---- parts without a prefix or a suffix
+
+-- nothing is written for an empty text
+pub escaped-nothing : (text : List ℕ) → is_empty text ≡ true → escaped_pattern text ≡ []
+unfolding escaped
+escaped-nothing [] none = refl
+escaped-nothing (c ∷ text) none = absurd (false≢true none)
+
+suffix-nothing : (alone : Bool) (suffix : List ℕ) → is_empty suffix ≡ true
+    → (if alone && begins_with is_name_part suffix then codes "\\" else []) ++ escaped_pattern suffix ≡ []
+unfolding escaped
+suffix-nothing true [] none = refl
+suffix-nothing false [] none = refl
+suffix-nothing alone (c ∷ suffix) none = absurd (false≢true none)
+
+-- nor for the suffix of a part that has none
+pub no_suffix : (part : PartView) → is_empty part.suffix ≡ true → printed_suffix part ≡ []
+no_suffix part none = suffix-nothing (is_name_alone part) part.suffix none

@@ -6,7 +6,7 @@ ghost use Rattle.std.specs.Prelude.{◌≡◌, ◌&&◌, ◌||◌, false, not, I
 ghost use Rattle.std.specs.Str.{chars};
 ghost use Rattle.urlpattern_printing.specs.Neighbours.{ends_with_prefix, neighbour};
 ghost use Rattle.urlpattern_printing.specs.{NormalForms.ReadsBackIfKept, PartTexts.group_part};
-ghost use Rattle.urlpattern_meaning.specs.Printing.{goes_on, has_custom_name, has_other_prefix, has_suffix, in_braces, is_asterisk, is_name_alone, needs_braces, printed, printed_fixed, printed_match, printed_name, printed_part, printed_suffix, takes_before, takes_next, admits_asterisk};
+ghost use Rattle.urlpattern_meaning.specs.Printing.{escaped_pattern, goes_on, has_custom_name, has_other_prefix, has_suffix, in_braces, is_asterisk, is_name_alone, needs_braces, printed, printed_fixed, printed_match, printed_name, printed_part, printed_suffix, takes_before, takes_next, admits_asterisk};
 ghost use Rattle.urlpattern_syntax.specs.{Errors.OnlyOutOfMemory, Options.options_view, RegexpText.is_fixed_text};
 ghost use Rattle.urlpattern_syntax.specs.Parts.{part_view, parts_view};
 ghost use Rattle.urlpattern_syntax.specs.Text.{begins_with, is_name_part, text_of};
@@ -116,8 +116,7 @@ impl PrintedPart<'_> {
             part,
             asterisk: is_asterisk(self.previous, part, braces),
         };
-        let prefix = Escaped::pattern(&part.prefix);
-        let inner = (prefix, Name(part), matched, Suffix(part));
+        let inner = (Prefix(part), Name(part), matched, Suffix(part));
         (InBraces { braces, inner }, part.modifier.as_str()).write_to(writer);
     }
 }
@@ -139,6 +138,22 @@ impl<T: Writable> Writable for InBraces<T> {
         writer.write_char('{');
         self.inner.write_to(writer);
         writer.write_char('}');
+    }
+}
+
+/// The prefix of a part.
+#[derive(Clone, Copy)]
+struct Prefix<'a>(&'a Part);
+
+impl Writable for Prefix<'_> {
+    ghost text = { λ prefix. escaped_pattern (part_view prefix.0.now).prefix };
+
+    fn write_to<W: Writer>(&self, writer: &mut W) {
+        if self.0.prefix.is_empty() {
+            return;
+        }
+        let prefix = Escaped::pattern(&self.0.prefix);
+        prefix.write_to(writer);
     }
 }
 
@@ -188,6 +203,9 @@ impl Writable for Suffix<'_> {
     ghost text = { λ suffix. printed_suffix (part_view suffix.0.now) };
 
     fn write_to<W: Writer>(&self, writer: &mut W) {
+        if self.0.suffix.is_empty() {
+            return;
+        }
         let suffix = Escaped::pattern(&self.0.suffix);
         if goes_on_with_suffix(self.0) {
             ('\\', suffix).write_to(writer);

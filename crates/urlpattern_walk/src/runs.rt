@@ -22,6 +22,7 @@ pub fn has_one_end(failed: &Failed<'_, '_>, steps: &[Step], end: char) -> bool
 
 /// The next character of the run that is the first of the steps, and what follows it. `None`: the run has ended, or is known to
 /// have failed from here on.
+#[inline(always)]
 pub fn next_of_run<'t>(
     failed: &Failed<'_, '_>,
     ignore_case: bool,

@@ -206,8 +206,12 @@ fn ask_engine<R: RegExp>(
 }
 
 /// Two texts end to end.
+#[inline(always)]
 fn joined(alloc: Global, front: &str, back: &str) -> Result<String, AllocError>
     ensures { IfOk result (λ text. text_of text ≡ chars front.now ++ chars back.now) }
 {
+    if front.is_empty() {
+        return String::from_str(alloc, back);
+    }
     written(alloc, &(front, back))
 }

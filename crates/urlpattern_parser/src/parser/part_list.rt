@@ -1,7 +1,7 @@
 //! What is read of a pattern text so far: its parts, and the text and the names that are kept besides.
 //!
 //! <https://urlpattern.spec.whatwg.org/#parts-and-part-lists>
-ghost use Rattle.std.specs.Prelude.{◌<◌, ◌≡◌, ◌∷◌, ◌++◌, [], Contains, IfOk, IfErr, OnOk};
+ghost use Rattle.std.specs.Prelude.{◌<◌, ◌≡◌, ◌∷◌, ◌++◌, [], Contains, IfOk, IfErr, OnOk, decimal, string_bytes};
 ghost use Rattle.std.specs.Str.{chars};
 ghost use Rattle.urlpattern_syntax.specs.Parsing.{IsNameGiven, IsPieceNamed};
 ghost use Rattle.urlpattern_syntax.specs.Errors.{MemoryOr};
@@ -153,7 +153,7 @@ impl<'a> PartList<'a> {
     {
         match name {
             None => {
-                let number = self.next_numeric_name.to_string(alloc)?;
+                let number = numeric_name(alloc, self.next_numeric_name)?;
                 self.next_numeric_name += 1;
                 Ok(number)
             }
@@ -191,4 +191,14 @@ impl<'a> PartList<'a> {
             .push(Part::fixed(parser.alloc, value, PartModifier::None))?;
         Ok(())
     }
+}
+
+/// The name of a placeholder that has none: a number, most often 0.
+fn numeric_name(alloc: Global, number: usize) -> Result<String, AllocError>
+    ensures { IfOk result (λ name. string_bytes name ≡ decimal number) }
+{
+    if number == 0 {
+        return String::from_str(alloc, "0");
+    }
+    number.to_string(alloc)
 }

@@ -44,10 +44,12 @@ impl<R: RegExp> UrlPattern<R> {
         ensures by_text { MakesFirstWays R.RegExp → IfPattern result (AnswersByItsText R.answer init options) }
         ensures refused { IfErr result (MemoryOr (RefusesInit R.RegExp init options)) }
     {
-        match compile_init(alloc, init, options) {
-            Ok(components) => Ok(Self::from_eight(components)),
-            Err(error) => Err(error),
-        }
+        // (A `?` or one `match` for both would copy the components, which fill kilobytes, once more.)
+        let components = match compile_init(alloc, init, options) {
+            Ok(components) => components,
+            Err(error) => return Err(error),
+        };
+        Ok(Self::from_eight(components))
     }
 
     /// Compiles a pattern from a constructor string, the pattern of a whole URL, with a base URL if there is one.

@@ -1,8 +1,8 @@
 //! The URL of a pattern whose groups capture what is given.
-ghost use Rattle.std.specs.Prelude.{IfErr, IfOk, IfSome};
+ghost use Rattle.std.specs.Prelude.{IfErr, IfOk, IfSome, true};
 ghost use Rattle.urlpattern_generate.specs.Manners.{given_groups};
 ghost use Rattle.urlpattern_init.specs.declared.init.UrlPatternMatchInput.TheVariants as inputs;
-ghost use Rattle.urlpattern_pattern.specs.LinkedUrls.{AnswersGroups, DraftsText, DraftsTexts, GeneratesTexts, IsLink, RefusesLink};
+ghost use Rattle.urlpattern_pattern.specs.LinkedUrls.{AnswersGroups, AnswersUnder, DraftsText, DraftsTexts, GeneratesTexts, HasPathKind, IsLink, RefusesLink};
 ghost use Rattle.urlpattern_pattern.specs.Match.{HasMatch};
 ghost use Rattle.urlpattern_pattern.specs.Patterns.{pattern_view};
 ghost use Rattle.urlpattern_eight.specs.Eight.{IsFirstError};
@@ -14,7 +14,9 @@ use std::alloc::Global;
 use url::Url;
 use urlpattern_core::regexp::RegExp;
 use urlpattern_eight::{ComponentName, Eight};
-use urlpattern_generate::{GenerateError, GivenGroup, begins_ipv6, draft_component};
+use urlpattern_generate::{
+    GenerateError, GivenGroup, begins_ipv6, draft_component, generate_component,
+};
 use urlpattern_url::{NoLink, is_web_url, url_of_texts};
 
 impl<R: RegExp> UrlPattern<R> {
@@ -40,10 +42,15 @@ impl<R: RegExp> UrlPattern<R> {
         ensures matched { IfOk result (λ url. HasMatch R.answer (pattern_view self.now) (inputs.Url url)) }
         ensures refused { IfErr result (RefusesLink R.answer (pattern_view self.now) (given_groups groups.now)) }
     {
-        if let Some(url) = self.web_link(alloc, groups) {
-            return Ok(url);
+        let Ok(hierarchical) = self.has_hierarchical_path(alloc) else {
+            return Err(NoLink::OutOfMemory);
+        };
+        if hierarchical {
+            if let Some(url) = self.web_link(alloc, groups) {
+                return Ok(url);
+            }
         }
-        let texts = match self.generate_each(alloc, groups) {
+        let texts = match self.generate_each(alloc, hierarchical, groups) {
             Ok(texts) => texts,
             Err(GenerateError::OutOfMemory) => return Err(NoLink::OutOfMemory),
             Err(error) => return Err(NoLink::Component(error)),
@@ -51,27 +58,43 @@ impl<R: RegExp> UrlPattern<R> {
         url_of_texts(alloc, &texts)
     }
 
-    /// The texts of the components with these groups.
+    /// The texts of the components with these groups, where the pathname is hierarchical or not.
     ///
     /// The error is that of the first component that has none.
     fn generate_each(
         &self,
         alloc: Global,
+        hierarchical: bool,
         groups: &[GivenGroup<'_>],
     ) -> Result<Eight<String>, GenerateError>
+        requires { HasPathKind R.answer (pattern_view self.now) hierarchical }
         ensures generated { IfOk result (λ texts. GeneratesTexts R.answer (pattern_view self.now) (given_groups groups.now) (string_texts texts)) }
         ensures refused { IfErr result (IsFirstError (AnswersGroups R.answer (pattern_view self.now) (given_groups groups.now))) }
     {
         let text = |component: ComponentName| -> Result<String, GenerateError>
-            ensures { AnswersGroups R.answer (pattern_view self.entry.now) (given_groups groups.entry.now) component result }
-        { self.generate(alloc, component, groups) };
+            ensures { AnswersUnder R.answer (pattern_view self.entry.now) (given_groups groups.entry.now) hierarchical component result }
+        { self.generate_under(alloc, hierarchical, component, groups) };
         Eight::try_from_fn(text)
+    }
+
+    /// The text of a component with these groups, where the pathname is hierarchical or not.
+    fn generate_under(
+        &self,
+        alloc: Global,
+        hierarchical: bool,
+        component: ComponentName,
+        groups: &[GivenGroup<'_>],
+    ) -> Result<String, GenerateError>
+        ensures { AnswersUnder R.answer (pattern_view self.now) (given_groups groups.now) hierarchical component result }
+    {
+        generate_component(alloc, self.get(component), component, hierarchical, groups)
     }
 
     /// The URL with these groups, if it is one of the web. The texts of such a URL are canonical, so that drafts of them are enough.
     ///
     /// `None`: it is another, there is none, a group is given what is not canonical, or memory ran out.
     fn web_link(&self, alloc: Global, groups: &[GivenGroup<'_>]) -> Option<Url>
+        requires { HasPathKind R.answer (pattern_view self.now) true }
         ensures { IfSome result (IsLink R.answer (pattern_view self.now) (given_groups groups.now)) }
     {
         if begins_ipv6(&self.hostname.pattern_string) {
@@ -86,11 +109,9 @@ impl<R: RegExp> UrlPattern<R> {
 
     /// Drafts of the texts of the components with these groups, where the pathname is hierarchical.
     fn draft_each(&self, alloc: Global, groups: &[GivenGroup<'_>]) -> Option<Eight<String>>
+        requires { HasPathKind R.answer (pattern_view self.now) true }
         ensures { IfSome result (λ texts. DraftsTexts R.answer (pattern_view self.now) (given_groups groups.now) (string_texts texts)) }
     {
-        let Ok(true) = self.has_hierarchical_path(alloc) else {
-            return None;
-        };
         let text = |component: ComponentName| -> Result<String, GenerateError>
             ensures { IfOk result (λ text. DraftsText R.answer (pattern_view self.entry.now) (given_groups groups.entry.now) component (text_of text)) }
         { draft_component(alloc, self.get(component), component, true, groups) };

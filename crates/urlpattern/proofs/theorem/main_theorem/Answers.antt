@@ -3,7 +3,8 @@ use Rattle.urlpattern_core.specs.Components.{IsEngineOf}
 use Rattle.urlpattern_meaning.proofs.CallbackLaws.{outcome_one}
 use Rattle.urlpattern_meaning.proofs.CaptureCount.{captures_counted}
 use Rattle.urlpattern_custom.proofs.CaptureCounts.{captures_are_as_names}
-use Rattle.urlpattern_custom.proofs.CustomLaws.{pattern_matchers_capture, regex_matchers_capture}
+use Rattle.urlpattern_custom.proofs.CustomLaws.{pattern_matchers_capture, pattern_matchers_first, regex_matchers_capture, regex_matchers_first}
+use Rattle.urlpattern_custom.proofs.FirstOfTrees.{first_of_tree}
 use Rattle.urlpattern_regex.proofs.RegexMatchers.{taken_first}
 use Rattle.urlpattern_engine.proofs.EngineLaws.{taken_first as taken_by_pattern_regexp_first}
 use Rattle.urlpattern_meaning.proofs.FirstAnswers.{first_one, matcher_first}
@@ -47,6 +48,9 @@ returns-clause-pattern_engine g c = taken_by_pattern_regexp_first
 
 pub returns-clause-custom : goal.returns-clause-custom
 returns-clause-custom g c = (regex_matchers_capture, pattern_matchers_capture, captures_are_as_names)
+
+pub returns-clause-custom_first : goal.returns-clause-custom_first
+returns-clause-custom_first g c = (regex_matchers_first, pattern_matchers_first, first_of_tree)
 
 pub returns-clause-reads_back : goal.returns-clause-reads_back
 returns-clause-reads_back g c = λ text options first answers parts read keeps.

@@ -1,17 +1,21 @@
-use Rattle.std.proofs.Common.{◌≡◌, Bool, true, false, not, refl, sym}
-use Rattle.std.proofs.lemmas.Bool.{false≢true}
-use Rattle.std.specs.Prelude.{◌↔◌, IsTrue}
+use Rattle.std.proofs.Common.{◌≡◌, ℕ, Bool, true, false, List, [], ◌∷◌, refl, ◌∙◌, rules}
+use Rattle.std.proofs.lemmas.Iterator.{YieldsList-from_chars}
+use Rattle.std.proofs.lemmas.Iterator.Search.{any_from_yields_List}
+use Rattle.std.specs.List.{list_any}
+use Rattle.std.specs.Prelude.{not, ◌&&◌, ◌||◌, ◌==◌}
 use Rattle.std.specs.Str.{chars}
-use Rattle.urlpattern_core.proofs.MatcherTexts.{lacks-searched}
 use Rattle.urlpattern_syntax.specs.Text.{lacks}
 use Rattle.urlpattern_engine.proofs.pattern_regexp.ignores_case.Goals as goal
 
-found_not_lacked : (found lacked : Bool) → IsTrue (not found) ↔ IsTrue lacked → found ≡ not lacked
-found_not_lacked true true same = absurd (false≢true (same.1 refl))
-found_not_lacked true false same = refl
-found_not_lacked false true same = refl
-found_not_lacked false false same = absurd (false≢true (same.0 refl))
+or_not : (first found lacked : Bool) → found ≡ not lacked → (first || found) ≡ not (not first && lacked)
+or_not true found lacked e = refl
+or_not false found lacked e = e
+
+found_not_lacked : (c : ℕ) (text : List ℕ) → list_any (λ other. other == c) text ≡ not (lacks c text)
+found_not_lacked c [] = refl
+found_not_lacked c (first ∷ text) = or_not (first == c) (list_any (λ other. other == c) text) (lacks c text) (found_not_lacked c text)
 
 pub returns : goal.returns
 returns c =
-    found_not_lacked c.contains.result (lacks 0x69 (chars c.args.flags.now)) (lacks-searched 0x69 c.args.flags.now c.contains.result c.utf8.flags c.contains.ensures.cases)
+    any_from_yields_List (λ other. other == 0x69) _ _ _ c.any.ensures.ran (YieldsList-from_chars c.args.flags.now c.utf8.flags cc) (λ x b q k. search rules)
+    ∙ found_not_lacked 0x69 (chars c.args.flags.now)

@@ -12,11 +12,14 @@ returns-in-None c =
     sym (append-nil (text_of c.args.text.now))
     ∙ ap (λ capture. text_of c.args.text.now ++ text_of_group (part_of c.args.group.now) (option_text capture)) (sym c.in-None.is)
 
-pub returns-in_ok-push_str-in-Some-2 : goal.returns-in_ok-push_str-in-Some-2
-returns-in_ok-push_str-in-Some-2 c =
+pub returns-in_ok-push_str-in-Some-3 : goal.returns-in_ok-push_str-in-Some-3
+returns-in_ok-push_str-in-Some-3 c =
+    let old = text_of c.args.text.now in
     let prefix = chars c.args.group.now.prefix.now in
     let value = chars c.in-Some.value.now in
-    text-append c.push_str.new.self c.in-Some.value.now c.in_ok-push_str-in-Some-2.ensures.bytes
-    ∙ ap (λ before. before ++ value) (text-append c.args.text.now c.args.group.now.prefix.now c.in_ok-push_str-in-Some.ensures.bytes)
-    ∙ append_assoc (text_of c.args.text.now) prefix value ∙ ap (λ own. text_of c.args.text.now ++ own) (sym (append-nil (prefix ++ value)))
-    ∙ ap (λ capture. text_of c.args.text.now ++ text_of_group (part_of c.args.group.now) (option_text capture)) (sym c.in-Some.is)
+    let suffix = chars c.args.group.now.suffix.now in
+    text-append c.push_str-in-Some.new.self c.args.group.now.suffix.now c.in_ok-push_str-in-Some-3.ensures.bytes
+    ∙ ap (λ before. before ++ suffix) (text-append c.push_str.new.self c.in-Some.value.now c.in_ok-push_str-in-Some-2.ensures.bytes)
+    ∙ ap (λ before. (before ++ value) ++ suffix) (text-append c.args.text.now c.args.group.now.prefix.now c.in_ok-push_str-in-Some.ensures.bytes)
+    ∙ ap (λ before. before ++ suffix) (append_assoc old prefix value) ∙ append_assoc old (prefix ++ value) suffix
+    ∙ ap (λ capture. old ++ text_of_group (part_of c.args.group.now) (option_text capture)) (sym c.in-Some.is)

@@ -11,5 +11,6 @@ pub returns : goal.returns
 returns c manner parts captures text completes =
     let names = c.in_ok-with_capacity in
     let own = c.in_ok-with_capacity-2 in
-    begun manner (chars c.args.pattern.now) (map (λ (name : Bor (List ℕ)). chars name.now) names.field-0.items) (map option_text own.field-0.items) (text_of c.new.result) parts captures text
-    (ap (map (λ (name : Bor (List ℕ)). chars name.now)) names.ensures.items) (ap (map option_text) own.ensures.items) (text-nil c.new.result c.new.ensures.bytes) completes
+    let written = c.in_ok-with_capacity-3 in
+    begun manner (chars c.args.pattern.now) (map (λ (name : Bor (List ℕ)). chars name.now) names.field-0.items) (map option_text own.field-0.items) (text_of written.field-0) parts captures text
+    (ap (map (λ (name : Bor (List ℕ)). chars name.now)) names.ensures.items) (ap (map option_text) own.ensures.items) (text-nil written.field-0 written.ensures.bytes) completes

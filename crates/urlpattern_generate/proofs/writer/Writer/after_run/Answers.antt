@@ -1,8 +1,12 @@
 use Rattle.std.proofs.Common.{◌≡◌, ◌<◌, ◌∷◌, length, true, rules, arith}
 use Rattle.std.specs.Str.{chars}
-use Rattle.urlpattern_syntax.proofs.TokenLemmas.{SkipsBy-more}
+use Rattle.urlpattern_generate.proofs.Passes.{run_more, run_none}
 use Rattle.urlpattern_generate.specs.Passing.{is_run_character}
+use Rattle.urlpattern_generate.specs.Writers.{manner_of_writer}
 use Rattle.urlpattern_generate.proofs.writer.Writer.after_run.Goals as goal
+
+pub loop-first-init : goal.loop-first-init
+loop-first-init c = record { is_text = search rules; run = run_none (manner_of_writer c.args.self.now).options.prefix (chars c.args.text.now); len = omega arith }
 
 pub loop-first-preserved : goal.loop-first-preserved
 loop-first-preserved c =
@@ -11,6 +15,6 @@ loop-first-preserved c =
     let passes : is_run_character c.in-Some.first ≡ true = search rules in
     record {
       is_text = search rules;
-      skips = SkipsBy-more is_run_character _ _ _ _ c.loop-first.invariant.skips cut passes;
+      run = run_more _ _ _ _ _ c.loop-first.invariant.run cut passes (c.is_prefix.ensures c.if-is_prefix.false);
       len = omega arith;
     }

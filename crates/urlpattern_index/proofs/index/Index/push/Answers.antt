@@ -47,15 +47,6 @@ returns-in_err-reserve-2-clause-unchanged c =
     listing-same inside.keys.items c.reserve.new.self.items (groups_view inside.forms) (groups_view (set inside.forms c.group-group.result reserved)) c.args.self.now c.self.view_is c.reserve.ensures.items room in
     on-err c.from_residual-in_err-reserve-2.result same
 
-pub returns-in_err-self-inside-clause-unchanged : goal.returns-in_err-self-inside-clause-unchanged
-returns-in_err-self-inside-clause-unchanged c =
-    let inside = c.self.inside in
-    let reserved = c.reserve-2.new.self in
-    let room = groups-same inside.forms c.group-group.result c.index-self-group.result reserved c.reserve-2.ensures.items in
-    let same : ◌≡◌ {A = Listing} (record { keys = c.reserve.new.self.items; forms = groups_view (set inside.forms c.group-group.result reserved) }) c.args.self.now =
-    listing-same inside.keys.items c.reserve.new.self.items (groups_view inside.forms) (groups_view (set inside.forms c.group-group.result reserved)) c.args.self.now c.self.view_is c.reserve.ensures.items room in
-    on-err c.from_residual-in_err-self-inside.result same
-
 pub returns-in_err-push-clause-unchanged : goal.returns-in_err-push-clause-unchanged
 returns-in_err-push-clause-unchanged c =
     let inside = c.self.inside in

@@ -12,7 +12,7 @@ use Rattle.urlpattern_parser.proofs.parser.part_list.PartList.new_name.Goals as 
 
 pub returns-in_ok-number-in-None-clause-name : goal.returns-in_ok-number-in-None-clause-name
 returns-in_ok-number-in-None-clause-name c =
-    ap chars c.in_ok-number-in-None.ensures.ok ∙ chars-IsAscii _ (IsAscii-decimal c.args.self.now.next_numeric_name (omega (arith, c.requires.room)))
+    ap chars c.in_ok-number-in-None.ensures ∙ chars-IsAscii _ (IsAscii-decimal c.args.self.now.next_numeric_name (omega (arith, c.requires.room)))
     ∙ ap (λ name. name_or (option_text name) c.args.self.now.next_numeric_name) (sym c.in-None.is)
 
 pub returns-in_ok-number-in-None-clause-knows : goal.returns-in_ok-number-in-None-clause-knows

@@ -1,0 +1,15 @@
+use Rattle.std.proofs.Common.{codes, refl}
+use Rattle.std.specs.Str.{chars}
+use Rattle.urlpattern_generate.proofs.Fronts.{bare_placed}
+use Rattle.urlpattern_generate.specs.Passing.{affixed}
+use Rattle.urlpattern_generate.specs.Writers.{manner_of_writer}
+use Rattle.urlpattern_syntax.proofs.TextLemmas.{chars_nothing}
+use Rattle.urlpattern_generate.proofs.writer.Writer.bare_group.Goals as goal
+
+pub returns-clause-front : goal.returns-clause-front
+returns-clause-front c names =
+    let self = c.args.self.now in
+    let own = c.in_ok-own.own in
+    let modifier = c.modifier-modifier.result.0 in
+    bare_placed (manner_of_writer self).options _ (affixed own (chars (codes "")) (chars (codes "")) modifier) (chars c.args.text.now) (chars own.rest.now) (chars c.modifier-modifier.result.1.now) own.number
+    (c.in_ok-own.ensures.own self.component self.hierarchical (chars (codes "")) (chars (codes "")) modifier) chars_nothing chars_nothing refl refl c.modifier-modifier.ensures.cut

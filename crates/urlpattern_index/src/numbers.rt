@@ -1,0 +1,84 @@
+//! The numbers of patterns, by key.
+ghost use Rattle.std.specs.Prelude.{◌≡◌, ◌++◌, ◌∷◌, [], ℕ, OnErr, OnOk};
+ghost use Rattle.urlpattern_index.specs.Listed.{AreMarked, AreSame, GainsNumber, LosesNumber, lowered, numbers_at, without};
+
+use std::alloc::{AllocError, Global};
+use std::collections::HashMap;
+
+/// How many marks there are.
+const MARKS: u64 = 1024;
+
+/// The numbers of the patterns with a key, in ascending order.
+///
+/// Most keys that have none are told by their mark, without a look into the map.
+#[derive(Debug, Drop)]
+pub(crate) struct Numbers {
+    by_key: HashMap<u64, Vec<usize>>,
+    /// For each remainder of keys whether a key that leaves it may have numbers.
+    marks: [bool; MARKS as usize],
+    ghost marked: { AreMarked marks (numbers_at by_key) },
+}
+
+impl Numbers {
+    /// No numbers. It does not allocate.
+    pub(crate) fn new(alloc: Global) -> Self
+        ensures { (key : ℕ) → numbers_at result.by_key key ≡ [] }
+    {
+        Self {
+            by_key: HashMap::new(alloc),
+            marks: [false; MARKS as usize],
+        }
+    }
+
+    /// Appends a number to those of a key.
+    ///
+    /// The error is that memory ran out. The numbers are then as they were.
+    pub(crate) fn push(&mut self, key: u64, number: usize) -> Result<(), AllocError>
+        ensures appended { OnOk result (GainsNumber (numbers_at self.old.by_key) (numbers_at self.new.by_key) key number) }
+        ensures unchanged { OnErr result (AreSame (numbers_at self.old.by_key) (numbers_at self.new.by_key)) }
+    {
+        self.by_key.entry(key)?.or_default().push(number)?;
+        self.marks[(key % MARKS) as usize] = true;
+        Ok(())
+    }
+
+    /// The numbers of a key.
+    pub(crate) fn get(&self, key: u64) -> &[usize]
+        ensures { result.now ≡ numbers_at self.now.by_key key }
+    {
+        if !self.marks[(key % MARKS) as usize] {
+            return &[];
+        }
+        match self.by_key.get(&key) {
+            Some(numbers) => numbers,
+            None => &[],
+        }
+    }
+
+    /// Removes a number from those of each key. Each above it becomes less by one. It does not allocate.
+    pub(crate) fn remove(&mut self, number: usize)
+        ensures { LosesNumber (numbers_at self.old.by_key) (numbers_at self.new.by_key) number }
+    {
+        self.by_key.retain(|_, listed| {
+            take_out(listed, number);
+            true
+        });
+    }
+}
+
+/// Removes a number from a list. Each above it becomes less by one.
+fn take_out(list: &mut Vec<usize>, number: usize)
+    ensures { list.new.items ≡ without number list.old.items }
+{
+    list.retain(|other| *other != number);
+    for index in 0..list.len() {
+        list[index] = lowered(number, list[index]);
+    }
+}
+
+/// The other number, less by one if it is above the number.
+fn lowered(number: usize, other: usize) -> usize
+    ensures { result ≡ lowered number other }
+{
+    if number < other { other - 1 } else { other }
+}
