@@ -5,7 +5,7 @@ use Rattle.std.specs.Prelude.{Option, None, Some}
 use Rattle.serde_json.specs.Data.{Data, Members, no_members, put}
 use Rattle.serde_json.specs.Written.{has_float, members_have_float}
 use Rattle.urlpat_explain.specs.Explained.{ExplainedView}
-use Rattle.urlpat_explain.specs.Json.{AreInputMembers, IsComponentTree, IsExplanationTree, Named, captured_members, groups_named, pattern_members, place_members, verdict_members}
+use Rattle.urlpat_explain.specs.Json.{AreInputMembers, IsExplainedTree, IsExplanationTree, Named, captured_members, groups_named, pattern_members, place_members, verdict_members}
 use Rattle.urlpat_matching.proofs.JsonLemmas.{each-none, put-none}
 use Rattle.urlpattern_eight.specs.Eight.{Texts, at, components}
 use Rattle.urlpattern_eight.specs.declared.eight.ComponentName.{ComponentName}
@@ -56,7 +56,7 @@ input-none pattern None name members is = subst AreWithoutFloat (sym is) tt
 input-none pattern (Some texts) name members (captures, answers, is) =
     subst AreWithoutFloat (sym is) (refl, captured-none (pattern name).group_name_list captures)
 
-component-none : (explained : ExplainedView) (texts : Option Texts) (name : ComponentName) (tree : Data) → IsComponentTree explained texts name tree → has_float tree ≡ false
+component-none : (explained : ExplainedView) (texts : Option Texts) (name : ComponentName) (tree : Data) → IsExplainedTree explained texts name tree → has_float tree ≡ false
 component-none explained texts name tree (place, members, there, are, is) =
     ap has_float is ∙ all_with-none no_members (pattern_members explained name place ++ members)
     (refl, (refl, both-none (place_members place) members (place-none place) (input-none explained.pattern texts name members are))) refl

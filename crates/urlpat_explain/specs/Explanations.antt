@@ -63,9 +63,9 @@ IsShownOf json explained url found =
     × IsShownBy json explained (Some (texts_of_url url)) (status_of matched) found
 
 -- with an input: its texts are shown if it is a URL
-abbrev pub IsAnswer : (json : Bool) → ExplainedView → (base input : Option (List ℕ)) → Explanation → Type 0
-IsAnswer json explained base None found = IsShownBy json explained None 0 found
-IsAnswer json explained base (Some input) found =
+abbrev pub IsExplained : (json : Bool) → ExplainedView → (base input : Option (List ℕ)) → Explanation → Type 0
+IsExplained json explained base None found = IsShownBy json explained None 0 found
+IsExplained json explained base (Some input) found =
     (IsRefusedText input base × IsShownBy json explained None 1 found)
     ⊎ ((url : Parts) × IsUrlOf input base url × IsShownOf json explained url found)
 
@@ -73,7 +73,7 @@ IsAnswer json explained base (Some input) found =
 abbrev pub IsExplanationOf : (json : Bool) → PatternView PatternRegexp → UrlPatternInit → AskedView → Explanation → Type 0
 IsExplanationOf json compiled init asked found =
     (values : Values) × (pattern_values init ≡ Ok values)
-    × IsAnswer json (record { string = asked.string; pattern = compiled; given = values_view init; values = values }) asked.base asked.input found
+    × IsExplained json (record { string = asked.string; pattern = compiled; given = values_view init; values = values }) asked.base asked.input found
 
 -- it is compiled to this pattern
 abbrev pub IsExplanationBy : (json : Bool) → PatternView PatternRegexp → AskedView → Explanation → Type 0

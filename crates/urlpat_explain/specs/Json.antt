@@ -75,20 +75,20 @@ AreInputMembers pattern (Some texts) name members = AreMatchMembers (pattern nam
 
 -- ---- all components
 
-abbrev pub IsComponentTree : ExplainedView → (texts : Option Texts) → ComponentName → Data → Type 0
-IsComponentTree explained texts name tree =
+abbrev pub IsExplainedTree : ExplainedView → (texts : Option Texts) → ComponentName → Data → Type 0
+IsExplainedTree explained texts name tree =
     (place : Option Span) × (members : Named) × MayBeAt explained.string (at explained.given name) place
     × AreInputMembers explained.pattern texts name members × (tree ≡ object_of (pattern_members explained name place ++ members))
 
 -- an object with a key for each component
 abbrev pub IsExplanationTree : ExplainedView → (texts : Option Texts) → Data → Type 0
 IsExplanationTree explained texts tree =
-    (trees : Eight Data) × ((name : ComponentName) → IsComponentTree explained texts name (at trees name))
+    (trees : Eight Data) × ((name : ComponentName) → IsExplainedTree explained texts name (at trees name))
     × (tree ≡ object_of (each_member (λ name. Some (at trees name))))
 
 abbrev pub IsExplanationJson : ExplainedView → (texts : Option Texts) → (text : List ℕ) → Type 0
 IsExplanationJson explained texts text = (tree : Data) × IsExplanationTree explained texts tree × (text ≡ json_line tree)
 
 -- an object's entries gain, at the name of a component, its tree
-abbrev pub GainsComponent : (before after : List (String Global × Value)) → ExplainedView → (texts : Option Texts) → ComponentName → Type 0
-GainsComponent before after explained texts name = (tree : Data) × IsComponentTree explained texts name tree × Gain before after (name_text name) (Some tree)
+abbrev pub GainsExplained : (before after : List (String Global × Value)) → ExplainedView → (texts : Option Texts) → ComponentName → Type 0
+GainsExplained before after explained texts name = (tree : Data) × IsExplainedTree explained texts name tree × Gain before after (name_text name) (Some tree)

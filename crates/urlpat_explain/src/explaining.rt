@@ -3,7 +3,7 @@
 ghost use Rattle.std.specs.Prelude.{◌≡◌, ◌≢◌, ◌⊎◌, length, option_copied, string_bytes, IfNone, IfOk, IfSome};
 ghost use Rattle.urlpat_matching.specs.Status.{status_of};
 ghost use Rattle.urlpat_explain.specs.Explained.{explained_view, lent_texts};
-ghost use Rattle.urlpat_explain.specs.Explanations.{AskToExplain, Explains, IsAnswer, IsExplanation, IsExplanationBy, IsExplanationOf, IsShown, IsTable, asked_view};
+ghost use Rattle.urlpat_explain.specs.Explanations.{AskToExplain, Explains, IsExplained, IsExplanation, IsExplanationBy, IsExplanationOf, IsShown, IsTable, asked_view};
 ghost use Rattle.urlpat_words.specs.Words.{words_view};
 ghost use Rattle.urlpattern_pattern.specs.Patterns.{pattern_view};
 
@@ -181,7 +181,7 @@ fn answer(
     base: Option<&str>,
     input: Option<&str>,
 ) -> Result<Explanation, Error>
-    ensures text { IfOk result (IsAnswer json (explained_view explained.now) (option_copied base.entry) (option_copied input.entry)) }
+    ensures text { IfOk result (IsExplained json (explained_view explained.now) (option_copied base.entry) (option_copied input.entry)) }
     ensures status { IfOk result (λ found. (found.status ≡ DONE) ⊎ (found.status ≡ NO_MATCH)) }
 {
     let Some(input) = input else {

@@ -4,7 +4,7 @@ ghost use Rattle.serde_json.specs.View.{view};
 ghost use Rattle.std.specs.Prelude.{◌≡◌, ◌∷◌, Some, string_bytes, IfOk, OnOk, codes, map, zip};
 ghost use Rattle.std.specs.Str.{chars};
 ghost use Rattle.urlpat_explain.specs.Explained.{explained_view, lent_texts};
-ghost use Rattle.urlpat_explain.specs.Json.{GainsComponent, GainsMatch, IsComponentTree, IsExplanationJson, IsExplanationTree, capture_tree, groups_named, pattern_members, place_members, verdict_members};
+ghost use Rattle.urlpat_explain.specs.Json.{GainsExplained, GainsMatch, IsExplainedTree, IsExplanationJson, IsExplanationTree, capture_tree, groups_named, pattern_members, place_members, verdict_members};
 ghost use Rattle.urlpattern_core.specs.Components.{component_view};
 ghost use Rattle.urlpattern_inputs.specs.Trees.{GainAll, object_of};
 ghost use Rattle.urlpattern_matches.specs.GroupTexts.{texts_of};
@@ -93,7 +93,7 @@ fn put_component(
     texts: Option<&Eight<&str>>,
     name: ComponentName,
 ) -> Result<(), Error>
-    ensures { OnOk result (GainsComponent members.old.entries members.new.entries (explained_view explained.now) (lent_texts texts.entry) name) }
+    ensures { OnOk result (GainsExplained members.old.entries members.new.entries (explained_view explained.now) (lent_texts texts.entry) name) }
 {
     let tree = component_tree(alloc, explained, texts, name)?;
     serde_json::put(members, alloc, name.as_str(), tree)?;
@@ -107,7 +107,7 @@ fn component_tree(
     texts: Option<&Eight<&str>>,
     name: ComponentName,
 ) -> Result<Value, Error>
-    ensures { IfOk result (λ tree. IsComponentTree (explained_view explained.now) (lent_texts texts.entry) name (view tree)) }
+    ensures { IfOk result (λ tree. IsExplainedTree (explained_view explained.now) (lent_texts texts.entry) name (view tree)) }
 {
     let place = explained.place(name);
     let mut members = Map::new(alloc);

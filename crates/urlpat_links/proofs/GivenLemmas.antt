@@ -7,7 +7,7 @@ use Rattle.std.specs.List.{AllZip, before_first, list_any}
 use Rattle.std.specs.Prelude.{◌||◌, Any}
 use Rattle.std.specs.Str.{IsUtf8, chars}
 use Rattle.std.specs.declared.alloc.Global.{Global}
-use Rattle.urlpat_links.specs.Given.{AreGiven, Given, GivesGroup, GivesNothing, IsGroupNamed, NamesNoGroup, is_equals_sign}
+use Rattle.urlpat_links.specs.Given.{AreGiven, Given, WordGivesGroup, WordGivesNothing, IsGroupNamed, NamesNoGroup, is_equals_sign}
 use Rattle.urlpat_words.specs.Words.{words_view}
 use Rattle.urlpattern_matches.proofs.GroupLemmas.{chars-test}
 use Rattle.urlpattern_pattern.specs.Patterns.{PatternView}
@@ -21,7 +21,7 @@ among_alike name utf8 (other ∷ others) = λ i. sym (chars-test name (string_by
 module _ {E : Type 0} (pattern : PatternView E) where
   -- a word, as it is, gives this
   abbrev pub WordGives : String Global → Given → Type 0
-  WordGives word given = GivesGroup pattern (string_bytes word) given
+  WordGives word given = WordGivesGroup pattern (string_bytes word) given
 
   viewed : (words : List (String Global)) (groups : List Given) → AllZip WordGives words groups → AreGiven pattern (words_view words) groups
   viewed [] [] all = tt
@@ -31,19 +31,19 @@ module _ {E : Type 0} (pattern : PatternView E) where
 
   -- one more word that gives something
   pub given_more : (words : List (String Global)) (i : ℕ) (word : String Global) (text : List ℕ) (old new : List Given) (given : Given) → i < length words → word ≡ get_or words i word → text ≡ string_bytes word →
-      new ≡ old ++ given ∷ [] → GivesGroup pattern text given → AllZip WordGives (take i words) old → AllZip WordGives (take (i + 1) words) new
+      new ≡ old ++ given ∷ [] → WordGivesGroup pattern text given → AllZip WordGives (take i words) old → AllZip WordGives (take (i + 1) words) new
   given_more words i word text old new given within is is_text is_new gives was =
       subst (λ (taken : List (String Global)). AllZip WordGives taken new) (sym (take_more words i word within))
       (subst (λ (all : List Given). AllZip WordGives (take i words ++ get_or words i word ∷ []) all) (sym is_new)
       (all_zipped_more WordGives (take i words) old (get_or words i word) given was
-      (subst (λ (w : String Global). WordGives w given) is (subst (λ t. GivesGroup pattern t given) is_text gives))))
+      (subst (λ (w : String Global). WordGives w given) is (subst (λ t. WordGivesGroup pattern t given) is_text gives))))
 
   pub given_all : (words : List (String Global)) (i : ℕ) (groups : List Given) → length words ≤ i → AllZip WordGives (take i words) groups → AreGiven pattern (words_view words) groups
   given_all words i groups past was = viewed words groups (subst (λ (taken : List (String Global)). AllZip WordGives taken groups) (take_all i words past) was)
 
   -- a word that gives nothing is one of them
-  pub nothing_given : (words : List (String Global)) (i : ℕ) (word : String Global) (text : List ℕ) → i < length words → word ≡ get_or words i word → text ≡ string_bytes word → GivesNothing pattern text →
-      Any (GivesNothing pattern) (words_view words)
+  pub nothing_given : (words : List (String Global)) (i : ℕ) (word : String Global) (text : List ℕ) → i < length words → word ≡ get_or words i word → text ≡ string_bytes word → WordGivesNothing pattern text →
+      Any (WordGivesNothing pattern) (words_view words)
   nothing_given words i word text within is is_text nothing = (
     i,
     text,
@@ -53,5 +53,5 @@ module _ {E : Type 0} (pattern : PatternView E) where
   )
 
   -- a word whose name names nothing gives nothing
-  pub unnamed : (word name : List ℕ) → name ≡ before_first is_equals_sign word → NamesNoGroup pattern name → GivesNothing pattern word
+  pub unnamed : (word name : List ℕ) → name ≡ before_first is_equals_sign word → NamesNoGroup pattern name → WordGivesNothing pattern word
   unnamed word name is none = λ given gives. none given.0 given.1.now (subst (λ (n : List ℕ). IsGroupNamed pattern n given.0 given.1.now) (sym is) gives.1)

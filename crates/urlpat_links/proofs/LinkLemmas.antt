@@ -5,7 +5,7 @@ use Rattle.std.specs.Prelude.{Option}
 use Rattle.std.specs.declared.alloc.Global.{Global}
 use Rattle.url.specs.Parts.{Parts, serialize}
 use Rattle.urlpat_matching.specs.PatternWords.{IsPatternOf, base_of}
-use Rattle.urlpat_links.specs.LinkAnswers.{HasNoLink, IsLinkBy, IsUnlinked, OfPattern, WritesLink}
+use Rattle.urlpat_links.specs.LinkAnswers.{HasNoLink, IsLinkBy, LacksUrl, OfPattern, WritesLink}
 use Rattle.urlpat_links.specs.declared.linking.Unlinked.{Unlinked}
 use Rattle.urlpat_links.specs.declared.linking.Unlinked.TheVariants as unlinked
 use Rattle.urlpat_words.specs.Words.{words_view}
@@ -24,5 +24,5 @@ module _ (words : List (String Global)) (pattern base : String Global) (given : 
   writes url old new linked appends =
       said (λ compiled others. (u : Parts) × IsLinkBy compiled others u × Appends old new (serialize u ++ codes "\n")) (url, linked, appends)
 
-  pub has_none : (reason : Unlinked) → reason ≢ unlinked.OutOfMemory → IsUnlinked view (words_view given) reason → HasNoLink (words_view words)
-  has_none reason other is_none = said (λ compiled others. (r : Unlinked) × (r ≢ unlinked.OutOfMemory) × IsUnlinked compiled others r) (reason, other, is_none)
+  pub has_none : (reason : Unlinked) → reason ≢ unlinked.OutOfMemory → LacksUrl view (words_view given) reason → HasNoLink (words_view words)
+  has_none reason other is_none = said (λ compiled others. (r : Unlinked) × (r ≢ unlinked.OutOfMemory) × LacksUrl compiled others r) (reason, other, is_none)

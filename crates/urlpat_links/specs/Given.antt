@@ -57,19 +57,19 @@ abbrev pub Given : Type 0
 Given = ComponentName × Bor (List ℕ) × Bor (List ℕ)
 
 -- before its first equals sign the word names the group, and after it it has the text
-abbrev pub GivesGroup : {E : Type 0} → PatternView E → (word : List ℕ) → Given → Type 0
-GivesGroup pattern word given =
+abbrev pub WordGivesGroup : {E : Type 0} → PatternView E → (word : List ℕ) → Given → Type 0
+WordGivesGroup pattern word given =
     HasSuch is_equals_sign word × IsGroupNamed pattern (before_first is_equals_sign word) given.0 given.1.now
     × (given.2.now ≡ after_first is_equals_sign word)
 
-abbrev pub GivesNothing : {E : Type 0} → PatternView E → (word : List ℕ) → Type 0
-GivesNothing pattern word = (given : Given) → ¬ GivesGroup pattern word given
+abbrev pub WordGivesNothing : {E : Type 0} → PatternView E → (word : List ℕ) → Type 0
+WordGivesNothing pattern word = (given : Given) → ¬ WordGivesGroup pattern word given
 
 -- each word gives this
 abbrev pub AreGiven : {E : Type 0} → PatternView E → (words : List (List ℕ)) → List Given → Type 0
-AreGiven pattern words groups = AllZip (GivesGroup pattern) words groups
+AreGiven pattern words groups = AllZip (WordGivesGroup pattern) words groups
 
 -- one of the words gives nothing, or memory ran out
 abbrev pub RefusesWords : {E : Type 0} → PatternView E → (words : List (List ℕ)) → Misgiven → Type 0
-RefusesWords pattern words (misgiven.Word word) = Any (GivesNothing pattern) words
+RefusesWords pattern words (misgiven.Word word) = Any (WordGivesNothing pattern) words
 RefusesWords pattern words misgiven.OutOfMemory = Unit {0}

@@ -3,7 +3,7 @@ use Rattle.std.specs.Prelude.{◌≢◌, ◌++◌, ℕ, false, Any, List, ◌∷
 use Rattle.std.specs.Io.KnownBytes.{Appends}
 use Rattle.url.specs.Parts.{Parts, serialize}
 use Rattle.urlpat_matching.specs.PatternWords.{IsPatternOf, base_of}
-use Rattle.urlpat_links.specs.Given.{AreGiven, Given, GivesNothing}
+use Rattle.urlpat_links.specs.Given.{AreGiven, Given, WordGivesNothing}
 use Rattle.urlpat_links.specs.declared.linking.Unlinked.{Unlinked}
 use Rattle.urlpat_links.specs.declared.linking.Unlinked.TheVariants as unlinked
 use Rattle.urlpattern_engine.specs.PatternRegexps.{pattern_answer}
@@ -23,10 +23,10 @@ abbrev pub RefusesLinkBy : PatternView PatternRegexp → (words : List (List ℕ
 RefusesLinkBy pattern words error = (groups : List Given) × AreGiven pattern words groups × RefusesLink pattern_answer pattern (given_groups groups) error
 
 -- why there is no URL: a word gives nothing, the pattern has none, or memory ran out
-abbrev pub IsUnlinked : PatternView PatternRegexp → (words : List (List ℕ)) → Unlinked → Type 0
-IsUnlinked pattern words (unlinked.Word word) = Any (GivesNothing pattern) words
-IsUnlinked pattern words (unlinked.NoLink error) = (error ≢ no_link.OutOfMemory) × RefusesLinkBy pattern words error
-IsUnlinked pattern words unlinked.OutOfMemory = Unit {0}
+abbrev pub LacksUrl : PatternView PatternRegexp → (words : List (List ℕ)) → Unlinked → Type 0
+LacksUrl pattern words (unlinked.Word word) = Any (WordGivesNothing pattern) words
+LacksUrl pattern words (unlinked.NoLink error) = (error ≢ no_link.OutOfMemory) × RefusesLinkBy pattern words error
+LacksUrl pattern words unlinked.OutOfMemory = Unit {0}
 
 -- ---- what is printed
 
@@ -41,4 +41,4 @@ WritesLink words old new = OfPattern (λ pattern given. (url : Parts) × IsLinkB
 
 -- there is no URL
 abbrev pub HasNoLink : (words : List (List ℕ)) → Type 0
-HasNoLink words = OfPattern (λ pattern given. (reason : Unlinked) × (reason ≢ unlinked.OutOfMemory) × IsUnlinked pattern given reason) words
+HasNoLink words = OfPattern (λ pattern given. (reason : Unlinked) × (reason ≢ unlinked.OutOfMemory) × LacksUrl pattern given reason) words

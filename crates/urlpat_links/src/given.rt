@@ -3,7 +3,7 @@
 ghost use Rattle.std.specs.Prelude.{◌≡◌, IfErr, IfNone, IfOk, IfSome, bytes_eq, string_bytes};
 ghost use Rattle.std.specs.List.{list_any};
 ghost use Rattle.std.specs.Str.{chars};
-ghost use Rattle.urlpat_links.specs.Given.{AreGiven, GivesNothing, IsOnlyOwner, GivesGroup, IsNobodys, IsGroupNamed, NamesNoGroup, RefusesWords};
+ghost use Rattle.urlpat_links.specs.Given.{AreGiven, WordGivesNothing, IsOnlyOwner, WordGivesGroup, IsNobodys, IsGroupNamed, NamesNoGroup, RefusesWords};
 ghost use Rattle.urlpat_links.specs.declared.given.Misgiven.TheVariants as all_misgiven;
 ghost use Rattle.urlpat_words.specs.Words.{words_view};
 ghost use Rattle.urlpattern_core.specs.Components.{component_view};
@@ -60,8 +60,8 @@ pub fn given_by<'w>(
 
 /// What a word gives for a group: its name, `=`, and the text. `None`: it has no `=`, or no group has this name.
 fn group_of<'w>(pattern: &UrlPattern<PatternRegexp>, word: &'w str) -> Option<GivenGroup<'w>>
-    ensures given { IfSome result (GivesGroup (pattern_view pattern.now) word.now) }
-    ensures nothing { IfNone result (GivesNothing (pattern_view pattern.now) word.now) }
+    ensures given { IfSome result (WordGivesGroup (pattern_view pattern.now) word.now) }
+    ensures nothing { IfNone result (WordGivesNothing (pattern_view pattern.now) word.now) }
 {
     let (name, text) = word.split_once('=')?;
     let (component, group) = named_group(pattern, name)?;

@@ -3,7 +3,7 @@
 ghost use Rattle.std.specs.Prelude.{◌≡◌, ◌≢◌, ◌⊎◌, ◌++◌, codes, IfErr, IfOk, OnOk};
 ghost use Rattle.std.specs.Io.KnownBytes.{Appends};
 ghost use Rattle.url.specs.Parts.{serialize};
-ghost use Rattle.urlpat_links.specs.LinkAnswers.{HasNoLink, IsLinkBy, IsUnlinked, WritesLink};
+ghost use Rattle.urlpat_links.specs.LinkAnswers.{HasNoLink, IsLinkBy, LacksUrl, WritesLink};
 ghost use Rattle.urlpat_links.specs.declared.linking.Unlinked.TheVariants as all_unlinked;
 ghost use Rattle.urlpat_words.specs.Words.{words_view};
 ghost use Rattle.urlpattern_pattern.specs.Patterns.{pattern_view};
@@ -84,7 +84,7 @@ fn linked<'w>(
     words: &'w [String],
 ) -> Result<Url, Unlinked<'w>>
     ensures linked { IfOk result (IsLinkBy (pattern_view pattern.now) (words_view words.now)) }
-    ensures refused { IfErr result (IsUnlinked (pattern_view pattern.now) (words_view words.now)) }
+    ensures refused { IfErr result (LacksUrl (pattern_view pattern.now) (words_view words.now)) }
 {
     let groups = match given_by(alloc, pattern, words) {
         Ok(groups) => groups,

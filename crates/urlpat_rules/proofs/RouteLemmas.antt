@@ -13,7 +13,7 @@ use Rattle.urlpat_matching.specs.InputUrls.{BaseView, base_view}
 use Rattle.urlpat_matching.specs.PatternWords.{IsPatternOf}
 use Rattle.urlpat_matching.specs.Status.{status_of}
 use Rattle.urlpat_filter.specs.Filters.{FiltersText}
-use Rattle.urlpat_rules.specs.Routes.{AreRoutesOf, IsAnswered, Routes, RoutesBy, bare_lines, cell_text, route_tree, row_text}
+use Rattle.urlpat_rules.specs.Routes.{AreRoutesOf, IsLineAnswered, Routes, RoutesBy, bare_lines, cell_text, route_tree, row_text}
 use Rattle.urlpat_tables.specs.Tables.{EntryView, entries_view, entry_view, table_entries}
 use Rattle.urlpat_tables.specs.declared.table.Entry.{Entry}
 use Rattle.urlpat_words.specs.declared.flags.Flags.{Flags}
@@ -83,8 +83,8 @@ route-none entry found none =
 -- what is answered by the entries of a table is answered by the table
 pub routes-by : (flags : Flags) (table : List ℕ) (base : Option (List ℕ)) (kept : BaseView) (items shown : List Entry) (routes : Routes) (input old new : Option (List ℕ)) (any : Bool) (status : ℕ)
     → entries_view items ≡ table_entries table → shown ≡ items → AreRoutesOf flags.ignore_case base (entries_view shown) routes → kept ≡ base_view base → status ≡ status_of any
-    → IfSome input (λ text. FiltersText (IsAnswered flags.json routes kept) Line text any old new) → RoutesBy flags table base status input old new
+    → IfSome input (λ text. FiltersText (IsLineAnswered flags.json routes kept) Line text any old new) → RoutesBy flags table base status input old new
 routes-by flags table base kept items shown routes None old new any status are same is read ends found =
     (routes, subst (λ (es : List EntryView). AreRoutesOf flags.ignore_case base es routes) (ap entries_view same ∙ are) is, tt)
 routes-by flags table base kept items shown routes (Some text) old new any status are same is read ends found =
-    (routes, subst (λ (es : List EntryView). AreRoutesOf flags.ignore_case base es routes) (ap entries_view same ∙ are) is, (any, ends, subst (λ b. FiltersText (IsAnswered flags.json routes b) Line text any old new) read found))
+    (routes, subst (λ (es : List EntryView). AreRoutesOf flags.ignore_case base es routes) (ap entries_view same ∙ are) is, (any, ends, subst (λ b. FiltersText (IsLineAnswered flags.json routes b) Line text any old new) read found))

@@ -72,9 +72,9 @@ abbrev pub IsRouteJson : EntryView → (ComponentName → ResultView) → (row :
 IsRouteJson entry result row = (tree : Data) × IsMatchTree result tree × (row ≡ json_line (route_tree entry tree))
 
 -- the row of an entry, as JSON or not
-abbrev pub IsShown : (json : Bool) → EntryView → (ComponentName → ResultView) → (row : List ℕ) → Type 0
-IsShown true entry result row = IsRouteJson entry result row
-IsShown false entry result row = IsRouteRow entry result row
+abbrev pub IsRowShown : (json : Bool) → EntryView → (ComponentName → ResultView) → (row : List ℕ) → Type 0
+IsRowShown true entry result row = IsRouteJson entry result row
+IsRowShown false entry result row = IsRouteRow entry result row
 
 -- what is printed for a line that no pattern matches
 abbrev pub unmatched_text : (json : Bool) → List ℕ
@@ -92,18 +92,18 @@ pub record IsRouted (json : Bool) (routes : Routes) (base : BaseView) (text row 
   pub is_url : IsUrlUnder text base url
   pub is_first : IsFirstMatch pattern_answer (entry_patterns routes) (match_inputs.Url url) (Some (index, result))
   pub is_there : slice_get (values_of routes) index ≡ Some entry
-  pub shows : IsShown json (entry_view entry) result row
+  pub shows : IsRowShown json (entry_view entry) result row
 
 -- a line is answered by such a row, or by a mark where no pattern matches it
-abbrev pub IsAnswered : (json : Bool) → Routes → BaseView → (text line : List ℕ) → Verdict → (written : List ℕ) → Type 0
-IsAnswered json routes base text line verdict written =
+abbrev pub IsLineAnswered : (json : Bool) → Routes → BaseView → (text line : List ℕ) → Verdict → (written : List ℕ) → Type 0
+IsLineAnswered json routes base text line verdict written =
     (IsRouted json routes base text written × (verdict ≡ Selected))
     ⊎ (IsUnmatchedByAllUnder (entry_patterns routes) text base × (written ≡ unmatched_text json) × (selected_by verdict ≡ 0))
 
 -- the lines of a text have such answers, which are written, and the status is 1 if no pattern matches one
 abbrev pub RoutesText : (json : Bool) → Routes → BaseView → (text : List ℕ) → (status : ℕ) → (old new : Option (List ℕ)) → Type 0
 RoutesText json routes base text status old new =
-    (any : Bool) × (status ≡ status_of any) × FiltersText (IsAnswered json routes base) Line text any old new
+    (any : Bool) × (status ≡ status_of any) × FiltersText (IsLineAnswered json routes base) Line text any old new
 
 -- what the reader has, if that is known, is answered by the patterns of a table
 abbrev pub RoutesBy : Flags → (table : List ℕ) → (base : Option (List ℕ)) → (status : ℕ) → (input old new : Option (List ℕ)) → Type 0

@@ -2,7 +2,7 @@
 
 ghost use Rattle.std.specs.Prelude.{◌≡◌, ◌⊎◌, option_copied, IfSome};
 ghost use Rattle.urlpat_matching.specs.InputUrls.{kept_base};
-ghost use Rattle.urlpat_rules.specs.Routes.{AreRoutesOf, IsAnswered, RoutesFile, RoutesTable, unmatched_text};
+ghost use Rattle.urlpat_rules.specs.Routes.{AreRoutesOf, IsLineAnswered, RoutesFile, RoutesTable, unmatched_text};
 ghost use Rattle.urlpat_tables.specs.Tables.{entries_view};
 
 use crate::row::push_route;
@@ -132,7 +132,7 @@ fn unmatched_text(json: bool) -> &'static str
 }
 
 impl Rule for Router<'_, '_> {
-    ghost Answers = { λ router. IsAnswered router.json router.routes.now (kept_base router.base.now) };
+    ghost Answers = { λ router. IsLineAnswered router.json router.routes.now (kept_base router.base.now) };
 
     fn answer(
         &self,

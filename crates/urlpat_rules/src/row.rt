@@ -4,7 +4,7 @@ ghost use Rattle.std.specs.List.{flat_map};
 ghost use Rattle.std.specs.Prelude.{◌≡◌, ◌++◌, IfOk, OnOk};
 ghost use Rattle.serde_json.specs.View.{view};
 ghost use Rattle.urlpat_filter.specs.Filters.{GetsPiece};
-ghost use Rattle.urlpat_rules.specs.Routes.{IsRouteJson, IsRouteRow, IsShown, bare_lines, cell_text, route_tree};
+ghost use Rattle.urlpat_rules.specs.Routes.{IsRouteJson, IsRouteRow, IsRowShown, bare_lines, cell_text, route_tree};
 ghost use Rattle.urlpat_tables.specs.Tables.{entry_view};
 ghost use Rattle.urlpattern.specs.BorrowedMatches.{pattern_captures_view};
 
@@ -27,7 +27,7 @@ pub fn push_route(
     found: &UrlPatternCaptures<'_, '_>,
     row: &mut Vec<u8>,
 ) -> Result<(), AllocError>
-    ensures { OnOk result (GetsPiece (IsShown json (entry_view entry.now) (pattern_captures_view found.now)) row.old.items row.new.items) }
+    ensures { OnOk result (GetsPiece (IsRowShown json (entry_view entry.now) (pattern_captures_view found.now)) row.old.items row.new.items) }
 {
     if json {
         push_json(alloc, entry, found, row)

@@ -31,13 +31,13 @@ IsAskedByFlags (first ∷ second ∷ []) asked = IsAskedByTwo first second asked
 IsAskedByFlags (first ∷ second ∷ third ∷ words) asked = ⊥
 
 -- the same where answers are JSON: there are no such words, and the match of each line is printed
-abbrev pub IsAsked : (json : Bool) → (words : List (List ℕ)) → Bool × Shape → Type 0
-IsAsked true [] asked = asked ≡ (false, shapes.Json)
-IsAsked true (flag ∷ words) asked = ⊥
-IsAsked false words asked = IsAskedByFlags words asked
+abbrev pub IsQuery : (json : Bool) → (words : List (List ℕ)) → Bool × Shape → Type 0
+IsQuery true [] asked = asked ≡ (false, shapes.Json)
+IsQuery true (flag ∷ words) asked = ⊥
+IsQuery false words asked = IsAskedByFlags words asked
 
 -- the words after `filter` ask for this
 abbrev pub IsQueryOf : (json : Bool) → (words : List (List ℕ)) → Query → Type 0
 IsQueryOf json (pattern ∷ base ∷ rest) query =
-    (query.pattern.now ≡ pattern) × (query.base.now ≡ base) × IsAsked json rest (query.inverted, query.shape)
+    (query.pattern.now ≡ pattern) × (query.base.now ≡ base) × IsQuery json rest (query.inverted, query.shape)
 IsQueryOf json words query = ⊥

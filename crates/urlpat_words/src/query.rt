@@ -1,7 +1,7 @@
 //! What the words after `filter` ask for.
 
 ghost use Rattle.std.specs.Prelude.{◌≡◌, ◌∷◌, ◌++◌, true, IfSome};
-ghost use Rattle.urlpat_words.specs.Queries.{IsAsked, IsAskedByFlags, IsAskedByOne, IsAskedByTwo, IsQueryOf, NamesGroup};
+ghost use Rattle.urlpat_words.specs.Queries.{IsQuery, IsAskedByFlags, IsAskedByOne, IsAskedByTwo, IsQueryOf, NamesGroup};
 ghost use Rattle.urlpat_words.specs.Words.{words_view};
 
 use urlpattern_eight::ComponentName;
@@ -54,7 +54,7 @@ pub fn query_of(words: &[String], json: bool) -> Option<Query<'_>>
 
 /// What the words after the base ask for, with JSON as the answer: there are none, and the match is printed.
 fn asked_as_json(words: &[String]) -> Option<(bool, Shape<'_>)>
-    ensures { IfSome result (IsAsked true (words_view words.now)) }
+    ensures { IfSome result (IsQuery true (words_view words.now)) }
 {
     if words.is_empty() {
         Some((false, Shape::Json))

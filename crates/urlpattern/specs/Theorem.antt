@@ -3,7 +3,7 @@
 use Rattle.std.specs.Prelude.{⊤, ℕ, false, List, Option}
 use Rattle.urlpattern_core.specs.{Components.FlagsAgree, Components.IsEngineOf, Regexes.regex_engine, FirstWays.EachAnswersFirst}
 use Rattle.urlpattern_core.specs.declared.regexp.RegExp.{Ghosts as Engine}
-use Rattle.urlpattern_custom.specs.LawsOfTexts.{CapturesAreAsNames, HasRoom, MatchersCapture, TookAlone}
+use Rattle.urlpattern_custom.specs.LawsOfTexts.{CapturesAreAsNames, HasNumbers, MatchersCapture, TookAlone}
 use Rattle.urlpattern_custom.specs.LawsOfWays.{FirstWaysAreOfTrees, MatchersAnswerFirstOfParts}
 use Rattle.urlpattern_engine.specs.PatternRegexps.{pattern_engine}
 use Rattle.urlpattern_meaning.specs.{Dialect.IsOnlyTreeOf, Dialect.Items, FirstAnswers.AnswersByFirstWay, FirstAnswers.TookText}
@@ -49,14 +49,14 @@ PatternEngineAnswersTheFirstWay = EachAnswersFirst pattern_engine (λ options fl
 -- capture, one capture for each name, or `None` where they do not take the text.
 abbrev pub CustomPartsAreAnswered : Type 0
 CustomPartsAreAnswered =
-    MatchersCapture regex_engine (λ regexp. ⊤) (λ options flags. TookText (λ regex. ⊤)) × MatchersCapture pattern_engine HasRoom TookAlone × CapturesAreAsNames
+    MatchersCapture regex_engine (λ regexp. ⊤) (λ options flags. TookText (λ regex. ⊤)) × MatchersCapture pattern_engine HasNumbers TookAlone × CapturesAreAsNames
 
 -- Of several captures, both return those of the first way of the parts, in which the choices of a custom expression are tried as the grammar
 -- reads it by itself. Without a custom part this is the first way of their tree.
 abbrev pub CustomPartsAreAnsweredByTheFirstWay : Type 0
 CustomPartsAreAnsweredByTheFirstWay =
     MatchersAnswerFirstOfParts regex_engine (λ regexp. ⊤) (λ options flags. TookText (λ regex. ⊤))
-    × MatchersAnswerFirstOfParts pattern_engine HasRoom TookAlone × FirstWaysAreOfTrees
+    × MatchersAnswerFirstOfParts pattern_engine HasNumbers TookAlone × FirstWaysAreOfTrees
 
 -- The printed pattern of parts that were read reads as these parts, joined.
 abbrev pub PrintedReadsBack : Type 0

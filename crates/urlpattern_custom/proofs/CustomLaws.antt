@@ -17,7 +17,7 @@ use Rattle.urlpattern_custom.proofs.MatchersFirst.{matchers_first}
 use Rattle.urlpattern_custom.proofs.MatchersTaken.{matchers_taken, shorter_room}
 use Rattle.urlpattern_custom.proofs.ValuesTaken.{pattern_values_capture, pattern_values_first, pattern_values_taken, regex_values_capture, regex_values_first, regex_values_taken}
 use Rattle.urlpattern_custom.specs.Expressions.{ExpressionTakes, TakesWhole}
-use Rattle.urlpattern_custom.specs.LawsOfTexts.{ComponentsCapture, HasRoom, MatchersAnswerTaken, MatchersCapture, ReadsInGroups, TookAlone}
+use Rattle.urlpattern_custom.specs.LawsOfTexts.{ComponentsCapture, HasNumbers, MatchersAnswerTaken, MatchersCapture, ReadsInGroups, TookAlone}
 use Rattle.urlpattern_custom.specs.LawsOfWays.{ComponentsAnswerFirstOfParts, MatchersAnswerFirstOfParts}
 use Rattle.urlpattern_engine.specs.PatternRegexps.{pattern_engine}
 use Rattle.urlpattern_meaning.specs.FirstAnswers.{TookText}
@@ -50,20 +50,20 @@ took_any (RegExp (Err error)) P p took = took
 pub regex_matchers_taken : MatchersAnswerTaken regex_engine (λ regexp. ⊤) (λ options flags. TookText (λ value. ⊤))
 regex_matchers_taken = matchers_taken regex_engine (λ flags. ⊤) (λ regexp. ⊤) _ regex_values_taken (λ options parts middle le fits. tt) (λ options flags inner kept took. took)
 
-pub pattern_matchers_taken : MatchersAnswerTaken pattern_engine HasRoom TookAlone
-pattern_matchers_taken = matchers_taken pattern_engine KeepsCase HasRoom _ pattern_values_taken shorter_room (λ options flags inner kept took. took_any inner (KeepsCase flags) (took.0 ∙ kept) took.1)
+pub pattern_matchers_taken : MatchersAnswerTaken pattern_engine HasNumbers TookAlone
+pattern_matchers_taken = matchers_taken pattern_engine KeepsCase HasNumbers _ pattern_values_taken shorter_room (λ options flags inner kept took. took_any inner (KeepsCase flags) (took.0 ∙ kept) took.1)
 
 pub regex_matchers_capture : MatchersCapture regex_engine (λ regexp. ⊤) (λ options flags. TookText (λ value. ⊤))
 regex_matchers_capture = matchers_capture regex_engine (λ flags. ⊤) (λ regexp. ⊤) _ regex_values_capture (λ options parts middle le fits. tt) (λ options flags inner kept took. took)
 
-pub pattern_matchers_capture : MatchersCapture pattern_engine HasRoom TookAlone
-pattern_matchers_capture = matchers_capture pattern_engine KeepsCase HasRoom _ pattern_values_capture shorter_room (λ options flags inner kept took. took_any inner (KeepsCase flags) (took.0 ∙ kept) took.1)
+pub pattern_matchers_capture : MatchersCapture pattern_engine HasNumbers TookAlone
+pattern_matchers_capture = matchers_capture pattern_engine KeepsCase HasNumbers _ pattern_values_capture shorter_room (λ options flags inner kept took. took_any inner (KeepsCase flags) (took.0 ∙ kept) took.1)
 
 pub regex_matchers_first : MatchersAnswerFirstOfParts regex_engine (λ regexp. ⊤) (λ options flags. TookText (λ value. ⊤))
 regex_matchers_first = matchers_first regex_engine (λ flags. ⊤) (λ regexp. ⊤) _ regex_values_first (λ options parts middle le fits. tt) (λ options flags inner kept took. took)
 
-pub pattern_matchers_first : MatchersAnswerFirstOfParts pattern_engine HasRoom TookAlone
-pattern_matchers_first = matchers_first pattern_engine KeepsCase HasRoom _ pattern_values_first shorter_room (λ options flags inner kept took. took_any inner (KeepsCase flags) (took.0 ∙ kept) took.1)
+pub pattern_matchers_first : MatchersAnswerFirstOfParts pattern_engine HasNumbers TookAlone
+pattern_matchers_first = matchers_first pattern_engine KeepsCase HasNumbers _ pattern_values_first shorter_room (λ options flags inner kept took. took_any inner (KeepsCase flags) (took.0 ∙ kept) took.1)
 
 -- ---- components
 
@@ -71,7 +71,7 @@ pub regex_components_capture : ComponentsCapture regex_engine (λ regexp. ⊤)
 regex_components_capture options parts component is alone silent fits kept took =
     regex_matchers_capture options (engine_flags options) parts component.matcher (record { is_made = is.has_matcher; alone = alone; fits = fits; case_kept = kept; took = took }) silent
 
-pub pattern_components_capture : ComponentsCapture pattern_engine HasRoom
+pub pattern_components_capture : ComponentsCapture pattern_engine HasNumbers
 pattern_components_capture options parts component is alone silent fits kept took =
     pattern_matchers_capture options (engine_flags options) parts component.matcher (record { is_made = is.has_matcher; alone = alone; fits = fits; case_kept = kept; took = (flags_agree options, took) }) silent
 
@@ -79,6 +79,6 @@ pub regex_components_first : ComponentsAnswerFirstOfParts regex_engine (λ regex
 regex_components_first options parts component is alone silent fits kept took =
     regex_matchers_first options (engine_flags options) parts component.matcher (record { is_made = is.has_matcher; alone = alone; fits = fits; case_kept = kept; took = took }) silent
 
-pub pattern_components_first : ComponentsAnswerFirstOfParts pattern_engine HasRoom
+pub pattern_components_first : ComponentsAnswerFirstOfParts pattern_engine HasNumbers
 pattern_components_first options parts component is alone silent fits kept took =
     pattern_matchers_first options (engine_flags options) parts component.matcher (record { is_made = is.has_matcher; alone = alone; fits = fits; case_kept = kept; took = (flags_agree options, took) }) silent

@@ -8,7 +8,7 @@ use Rattle.urlpattern_core.specs.FirstWays.{Keeping, Taking}
 use Rattle.urlpattern_core.specs.declared.regexp.RegExp.{Ghosts as Engine}
 use Rattle.urlpattern_custom.proofs.Catching.{Then}
 use Rattle.urlpattern_custom.proofs.MatchersTaken.{all_plain, engine_taken, fast_plain, fast_taken, made_between, middle_all, middle_length, written}
-use Rattle.urlpattern_custom.specs.LawsOfTexts.{IsCaptured, IsSomeIfTaken, MatchersCapture, PartsCaptureMeanings, Room, ValuesCapture}
+use Rattle.urlpattern_custom.specs.LawsOfTexts.{IsCapturedByParts, IsSomeIfTaken, MatchersCapture, PartsCaptureMeanings, Room, ValuesCapture}
 use Rattle.urlpattern_custom.specs.PartCaptures.{PartCaptures, PartsCapture}
 use Rattle.urlpattern_custom.specs.PartTexts.{CapturesNothing, PartsTake, StandsAlone}
 use Rattle.urlpattern_meaning.proofs.MatcherMeaning.{HasEnds, ends_of, scalars_middle}
@@ -84,7 +84,7 @@ captures_takes options [] text captures is = is.0
 captures_takes options (part ∷ parts) text captures (first, rest, own, others, cut, all, one, more) =
     (first, rest, cut, (one.count, one.allowed, one.are_copies), captures_takes options parts rest others more)
 
-captured_taken : (options : OptionsView) (parts : List PartView) (text : List ℕ) (result : Option Captures) → IsCaptured options parts text result → IsSomeIfTaken options parts text result
+captured_taken : (options : OptionsView) (parts : List PartView) (text : List ℕ) (result : Option Captures) → IsCapturedByParts options parts text result → IsSomeIfTaken options parts text result
 captured_taken options parts text (Some captures) is = (λ some. captures_takes options parts text captures is, λ takes. refl)
 captured_taken options parts text None is = (λ some. absurd (true≢false (sym some)), λ takes. absurd (is takes))
 
@@ -111,13 +111,13 @@ peeled_captures options parts front middle back text inner captures peeled cut i
 
 engine_captured : {E : Type 0} (answer : E → List ℕ → Option Captures) (options : OptionsView) (parts : List PartView) (front : Option PartView) (middle : List PartView) (back : Option PartView) (matcher : MatcherView E) (engine : E) (text : List ℕ) (result : Option Captures) →
     ArePeeled parts front middle back → HasEnds options matcher (end_text front) (end_text back) → matcher.inner ≡ RegExp (Ok engine) → options.ignore_case ≡ false →
-    ((t : List ℕ) → IsTrue (all_scalars t) → IsCaptured options middle t (answer engine t)) → IsTrue (all_scalars text) → Answers answer matcher text result → IsCaptured options parts text result
+    ((t : List ℕ) → IsTrue (all_scalars t) → IsCapturedByParts options middle t (answer engine t)) → IsTrue (all_scalars text) → Answers answer matcher text result → IsCapturedByParts options parts text result
 engine_captured answer options parts front middle back matcher engine text (Some captures) peeled ends is case captured fine (inner, has_middle, accepts) =
     let e = (middle_kept matcher text inner (ends.2 ∙ case)).0 has_middle in
     let found : answer engine inner ≡ Some captures = subst (λ i. Accepts answer matcher.ignore_case i inner captures) is accepts in
     let cut : text ≡ end_text front ++ inner ++ end_text back = e ∙ ap (λ t. t ++ inner ++ matcher.suffix) ends.0 ∙ ap (λ t. end_text front ++ inner ++ t) ends.1 in
     let here : IsTrue (all_scalars inner) = scalars_middle (end_text front) inner (end_text back) (subst (λ t. IsTrue (all_scalars t)) cut fine) in
-    peeled_captures options parts front middle back text inner captures peeled cut (subst (λ result. IsCaptured options middle inner result) found (captured inner here))
+    peeled_captures options parts front middle back text inner captures peeled cut (subst (λ result. IsCapturedByParts options middle inner result) found (captured inner here))
 engine_captured answer options parts front middle back matcher engine text None peeled ends is case captured fine never = λ takes.
     let taken = engine_taken answer options parts front middle back matcher engine text None peeled ends is case (λ t good. captured_taken options middle t (answer engine t) (captured t good)) fine never in
     true≢false (sym (taken.1 takes))
@@ -125,7 +125,7 @@ engine_captured answer options parts front middle back matcher engine text None 
 -- ---- every matcher
 
 fast_captured : {E : Type 0} (answer : E → List ℕ → Option Captures) (options : OptionsView) (parts : List PartView) (matcher : MatcherView E) (text : List ℕ) (result : Option Captures) → All IsNotCustom parts →
-    ((captures : Captures) → Matches answer matcher text captures ↔ PartsMean options parts text captures) → Answers answer matcher text result → IsCaptured options parts text result
+    ((captures : Captures) → Matches answer matcher text captures ↔ PartsMean options parts text captures) → Answers answer matcher text result → IsCapturedByParts options parts text result
 fast_captured answer options parts matcher text (Some captures) plain same matches = means_captures options parts text captures ((same captures).0 matches)
 fast_captured answer options parts matcher text None plain same never = λ takes. true≢false (sym ((fast_taken answer options parts matcher text None plain same never).1 takes))
 
@@ -136,13 +136,13 @@ pub matchers_capture : {E : Type 0} (engine : Engine E) (Keeps : Keeping) (Fits 
     → MatchersCapture engine Fits Took
 matchers_capture {E} engine Keeps Fits Took values shorter took options flags parts matcher made silent text result no_feed fine answers = by_inner matcher.inner refl (took options flags matcher.inner made.case_kept made.took)
   where
-    fast : IsFast matcher.inner → IsCaptured options parts text result
+    fast : IsFast matcher.inner → IsCapturedByParts options parts text result
     fast is =
         let m = made.is_made in
         fast_captured engine.answer options parts matcher text result (all_plain parts m.front m.middle m.back m.are_peeled (fast_plain (IsEngineOf engine false flags) options (end_text m.front) m.middle (end_text m.back) matcher m.is_made is))
         (λ captures. fast_means engine.answer (IsEngineOf engine false flags) options parts matcher text captures m made.case_kept no_feed is) answers
 
-    by_inner : (inner : InnerView E) → matcher.inner ≡ inner → TookText (λ value. Keeps flags) inner → IsCaptured options parts text result
+    by_inner : (inner : InnerView E) → matcher.inner ≡ inner → TookText (λ value. Keeps flags) inner → IsCapturedByParts options parts text result
     by_inner (Literal literal) e keeps = fast (subst (λ i. IsFast i) (sym e) tt)
     by_inner (SingleCapture filter allow_empty) e keeps = fast (subst (λ i. IsFast i) (sym e) tt)
     by_inner (RegExp (Err error)) e keeps = absurd keeps

@@ -12,7 +12,7 @@ use Rattle.urlpattern_custom.proofs.Denoting.{Joined, AreSameTexts, joined_same}
 use Rattle.urlpattern_custom.proofs.ItemsOf.{joined_assoc, nothing_joined, same_then, same_texts}
 use Rattle.urlpattern_custom.proofs.GroupItems.{one_copy}
 use Rattle.urlpattern_custom.proofs.TakenMeanings.{means_takes, parts_take_meanings}
-use Rattle.urlpattern_custom.specs.LawsOfTexts.{HasRoom, IsSomeIfTaken, MatchersAnswerTaken, Room, ValuesAnswerTaken}
+use Rattle.urlpattern_custom.specs.LawsOfTexts.{HasNumbers, IsSomeIfTaken, MatchersAnswerTaken, Room, ValuesAnswerTaken}
 use Rattle.urlpattern_custom.specs.PartTexts.{PartTakes, PartsTake, StandsAlone}
 use Rattle.urlpattern_meaning.proofs.MatcherMeaning.{HasEnds, ends_of, not_fast, scalars_middle}
 use Rattle.urlpattern_meaning.proofs.MatchingLaws.{IsFast, fast_means, middle_kept, part_of}
@@ -169,7 +169,7 @@ module _ (options : OptionsView) where
   middle_length parts front middle back peeled =
       omega (arith, right_length (option_to_list front) middle, left_length (option_to_list front ++ middle) (option_to_list back), ap (λ ps. length (written ps)) peeled.cut)
 
-pub shorter_room : (options : OptionsView) (parts middle : List PartView) → length (written options middle) ≤ length (written options parts) → HasRoom (regexp_text options parts) → HasRoom (regexp_text options middle)
+pub shorter_room : (options : OptionsView) (parts middle : List PartView) → length (written options middle) ≤ length (written options parts) → HasNumbers (regexp_text options parts) → HasNumbers (regexp_text options middle)
 shorter_room options parts middle le room = omega (arith, room, le, length-append (written options middle) (codes "$"), length-append (written options parts) (codes "$"))
 
 -- ---- every matcher

@@ -10,7 +10,7 @@ use Rattle.urlpattern_custom.proofs.PartCharacters.{IsOfCharacters, no_fixed, pa
 use Rattle.urlpattern_custom.proofs.PieceItems.{fixed_items, piece_inside}
 use Rattle.urlpattern_custom.proofs.Senses.{Sense, joined, no_text, quiet}
 use Rattle.urlpattern_custom.specs.PartCaptures.{PartCaptures, PartsCapture}
-use Rattle.urlpattern_custom.specs.PartTexts.{AllCaptureNothing, AllStandAlone, CapturesNothing, IsPieceOf, PartTakes, PartsTake, StandsAlone}
+use Rattle.urlpattern_custom.specs.PartTexts.{AllCaptureNothing, AllStandAlone, CapturesNothing, IsTakenPiece, PartTakes, PartsTake, StandsAlone}
 use Rattle.urlpattern_custom.specs.PartWays.{fixed_ways, part_ways_by, parts_ways, piece_ways}
 use Rattle.urlpattern_meaning.specs.PartMeaning.{Allows, Captures, IsCapture, capture_of_none}
 use Rattle.urlpattern_meaning.proofs.Copies.{GroupMeans, IsBetween, core_copies}
@@ -34,17 +34,17 @@ empty_by (c ∷ text) h = absurd (true≢false (sym h))
 group_by : (is_bare : Bool) (options : OptionsView) (kind : PartType) (modifier : PartModifier) (value prefix suffix : List ℕ) → is_empty prefix && is_empty suffix ≡ is_bare → kind ≢ FixedText → StandsAlone kind value
     → scalars prefix ≡ true → scalars suffix ≡ true
     → AreItemsOf (if is_bare then bare_regexp modifier (matched_by options kind value) else affixed_regexp modifier (escaped_regexp options prefix) (matched_by options kind value) (escaped_regexp options suffix))
-    (group_sense is_bare modifier prefix suffix (CapturesNothing kind value) (IsPieceOf options kind value) (piece_ways options kind value))
+    (group_sense is_bare modifier prefix suffix (CapturesNothing kind value) (IsTakenPiece options kind value) (piece_ways options kind value))
 group_by true options kind modifier value prefix suffix h group stands p s =
     let both = and_parts _ _ h in
     let no_prefix : prefix ≡ [] = empty_by prefix both.0 in
     let no_suffix : suffix ≡ [] = empty_by suffix both.1 in
-    rw (no_prefix, no_suffix) (bare_group modifier _ (CapturesNothing kind value) (IsPieceOf options kind value) (piece_ways options kind value) (piece_inside options kind value group stands))
+    rw (no_prefix, no_suffix) (bare_group modifier _ (CapturesNothing kind value) (IsTakenPiece options kind value) (piece_ways options kind value) (piece_inside options kind value group stands))
 group_by false options kind modifier value prefix suffix h group stands p s =
-    affixed_group options prefix suffix p s modifier _ (CapturesNothing kind value) (IsPieceOf options kind value) (piece_ways options kind value) (piece_inside options kind value group stands)
+    affixed_group options prefix suffix p s modifier _ (CapturesNothing kind value) (IsTakenPiece options kind value) (piece_ways options kind value) (piece_inside options kind value group stands)
 
 group_items : (options : OptionsView) (kind : PartType) (modifier : PartModifier) (value name prefix suffix : List ℕ) → kind ≢ FixedText → StandsAlone kind value → scalars prefix ≡ true → scalars suffix ≡ true
-    → AreItemsOf (group_regexp options (part_of kind modifier value name prefix suffix)) (group_sense (is_empty prefix && is_empty suffix) modifier prefix suffix (CapturesNothing kind value) (IsPieceOf options kind value) (piece_ways options kind value))
+    → AreItemsOf (group_regexp options (part_of kind modifier value name prefix suffix)) (group_sense (is_empty prefix && is_empty suffix) modifier prefix suffix (CapturesNothing kind value) (IsTakenPiece options kind value) (piece_ways options kind value))
 group_items options kind modifier value name prefix suffix group stands p s = group_by (is_empty prefix && is_empty suffix) options kind modifier value prefix suffix refl group stands p s
 
 -- copies, and their capture
@@ -81,7 +81,7 @@ part_by options Regexp modifier value name prefix suffix stands good =
       texts = same_texts _;
       count = refl;
       caps = λ text captures fine means.
-          let c = group_copies (IsPieceOf options Regexp value) Regexp modifier value name prefix suffix text captures means in
+          let c = group_copies (IsTakenPiece options Regexp value) Regexp modifier value name prefix suffix text captures means in
           record { count = c.0; allowed = c.1; are_copies = c.2; are_captures = c.3 };
       known = λ k. k;
       ways = refl;
@@ -94,7 +94,7 @@ part_by options SegmentWildcard modifier value name prefix suffix stands good =
       texts = same_texts _;
       count = refl;
       caps = λ text captures fine means.
-          let c = group_copies (IsPieceOf options SegmentWildcard value) SegmentWildcard modifier value name prefix suffix text captures means in
+          let c = group_copies (IsTakenPiece options SegmentWildcard value) SegmentWildcard modifier value name prefix suffix text captures means in
           record { count = c.0; allowed = c.1; are_copies = c.2; are_captures = c.3 };
       known = λ k. k;
       ways = refl;
@@ -107,7 +107,7 @@ part_by options FullWildcard modifier value name prefix suffix stands good =
       texts = same_texts _;
       count = refl;
       caps = λ text captures fine means.
-          let c = group_copies (IsPieceOf options FullWildcard value) FullWildcard modifier value name prefix suffix text captures means in
+          let c = group_copies (IsTakenPiece options FullWildcard value) FullWildcard modifier value name prefix suffix text captures means in
           record { count = c.0; allowed = c.1; are_copies = c.2; are_captures = c.3 };
       known = λ k. k;
       ways = refl;

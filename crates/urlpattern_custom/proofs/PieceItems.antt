@@ -22,7 +22,7 @@ use Rattle.urlpattern_custom.proofs.Denoting.{Denotes, Joined, Quantified, AreSa
 use Rattle.urlpattern_custom.proofs.GroupsOf.{IsInside, items_inside}
 use Rattle.urlpattern_custom.proofs.ItemsOf.{AreItemsOf, IsItemOf, no_items, append_items, same_items, quantified_items, once_items, atom_item}
 use Rattle.urlpattern_custom.proofs.Senses.{Sense, joined_quiet, quiet, quiet_same}
-use Rattle.urlpattern_custom.specs.PartTexts.{CapturesNothing, IsPieceOf, StandsAlone}
+use Rattle.urlpattern_custom.specs.PartTexts.{CapturesNothing, IsTakenPiece, StandsAlone}
 use Rattle.urlpattern_custom.specs.PartWays.{exactly, piece_ways}
 use Rattle.urlpattern_meaning.specs.Ways.{Choice, one_that, quantified_ways}
 use Rattle.urlpattern_meaning.specs.Dialect.{Character, Plain, Escaped, character_of, character_text, ZeroOrMore, LazyOneOrMore, Dot, AnyBut, Literal, AtomMeans, IsCharacter, IsClassCharacter, IsOneBut, atom_text}
@@ -205,7 +205,7 @@ full_same options text good =
 -- ---- what a part's group matches
 
 abbrev pub piece_sense : OptionsView → PartType → (value : List ℕ) → Sense
-piece_sense options kind value = quiet (CapturesNothing kind value) (IsPieceOf options kind value) (piece_ways options kind value)
+piece_sense options kind value = quiet (CapturesNothing kind value) (IsTakenPiece options kind value) (piece_ways options kind value)
 
 pub piece_inside : (options : OptionsView) (kind : PartType) (value : List ℕ) → kind ≢ FixedText → StandsAlone kind value → IsInside (matched_by options kind value) (piece_sense options kind value)
 piece_inside options FixedText value h stands = absurd (h refl)

@@ -11,7 +11,7 @@ use Rattle.regex_hir.proofs.TextLemmas.{char_at_from, char_at_parts, char_at_pas
 use Rattle.regex_hir.specs.Matches.{Matches, Rounds, one_round, next_round}
 use Rattle.regex_hir.specs.Re.{Re, empty, literal, byte_in, char_in, look, cat, alt, group, plus}
 use Rattle.regex_hir.specs.Text.{char_at, is_some_and}
-use Rattle.urlpattern_custom.specs.Expressions.{is_character, takes_characters}
+use Rattle.urlpattern_custom.specs.Expressions.{is_one_character, takes_characters}
 use Rattle.urlpattern_regex.proofs.WayAnswers.{at}
 use Rattle.urlpattern_syntax.specs.Text.{IsRepeated}
 
@@ -56,7 +56,7 @@ unfolding in_ranges
 nothing_in c h = true≢false (sym h)
 
 -- the bytes of one character
-pub character_of : (bytes : List ℕ) → is_character bytes ≡ true → (c : ℕ) × (char_at bytes 0 ≡ Some c) × IsScalar c × (bytes ≡ encode_utf8 c)
+pub character_of : (bytes : List ℕ) → is_one_character bytes ≡ true → (c : ℕ) × (char_at bytes 0 ≡ Some c) × IsScalar c × (bytes ≡ encode_utf8 c)
 character_of bytes h = of_found (char_at bytes 0) refl h
   where
     of_found : (found : Option ℕ) → char_at bytes 0 ≡ found → is_some_and found (λ c. len_utf8 c == length bytes) ≡ true → (c : ℕ) × (char_at bytes 0 ≡ Some c) × IsScalar c × (bytes ≡ encode_utf8 c)

@@ -24,7 +24,7 @@ use Rattle.urlpattern_custom.proofs.PartItems.{parts_count, parts_items, parts_s
 use Rattle.urlpattern_custom.proofs.ItemsOf.{values}
 use Rattle.urlpattern_custom.proofs.Senses.{Fulfils}
 use Rattle.urlpattern_custom.proofs.WholeRead.{between_lines, found_captures, search_is, whole_read}
-use Rattle.urlpattern_custom.specs.LawsOfTexts.{HasRoom, IsCaptured, IsSomeIfTaken, ValuesAnswerTaken, ValuesCapture}
+use Rattle.urlpattern_custom.specs.LawsOfTexts.{HasNumbers, IsCapturedByParts, IsSomeIfTaken, ValuesAnswerTaken, ValuesCapture}
 use Rattle.urlpattern_custom.specs.LawsOfWays.{FirstWaysAreCaptured, ValuesAnswerFirstOfParts}
 use Rattle.urlpattern_custom.specs.PartCaptures.{PartsCapture}
 use Rattle.urlpattern_custom.specs.PartTexts.{AllCaptureNothing, AllStandAlone, PartsTake}
@@ -73,13 +73,13 @@ answers_taken options parts answer alone good some reads text fine =
 -- what is found in the text captures what the parts capture
 captured_by : (options : OptionsView) (parts : List PartView) (own : List (Nested Re)) → Fulfils (parts_sense options parts) 1 (cat_all (values own)) → AllCaptureNothing parts → (count : ℕ) → count ≡ parts_count parts
     → (text : List ℕ) → IsTrue (all_scalars text) → (o : Option Match) → find_str (between_lines own).value (encode_utf8_all text) 0 ≡ o
-    → IsSomeIfTaken options parts text (option_map (λ m. group_texts (encode_utf8_all text) count (group_of m)) o) → IsCaptured options parts text (option_map (λ m. group_texts (encode_utf8_all text) count (group_of m)) o)
+    → IsSomeIfTaken options parts text (option_map (λ m. group_texts (encode_utf8_all text) count (group_of m)) o) → IsCapturedByParts options parts text (option_map (λ m. group_texts (encode_utf8_all text) count (group_of m)) o)
 captured_by options parts own f silent count is text fine None e taken = λ takes. true≢false (sym (taken.1 takes))
 captured_by options parts own f silent count is text fine (Some m) e taken =
     subst (λ n. PartsCapture options parts text (group_texts (encode_utf8_all text) n (group_of m))) (sym is) (found_captures own (parts_sense options parts) f silent text fine m e)
 
 read_captured : (options : OptionsView) (parts : List PartView) (found : Nested Re × Names) → AllStandAlone parts → AllCaptureNothing parts → scalars (regexp_text options parts) ≡ true → read default_config (regexp_text options parts) ≡ Some found
-    → (text : List ℕ) → IsTrue (all_scalars text) → IsCaptured options parts text (re_answer found.0.value (length found.1) text)
+    → (text : List ℕ) → IsTrue (all_scalars text) → IsCapturedByParts options parts text (re_answer found.0.value (length found.1) text)
 read_captured options parts found alone silent good reads text fine =
     let t = flat_map (part_regexp options) parts in
     let inside = scalars_parts t (codes "$") (scalars_parts (codes "^") (t ++ codes "$") good).1 in
@@ -93,11 +93,11 @@ read_captured options parts found alone silent good reads text fine =
 answers_captured : (options : OptionsView) (parts : List PartView) (answer : List ℕ → Option Captures) → AllStandAlone parts → AllCaptureNothing parts → scalars (regexp_text options parts) ≡ true
     → IsSome (read default_config (regexp_text options parts))
     → IfSome (read default_config (regexp_text options parts)) (λ (pattern, names). (text : List ℕ) → IsTrue (all_scalars text) → answer text ≡ re_answer pattern.value (length names) text)
-    → (text : List ℕ) → IsTrue (all_scalars text) → IsCaptured options parts text (answer text)
+    → (text : List ℕ) → IsTrue (all_scalars text) → IsCapturedByParts options parts text (answer text)
 answers_captured options parts answer alone silent good some reads text fine =
     let found = value_of_IsSome (read default_config (regexp_text options parts)) some in
     let same : answer text ≡ re_answer found.0.0.value (length found.0.1) text = (rw (found.1) at reads) text fine in
-    subst (IsCaptured options parts text) (sym same) (read_captured options parts found.0 alone silent good found.1 text fine)
+    subst (IsCapturedByParts options parts text) (sym same) (read_captured options parts found.0 alone silent good found.1 text fine)
 
 -- ---- the first way
 
@@ -130,7 +130,7 @@ first_captured options parts text alone silent good fine =
     let search = search_is is.0 (PartsTake options parts) is.1.denotes text fine in
     let texts : Match → Captures = λ m. group_texts bytes count (group_of m) in
     let same = mapped texts found in
-    subst (IsCaptured options parts text) (found_first is.0 (parts_ways options parts) count (is.1.cuts silent) (is.1.tries silent) text fine)
+    subst (IsCapturedByParts options parts text) (found_first is.0 (parts_ways options parts) count (is.1.cuts silent) (is.1.tries silent) text fine)
     (captured_by options parts is.0 is.1 silent count refl text fine found refl (λ some. search.0 (sym same ∙ some), λ takes. same ∙ search.1 takes))
 
 answers_first : (options : OptionsView) (parts : List PartView) (answer : List ℕ → Option Captures) → AllStandAlone parts → AllCaptureNothing parts → scalars (regexp_text options parts) ≡ true
@@ -179,7 +179,7 @@ mutual
   atom_few (Captured items) = omega (arith, items_few items, length-append (items_text items) (codes ")"))
   atom_few (Grouped items) = omega (arith, items_few items, length-append (items_text items) (codes ")"))
 
-tree_some : (regexp : List ℕ) (tree : Items) → IsTreeOf regexp tree → scalars regexp ≡ true → HasRoom regexp → IsSome (read default_config regexp)
+tree_some : (regexp : List ℕ) (tree : Items) → IsTreeOf regexp tree → scalars regexp ≡ true → HasNumbers regexp → IsSome (read default_config regexp)
 tree_some regexp tree is good room =
     let whole : scalars (codes "^" ++ items_text tree ++ codes "$") ≡ true = ap scalars (sym is.0) ∙ good in
     let fine : scalars (items_text tree) ≡ true = (scalars_parts (items_text tree) (codes "$") whole).0 in
@@ -195,7 +195,7 @@ expression_good ignore_case regexp (Compiled automaton) made = text_good automat
 expression_good ignore_case regexp (Kept kept) made = text_good kept.value.text regexp made.0
 expression_good ignore_case regexp (Other regex) made = text_good regex.value.pattern.source regexp made.0.of_text
 
-expression_some : (ignore_case : Bool) (regexp : List ℕ) (expression : Expression) → ignore_case ≡ false → IsExpressionOf ignore_case regexp expression → HasRoom regexp → IsSome (read default_config regexp)
+expression_some : (ignore_case : Bool) (regexp : List ℕ) (expression : Expression) → ignore_case ≡ false → IsExpressionOf ignore_case regexp expression → HasNumbers regexp → IsSome (read default_config regexp)
 expression_some ignore_case regexp (Own own) kept made room = tree_some regexp made.1.tree made.1.is_tree (text_good own.text regexp made.0) room
 expression_some ignore_case regexp (Compiled automaton) kept made room =
     reads_some (string_bytes automaton.value.text) regexp _ _ made.0 (read_kept ignore_case _ _ _ kept made.1.of_tree.is_read)
@@ -203,7 +203,7 @@ expression_some ignore_case regexp (Kept value) kept made room = reads_some (str
 expression_some ignore_case regexp (Other regex) kept made room =
     reads_some (regex_source regex.value) regexp _ _ made.0.of_text (read_kept ignore_case _ _ _ kept (rw (made.0.by_case) at made.0.is_read))
 
-pub pattern_values_taken : ValuesAnswerTaken pattern_engine KeepsCase HasRoom
+pub pattern_values_taken : ValuesAnswerTaken pattern_engine KeepsCase HasNumbers
 pattern_values_taken options flags parts value keeps alone room made =
     let regexp = regexp_text options parts in
     answers_taken options parts (pattern_engine.answer value) alone (expression_good value.ignore_case regexp value.expression made.of_text)
@@ -216,7 +216,7 @@ regex_values_capture options flags parts regex any alone silent fits made =
     let regexp = regexp_text options parts in
     answers_captured options parts (regex_engine.answer regex) alone silent (text_good regex.pattern.source regexp made.of_text) (regex_reads regexp regex made) (regex_values_read regexp flags regex any made)
 
-pub pattern_values_capture : ValuesCapture pattern_engine KeepsCase HasRoom
+pub pattern_values_capture : ValuesCapture pattern_engine KeepsCase HasNumbers
 pattern_values_capture options flags parts value keeps alone silent room made =
     let regexp = regexp_text options parts in
     answers_captured options parts (pattern_engine.answer value) alone silent (expression_good value.ignore_case regexp value.expression made.of_text)
@@ -229,7 +229,7 @@ regex_values_first options flags parts regex any alone silent fits made =
     let regexp = regexp_text options parts in
     answers_first options parts (regex_engine.answer regex) alone silent (text_good regex.pattern.source regexp made.of_text) (regex_reads regexp regex made) (regex_values_read regexp flags regex any made)
 
-pub pattern_values_first : ValuesAnswerFirstOfParts pattern_engine KeepsCase HasRoom
+pub pattern_values_first : ValuesAnswerFirstOfParts pattern_engine KeepsCase HasNumbers
 pattern_values_first options flags parts value keeps alone silent room made =
     let regexp = regexp_text options parts in
     answers_first options parts (pattern_engine.answer value) alone silent (expression_good value.ignore_case regexp value.expression made.of_text)

@@ -21,8 +21,8 @@ ExpressionTakes expression text = IsSomeAnd (read default_config expression) (λ
 -- ---- expressions that mean the same by themselves and in a longer expression
 
 -- the bytes are those of one character
-abbrev pub is_character : (bytes : List ℕ) → Bool
-is_character bytes = is_some_and (char_at bytes 0) (λ c. len_utf8 c == length bytes)
+abbrev pub is_one_character : (bytes : List ℕ) → Bool
+is_one_character bytes = is_some_and (char_at bytes 0) (λ c. len_utf8 c == length bytes)
 
 abbrev pub is_nothing : List (ℕ × ℕ) → Bool
 is_nothing [] = true
@@ -31,7 +31,7 @@ is_nothing ranges = false
 -- Each step takes a character, none takes a byte, and no assertion looks at what is beside the text.
 abbrev pub takes_characters : Re → Bool
 takes_characters empty = true
-takes_characters (literal bytes) = is_character bytes
+takes_characters (literal bytes) = is_one_character bytes
 takes_characters (byte_in ranges) = is_nothing ranges
 takes_characters (char_in ranges) = true
 takes_characters (look assertion) = false

@@ -49,17 +49,17 @@ abbrev pub IsSomeIfTaken : OptionsView → List PartView → (text : List ℕ) �
 IsSomeIfTaken options parts text result = IsSome result ↔ PartsTake options parts text
 
 -- the result is what the parts capture of the text, or `None` where they do not take it
-abbrev pub IsCaptured : OptionsView → List PartView → (text : List ℕ) → Option Captures → Type 0
-IsCaptured options parts text (Some captures) = PartsCapture options parts text captures
-IsCaptured options parts text None = ¬ PartsTake options parts text
+abbrev pub IsCapturedByParts : OptionsView → List PartView → (text : List ℕ) → Option Captures → Type 0
+IsCapturedByParts options parts text (Some captures) = PartsCapture options parts text captures
+IsCapturedByParts options parts text None = ¬ PartsTake options parts text
 
 -- how long a regular expression may be
 abbrev pub Room : Type 1
 Room = (regexp : List ℕ) → Type 0
 
 -- the grammar has a number for each group that an expression of so many characters can have
-abbrev pub HasRoom : Room
-HasRoom regexp = length regexp ≤ 2 ^ 32
+abbrev pub HasNumbers : Room
+HasNumbers regexp = length regexp ≤ 2 ^ 32
 
 -- each value of the engine that was made, with such flags, of such a regular expression of parts whose custom ones stand alone
 abbrev pub ValuesAnswerTaken : {E : Type 0} → Engine E → Keeping → Room → Type 0
@@ -75,7 +75,7 @@ ValuesCapture {E} engine Keeps Fits =
     (options : OptionsView) (flags : List ℕ) (parts : List PartView) (value : E) → Keeps flags →
     AllStandAlone parts → AllCaptureNothing parts → Fits (regexp_text options parts) →
     engine.IsMade value (regexp_text options parts) flags →
-    (text : List ℕ) → IsTrue (all_scalars text) → IsCaptured options parts text (engine.answer value text)
+    (text : List ℕ) → IsTrue (all_scalars text) → IsCapturedByParts options parts text (engine.answer value text)
 
 -- The matcher is made by the engine of parts whose custom ones stand alone, case is kept, and the engine took the text, in this sense,
 -- where it was needed.
@@ -99,7 +99,7 @@ abbrev pub MatchersCapture : {E : Type 0} → Engine E → Room → Taking E →
 MatchersCapture {E} engine Fits Took =
     (options : OptionsView) (flags : List ℕ) (parts : List PartView) (matcher : MatcherView E) →
     IsTakenAlone engine Fits Took options flags parts matcher → AllCaptureNothing parts →
-    EachAnswerIs engine.answer matcher (IsCaptured options parts)
+    EachAnswerIs engine.answer matcher (IsCapturedByParts options parts)
 
 -- the engine was given flags that ignore case where the options do, and took the text where it was needed
 abbrev pub TookAlone : {E : Type 0} → Taking E
@@ -110,4 +110,4 @@ abbrev pub ComponentsCapture : {E : Type 0} → Engine E → Room → Type 0
 ComponentsCapture {E} engine Fits =
     (options : OptionsView) (parts : List PartView) (component : ComponentView E) → IsComponentOf engine options parts component →
     AllStandAlone parts → AllCaptureNothing parts → Fits (regexp_text options parts) →
-    options.ignore_case ≡ false → TookText (λ value. ⊤) component.matcher.inner → EachAnswerIs engine.answer component.matcher (IsCaptured options parts)
+    options.ignore_case ≡ false → TookText (λ value. ⊤) component.matcher.inner → EachAnswerIs engine.answer component.matcher (IsCapturedByParts options parts)

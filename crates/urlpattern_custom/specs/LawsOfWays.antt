@@ -5,7 +5,7 @@ use Rattle.urlpattern_core.specs.Components.{ComponentView, IsComponentOf}
 use Rattle.urlpattern_core.specs.FirstWays.{Keeping, Taking}
 use Rattle.urlpattern_core.specs.Generated.{AreGenerated}
 use Rattle.urlpattern_core.specs.declared.regexp.RegExp.{Ghosts as Engine}
-use Rattle.urlpattern_custom.specs.LawsOfTexts.{IsCaptured, IsTakenAlone, Room}
+use Rattle.urlpattern_custom.specs.LawsOfTexts.{IsCapturedByParts, IsTakenAlone, Room}
 use Rattle.urlpattern_custom.specs.PartTexts.{AllCaptureNothing, AllStandAlone}
 use Rattle.urlpattern_custom.specs.PartWays.{parts_first_way}
 use Rattle.urlpattern_meaning.specs.Dialect.{IsTreeOf, Items}
@@ -26,7 +26,7 @@ abbrev pub FirstWaysAreCaptured : Type 0
 FirstWaysAreCaptured =
     (options : OptionsView) (parts : List PartView) (text : List ℕ) → AllStandAlone parts → AllCaptureNothing parts →
     IsTrue (all_scalars (regexp_text options parts)) → IsTrue (all_scalars text) →
-    IsCaptured options parts text (parts_first_way options parts text)
+    IsCapturedByParts options parts text (parts_first_way options parts text)
 
 -- Each value of the engine that was made, with such flags, of such a regular expression of parts whose custom ones stand alone and capture
 -- nothing themselves, answers the first way of the parts.

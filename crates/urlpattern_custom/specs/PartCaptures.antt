@@ -1,6 +1,6 @@
 -- What parts capture, custom ones among them.
 use Rattle.std.specs.Prelude.{◌≡◌, ℕ, List, [], ◌∷◌, ◌++◌, Option}
-use Rattle.urlpattern_custom.specs.PartTexts.{IsCopyOf}
+use Rattle.urlpattern_custom.specs.PartTexts.{IsTakenCopy}
 use Rattle.urlpattern_meaning.specs.PartMeaning.{Allows, Captures, IsCapture}
 use Rattle.urlpattern_syntax.specs.{Options.OptionsView, Parts.PartView}
 use Rattle.urlpattern_syntax.specs.declared.parser.PartType.{PartType}
@@ -15,7 +15,7 @@ AreCapturesOf kind part n text captures = (capture : Option (List ℕ)) × IsCap
 pub record PartCaptures (options : OptionsView) (part : PartView) (text : List ℕ) (captures : Captures) : Type 0 where
   pub count : ℕ
   pub allowed : Allows part.modifier count
-  pub are_copies : IsRepeated (IsCopyOf options part.kind part) count text
+  pub are_copies : IsRepeated (IsTakenCopy options part.kind part) count text
   pub are_captures : AreCapturesOf part.kind part count text captures
 
 -- the text is cut into a stretch for each part, and they capture this

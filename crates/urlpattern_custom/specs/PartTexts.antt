@@ -7,18 +7,18 @@ use Rattle.urlpattern_syntax.specs.declared.parser.PartType.{PartType}
 use Rattle.urlpattern_syntax.specs.Text.{IsRepeated}
 
 -- the group of a part of this kind takes the text
-abbrev pub IsPieceOf : OptionsView → PartType → (value text : List ℕ) → Type 0
-IsPieceOf options PartType.Regexp value text = ExpressionTakes value text
-IsPieceOf options kind value text = IsWildcardText options kind text
+abbrev pub IsTakenPiece : OptionsView → PartType → (value text : List ℕ) → Type 0
+IsTakenPiece options PartType.Regexp value text = ExpressionTakes value text
+IsTakenPiece options kind value text = IsWildcardText options kind text
 
 -- a copy of a part of this kind: a fixed text, or what its group takes between prefix and suffix
-abbrev pub IsCopyOf : OptionsView → PartType → PartView → List ℕ → Type 0
-IsCopyOf options PartType.FixedText part text = text ≡ part.value
-IsCopyOf options kind part text = (piece : List ℕ) × (text ≡ part.prefix ++ piece ++ part.suffix) × IsPieceOf options kind part.value piece
+abbrev pub IsTakenCopy : OptionsView → PartType → PartView → List ℕ → Type 0
+IsTakenCopy options PartType.FixedText part text = text ≡ part.value
+IsTakenCopy options kind part text = (piece : List ℕ) × (text ≡ part.prefix ++ piece ++ part.suffix) × IsTakenPiece options kind part.value piece
 
 -- the text is as many copies of the part as its modifier allows
 abbrev pub PartTakes : OptionsView → PartView → List ℕ → Type 0
-PartTakes options part text = (count : ℕ) × Allows part.modifier count × IsRepeated (IsCopyOf options part.kind part) count text
+PartTakes options part text = (count : ℕ) × Allows part.modifier count × IsRepeated (IsTakenCopy options part.kind part) count text
 
 -- the text is cut into a stretch for each part
 abbrev pub PartsTake : OptionsView → List PartView → List ℕ → Type 0

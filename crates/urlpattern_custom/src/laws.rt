@@ -5,7 +5,7 @@
 ghost use Rattle.std.specs.Prelude.{⊤};
 ghost use Rattle.urlpattern_core.specs.Regexes.{regex_engine};
 ghost use Rattle.urlpattern_core.specs.FirstWays.{KeepsCase};
-ghost use Rattle.urlpattern_custom.specs.LawsOfTexts.{CapturesAreAsNames, ComponentsCapture, HasRoom, MatchersAnswerTaken, MatchersCapture, PartsCaptureMeanings, PartsTakeMeanings, ReadsInGroups, TookAlone, ValuesAnswerTaken, ValuesCapture};
+ghost use Rattle.urlpattern_custom.specs.LawsOfTexts.{CapturesAreAsNames, ComponentsCapture, HasNumbers, MatchersAnswerTaken, MatchersCapture, PartsCaptureMeanings, PartsTakeMeanings, ReadsInGroups, TookAlone, ValuesAnswerTaken, ValuesCapture};
 ghost use Rattle.urlpattern_custom.specs.LawsOfWays.{ComponentsAnswerFirstOfParts, FirstWaysAreCaptured, FirstWaysAreOfTrees, MatchersAnswerFirstOfParts, ValuesAnswerFirstOfParts};
 ghost use Rattle.urlpattern_engine.specs.PatternRegexps.{pattern_engine};
 ghost use Rattle.urlpattern_meaning.specs.FirstAnswers.{TookText};
@@ -32,14 +32,14 @@ pub fn parts_take_the_texts_that_they_mean()
 /// It is asked of each custom expression that it stands alone. Of `PatternRegexp` it is asked that it was made without the flag `i`, of a
 /// regular expression of no more than 2³² characters.
 pub fn values_answer_the_texts_that_parts_take()
-    ensures own { ValuesAnswerTaken pattern_engine KeepsCase HasRoom }
+    ensures own { ValuesAnswerTaken pattern_engine KeepsCase HasNumbers }
     ensures regex { ValuesAnswerTaken regex_engine (λ flags. ⊤) (λ regexp. ⊤) }
 {}
 
 /// A matcher answers captures to a text of characters without line feed exactly if its parts take the text, custom ones among them, if
 /// case is kept and the engine took the regular expression where it was needed.
 pub fn matchers_answer_the_texts_that_parts_take()
-    ensures own { MatchersAnswerTaken pattern_engine HasRoom TookAlone }
+    ensures own { MatchersAnswerTaken pattern_engine HasNumbers TookAlone }
     ensures regex { MatchersAnswerTaken regex_engine (λ regexp. ⊤) (λ options flags. TookText (λ value. ⊤)) }
 {}
 
@@ -49,21 +49,21 @@ pub fn matchers_answer_the_texts_that_parts_take()
 /// It is asked of each custom expression that it stands alone and captures nothing itself. Of `PatternRegexp` it is asked that it was made
 /// without the flag `i`, of a regular expression of no more than 2³² characters.
 pub fn values_answer_what_parts_capture()
-    ensures own { ValuesCapture pattern_engine KeepsCase HasRoom }
+    ensures own { ValuesCapture pattern_engine KeepsCase HasNumbers }
     ensures regex { ValuesCapture regex_engine (λ flags. ⊤) (λ regexp. ⊤) }
 {}
 
 /// A matcher answers what its parts capture to a text of characters without line feed, or `None` where they do not take it, custom parts
 /// among them, if case is kept and the engine took the regular expression where it was needed.
 pub fn matchers_answer_what_parts_capture()
-    ensures own { MatchersCapture pattern_engine HasRoom TookAlone }
+    ensures own { MatchersCapture pattern_engine HasNumbers TookAlone }
     ensures regex { MatchersCapture regex_engine (λ regexp. ⊤) (λ options flags. TookText (λ value. ⊤)) }
 {}
 
 /// So does the matcher of a component that was compiled to such parts. There are as many captures as names.
 pub fn components_answer_what_parts_capture()
     ensures names { CapturesAreAsNames }
-    ensures own { ComponentsCapture pattern_engine HasRoom }
+    ensures own { ComponentsCapture pattern_engine HasNumbers }
     ensures regex { ComponentsCapture regex_engine (λ regexp. ⊤) }
 {}
 
@@ -76,19 +76,19 @@ pub fn components_answer_what_parts_capture()
 pub fn values_answer_the_first_way_of_parts()
     ensures trees { FirstWaysAreOfTrees }
     ensures captured { FirstWaysAreCaptured }
-    ensures own { ValuesAnswerFirstOfParts pattern_engine KeepsCase HasRoom }
+    ensures own { ValuesAnswerFirstOfParts pattern_engine KeepsCase HasNumbers }
     ensures regex { ValuesAnswerFirstOfParts regex_engine (λ flags. ⊤) (λ regexp. ⊤) }
 {}
 
 /// A matcher answers the first way of its parts to a text of characters without line feed, or `None` where there is none, if case is kept and
 /// the engine took the regular expression where it was needed.
 pub fn matchers_answer_the_first_way_of_parts()
-    ensures own { MatchersAnswerFirstOfParts pattern_engine HasRoom TookAlone }
+    ensures own { MatchersAnswerFirstOfParts pattern_engine HasNumbers TookAlone }
     ensures regex { MatchersAnswerFirstOfParts regex_engine (λ regexp. ⊤) (λ options flags. TookText (λ value. ⊤)) }
 {}
 
 /// So does the matcher of a component that was compiled to such parts.
 pub fn components_answer_the_first_way_of_parts()
-    ensures own { ComponentsAnswerFirstOfParts pattern_engine HasRoom }
+    ensures own { ComponentsAnswerFirstOfParts pattern_engine HasNumbers }
     ensures regex { ComponentsAnswerFirstOfParts regex_engine (λ regexp. ⊤) }
 {}

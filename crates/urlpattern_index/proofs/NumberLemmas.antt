@@ -14,7 +14,7 @@ use Rattle.std.specs.Map.Calls.{RetainsPairs}
 use Rattle.std.specs.Map.{lookup}
 use Rattle.std.specs.Slice.{IsItemAt}
 use Rattle.urlpattern_index.specs.FixedTexts.{AddressTexts, FixedTexts, HasTexts}
-use Rattle.urlpattern_index.specs.Keys.{AreEnough, Fits, FormView, Hashes, form_key, form_view, forms_for, group, group_of, hashes_of}
+use Rattle.urlpattern_index.specs.Keys.{AreEnough, Fits, FormView, Hashes, form_key, form_view, forms_for, group, group_of_form, hashes_of}
 use Rattle.urlpattern_index.specs.declared.form.Form.{Form}
 use Rattle.urlpattern_index.specs.Listed.{AreMarked, GetsPattern, FindsBy, Listing, LosesNumber, NumbersByKey, without, IsFirstFrom, IsLeast, lesser, numbers_of}
 
@@ -338,29 +338,29 @@ has-form forms form true has = Contains-append_left forms [] form (has refl)
 has-form forms form false has = Contains-push forms form
 
 module _ (form : FormView) (key : ℕ) (more : List FormView) (fixed : FixedTexts) (placed : (address : AddressTexts) → HasTexts fixed address → Fits form (hashes_of address) × (key ≡ form_key form (hashes_of address))) where
-  appends-plain : (keys : List ℕ) (forms : List (List FormView)) → group_of form < length forms → Contains (group forms (group_of form) ++ more) form
-      → GetsPattern (record { keys = keys; forms = forms }) (record { keys = keys ++ key ∷ []; forms = grown forms (group_of form) more }) fixed
+  appends-plain : (keys : List ℕ) (forms : List (List FormView)) → group_of_form form < length forms → Contains (group forms (group_of_form form) ++ more) form
+      → GetsPattern (record { keys = keys; forms = forms }) (record { keys = keys ++ key ∷ []; forms = grown forms (group_of_form form) more }) fixed
   appends-plain keys forms within has = record {
     one_more = length_push keys key;
     others = λ hashes number (other, is_form, fits, is). (
       other,
-      grown-for forms (group_of form) more within (length hashes.segments) other is_form,
+      grown-for forms (group_of_form form) more within (length hashes.segments) other is_form,
       fits,
       slice_get-more keys (key ∷ []) number (form_key other hashes) is,
     );
     found = λ address texts. (
         let place = placed address texts in
-        let in_group = subst (λ (g : List FormView). Contains g form) (sym (grown-same forms (group_of form) more within)) has in (
+        let in_group = subst (λ (g : List FormView). Contains g form) (sym (grown-same forms (group_of_form form) more within)) has in (
           form,
-          for-fitting (grown forms (group_of form) more) form (length (hashes_of address).segments) form.is_whole place.0 in_group,
+          for-fitting (grown forms (group_of_form form) more) form (length (hashes_of address).segments) form.is_whole place.0 in_group,
           place.0,
           slice_get-last keys key ∙ ap (λ k. Some k) place.1,
         ));
   }
 
   pub appends : (old : Listing) (keys : List ℕ) (forms : List (List FormView)) → ◌≡◌ {A = Listing} (record { keys = keys; forms = forms }) old
-      → group_of form < length forms → Contains (group forms (group_of form) ++ more) form
-      → (new_keys : List ℕ) (new_forms : List (List FormView)) → new_keys ≡ keys ++ key ∷ [] → new_forms ≡ grown forms (group_of form) more
+      → group_of_form form < length forms → Contains (group forms (group_of_form form) ++ more) form
+      → (new_keys : List ℕ) (new_forms : List (List FormView)) → new_keys ≡ keys ++ key ∷ [] → new_forms ≡ grown forms (group_of_form form) more
       → GetsPattern old (record { keys = new_keys; forms = new_forms }) fixed
   appends old keys forms view within has new_keys new_forms are_keys are_forms =
       subst (λ (old : Listing). GetsPattern old (record { keys = new_keys; forms = new_forms }) fixed) view (rw (are_keys, are_forms) (appends-plain keys forms within has))

@@ -63,8 +63,8 @@ abbrev pub Fits : FormView → Hashes → Type 0
 Fits form hashes = AreEnough form.is_whole (length form.segments) (length hashes.segments)
 
 -- the group of a form: that of whole paths with so many segments, or the first, of paths that have more
-abbrev pub group_of : FormView → ℕ
-group_of form = if form.is_whole then length form.segments else 0
+abbrev pub group_of_form : FormView → ℕ
+group_of_form form = if form.is_whole then length form.segments else 0
 
 -- the forms of a group
 abbrev pub group : List (List FormView) → ℕ → List FormView

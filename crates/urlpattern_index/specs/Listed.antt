@@ -37,8 +37,8 @@ abbrev pub GainsNumber : (old new : NumbersByKey) → (key number : ℕ) → Typ
 GainsNumber old new key number = (other : ℕ) → new other ≡ old other ++ (if other == key then number ∷ [] else [])
 
 -- each key has what it had
-abbrev pub AreSame : (old new : NumbersByKey) → Type 0
-AreSame old new = (key : ℕ) → new key ≡ old key
+abbrev pub HaveSameNumbers : (old new : NumbersByKey) → Type 0
+HaveSameNumbers old new = (key : ℕ) → new key ≡ old key
 
 -- ---- a number less
 

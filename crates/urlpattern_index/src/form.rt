@@ -2,7 +2,7 @@
 ghost use Rattle.arrayvec.specs.ArrayVec.{array_vec_len};
 ghost use Rattle.std.specs.Prelude.{◌≡◌, ◌≤◌, ◌<◌, ◌↔◌, IsTrue, IfNone, IfSome, chars, option_map, length, if◌then◌else◌};
 ghost use Rattle.urlpattern_index.specs.FixedTexts.{fixed_texts, FixedTexts};
-ghost use Rattle.urlpattern_index.specs.Keys.{AreEnough, Fits, form_key, form_view, group_of, hashes_view, option_hash};
+ghost use Rattle.urlpattern_index.specs.Keys.{AreEnough, Fits, form_key, form_view, group_of_form, hashes_view, option_hash};
 ghost use Rattle.urlpattern_index.specs.Segments.{IsPlaceFor};
 
 use crate::address::AddressHashes;
@@ -66,7 +66,7 @@ impl Form {
 
     /// The group of the form: that of whole paths with so many segments, or the first, of paths that have more.
     pub(crate) fn group(&self) -> usize
-        ensures group { result ≡ group_of (form_view self.now) }
+        ensures group { result ≡ group_of_form (form_view self.now) }
         ensures bound { result < 13 }
     {
         if self.is_whole {

@@ -3,7 +3,7 @@ ghost use Rattle.std.specs.List.Sorted.{IsNonDecreasing};
 ghost use Rattle.std.specs.List.{remove};
 ghost use Rattle.std.specs.Prelude.{◌≡◌, ◌≤◌, ◌<◌, ◌++◌, ◌∷◌, [], if◌then◌else◌, Some, length, map, replicate, vec_capacity, vec_len, IsTrue, Contains, OnErr, OnOk};
 ghost use Rattle.urlpattern_index.specs.FixedTexts.{fixed_texts};
-ghost use Rattle.urlpattern_index.specs.Keys.{form_view, group, group_of, hashes_view};
+ghost use Rattle.urlpattern_index.specs.Keys.{form_view, group, group_of_form, hashes_view};
 ghost use Rattle.urlpattern_index.specs.Listed.{Finds, FindsBy, FindsFrom, GetsPattern, IsFirstFrom, IsLeast, lesser, lowered, without};
 ghost use Rattle.urlpattern_index.specs.Segments.{IsPlaceFor};
 
@@ -132,7 +132,7 @@ impl Index {
 
     /// Whether keys have the form.
     fn has_form(&self, form: &Form) -> bool
-        ensures { IsTrue result → Contains (group self.now.forms (group_of (form_view form.now))) (form_view form.now) }
+        ensures { IsTrue result → Contains (group self.now.forms (group_of_form (form_view form.now))) (form_view form.now) }
     {
         for other in &self.forms[form.group()] {
             if other.is_same(form) {

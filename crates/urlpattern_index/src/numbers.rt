@@ -1,6 +1,6 @@
 //! The numbers of patterns, by key.
 ghost use Rattle.std.specs.Prelude.{◌≡◌, ◌++◌, ◌∷◌, [], ℕ, OnErr, OnOk};
-ghost use Rattle.urlpattern_index.specs.Listed.{AreMarked, AreSame, GainsNumber, LosesNumber, lowered, numbers_at, without};
+ghost use Rattle.urlpattern_index.specs.Listed.{AreMarked, HaveSameNumbers, GainsNumber, LosesNumber, lowered, numbers_at, without};
 
 use std::alloc::{AllocError, Global};
 use std::collections::HashMap;
@@ -35,7 +35,7 @@ impl Numbers {
     /// The error is that memory ran out. The numbers are then as they were.
     pub(crate) fn push(&mut self, key: u64, number: usize) -> Result<(), AllocError>
         ensures appended { OnOk result (GainsNumber (numbers_at self.old.by_key) (numbers_at self.new.by_key) key number) }
-        ensures unchanged { OnErr result (AreSame (numbers_at self.old.by_key) (numbers_at self.new.by_key)) }
+        ensures unchanged { OnErr result (HaveSameNumbers (numbers_at self.old.by_key) (numbers_at self.new.by_key)) }
     {
         self.by_key.entry(key)?.or_default().push(number)?;
         self.marks[(key % MARKS) as usize] = true;

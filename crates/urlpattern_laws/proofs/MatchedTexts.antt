@@ -16,7 +16,7 @@ use Rattle.urlpattern_generate.specs.Manners.{GivenView, manner_for, text_given,
 use Rattle.urlpattern_laws.proofs.GivenGroups.{Distinct, Groups, captured_again, first_found, found_reversed, given_first, keys_of_zip, zip_distinct}
 use Rattle.urlpattern_laws.proofs.LinkedTexts.{links_of_captures}
 use Rattle.urlpattern_laws.specs.LinkLaws.{IsWrittenBack}
-use Rattle.urlpattern_laws.specs.MatchLinks.{AreGroupsOf, GroupsOfCapturesAreGiven, GroupsOfMatchesDiffer, GroupsOfResultsAreGiven, IsReadBackFrom, LinksOfMatchesAreTheTexts, NamesDiffer}
+use Rattle.urlpattern_laws.specs.MatchLinks.{AreGroupsOfResult, GroupsOfCapturesAreGiven, GroupsOfMatchesDiffer, GroupsOfResultsAreGiven, IsReadBackFrom, LinksOfMatchesAreTheTexts, NamesDiffer}
 use Rattle.urlpattern_matches.proofs.GroupLemmas.{text-eq}
 use Rattle.urlpattern_matches.specs.BorrowedMatches.{groups_view, listed_entries, listed_groups}
 use Rattle.urlpattern_matches.specs.ResultViews.{ResultView, group_of, results_of}

@@ -30,8 +30,8 @@ abbrev pub Lent : Type 0
 Lent = ComponentName × Bor (List ℕ) × Bor (List ℕ)
 
 -- each group of the result is given what it captured, and none is given a text that took no part or is not there
-abbrev pub AreGroupsOf : (result : ComponentName → ResultView) → List GivenView → Type 0
-AreGroupsOf result groups =
+abbrev pub AreGroupsOfResult : (result : ComponentName → ResultView) → List GivenView → Type 0
+AreGroupsOfResult result groups =
     (component : ComponentName) (name : List ℕ) → text_given groups component name ≡ captured_text (result component) name
 
 -- no two names are equal
@@ -43,14 +43,14 @@ abbrev pub GroupsOfCapturesAreGiven : Type 0
 GroupsOfCapturesAreGiven = (found : UrlPatternCaptures) (groups : List Lent) →
     map lent_group groups ≡ texts_captured (all_groups_view found components) →
     ((component : ComponentName) → NamesDiffer (keys_of (groups_view found component))) →
-    AreGroupsOf (pattern_captures_view found) (given_groups groups)
+    AreGroupsOfResult (pattern_captures_view found) (given_groups groups)
 
 -- so does that of a result
 abbrev pub GroupsOfResultsAreGiven : Type 0
 GroupsOfResultsAreGiven = (result : UrlPatternResult) (groups : List Lent) →
     map lent_group groups ≡ texts_captured (all_listed_groups result components) →
     ((component : ComponentName) → HasDistinctGroups result component) →
-    AreGroupsOf (result_view result) (given_groups groups)
+    AreGroupsOfResult (result_view result) (given_groups groups)
 
 -- of a match by a pattern that was compiled no two groups of a component have one name
 abbrev pub GroupsOfMatchesDiffer : {E : Type 0} → Engine E → Type 0
@@ -79,6 +79,6 @@ TextIsReadBack answer pattern groups component text captures = (hierarchical : B
 abbrev pub LinksOfMatchesAreTheTexts : {E : Type 0} → (answer : E → List ℕ → Option Captures) → Type 0
 LinksOfMatchesAreTheTexts {E} answer =
     (pattern : PatternView E) (groups : List GivenView) (url : Parts) (texts : Texts) (result : ComponentName → ResultView) →
-    IsLink answer pattern groups url → (found : IsMatchOf answer pattern texts result) → AreGroupsOf result groups →
+    IsLink answer pattern groups url → (found : IsMatchOf answer pattern texts result) → AreGroupsOfResult result groups →
     ((component : ComponentName) → TextIsReadBack answer pattern groups component (at texts component) (found.captures component)) →
     texts_of_url url ≡ texts

@@ -2,7 +2,7 @@ use Rattle.std.proofs.Common.{List, inr, string_bytes, subst, sym, ℕ}
 use Rattle.std.specs.Borrow.{Bor}
 use Rattle.std.specs.Prelude.{Option, Some, option_copied}
 use Rattle.urlpat_explain.specs.Explained.{explained_view}
-use Rattle.urlpat_explain.specs.Explanations.{IsAnswer, IsShown}
+use Rattle.urlpat_explain.specs.Explanations.{IsExplained, IsShown}
 use Rattle.urlpat_explain.specs.declared.explaining.Explanation.{Explanation}
 use Rattle.urlpattern_eight.specs.Eight.{Texts}
 use Rattle.urlpat_explain.proofs.explaining.answer.Goals as goal
@@ -12,7 +12,7 @@ returns-clause-text c =
     let explained = explained_view c.args.explained.now in
     let text = string_bytes c.in_ok-text-3.text in
     let found : Explanation = record { text = c.in_ok-text-3.text; status = c.status_of.result } in
-    subst (λ (input : Option (Bor (List ℕ))). IsAnswer c.args.json explained (option_copied c.args.base) (option_copied input) found) (sym c.in-Some.is)
+    subst (λ (input : Option (Bor (List ℕ))). IsExplained c.args.json explained (option_copied c.args.base) (option_copied input) found) (sym c.in-Some.is)
     (inr (
       c.in-Some-2.url,
       rw c.in-Some-2.is at c.in_ok-url.ensures.found,

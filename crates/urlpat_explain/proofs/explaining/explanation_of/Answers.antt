@@ -1,5 +1,5 @@
 use Rattle.urlpat_explain.proofs.ExplanationLemmas.{if_ok}
-use Rattle.urlpat_explain.specs.Explanations.{IsAnswer, IsExplanationOf, asked_view}
+use Rattle.urlpat_explain.specs.Explanations.{IsExplained, IsExplanationOf, asked_view}
 use Rattle.urlpattern_init.specs.Inheritance.{values_view}
 use Rattle.urlpattern_pattern.specs.Patterns.{pattern_view}
 use Rattle.urlpat_explain.proofs.explaining.explanation_of.Goals as goal
@@ -11,6 +11,6 @@ returns-clause-text c =
     let init = c.args.init.now in
     let values = values_view c.in_ok-values.values in
     if_ok c.answer-found.result
-    (IsAnswer c.args.json (record { string = asked.string; pattern = pattern; given = values_view init; values = values }) asked.base asked.input)
+    (IsExplained c.args.json (record { string = asked.string; pattern = pattern; given = values_view init; values = values }) asked.base asked.input)
     (IsExplanationOf c.args.json pattern init asked)
     (λ found is. (values, c.in_ok-values.ensures.ok, is)) c.answer-found.ensures.text

@@ -3,7 +3,7 @@ use Rattle.serde_json.proofs.Views.{view-Object}
 use Rattle.serde_json.specs.Data.{Data, no_members, object, put}
 use Rattle.serde_json.specs.View.{members_view}
 use Rattle.urlpat_explain.specs.Explained.{explained_view, lent_texts}
-use Rattle.urlpat_explain.specs.Json.{IsComponentTree}
+use Rattle.urlpat_explain.specs.Json.{IsExplainedTree}
 use Rattle.urlpattern_eight.proofs.EightLemmas.{by_name}
 use Rattle.urlpattern_eight.specs.Eight.{at, name_text}
 use Rattle.urlpattern_eight.specs.declared.eight.ComponentName.TheVariants.{Protocol, Username, Password, Hostname, Port, Pathname, Search, Hash}
@@ -23,6 +23,6 @@ returns c =
     let trees : Eight Data = record { protocol = tree-1; username = tree-2; password = tree-3; hostname = tree-4; port = tree-5; pathname = tree-6; search = tree-7; hash = tree-8 } in
     let fresh : members_view c.new-members.result.entries ≡ no_members = ap members_view c.new-members.ensures.empty in (
       trees,
-      by_name (λ name. IsComponentTree (explained_view c.args.explained.now) (lent_texts c.args.texts) name (at trees name)) is-1 is-2 is-3 is-4 is-5 is-6 is-7 is-8,
+      by_name (λ name. IsExplainedTree (explained_view c.args.explained.now) (lent_texts c.args.texts) name (at trees name)) is-1 is-2 is-3 is-4 is-5 is-6 is-7 is-8,
       view-Object c.put_component-8.new.members ∙ ap object (gain-8 ∙ ap (put (name_text Hash) tree-8) (gain-7 ∙ ap (put (name_text Search) tree-7) (gain-6 ∙ ap (put (name_text Pathname) tree-6) (gain-5 ∙ ap (put (name_text Port) tree-5) (gain-4 ∙ ap (put (name_text Hostname) tree-4) (gain-3 ∙ ap (put (name_text Password) tree-3) (gain-2 ∙ ap (put (name_text Username) tree-2) (gain-1 ∙ ap (put (name_text Protocol) tree-1) (fresh))))))))),
     )

@@ -5,7 +5,7 @@ use Rattle.std.proofs.lemmas.List.{length-map}
 use Rattle.std.specs.Prelude.{Contains}
 use Rattle.urlpattern_index.proofs.NumberLemmas.{appends, grown, groups-grown, groups-same, groups_view, listing-same, has-form, numbers-push, on-err}
 use Rattle.urlpattern_index.specs.FixedTexts.{fixed_texts}
-use Rattle.urlpattern_index.specs.Keys.{FormView, form_view, group, group_of}
+use Rattle.urlpattern_index.specs.Keys.{FormView, form_view, group, group_of_form}
 use Rattle.urlpattern_index.specs.Listed.{Listing}
 use Rattle.urlpattern_index.proofs.index.Index.push.Goals as goal
 
@@ -31,10 +31,10 @@ returns-clause-appended c =
     c.reserve-2.ensures.items c.add_form.ensures
     ∙ ap (λ n. grown old_forms n more) c.group-group.ensures.group in
     let same_forms : c.args.self.now.forms ≡ old_forms = sym (ap (λ (listing : Listing). listing.forms) c.self.view_is) in
-    let within_view : group_of (form_view form) < length old_forms =
+    let within_view : group_of_form (form_view form) < length old_forms =
     omega (arith, within, c.group-group.ensures.group, length-map inside.forms (λ group. map (λ form. form_view form) group.items)) in
-    let has = has-form (group old_forms (group_of (form_view form))) (form_view form) found
-    (λ is. subst (λ (f : List (List FormView)). Contains (group f (group_of (form_view form))) (form_view form)) same_forms (c.has_form-is_new.ensures is)) in
+    let has = has-form (group old_forms (group_of_form (form_view form))) (form_view form) found
+    (λ is. subst (λ (f : List (List FormView)). Contains (group f (group_of_form (form_view form))) (form_view form)) same_forms (c.has_form-is_new.ensures is)) in
     appends (form_view form) key more (fixed_texts c.args.fixed) c.place_for-form.ensures
     c.args.self.now inside.keys.items old_forms c.self.view_is within_view has _ _ keys forms
 
