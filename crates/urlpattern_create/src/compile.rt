@@ -1,6 +1,6 @@
 //! Compiles a pattern from an init.
 
-ghost use Rattle.std.specs.Prelude.{◌≡◌, ◌↔◌, [], codes, length, option_copied, option_map, unwrap_or, IfErr, IfOk, IfSome, IsAscii, IsTrue, Some};
+ghost use Rattle.std.specs.Prelude.{◌≡◌, ◌↔◌, [], codes, false, is_err, length, option_copied, option_map, unwrap_or, IfErr, IfOk, IfSome, IsAscii, IsTrue, Some};
 ghost use Rattle.std.specs.Str.{chars};
 ghost use Rattle.urlpattern_canonical.specs.Canonical.{IsAnswer};
 ghost use Rattle.urlpattern_core.specs.Components.{component_view, pattern_text};
@@ -155,12 +155,24 @@ fn compile_component<R: RegExp, F: Fn(&str) -> Result<String, Error> + Drop>(
     ensures engine { IfOk result (λ compiled. HasEngine (component_view compiled)) }
     ensures refused { IfErr result (MemoryOr (IsRefusedWith R.RegExp pattern.entry options (encoding_by F.Fn encoding_callback))) }
 {
-    let compiled = Component::compile(alloc, pattern, encoding_callback, options)?;
-    if compiled.regexp.is_err() {
+    let compiled = Component::compile(alloc, pattern, encoding_callback, options);
+    if lacks_engine(&compiled) {
         drop(compiled);
         return Err(Error::RegExp(()));
     }
-    Ok(compiled)
+    compiled
+}
+
+/// Whether a component was compiled whose regular expression the engine refused.
+#[inline(always)]
+fn lacks_engine<R: RegExp>(compiled: &Result<Component<R>, Error>) -> bool
+    ensures compiled { IfOk compiled.now (λ component. result ≡ is_err component.regexp) }
+    ensures refused { IfErr compiled.now (λ _. result ≡ false) }
+{
+    match compiled {
+        Ok(component) => component.regexp.is_err(),
+        Err(_) => false,
+    }
 }
 
 /// The values that are compiled to a pattern, under its options.

@@ -213,5 +213,8 @@ fn joined(alloc: Global, front: &str, back: &str) -> Result<String, AllocError>
     if front.is_empty() {
         return String::from_str(alloc, back);
     }
+    if back.is_empty() {
+        return String::from_str(alloc, front);
+    }
     written(alloc, &(front, back))
 }
