@@ -7,7 +7,7 @@ use Rattle.urlpattern_matches.specs.declared.captures.UrlPatternCaptures.{UrlPat
 use Rattle.urlpattern_matches.specs.declared.captures.groups.UrlPatternCapturesIter.{UrlPatternCapturesIter}
 use Rattle.urlpattern_matches.specs.declared.captures.groups.UrlPatternGroups.{UrlPatternGroups}
 use Rattle.urlpattern_matches.specs.GroupTexts.{captures_of, texts_of}
-use Rattle.urlpattern_matches.specs.ResultViews.{ResultView, group_of, results_of}
+use Rattle.urlpattern_matches.specs.ResultViews.{IsSameResult, ResultView, group_of, result_view, results_of}
 use Rattle.urlpattern_matches.specs.declared.result.UrlPatternResult.{UrlPatternResult}
 use Rattle.urlpattern_syntax.specs.Text.{option_text, text_of}
 use Rattle.urlpattern_eight.specs.Eight.{at}
@@ -91,6 +91,10 @@ pattern_captures_view found component = record {
   input = chars (at found.texts component).now;
   group = group_of (names_view found component) (captures_of (at found.captures component));
 }
+
+-- the result is the match with copies of its texts, names and captures
+abbrev pub IsCopyOfMatch : UrlPatternCaptures → UrlPatternResult → Type 0
+IsCopyOfMatch found copy = (component : ComponentName) → IsSameResult (result_view copy component) (pattern_captures_view found component)
 
 -- where a match is found, this holds of it
 abbrev pub IfMatch : {Fault : Type 0} → Result (Option UrlPatternCaptures) Fault → (UrlPatternCaptures → Type 0) → Type 0

@@ -1,11 +1,10 @@
 //! What the groups of a pattern capture, borrowed from the pattern and from the texts that it matches.
-ghost use Rattle.std.specs.Prelude.{◌≡◌, map, option_map, IfOk};
+ghost use Rattle.std.specs.Prelude.{◌≡◌, map, option_map, IfOk, IsSomeAnd};
 ghost use Rattle.std.specs.Str.{chars};
-ghost use Rattle.urlpattern_eight.specs.declared.eight.ComponentName.{ComponentName as Name};
 ghost use Rattle.urlpattern_matches.specs.declared.captures.Missed.TheVariants as all_missed;
-ghost use Rattle.urlpattern_matches.specs.BorrowedMatches.{all_groups_left, all_groups_view, groups_left, groups_view, lent_group, pattern_captures_view, texts_captured};
+ghost use Rattle.urlpattern_matches.specs.BorrowedMatches.{all_groups_left, all_groups_view, groups_left, groups_view, lent_group, pattern_captures_view, texts_captured, IsCopyOfMatch};
 ghost use Rattle.urlpattern_matches.specs.GroupTexts.{IsCapturedOf, captures_of, texts_of, HasNoGroups, IsWithoutGroups};
-ghost use Rattle.urlpattern_matches.specs.ResultViews.{captured_text, component_result_view, group_of, result_view, took_part, IsSameResult};
+ghost use Rattle.urlpattern_matches.specs.ResultViews.{captured_text, component_result_view, group_of, took_part, IsSameResult};
 ghost use Rattle.urlpattern_syntax.specs.Text.{option_text};
 ghost use Rattle.urlpattern_syntax.specs.Errors.{OnlyOutOfMemory};
 ghost use Rattle.urlpattern_eight.specs.Eight.{at, components};
@@ -156,7 +155,7 @@ impl<'p, 'u> UrlPatternCaptures<'p, 'u> {
     /// The error is that memory ran out.
     #[inline(always)]
     pub fn to_result(&self, alloc: Global) -> Result<UrlPatternResult, Error>
-        ensures same { IfOk result (λ copy. (name : Name) → IsSameResult (result_view copy name) (pattern_captures_view self.now name)) }
+        ensures same { IfOk result (IsCopyOfMatch self.now) }
         ensures memory { OnlyOutOfMemory result }
     {
         let mut result = empty_result(alloc);
@@ -169,10 +168,28 @@ impl<'p, 'u> UrlPatternCaptures<'p, 'u> {
         }
     }
 
+    /// The same, as `UrlPattern::exec` returns a match that is found. A result is large, and this one is made where it is returned.
+    ///
+    /// The error is that memory ran out.
+    #[inline(always)]
+    pub fn to_found(&self, alloc: Global) -> Result<Option<UrlPatternResult>, Error>
+        ensures same { IfOk result (λ found. IsSomeAnd found (IsCopyOfMatch self.now)) }
+        ensures memory { OnlyOutOfMemory result }
+    {
+        let mut found = Ok(Some(empty_result(alloc)));
+        if let Ok(Some(copy)) = &mut found {
+            if self.copy_to(alloc, copy).is_err() {
+                drop(found);
+                return Err(Error::OutOfMemory);
+            }
+        }
+        found
+    }
+
     /// Copies the texts, names and captures to a result that has no groups yet.
     fn copy_to(&self, alloc: Global, copy: &mut UrlPatternResult) -> Result<(), OutOfMemory>
         requires { IsWithoutGroups copy.old }
-        ensures same { IfOk result (λ _. (name : Name) → IsSameResult (result_view copy.new name) (pattern_captures_view self.now name)) }
+        ensures same { IfOk result (λ _. IsCopyOfMatch self.now copy.new) }
     {
         self.copy_component(alloc, ComponentName::Protocol, &mut copy.protocol)?;
         self.copy_component(alloc, ComponentName::Username, &mut copy.username)?;

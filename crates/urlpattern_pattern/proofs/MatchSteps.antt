@@ -1,6 +1,6 @@
 -- From what eight components answer to what a call returns.
 use Rattle.std.proofs.Common.{◌≡◌, ℕ, Bor, List, [], ◌∷◌, true, false, refl, sym, ◌∙◌, subst, inl, inr}
-use Rattle.std.specs.Prelude.{Bool, Option, Some, None, Result, Ok, Err, is_some, IfOk, IfNone, IfSome, MatchBool, MatchOption, ◌⊎◌}
+use Rattle.std.specs.Prelude.{Bool, Option, Some, None, Result, Ok, Err, is_some, IfOk, IfNone, IfSome, IsSomeAnd, MatchBool, MatchOption, ◌⊎◌}
 use Rattle.std.specs.Str.{chars}
 use Rattle.urlpattern_eight.specs.declared.eight.ComponentName.{ComponentName}
 use Rattle.urlpattern_init.specs.declared.init.UrlPatternMatchInput.{UrlPatternMatchInput}
@@ -8,7 +8,7 @@ use Rattle.urlpattern_eight.specs.declared.eight.Eight.{Eight}
 use Rattle.urlpattern_eight.proofs.EightLemmas.{by_name}
 use Rattle.urlpattern_pattern.specs.Calls.{AreLooks, AskWithCause}
 use Rattle.urlpattern_matches.specs.GroupTexts.{borrowed_texts}
-use Rattle.urlpattern_pattern.specs.Match.{AreMatched, AsksAnEngine, HasMatch, HasNoMatch, IsMatch, IsMatchOf, IsRefused}
+use Rattle.urlpattern_pattern.specs.Match.{AreMatched, AsksAnEngine, FindsInTexts, HasMatch, HasNoMatch, IsMatch, IsMatchOf, IsRefused}
 use Rattle.urlpattern_matches.specs.ResultViews.{IsSameResult, ResultView}
 use Rattle.urlpattern_matches.specs.MatchInput.{input_texts}
 use Rattle.urlpattern_pattern.specs.Patterns.{PatternView}
@@ -68,6 +68,13 @@ match-same answer pattern texts match result same is_match = record {
     has_groups = λ group. (same name).1 group ∙ (is_match.are_results name).has_groups group;
   };
 }
+
+-- a copy of a match is one that is found
+pub found-copy : {E R : Type 0} (answer : E → List ℕ → Option Captures) (pattern : PatternView E) (texts : Texts) (match : ComponentName → ResultView)
+    (view : R → ComponentName → ResultView) (found : Option R) → IsSomeAnd found (λ copy. (name : ComponentName) → IsSameResult (view copy name) (match name)) →
+    IsMatchOf answer pattern texts match → FindsInTexts view answer pattern texts found
+found-copy answer pattern texts match view (Some copy) same is_match = match-same answer pattern texts match (view copy) same is_match
+found-copy answer pattern texts match view None same is_match = absurd same
 
 -- texts that are lent, and the text of one component
 pub text-at : (texts : Eight (Bor (List ℕ))) (name : ComponentName) → at (borrowed_texts texts) name ≡ chars (at texts name).now

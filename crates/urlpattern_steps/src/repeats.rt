@@ -23,6 +23,7 @@ pub fn first_steps(steps: &[Step], count: usize) -> &[Step]
 }
 
 /// What follows a text, as it is compared, in another that begins with it: the first character and those of the literal steps.
+#[inline(always)]
 pub fn after_literals<'t>(
     text: &'t str,
     first: char,

@@ -220,7 +220,7 @@ impl<R: RegExp> UrlPattern<R> {
         ensures copied { IfErr result (λ _. CopiesMatch R.answer (pattern_view self.now) (borrowed_texts texts.entry)) }
     {
         match captures_of_texts(alloc, self, &texts)? {
-            Some(captures) => Ok(Some(captures.to_result(alloc)?)),
+            Some(captures) => captures.to_found(alloc),
             None => Ok(None),
         }
     }
