@@ -1,13 +1,12 @@
 //! The functions that C calls.
 ghost use Rattle.std.specs.Prelude.{◌≡◌, None};
 ghost use Rattle.urlpattern_c.specs.Handles.{patterns_in};
+ghost use Rattle.urlpattern_c.specs.Returns.{GivesCaptures, GivesFirst, GivesGroupName, GivesLink};
 ghost use Rattle.urlpattern_calls.specs.Calls.{IsAdded, IsFirstReported, IsTested, ReturnsStatus};
 ghost use Rattle.urlpattern_calls.specs.Diagnoses.{IsDiagnosed, IsInitDiagnosed};
 ghost use Rattle.urlpattern_calls.specs.Inits.{IsInitAdded};
-ghost use Rattle.urlpattern_calls.specs.Links.{IsLinkReported};
 ghost use Rattle.urlpattern_calls.specs.Mismatches.{IsCustomReported, IsMismatchReported};
-ghost use Rattle.urlpattern_calls.specs.Spans.{AreCapturesReported, AreFirstCaptures};
-ghost use Rattle.urlpattern_calls.specs.Texts.{IsComponentWritten, IsExecReported, IsGroupNameWritten};
+ghost use Rattle.urlpattern_calls.specs.Texts.{IsComponentWritten, IsExecReported};
 
 use crate::patterns::Patterns;
 use std::alloc::Global;
@@ -145,8 +144,7 @@ pub extern "C" fn urlpattern_captures(
     spans: &mut [Span],
     needed: &mut Sizes,
 ) -> u32
-    ensures answer { ReturnsStatus
-        (AreCapturesReported (patterns_in patterns.old) index url.now base.now buffer.old buffer.new spans.old spans.new needed.new) result }
+    ensures answer { GivesCaptures patterns.old index url.now base.now buffer.old buffer.new spans.old spans.new needed.new result }
     ensures unchanged { patterns_in patterns.new ≡ patterns_in patterns.old }
 {
     let kept = patterns.take(alloc);
@@ -167,8 +165,7 @@ pub extern "C" fn urlpattern_first_captures(
     spans: &mut [Span],
     needed: &mut Sizes,
 ) -> u32
-    ensures answer { ReturnsStatus (AreFirstCaptures (patterns_in patterns.old) url.now base.now index.old index.new
-        buffer.old buffer.new spans.old spans.new needed.new) result }
+    ensures answer { GivesFirst patterns.old url.now base.now index.old index.new buffer.old buffer.new spans.old spans.new needed.new result }
     ensures unchanged { patterns_in patterns.new ≡ patterns_in patterns.old }
 {
     let kept = patterns.take(alloc);
@@ -188,8 +185,7 @@ pub extern "C" fn urlpattern_link(
     buffer: &mut [u8],
     needed: &mut usize,
 ) -> u32
-    ensures answer { ReturnsStatus
-        (IsLinkReported (patterns_in patterns.old) index text.now given.now buffer.old buffer.new needed.new) result }
+    ensures answer { GivesLink patterns.old index text.now given.now buffer.old buffer.new needed.new result }
     ensures unchanged { patterns_in patterns.new ≡ patterns_in patterns.old }
 {
     let kept = patterns.take(alloc);
@@ -209,8 +205,7 @@ pub extern "C" fn urlpattern_group_name(
     buffer: &mut [u8],
     needed: &mut usize,
 ) -> u32
-    ensures answer { ReturnsStatus
-        (IsGroupNameWritten (patterns_in patterns.old) index component group buffer.old buffer.new needed.new) result }
+    ensures answer { GivesGroupName patterns.old index component group buffer.old buffer.new needed.new result }
     ensures unchanged { patterns_in patterns.new ≡ patterns_in patterns.old }
 {
     let kept = patterns.take(alloc);
