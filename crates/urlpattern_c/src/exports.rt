@@ -3,6 +3,7 @@ ghost use Rattle.std.specs.Prelude.{◌≡◌, None};
 ghost use Rattle.urlpattern_c.specs.Handles.{patterns_in};
 ghost use Rattle.urlpattern_c.specs.Returns.{GivesCaptures, GivesFirst, GivesGroupName, GivesLink};
 ghost use Rattle.urlpattern_calls.specs.Calls.{IsAdded, IsFirstReported, IsTested, ReturnsStatus};
+ghost use Rattle.urlpattern_calls.specs.Coverings.{IsInitCovering, IsTextCovering};
 ghost use Rattle.urlpattern_calls.specs.Diagnoses.{IsDiagnosed, IsInitDiagnosed};
 ghost use Rattle.urlpattern_calls.specs.Inits.{IsInitAdded};
 ghost use Rattle.urlpattern_calls.specs.Mismatches.{IsCustomReported, IsMismatchReported};
@@ -11,9 +12,9 @@ ghost use Rattle.urlpattern_calls.specs.Texts.{IsComponentWritten, IsExecReporte
 use crate::patterns::Patterns;
 use std::alloc::Global;
 use urlpattern_calls::{
-    Given, Place, Sizes, Span, add, add_init, captures, diagnose, diagnose_init, execute, first,
-    first_captures, has_regexp_groups, link, mismatch, test, version, write_component,
-    write_group_name,
+    Given, Place, Sizes, Span, add, add_init, captures, covers, covers_init, diagnose,
+    diagnose_init, execute, first, first_captures, has_regexp_groups, link, mismatch, test,
+    version, write_component, write_group_name,
 };
 
 /// Compiles a constructor string, with a base URL unless that is empty, and appends the pattern.
@@ -247,6 +248,36 @@ pub extern "C" fn urlpattern_has_regexp_groups(
     let status = has_regexp_groups(&kept, index);
     patterns.put(kept);
     status.number()
+}
+
+/// Whether the pattern of a constructor string covers that of the asked one.
+#[unsafe(no_mangle)]
+pub extern "C" fn urlpattern_covers(
+    alloc: Global,
+    text: &[u8],
+    base: &[u8],
+    asked: &[u8],
+    asked_base: &[u8],
+    ignore_case: bool,
+    component: &mut u32,
+) -> u32
+    ensures { ReturnsStatus (IsTextCovering text.now base.now asked.now asked_base.now ignore_case component.new) result }
+{
+    covers(alloc, text, base, asked, asked_base, ignore_case, component).number()
+}
+
+/// Whether the pattern of an init covers that of the asked one.
+#[unsafe(no_mangle)]
+pub extern "C" fn urlpattern_covers_init(
+    alloc: Global,
+    json: &[u8],
+    asked: &[u8],
+    ignore_case: bool,
+    component: &mut u32,
+) -> u32
+    ensures { ReturnsStatus (IsInitCovering json.now asked.now ignore_case component.new) result }
+{
+    covers_init(alloc, json, asked, ignore_case, component).number()
 }
 
 /// Writes why a constructor string is refused, and where it is at fault.
