@@ -3,8 +3,9 @@
  * A line has words, of which texts are hexadecimal, and `-` is no text. `add STATUS IGNORES PATTERN BASE` compiles a pattern into a new
  * handle, `init STATUS IGNORES JSON` an init, `more` another into the same, `exec STATUS URL BASE JSON` matches with the first,
  * `groups STATUS URL BASE GROUPS` writes its groups, `link STATUS TEXT GIVEN URL` asks for a URL with groups, `text COMPONENT TEXT` reads a
- * component, `custom STATUS` asks for a custom regular expression, and `first STATUS URL BASE INDEX` finds the first match. The last line
- * counts the answers that are as they should be.
+ * component, `custom STATUS` asks for a custom regular expression, `first STATUS URL BASE INDEX` finds the first match, and
+ * `covers STATUS IGNORES COMPONENT PATTERN BASE ASKED BASE` and `covers_init STATUS IGNORES COMPONENT JSON ASKED` compare two patterns. The
+ * last line counts the answers that are as they should be.
  *
  * A group of GROUPS is a byte 1, the digit of its component, its name, a byte 2, `+` with what it captured, if it took part, and a byte 3.
  * GIVEN has five numbers for each group, with commas between them.
@@ -15,7 +16,7 @@
 #include <stdlib.h>
 #include <string.h>
 
-enum { WORDS = 5, ROOM = 1 << 20, EDGE = 8, COMPONENTS = 8, SPANS = 1 << 12 };
+enum { WORDS = 8, ROOM = 1 << 20, EDGE = 8, COMPONENTS = 8, SPANS = 1 << 12 };
 enum { BEGIN = 1, MIDDLE = 2, END = 3, NUMBERS = 5 };
 
 typedef struct {
@@ -229,6 +230,21 @@ static void ask_first(char **words, unsigned number) {
     compare(is_right && is_same_first(url, base, wanted, wanted_index), number, status);
 }
 
+static void ask_covers(char **words, unsigned number) {
+    text pattern = text_of(words[4]), base = text_of(words[5]), asked = text_of(words[6]), asked_base = text_of(words[7]);
+    uint32_t component = COMPONENTS + 1;
+    uint32_t status = urlpattern_covers(pattern.bytes, pattern.length, base.bytes, base.length, asked.bytes, asked.length, asked_base.bytes,
+                                        asked_base.length, words[2][0] == '1', &component);
+    compare(status == (uint32_t)atoi(words[1]) && component == (uint32_t)atoi(words[3]), number, status);
+}
+
+static void ask_covers_init(char **words, unsigned number) {
+    text json = text_of(words[4]), asked = text_of(words[5]);
+    uint32_t component = COMPONENTS + 1;
+    uint32_t status = urlpattern_covers_init(json.bytes, json.length, asked.bytes, asked.length, words[2][0] == '1', &component);
+    compare(status == (uint32_t)atoi(words[1]) && component == (uint32_t)atoi(words[3]), number, status);
+}
+
 static void ask(char **words, unsigned number) {
     if (strcmp(words[0], "exec") == 0) {
         ask_exec(words, number);
@@ -242,6 +258,10 @@ static void ask(char **words, unsigned number) {
         ask_custom(words, number);
     } else if (strcmp(words[0], "first") == 0) {
         ask_first(words, number);
+    } else if (strcmp(words[0], "covers") == 0) {
+        ask_covers(words, number);
+    } else if (strcmp(words[0], "covers_init") == 0) {
+        ask_covers_init(words, number);
     } else {
         if (strcmp(words[0], "more") != 0) {
             urlpattern_free(&patterns);
@@ -255,7 +275,7 @@ static void ask(char **words, unsigned number) {
 int main(void) {
     compare(urlpattern_version() == URLPATTERN_VERSION, 0, URLPATTERN_DONE);
     for (unsigned number = 1; fgets(line, sizeof line, stdin); number++) {
-        char *words[WORDS] = { "", "", "-", "-", "-" };
+        char *words[WORDS] = { "", "", "-", "-", "-", "-", "-", "-" };
         int count = 0;
         for (char *word = strtok(line, " \n"); word && count < WORDS; word = strtok(NULL, " \n")) {
             words[count++] = word;

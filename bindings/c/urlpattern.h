@@ -41,7 +41,8 @@ enum urlpattern_status {
     URLPATTERN_REFUSED = 3,       /* the pattern is refused; `urlpattern_diagnose` and `urlpattern_diagnose_init` say why */
     URLPATTERN_OUT_OF_MEMORY = 4, /* memory ran out; the handle is as it was */
     URLPATTERN_NO_PATTERN = 5,    /* the handle has no pattern of this index, or there is no component or group of this number */
-    URLPATTERN_TOO_SMALL = 6      /* the buffer is too small; it is as it was, and `needed` has the size that is needed */
+    URLPATTERN_TOO_SMALL = 6,     /* the buffer is too small; it is as it was, and `needed` has the size that is needed */
+    URLPATTERN_UNKNOWN = 7        /* it is not known whether a pattern covers another one */
 };
 
 /* A handle: patterns in their order, as the routes of a router, each named by its index from 0 on. One pattern is a list of one. */
@@ -146,6 +147,19 @@ uint32_t urlpattern_component(urlpattern_list *patterns, size_t index, uint32_t 
 /* Whether the pattern of this index has a custom regular expression, as `hasRegExpGroups` of a browser.
  * DONE (it has one), NO_MATCH (it has none), or NO_PATTERN. */
 uint32_t urlpattern_has_regexp_groups(urlpattern_list *patterns, size_t index);
+
+/* Whether a pattern covers the asked one: whether it matches each URL that the asked one matches. Both are constructor strings with base
+ * URLs, as `urlpattern_add` takes them, since a pattern in a handle does not keep what patterns are compared by; both ignore case, or
+ * neither does. `component` is a number, as of `urlpattern_component`, or 8 if there is none.
+ * DONE (it covers it), NO_MATCH (it does not: it does not match a text of this component that the asked one matches), UNKNOWN (because of
+ * this component: it has a custom regular expression, ignores case, or would take too many steps to compare), NOT_UTF8, REFUSED (one of
+ * the patterns is), or OUT_OF_MEMORY. */
+uint32_t urlpattern_covers(const char *text, size_t length, const char *base, size_t base_length, const char *asked, size_t asked_length,
+                           const char *asked_base, size_t asked_base_length, bool ignore_case, uint32_t *component);
+
+/* The same of inits, objects of JSON, as `urlpattern_add_init` takes them. */
+uint32_t urlpattern_covers_init(const char *json, size_t length, const char *asked, size_t asked_length, bool ignore_case,
+                                uint32_t *component);
 
 /* The part of a text that is at fault, in bytes. */
 typedef struct urlpattern_place {

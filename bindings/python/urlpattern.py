@@ -18,7 +18,7 @@ __all__ = ["URLPattern", "URLPatternList", "URLPatternError", "version"]
 
 COMPONENTS = ("protocol", "username", "password", "hostname", "port", "pathname", "search", "hash")
 
-DONE, NO_MATCH, NOT_UTF8, REFUSED, OUT_OF_MEMORY, NO_PATTERN, TOO_SMALL = range(7)
+DONE, NO_MATCH, NOT_UTF8, REFUSED, OUT_OF_MEMORY, NO_PATTERN, TOO_SMALL, UNKNOWN = range(8)
 
 # How many bytes a text is first given room for, and how many spans a match.
 ROOM = 1024
@@ -87,6 +87,8 @@ def _load():
         ("group_name", as_they_are, status),
         ("component", as_they_are, status),
         ("has_regexp_groups", [handle, size], status),
+        ("covers", [*texts, *texts, ctypes.c_bool, ctypes.POINTER(status)], status),
+        ("covers_init", [text, size, text, size, ctypes.c_bool, ctypes.POINTER(status)], status),
         ("version", [], ctypes.c_uint32),
         ("diagnose", [*texts, ctypes.c_bool, *room, ctypes.POINTER(_Place)], status),
         ("diagnose_init", [text, size, ctypes.c_bool, *room, ctypes.POINTER(_Place)], status),
@@ -156,6 +158,18 @@ def _refusal(diagnose, *arguments):
     return URLPatternError(buffer.raw[: needed.value].decode(), (place.start, place.end), place.subject == 1, component)
 
 
+def _covers(source, asked):
+    """Whether the pattern of some texts covers that of the asked ones, or None if it is not known."""
+    (*texts, ignore_case), (*asked_texts, asked_ignore_case) = source, asked
+    if len(texts) != len(asked_texts) or ignore_case != asked_ignore_case:
+        raise ValueError("only constructor strings, or only dicts, are compared, which ignore case alike")
+    function = _library.urlpattern_covers if len(texts) > 2 else _library.urlpattern_covers_init
+    status = function(*texts, *asked_texts, ignore_case, ctypes.byref(ctypes.c_uint32()))
+    if status == REFUSED:
+        raise URLPatternError("a pattern is refused")
+    return None if status == UNKNOWN else _checked(status)
+
+
 class URLPatternList:
     """Patterns in their order, as the routes of a router."""
 
@@ -164,6 +178,7 @@ class URLPatternList:
         self._address = ctypes.byref(self._handle)
         self._length = 0
         self._names = {}
+        self._sources = []
         self._number, self._sizes = ctypes.c_size_t(), _Sizes()
         self._number_at, self._sizes_at = ctypes.byref(self._number), ctypes.byref(self._sizes)
         self._room(ROOM, SPANS)
@@ -188,6 +203,7 @@ class URLPatternList:
             raise _refusal(diagnose, *arguments)
         if status == OUT_OF_MEMORY:
             raise MemoryError("out of memory")
+        self._sources.append(arguments)
         self._length += 1
 
     def __len__(self):
@@ -289,6 +305,11 @@ class URLPatternList:
         _checked(status)
         return self._text()
 
+    def covers(self, index, asked):
+        """Whether the pattern of this index matches each URL that the pattern of the asked index matches, or None if it is not known. Both are
+        constructor strings or both are dicts, and both ignore case or neither does."""
+        return _covers(self._sources[index], self._sources[asked])
+
     def component(self, index, name):
         """The pattern text of a component."""
         return self._written(_library.urlpattern_component, _SIZE[index], COMPONENTS.index(name))
@@ -341,6 +362,11 @@ class URLPattern:
         """The URL that the pattern matches with these groups, each a tuple of the component, the name and the text, as `captures` gives them;
         one whose text is None takes no part. ValueError: there is no such URL, and the message says why."""
         return self._list.link(0, groups)
+
+    def covers(self, asked):
+        """Whether the pattern matches each URL that the asked pattern matches, or None if it is not known. Both are constructor strings or both
+        are dicts, and both ignore case or neither does."""
+        return _covers(self._list._sources[0], asked._list._sources[0])
 
     def __repr__(self):
         texts = {name: getattr(self, name) for name in COMPONENTS}

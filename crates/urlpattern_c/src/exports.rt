@@ -1,20 +1,20 @@
 //! The functions that C calls.
 ghost use Rattle.std.specs.Prelude.{◌≡◌, None};
 ghost use Rattle.urlpattern_c.specs.Handles.{patterns_in};
+ghost use Rattle.urlpattern_c.specs.Returns.{GivesCaptures, GivesFirst, GivesGroupName, GivesLink};
 ghost use Rattle.urlpattern_calls.specs.Calls.{IsAdded, IsFirstReported, IsTested, ReturnsStatus};
+ghost use Rattle.urlpattern_calls.specs.Coverings.{IsInitCovering, IsTextCovering};
 ghost use Rattle.urlpattern_calls.specs.Diagnoses.{IsDiagnosed, IsInitDiagnosed};
 ghost use Rattle.urlpattern_calls.specs.Inits.{IsInitAdded};
-ghost use Rattle.urlpattern_calls.specs.Links.{IsLinkReported};
 ghost use Rattle.urlpattern_calls.specs.Mismatches.{IsCustomReported, IsMismatchReported};
-ghost use Rattle.urlpattern_calls.specs.Spans.{AreCapturesReported, AreFirstCaptures};
-ghost use Rattle.urlpattern_calls.specs.Texts.{IsComponentWritten, IsExecReported, IsGroupNameWritten};
+ghost use Rattle.urlpattern_calls.specs.Texts.{IsComponentWritten, IsExecReported};
 
 use crate::patterns::Patterns;
 use std::alloc::Global;
 use urlpattern_calls::{
-    Given, Place, Sizes, Span, add, add_init, captures, diagnose, diagnose_init, execute, first,
-    first_captures, has_regexp_groups, link, mismatch, test, version, write_component,
-    write_group_name,
+    Given, Place, Sizes, Span, add, add_init, captures, covers, covers_init, diagnose,
+    diagnose_init, execute, first, first_captures, has_regexp_groups, link, mismatch, test,
+    version, write_component, write_group_name,
 };
 
 /// Compiles a constructor string, with a base URL unless that is empty, and appends the pattern.
@@ -145,8 +145,7 @@ pub extern "C" fn urlpattern_captures(
     spans: &mut [Span],
     needed: &mut Sizes,
 ) -> u32
-    ensures answer { ReturnsStatus
-        (AreCapturesReported (patterns_in patterns.old) index url.now base.now buffer.old buffer.new spans.old spans.new needed.new) result }
+    ensures answer { GivesCaptures patterns.old index url.now base.now buffer.old buffer.new spans.old spans.new needed.new result }
     ensures unchanged { patterns_in patterns.new ≡ patterns_in patterns.old }
 {
     let kept = patterns.take(alloc);
@@ -167,8 +166,7 @@ pub extern "C" fn urlpattern_first_captures(
     spans: &mut [Span],
     needed: &mut Sizes,
 ) -> u32
-    ensures answer { ReturnsStatus (AreFirstCaptures (patterns_in patterns.old) url.now base.now index.old index.new
-        buffer.old buffer.new spans.old spans.new needed.new) result }
+    ensures answer { GivesFirst patterns.old url.now base.now index.old index.new buffer.old buffer.new spans.old spans.new needed.new result }
     ensures unchanged { patterns_in patterns.new ≡ patterns_in patterns.old }
 {
     let kept = patterns.take(alloc);
@@ -188,8 +186,7 @@ pub extern "C" fn urlpattern_link(
     buffer: &mut [u8],
     needed: &mut usize,
 ) -> u32
-    ensures answer { ReturnsStatus
-        (IsLinkReported (patterns_in patterns.old) index text.now given.now buffer.old buffer.new needed.new) result }
+    ensures answer { GivesLink patterns.old index text.now given.now buffer.old buffer.new needed.new result }
     ensures unchanged { patterns_in patterns.new ≡ patterns_in patterns.old }
 {
     let kept = patterns.take(alloc);
@@ -209,8 +206,7 @@ pub extern "C" fn urlpattern_group_name(
     buffer: &mut [u8],
     needed: &mut usize,
 ) -> u32
-    ensures answer { ReturnsStatus
-        (IsGroupNameWritten (patterns_in patterns.old) index component group buffer.old buffer.new needed.new) result }
+    ensures answer { GivesGroupName patterns.old index component group buffer.old buffer.new needed.new result }
     ensures unchanged { patterns_in patterns.new ≡ patterns_in patterns.old }
 {
     let kept = patterns.take(alloc);
@@ -252,6 +248,36 @@ pub extern "C" fn urlpattern_has_regexp_groups(
     let status = has_regexp_groups(&kept, index);
     patterns.put(kept);
     status.number()
+}
+
+/// Whether the pattern of a constructor string covers that of the asked one.
+#[unsafe(no_mangle)]
+pub extern "C" fn urlpattern_covers(
+    alloc: Global,
+    text: &[u8],
+    base: &[u8],
+    asked: &[u8],
+    asked_base: &[u8],
+    ignore_case: bool,
+    component: &mut u32,
+) -> u32
+    ensures { ReturnsStatus (IsTextCovering text.now base.now asked.now asked_base.now ignore_case component.new) result }
+{
+    covers(alloc, text, base, asked, asked_base, ignore_case, component).number()
+}
+
+/// Whether the pattern of an init covers that of the asked one.
+#[unsafe(no_mangle)]
+pub extern "C" fn urlpattern_covers_init(
+    alloc: Global,
+    json: &[u8],
+    asked: &[u8],
+    ignore_case: bool,
+    component: &mut u32,
+) -> u32
+    ensures { ReturnsStatus (IsInitCovering json.now asked.now ignore_case component.new) result }
+{
+    covers_init(alloc, json, asked, ignore_case, component).number()
 }
 
 /// Writes why a constructor string is refused, and where it is at fault.

@@ -31,6 +31,7 @@ added old text base ignores pattern new statuses.Refused is pushed = absurd push
 added old text base ignores pattern new statuses.OutOfMemory is pushed = pushed
 added old text base ignores pattern new statuses.NoPattern is pushed = absurd pushed
 added old text base ignores pattern new statuses.TooSmall is pushed = absurd pushed
+added old text base ignores pattern new statuses.Unknown is pushed = absurd pushed
 
 -- an error is reported in one of two ways
 two_statuses : (error : ErrorView) → (error_status error ≡ statuses.OutOfMemory) ⊎ (error_status error ≡ statuses.Refused)
@@ -70,6 +71,7 @@ tested patterns index pattern text base statuses.Refused is answer = (pattern, i
 tested patterns index pattern text base statuses.OutOfMemory is answer = (pattern, is, answer)
 tested patterns index pattern text base statuses.NoPattern is answer = absurd answer
 tested patterns index pattern text base statuses.TooSmall is answer = (pattern, is, answer)
+tested patterns index pattern text base statuses.Unknown is answer = (pattern, is, answer)
 
 pub mismatched : (patterns : List (UrlPattern PatternRegexp)) (index : ℕ) (pattern : UrlPattern PatternRegexp) (text base : List ℕ) (number : ℕ) (status : Status)
     → slice_get patterns index ≡ Some pattern → IsUrlMismatched (pattern_view pattern) text base number status → IsMismatchReported patterns index text base number status
@@ -80,6 +82,7 @@ mismatched patterns index pattern text base number statuses.Refused is answer = 
 mismatched patterns index pattern text base number statuses.OutOfMemory is answer = (pattern, is, answer)
 mismatched patterns index pattern text base number statuses.NoPattern is answer = absurd answer.1
 mismatched patterns index pattern text base number statuses.TooSmall is answer = (pattern, is, answer)
+mismatched patterns index pattern text base number statuses.Unknown is answer = (pattern, is, answer)
 
 pub executed : (patterns : List (UrlPattern PatternRegexp)) (index : ℕ) (pattern : UrlPattern PatternRegexp) (url base old new : List ℕ) (needed : ℕ) (status : Status)
     → slice_get patterns index ≡ Some pattern → IsUrlExecuted (pattern_view pattern) url base old new needed status → IsExecReported patterns index url base old new needed status
@@ -90,6 +93,7 @@ executed patterns index pattern url base old new needed statuses.Refused is answ
 executed patterns index pattern url base old new needed statuses.OutOfMemory is answer = (pattern, is, answer)
 executed patterns index pattern url base old new needed statuses.NoPattern is answer = absurd answer.0
 executed patterns index pattern url base old new needed statuses.TooSmall is answer = (pattern, is, answer)
+executed patterns index pattern url base old new needed statuses.Unknown is answer = (pattern, is, answer)
 
 -- ---- texts that are written
 
@@ -103,6 +107,7 @@ component_written patterns index component pattern name text old new needed stat
 component_written patterns index component pattern name text old new needed statuses.OutOfMemory is named same counted written = absurd written
 component_written patterns index component pattern name text old new needed statuses.NoPattern is named same counted written = absurd written
 component_written patterns index component pattern name text old new needed statuses.TooSmall is named same counted written = (text, (pattern, name, is, named, same), counted, written)
+component_written patterns index component pattern name text old new needed statuses.Unknown is named same counted written = absurd written
 
 pub diagnosed : (text base : List ℕ) (ignores : Bool) (place : Place) (reason old new : List ℕ) (needed : ℕ) (status : Status)
     → IsDiagnosis (RefusesText text base ignores) subject_number place reason → needed ≡ length reason → IsWritten reason old new status
@@ -114,6 +119,7 @@ diagnosed text base ignores place reason old new needed statuses.Refused is coun
 diagnosed text base ignores place reason old new needed statuses.OutOfMemory is counted written = absurd written
 diagnosed text base ignores place reason old new needed statuses.NoPattern is counted written = absurd written
 diagnosed text base ignores place reason old new needed statuses.TooSmall is counted written = (reason, is, counted, written)
+diagnosed text base ignores place reason old new needed statuses.Unknown is counted written = absurd written
 
 pub init_diagnosed : (json : List ℕ) (ignores : Bool) (place : Place) (reason old new : List ℕ) (needed : ℕ) (status : Status)
     → IsDiagnosis (IsInitRefused json ignores) init_subject_number place reason → needed ≡ length reason → IsWritten reason old new status
@@ -125,6 +131,7 @@ init_diagnosed json ignores place reason old new needed statuses.Refused is coun
 init_diagnosed json ignores place reason old new needed statuses.OutOfMemory is counted written = absurd written
 init_diagnosed json ignores place reason old new needed statuses.NoPattern is counted written = absurd written
 init_diagnosed json ignores place reason old new needed statuses.TooSmall is counted written = (reason, is, counted, written)
+init_diagnosed json ignores place reason old new needed statuses.Unknown is counted written = absurd written
 
 pub group_named : (patterns : List (UrlPattern PatternRegexp)) (index component group : ℕ) (text old new : List ℕ) (needed : ℕ) (status : Status)
     → Some (chars text) ≡ group_name_at patterns index component group → needed ≡ length text → IsWritten text old new status
@@ -136,3 +143,4 @@ group_named patterns index component group text old new needed statuses.Refused 
 group_named patterns index component group text old new needed statuses.OutOfMemory is counted written = absurd written
 group_named patterns index component group text old new needed statuses.NoPattern is counted written = absurd written
 group_named patterns index component group text old new needed statuses.TooSmall is counted written = (text, is, counted, written)
+group_named patterns index component group text old new needed statuses.Unknown is counted written = absurd written

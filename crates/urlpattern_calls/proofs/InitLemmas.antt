@@ -29,6 +29,7 @@ init_added old json ignores init pattern new statuses.Refused is compiled pushed
 init_added old json ignores init pattern new statuses.OutOfMemory is compiled pushed = pushed
 init_added old json ignores init pattern new statuses.NoPattern is compiled pushed = absurd pushed
 init_added old json ignores init pattern new statuses.TooSmall is compiled pushed = absurd pushed
+init_added old json ignores init pattern new statuses.Unknown is compiled pushed = absurd pushed
 
 -- where there is no init, the patterns are as they were
 pub no_init : (old : PatternList) (json : List ℕ) (ignores : Bool) (status : Status) → IsNoInit json status → IsInitAdded old json ignores old status
@@ -39,6 +40,7 @@ no_init old json ignores statuses.Refused none = (inl none, refl)
 no_init old json ignores statuses.OutOfMemory none = refl
 no_init old json ignores statuses.NoPattern none = absurd none
 no_init old json ignores statuses.TooSmall none = absurd none
+no_init old json ignores statuses.Unknown none = absurd none
 
 pub init_refused : (old : PatternList) (json : List ℕ) (ignores : Bool) (init : UrlPatternInit) (error : Error)
     → IsInitOfJson json init → MemoryOr (RefusesInit pattern_engine init (c_options ignores)) error → IsInitAdded old json ignores old (error_status (error_view error))

@@ -95,6 +95,7 @@ url_captured pattern url base groups old new old_spans new_spans needed statuses
 url_captured pattern url base groups old new old_spans new_spans needed statuses.OutOfMemory are written = tt
 url_captured pattern url base groups old new old_spans new_spans needed statuses.NoPattern are written = absurd written
 url_captured pattern url base groups old new old_spans new_spans needed statuses.TooSmall are written = (groups, are, written)
+url_captured pattern url base groups old new old_spans new_spans needed statuses.Unknown are written = absurd written
 
 pub captured : (patterns : PatternList) (index : ℕ) (pattern : UrlPattern PatternRegexp) (url base old new : List ℕ) (old_spans new_spans : List Span) (needed : Sizes) (status : Status)
     → slice_get patterns index ≡ Some pattern → AreUrlCaptures (pattern_view pattern) url base old new old_spans new_spans needed status
@@ -106,6 +107,7 @@ captured patterns index pattern url base old new old_spans new_spans needed stat
 captured patterns index pattern url base old new old_spans new_spans needed statuses.OutOfMemory is answer = (pattern, is, answer)
 captured patterns index pattern url base old new old_spans new_spans needed statuses.NoPattern is answer = absurd answer.0
 captured patterns index pattern url base old new old_spans new_spans needed statuses.TooSmall is answer = (pattern, is, answer)
+captured patterns index pattern url base old new old_spans new_spans needed statuses.Unknown is answer = (pattern, is, answer)
 
 pub first_captured : (patterns : PatternList) (url base : List ℕ) (old_index index : ℕ) (groups : List NumberedGroup) (old new : List ℕ) (old_spans new_spans : List Span) (needed : Sizes) (status : Status)
     → AreFirstGroupsOf patterns url base index groups → AreWritten groups old new old_spans new_spans needed status
@@ -117,3 +119,4 @@ first_captured patterns url base old_index index groups old new old_spans new_sp
 first_captured patterns url base old_index index groups old new old_spans new_spans needed statuses.OutOfMemory are written = tt
 first_captured patterns url base old_index index groups old new old_spans new_spans needed statuses.NoPattern are written = absurd written
 first_captured patterns url base old_index index groups old new old_spans new_spans needed statuses.TooSmall are written = (groups, are, written)
+first_captured patterns url base old_index index groups old new old_spans new_spans needed statuses.Unknown are written = absurd written

@@ -3,10 +3,10 @@ use Rattle.std.specs.Prelude.{◌≡◌, ◌⊎◌, ◌++◌, ℕ, Bool, List, [
 use Rattle.std.specs.Str.{chars, IsUtf8}
 use Rattle.url.specs.Parts.{Parts}
 use Rattle.url.specs.declared.Url.{Url}
-use Rattle.urlpattern.specs.Canonical.{IsRefusedByUrl}
+use Rattle.urlpattern.specs.Canonical.{IsRefusedByUrl, Reports}
 use Rattle.urlpattern.specs.Errors.{ErrorView}
 use Rattle.urlpattern.specs.Errors.{ErrorView as views}
-use Rattle.urlpattern.specs.Inputs.{parsed_text, text_bytes}
+use Rattle.urlpattern.specs.Inputs.{longer_bytes, parsed_text, text_bytes}
 use Rattle.urlpattern.specs.FromString.{IsPatternOfText, RefusesPatternOfText}
 use Rattle.urlpattern.specs.FirstMatch.{IsFirstMatch, patterns_view}
 use Rattle.urlpattern.specs.Match.{HasMatch, HasNoMatch}
@@ -37,6 +37,14 @@ given_base (byte ∷ bytes) = Some (byte ∷ bytes)
 abbrev pub c_options : (ignore_case : Bool) → UrlPatternOptions
 c_options ignores = record { regex_syntax = Rust; ignore_case = ignores }
 
+-- the constructor string with this base URL is compiled to the pattern
+abbrev pub IsCompiledFrom : (text : List ℕ) → (base : Option (List ℕ)) → (ignore_case : Bool) → UrlPattern PatternRegexp → Type 0
+IsCompiledFrom text base ignores pattern = IsPatternOfText pattern_engine (chars text) base (c_options ignores) (pattern_view pattern)
+
+-- it is refused with this error
+abbrev pub RefusesToCompile : (text : List ℕ) → (base : Option (List ℕ)) → (ignore_case : Bool) → ErrorView → Type 0
+RefusesToCompile text base ignores = RefusesPatternOfText pattern_engine (chars text) base (c_options ignores)
+
 -- what is reported of an error with which a pattern is refused
 abbrev pub error_status : ErrorView → Status
 error_status views.OutOfMemory = statuses.OutOfMemory
@@ -51,10 +59,9 @@ IsPushed old pattern new status = ⊥
 -- the constructor string with this base URL is compiled, and its pattern appended; else the patterns are as they were
 abbrev pub IsAdded : (old : List (UrlPattern PatternRegexp)) → (text base : List ℕ) → (ignore_case : Bool) → (new : List (UrlPattern PatternRegexp)) → Status → Type 0
 IsAdded old text base ignores new statuses.Done =
-    (pattern : UrlPattern PatternRegexp) × IsPatternOfText pattern_engine (chars text) (given_base base) (c_options ignores) (pattern_view pattern)
-    × (new ≡ old ++ pattern ∷ [])
+    (pattern : UrlPattern PatternRegexp) × IsCompiledFrom text (given_base base) ignores pattern × (new ≡ old ++ pattern ∷ [])
 IsAdded old text base ignores new statuses.Refused =
-    (error : ErrorView) × RefusesPatternOfText pattern_engine (chars text) (given_base base) (c_options ignores) error × (new ≡ old)
+    (error : ErrorView) × RefusesToCompile text (given_base base) ignores error × (new ≡ old)
 IsAdded old text base ignores new statuses.NotUtf8 = ((¬ IsUtf8 text) ⊎ (¬ IsUtf8 base)) × (new ≡ old)
 IsAdded old text base ignores new statuses.OutOfMemory = new ≡ old
 IsAdded old text base ignores new status = ⊥
@@ -64,6 +71,10 @@ IsAdded old text base ignores new status = ⊥
 -- `url` refuses the text or the base URL, or they are too long
 abbrev pub RefusesUrlText : (text : List ℕ) → (base : Option (List ℕ)) → Type 0
 RefusesUrlText text base = IsRefusedByUrl (parsed_text base text) (max (length text) (text_bytes base))
+
+-- with this error `url` refuses them
+abbrev pub ReportsUrlText : (text : List ℕ) → (base : Option (List ℕ)) → ErrorView → Type 0
+ReportsUrlText text base = Reports (parsed_text base text) (longer_bytes base text)
 
 -- what is found is the URL of the text; None where it has none
 abbrev pub ParsesUrl : (text : List ℕ) → (base : Option (List ℕ)) → Option Url → Type 0

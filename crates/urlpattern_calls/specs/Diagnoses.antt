@@ -2,9 +2,9 @@
 use Rattle.std.specs.Prelude.{◌≡◌, ◌+◌, ℕ, Bool, List, string_bytes}
 use Rattle.std.specs.Str.{chars}
 use Rattle.urlpattern.specs.Errors.{ErrorView, error_view}
-use Rattle.urlpattern.specs.FromString.{IsPatternOfText, RefusesPatternOfText}
+use Rattle.urlpattern.specs.FromString.{IsPatternOfText}
 use Rattle.urlpattern.specs.Patterns.{PatternView}
-use Rattle.urlpattern_calls.specs.Calls.{given_base, c_options, IsNoUrl}
+use Rattle.urlpattern_calls.specs.Calls.{given_base, c_options, IsNoUrl, RefusesToCompile}
 use Rattle.urlpattern_calls.specs.Inits.{IsInitOfJson, IsInitRefused, IsNoInit}
 use Rattle.urlpattern_calls.specs.Mismatches.{component_number}
 use Rattle.urlpattern_calls.specs.Texts.{WritesToBuffer}
@@ -42,7 +42,7 @@ pub record IsDiagnosis (Refuses : ErrorView → Type 0) (number : Subject → �
 
 -- the errors with which the constructor string is refused
 abbrev pub RefusesText : (text base : List ℕ) → (ignore_case : Bool) → ErrorView → Type 0
-RefusesText text base ignores error = RefusesPatternOfText pattern_engine (chars text) (given_base base) (c_options ignores) error
+RefusesText text base ignores error = RefusesToCompile text (given_base base) ignores error
 
 -- Why the pattern is refused is written; NoMatch: it is not refused.
 abbrev pub IsDiagnosed : (text base : List ℕ) → (ignore_case : Bool) → (old new : List ℕ) → (needed : ℕ) → Place → Status → Type 0

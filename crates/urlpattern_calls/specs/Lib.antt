@@ -1,4 +1,5 @@
 pub mod Calls
+pub mod Coverings
 pub mod Diagnoses
 pub mod Inits
 pub mod Kept

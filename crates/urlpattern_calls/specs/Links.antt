@@ -9,7 +9,7 @@ use Rattle.urlpattern_calls.specs.declared.status.Status.TheVariants as statuses
 use Rattle.urlpattern_engine.specs.declared.pattern_regexp.PatternRegexp.{PatternRegexp}
 use Rattle.urlpattern_linking.specs.Given.{GivesNothing}
 use Rattle.urlpattern_linking.specs.Links.{IsLinkOf, RefusesLinkOf}
-use Rattle.urlpattern_linking.specs.declared.given.Given.{Given}
+pub use Rattle.urlpattern_linking.specs.declared.given.Given.{Given}
 use Rattle.urlpattern_pattern.specs.declared.pattern.UrlPattern.{UrlPattern}
 use Rattle.urlpattern_url.specs.NoLinkText.{no_link_text}
 use Rattle.urlpattern_url.specs.declared.error.NoLink.{NoLink}

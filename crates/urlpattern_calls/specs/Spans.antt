@@ -1,12 +1,15 @@
 -- What groups capture, as a text and spans of it.
 use Rattle.std.specs.Prelude.{◌≡◌, ◌⊎◌, ◌++◌, ◌+◌, ◌<◌, ◌≤◌, ℕ, List, [], ◌∷◌, length, drop, take, flat_map, slice_get, encode_utf8_all, unwrap_or, is_some, Option, None, Some, if◌then◌else◌}
+use Rattle.std.specs.Global.{Global}
+use Rattle.std.specs.declared.boxed.Box.{Box}
 use Rattle.url.specs.Parts.{Parts}
 use Rattle.urlpattern.specs.Eight.{components}
 use Rattle.urlpattern.specs.FirstMatch.{IsFirstMatch, patterns_view}
 use Rattle.urlpattern.specs.Patterns.{PatternView, pattern_view}
 use Rattle.urlpattern_calls.specs.Calls.{IsFirstReported, IsUrlTested, IsUrlUnderBase}
-use Rattle.urlpattern_calls.specs.Kept.{PatternList}
+use Rattle.urlpattern_calls.specs.Kept.{PatternList, boxed_patterns}
 use Rattle.urlpattern_calls.specs.Mismatches.{component_number}
+use Rattle.urlpattern_calls.specs.declared.kept.Kept.{Kept}
 use Rattle.urlpattern_calls.specs.declared.spans.Sizes.{Sizes}
 use Rattle.urlpattern_calls.specs.declared.spans.Span.{Span}
 use Rattle.urlpattern_calls.specs.declared.status.Status.{Status}
@@ -16,7 +19,9 @@ use Rattle.urlpattern_engine.specs.PatternRegexps.{pattern_answer}
 use Rattle.urlpattern_engine.specs.declared.pattern_regexp.PatternRegexp.{PatternRegexp}
 use Rattle.urlpattern_init.specs.Inheritance.{texts_of_url}
 use Rattle.urlpattern_init.specs.declared.init.UrlPatternMatchInput.TheVariants as match_inputs
+use Rattle.urlpattern_matches.specs.BorrowedMatches.{groups_view}
 use Rattle.urlpattern_matches.specs.ResultViews.{ResultView}
+use Rattle.urlpattern_matches.specs.declared.captures.UrlPatternCaptures.{UrlPatternCaptures}
 use Rattle.urlpattern_pattern.specs.Match.{AreGroupsInOrder}
 use Rattle.urlpattern_pattern.specs.declared.pattern.UrlPattern.{UrlPattern}
 
@@ -35,7 +40,11 @@ numbered component from (group ∷ groups) = (component, from, group.1) ∷ numb
 abbrev pub numbered_groups : (groups : ComponentName → List (List ℕ × Option (List ℕ))) → List ComponentName → List NumberedGroup
 numbered_groups groups names = flat_map (λ name. numbered name 0 (groups name)) names
 
--- the groups of a match of the URL, in the order of the components
+-- the groups of a match, in the order of the components
+abbrev pub found_groups : UrlPatternCaptures → List NumberedGroup
+found_groups found = numbered_groups (groups_view found) components
+
+-- the groups of a match of the URL, in that order
 pub record AreGroupsOf (pattern : PatternView PatternRegexp) (url base : List ℕ) (groups : List NumberedGroup) : Type 0 where
   pub parts : Parts
   pub captures : ComponentName → List (List ℕ × Option (List ℕ))
@@ -88,6 +97,11 @@ pub record ArePut (groups : List NumberedGroup) (from to : Sizes) (old new : Lis
   pub spans : to.spans ≡ from.spans + length (spans_from from.bytes groups)
   pub texts_put : IsPut from.bytes (texts_of_groups groups) old new
   pub spans_put : IsPut from.spans (spans_from from.bytes groups) old_spans new_spans
+
+-- the same of one group
+abbrev pub IsGroupPut : ComponentName → (group : ℕ) → (capture : Option (List ℕ)) → (from to : Sizes) → (old new : List ℕ)
+    → (old_spans new_spans : List Span) → Type 0
+IsGroupPut component group capture from to old new old_spans new_spans = ArePut ((component, group, capture) ∷ []) from to old new old_spans new_spans
 
 -- the list begins with these elements, and the rest of it is as it was
 abbrev pub BeginsWith : {A : Type 0} → (elements old new : List A) → Type 0
@@ -150,3 +164,9 @@ AreFirstCaptures patterns url base old_index new_index old new old_spans new_spa
 AreFirstCaptures patterns url base old_index new_index old new old_spans new_spans needed statuses.OutOfMemory = Unit {0}
 AreFirstCaptures patterns url base old_index new_index old new old_spans new_spans needed status =
     IsFirstReported patterns url base old_index new_index status × (new ≡ old) × (new_spans ≡ old_spans)
+
+-- the same of the patterns in a box
+abbrev pub AreFirstInBox : Option (Box Kept Global) → (url base : List ℕ) → (old_index new_index : ℕ) → (old new : List ℕ)
+    → (old_spans new_spans : List Span) → (needed : Sizes) → Status → Type 0
+AreFirstInBox kept url base old_index new_index old new old_spans new_spans needed status =
+    AreFirstCaptures (boxed_patterns kept) url base old_index new_index old new old_spans new_spans needed status

@@ -1,7 +1,7 @@
 -- The numbers of statuses, as C sees them.
 use Rattle.std.specs.Prelude.{ℕ}
 use Rattle.urlpattern_calls.specs.declared.status.Status.{Status}
-use Rattle.urlpattern_calls.specs.declared.status.Status.TheVariants.{Done, NoMatch, NotUtf8, Refused, OutOfMemory, NoPattern, TooSmall}
+use Rattle.urlpattern_calls.specs.declared.status.Status.TheVariants.{Done, NoMatch, NotUtf8, Refused, OutOfMemory, NoPattern, TooSmall, Unknown}
 
 abbrev pub status_number : Status → ℕ
 status_number Done = 0
@@ -11,3 +11,4 @@ status_number Refused = 3
 status_number OutOfMemory = 4
 status_number NoPattern = 5
 status_number TooSmall = 6
+status_number Unknown = 7

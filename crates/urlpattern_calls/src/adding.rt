@@ -1,12 +1,8 @@
 //! Compiles patterns.
 ghost use Rattle.std.specs.Prelude.{◌≡◌, option_copied, IfErr, IfOk};
-ghost use Rattle.std.specs.Str.{chars};
-ghost use Rattle.urlpattern_calls.specs.Calls.{given_base, c_options, error_status, IsAdded, IsPushed};
+ghost use Rattle.urlpattern_calls.specs.Calls.{given_base, c_options, error_status, IsAdded, IsCompiledFrom, IsPushed, RefusesToCompile};
 ghost use Rattle.urlpattern_calls.specs.Kept.{boxed_patterns};
 ghost use Rattle.urlpattern.specs.Errors.{error_view, MemoryOr};
-ghost use Rattle.urlpattern.specs.FromString.{IsPatternOfText, RefusesPatternOfText};
-ghost use Rattle.urlpattern.specs.Patterns.{pattern_view};
-ghost use Rattle.urlpattern_engine.specs.PatternRegexps.{pattern_engine};
 
 use crate::kept::{Kept, take_or_new};
 use crate::status::Status;
@@ -66,10 +62,8 @@ fn compiled(
     base: Option<&str>,
     ignore_case: bool,
 ) -> Result<UrlPattern<PatternRegexp>, Error>
-    ensures compiled { IfOk result (λ pattern.
-        IsPatternOfText pattern_engine (chars text.now) (option_copied base.entry) (c_options ignore_case) (pattern_view pattern)) }
-    ensures refused { IfErr result (MemoryOr
-        (RefusesPatternOfText pattern_engine (chars text.now) (option_copied base.entry) (c_options ignore_case))) }
+    ensures compiled { IfOk result (IsCompiledFrom text.now (option_copied base.entry) ignore_case) }
+    ensures refused { IfErr result (MemoryOr (RefusesToCompile text.now (option_copied base.entry) ignore_case)) }
 {
     UrlPattern::from_constructor_string(alloc, text, base, options(ignore_case))
 }

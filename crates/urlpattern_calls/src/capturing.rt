@@ -1,7 +1,7 @@
 //! Matches URLs, and writes what groups capture.
 ghost use Rattle.urlpattern.specs.Patterns.{pattern_view};
 ghost use Rattle.urlpattern_calls.specs.Kept.{boxed_patterns};
-ghost use Rattle.urlpattern_calls.specs.Spans.{AreCapturesReported, AreFirstCaptures, AreUrlCaptures};
+ghost use Rattle.urlpattern_calls.specs.Spans.{AreCapturesReported, AreFirstCaptures, AreFirstInBox, AreUrlCaptures};
 
 use crate::kept::{Kept, pattern_at};
 use crate::spans::{Sizes, Span, write_groups};
@@ -65,8 +65,7 @@ pub fn first_captures(
     spans: &mut [Span],
     needed: &mut Sizes,
 ) -> Status
-    ensures { AreFirstCaptures (boxed_patterns kept.now) url.now base.now index.old index.new
-        buffer.old buffer.new spans.old spans.new needed.new result }
+    ensures { AreFirstInBox kept.now url.now base.now index.old index.new buffer.old buffer.new spans.old spans.new needed.new result }
 {
     match kept {
         Some(kept) => list_captures(alloc, &kept.list, url, base, index, buffer, spans, needed),

@@ -5,11 +5,13 @@
 
 mod adding;
 mod capturing;
+mod covering;
 mod diagnosing;
 mod inits;
 mod kept;
 mod linking;
 mod mismatching;
+mod parts;
 mod release;
 mod spans;
 mod status;
@@ -19,6 +21,7 @@ mod urls;
 
 pub use adding::add;
 pub use capturing::{captures, first_captures};
+pub use covering::{covers, covers_init};
 pub use diagnosing::{Place, diagnose, diagnose_init};
 pub use inits::add_init;
 pub use kept::Kept;

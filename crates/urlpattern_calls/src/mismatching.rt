@@ -13,7 +13,7 @@ use urlpattern::regexp::PatternRegexp;
 use urlpattern::{ComponentName, UrlPattern};
 
 /// The number that is no component's.
-const NO_COMPONENT: u32 = 8;
+pub(crate) const NO_COMPONENT: u32 = 8;
 
 /// Writes the number of the first component that the pattern at an index does not match, or the number of none.
 pub fn mismatch(

@@ -1,9 +1,8 @@
 //! Spans of what groups captured, in memory of C's.
 ghost use Rattle.std.specs.Prelude.{◌≡◌, ◌+◌, [], ◌∷◌, length, encode_utf8_all, if◌then◌else◌, is_some, IfSome};
 ghost use Rattle.std.specs.Str.{chars};
-ghost use Rattle.urlpattern.specs.Eight.{components};
-ghost use Rattle.urlpattern_calls.specs.Spans.{capture_bytes, no_sizes, numbered, numbered_groups, ArePut, AreWritten, IsPut};
-ghost use Rattle.urlpattern_matches.specs.BorrowedMatches.{groups_left, groups_view};
+ghost use Rattle.urlpattern_calls.specs.Spans.{capture_bytes, found_groups, no_sizes, numbered, ArePut, AreWritten, IsGroupPut, IsPut};
+ghost use Rattle.urlpattern_matches.specs.BorrowedMatches.{groups_left};
 ghost use Rattle.urlpattern_syntax.specs.Text.{option_text};
 
 use crate::mismatching::component_number;
@@ -43,7 +42,7 @@ pub(crate) fn write_groups(
     spans: &mut [Span],
     needed: &mut Sizes,
 ) -> Status
-    ensures { AreWritten (numbered_groups (groups_view found.now) components) buffer.old buffer.new spans.old spans.new needed.new result }
+    ensures { AreWritten (found_groups found.now) buffer.old buffer.new spans.old spans.new needed.new result }
 {
     let Some(sizes) = put_all(found, buffer, spans) else {
         return Status::OutOfMemory;
@@ -64,8 +63,7 @@ fn put_all(
     buffer: &mut [u8],
     spans: &mut [Span],
 ) -> Option<Sizes>
-    ensures { IfSome result (λ to. ArePut (numbered_groups (groups_view found.now) components) no_sizes to
-        buffer.old buffer.new spans.old spans.new) }
+    ensures { IfSome result (λ to. ArePut (found_groups found.now) no_sizes to buffer.old buffer.new spans.old spans.new) }
 {
     let mut sizes = Sizes { bytes: 0, spans: 0 };
     for name in ComponentName::all() {
@@ -102,7 +100,7 @@ fn put_group(
     buffer: &mut [u8],
     spans: &mut [Span],
 ) -> Option<Sizes>
-    ensures { IfSome result (λ to. ArePut ((component, group, option_text capture.entry) ∷ []) from to
+    ensures { IfSome result (λ to. IsGroupPut component group (option_text capture.entry) from to
         buffer.old buffer.new spans.old spans.new) }
 {
     let text = capture_bytes(capture);

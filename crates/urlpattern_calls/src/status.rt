@@ -19,6 +19,8 @@ pub enum Status {
     NoPattern,
     /// The buffer is too small.
     TooSmall,
+    /// It is not known whether a pattern covers another one.
+    Unknown,
 }
 
 impl Status {
@@ -34,6 +36,7 @@ impl Status {
             Status::OutOfMemory => 4,
             Status::NoPattern => 5,
             Status::TooSmall => 6,
+            Status::Unknown => 7,
         }
     }
 }

@@ -3,8 +3,8 @@ ghost use Rattle.std.specs.Prelude.{◌≡◌, option_copied, IfErr, IfOk, Ok, S
 ghost use Rattle.url.specs.Parser as url_spec;
 ghost use Rattle.urlpattern.specs.Canonical.{Reports};
 ghost use Rattle.urlpattern.specs.Errors.{MemoryOr, OnlyOutOfMemory};
-ghost use Rattle.urlpattern.specs.Inputs.{longer_bytes, parsed_text};
-ghost use Rattle.urlpattern_calls.specs.Calls.{ParsesUrl, IsNoUrl, IsUrlUnderBase};
+ghost use Rattle.urlpattern.specs.Inputs.{parsed_text};
+ghost use Rattle.urlpattern_calls.specs.Calls.{ParsesUrl, IsNoUrl, IsUrlUnderBase, ReportsUrlText};
 
 use crate::adding::given_base;
 use crate::status::Status;
@@ -54,8 +54,7 @@ fn found_url(alloc: Global, text: &str, base: Option<&str>) -> Result<Option<Url
 /// The error is the refusal of `url`, or that memory ran out.
 fn parsed_url(alloc: Global, text: &str, base: Option<&str>) -> Result<Url, Error>
     ensures ok { IfOk result (λ url. parsed_text (option_copied base.entry) text.now ≡ Ok url) }
-    ensures err { IfErr result (MemoryOr (Reports (parsed_text (option_copied base.entry) text.now)
-        (longer_bytes (option_copied base.entry) text.now))) }
+    ensures err { IfErr result (MemoryOr (ReportsUrlText text.now (option_copied base.entry))) }
 {
     match base {
         Some(base) => {
