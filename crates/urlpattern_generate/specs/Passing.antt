@@ -39,6 +39,10 @@ pub record IsRun (prefix text rest : List ℕ) : Type 0 where
   pub all : list_all is_run_character run ≡ true
   pub apart : begins_with is_group_mark rest ≡ true → run ≢ [] → bytes_eq (last_of run) prefix ≡ false
 
+-- a character before this text is no prefix of a group with which the text begins
+abbrev pub IsNoPrefix : (prefix : List ℕ) → (first : ℕ) → (after : List ℕ) → Type 0
+IsNoPrefix prefix first after = begins_with is_group_mark after ≡ true → bytes_eq (first ∷ []) prefix ≡ false
+
 -- ---- places in a pattern text
 
 -- What is left of a pattern text, and what of the parts before it counts: whether an asterisk is no modifier there, how many groups have no
@@ -138,6 +142,10 @@ pub record IsLeftOut (bytes : List ℕ) (modifier : PartModifier) (text rest : L
   pub modified : is_unmodified modifier ≡ false
   pub fewest : fewest_copies modifier (chars bytes) ≡ []
 
+-- it begins with such a fixed text
+abbrev pub BeginsLeftOut : (text rest : List ℕ) → Type 0
+BeginsLeftOut text rest = (bytes : List ℕ) × (modifier : PartModifier) × IsLeftOut bytes modifier text rest
+
 -- ---- groups
 
 -- the part of this kind, value and name, with a prefix, a suffix and a modifier
@@ -176,6 +184,10 @@ IsFrontOf options left number group =
     (admits : Bool) (names : List (List ℕ)) →
     IsFrontGroup options (record { left = left; admits = admits; number = number; names = names }) group
 
+-- the same of a group between braces, the first of which is passed
+abbrev pub IsBracedFront : OptionsView → (left : List ℕ) → (number : ℕ) → Group → Type 0
+IsBracedFront options left number group = IsFrontOf options (codes "{" ++ left) number group
+
 -- the same at each place at which an asterisk is no modifier, where the group has no prefix
 abbrev pub IsBareFront : OptionsView → (left : List ℕ) → (number : ℕ) → Group → Type 0
 IsBareFront options left number group =
@@ -206,6 +218,13 @@ IsNoWildcard options value = (value ≢ segment_wildcard options) × (value ≢ 
 -- the text is a custom expression
 abbrev pub IsOwnExpression : OptionsView → List ℕ → Type 0
 IsOwnExpression options value = IsRegexpBody value × IsNoWildcard options value
+
+-- the same in whichever component
+abbrev pub IsNoWildcardOfAny : List ℕ → Type 0
+IsNoWildcardOfAny value = (component : ComponentName) (hierarchical : Bool) → IsNoWildcard (options_for component hierarchical) value
+
+abbrev pub IsOwnExpressionOfAny : List ℕ → Type 0
+IsOwnExpressionOfAny value = (component : ComponentName) (hierarchical : Bool) → IsOwnExpression (options_for component hierarchical) value
 
 -- a group with this prefix and suffix stands between braces
 abbrev pub NeedsBraces : OptionsView → (prefix suffix : List ℕ) → Type 0

@@ -1,10 +1,10 @@
 //! Drafts in one pass over a pattern text. Nothing is parsed into parts.
 
-ghost use Rattle.std.specs.Prelude.{◌≡◌, ◌∷◌, ◌++◌, ◌<◌, ◌≤◌, [], ℕ, IfOk, IfSome, IsTrue, List, Ok, OnOk, Some, bytes_eq, codes, false, length, not, true};
+ghost use Rattle.std.specs.Prelude.{◌≡◌, ◌++◌, ◌<◌, ◌≤◌, [], ℕ, IfOk, IfSome, IsTrue, List, Ok, OnOk, Some, bytes_eq, codes, false, length, not, true};
 ghost use Rattle.std.specs.{Borrow.Bor, Char.is_ascii_digit, List.list_all, Str.chars};
 ghost use Rattle.url.specs.Ascii.{slash};
 ghost use Rattle.urlpattern_generate.specs.{Asked.capture_not_given, Writers.Drafts, Writers.manner_of_writer};
-ghost use Rattle.urlpattern_generate.specs.Passing.{CompletesPassed, IsBegun, IsRun, IsToCapture, KeepsPassed, PassesGroup, is_group_mark, part_of};
+ghost use Rattle.urlpattern_generate.specs.Passing.{CompletesPassed, IsBegun, IsNoPrefix, IsRun, IsToCapture, KeepsPassed, PassesGroup, part_of};
 ghost use Rattle.urlpattern_links.specs.{CopySearch.AreSomeWith, CopySearch.IsCutAtFirst, Links.MayCapture, Links.text_of_group};
 ghost use Rattle.urlpattern_meaning.specs.PartMeaning.{IsWildcardText};
 ghost use Rattle.urlpattern_syntax.specs.{Options.OptionsView, Options.pathname_options};
@@ -54,6 +54,7 @@ impl Writer<'_> {
     ///
     /// `None`: the pattern text has what is not passed over, a group is given what may not be canonical, or the component does not match
     /// the text with these groups. The error is that memory ran out.
+    #[inline(never)]
     pub(crate) fn passed_draft<R: RegExp>(
         &self,
         component: &Component<R>,
@@ -128,7 +129,7 @@ impl Writer<'_> {
 
     /// Whether a character is the prefix of a group with which the text after it begins.
     fn is_prefix(&self, first: char, after: &str) -> bool
-        ensures { result ≡ false → begins_with is_group_mark (chars after.now) ≡ true → bytes_eq (first ∷ []) (manner_of_writer self.now).options.prefix ≡ false }
+        ensures { result ≡ false → IsNoPrefix (manner_of_writer self.now).options.prefix first (chars after.now) }
     {
         if first != '/' {
             return false;

@@ -54,8 +54,7 @@ impl Writer<'_> {
         if given.contains('\n') || !is_captured(&component.matcher, given, given) {
             return Ok(None);
         }
-        let mut text = String::new(self.alloc);
-        text.push_str(given)?;
+        let text = String::from_str(self.alloc, given)?;
         Ok(Some(text))
     }
 

@@ -4,7 +4,7 @@ ghost use Rattle.std.specs.Prelude.{◌≡◌, ◌↔◌, ◌∷◌, [], Some, I
 ghost use Rattle.std.specs.Str.{chars};
 ghost use Rattle.urlpattern_core.specs.Matchers.{matcher_view};
 ghost use Rattle.urlpattern_meaning.specs.{CaptureTexts.captures_view, Matching.Answers};
-ghost use Rattle.urlpattern_generate.specs.Generating.{IsAnswered, TellsCanonical};
+ghost use Rattle.urlpattern_generate.specs.Generating.{IsAnswered, IsConfirmed, TellsCanonical};
 ghost use Rattle.urlpattern_generate.specs.Writers.{manner_of_writer};
 ghost use Rattle.urlpattern_links.specs.Refused.{given_captures};
 ghost use Rattle.urlpattern_syntax.specs.Text.{option_text};
@@ -39,10 +39,26 @@ impl Writer<'_> {
         text: &str,
         captures: &[Option<&str>],
     ) -> Result<bool, AllocError>
-        ensures { IfOk result (λ found. IsTrue found →
-            Answers R.answer (matcher_view matcher.now) (chars text.now) (Some (map option_text captures.now))) }
+        ensures { IfOk result (λ is. IsConfirmed is R.answer (matcher_view matcher.now) (chars text.now) (map option_text captures.now)) }
     {
-        match matcher.matches(self.alloc, text) {
+        match matcher.look(text) {
+            None => Ok(false),
+            Some(Look::Matched) => Ok(are_equal(&[], captures)),
+            Some(Look::Captured(captured)) => Ok(are_equal(&[Some(captured)], captures)),
+            Some(Look::Asks { engine, middle }) => self.is_answered(engine, middle, captures),
+        }
+    }
+
+    /// Whether an engine finds these captures in a text.
+    fn is_answered<R: RegExp>(
+        &self,
+        engine: &R,
+        text: &str,
+        captures: &[Option<&str>],
+    ) -> Result<bool, AllocError>
+        ensures { IfOk result (λ is. IsTrue is → R.answer engine.now (chars text.now) ≡ Some (map option_text captures.now)) }
+    {
+        match engine.matches(self.alloc, text) {
             Ok(Some(found)) => Ok(are_equal(&found, captures)),
             Ok(None) => Ok(false),
             Err(_) => Err(AllocError),

@@ -2,7 +2,7 @@ use Rattle.std.proofs.Common.{Some, ap, map, refl, subst}
 use Rattle.std.specs.Str.{chars}
 use Rattle.urlpattern_core.specs.Matchers.{matcher_view}
 use Rattle.urlpattern_generate.proofs.GeneratingLemmas.{canonical_written}
-use Rattle.urlpattern_generate.proofs.Passes.{completed_written}
+use Rattle.urlpattern_generate.proofs.CompletedPasses.{completed_written}
 use Rattle.urlpattern_generate.specs.Generating.{IsWrittenText}
 use Rattle.urlpattern_generate.specs.Writers.{manner_of_writer}
 use Rattle.urlpattern_meaning.specs.Matching.{Answers}
