@@ -14,7 +14,8 @@ use urlpattern_eight::ComponentName;
 
 /// What a path, a search or a hash may escape in ASCII.
 const ESCAPED: AsciiSet = ascii_set!(
-    CONTROLS.add(b' ')
+    CONTROLS
+        .add(b' ')
         .add(b'"')
         .add(b'#')
         .add(b'\'')
