@@ -12,7 +12,6 @@ use Rattle.std.specs.List.{list_all}
 use Rattle.std.specs.Prelude.{IsAscii, IsTrue, Option, ◌||◌, codes, if◌then◌else◌, slice_index, unwrap_or}
 use Rattle.std.specs.Str.{chars}
 use Rattle.percent_encoding.proofs.PercentLemmas.{percent_encode_unchanged}
-use Rattle.percent_encoding.specs.AsciiSet.{should_percent_encode}
 use Rattle.percent_encoding.specs.Percent.{IsKept, percent_encode}
 use Rattle.percent_encoding.specs.declared.ascii_set.AsciiSet.{AsciiSet}
 use Rattle.url.proofs.InputLemmas.{All_from_list_all, IsNot, Passes, is_empty_nonempty, rsplit_once_none}
@@ -41,7 +40,6 @@ use Rattle.urlpattern_generate.proofs.SetTexts.{AreVisible, by_bytes, hash_kept,
 use Rattle.urlpattern_generate.specs.Manners.{canonical_for}
 use Rattle.urlpattern_syntax.proofs.TextLemmas.{chars_nothing}
 use Rattle.urlpattern_syntax.specs.Text.{lacks, line_feed}
-use Rattle.urlpattern_generate.specs.declared.kept.TheConstants.{ESCAPED}
 use Rattle.urlpattern_generate.specs.Kept.{is_dot_mark, is_kept_character, is_kept_opaque, is_kept_path, is_kept_value, is_label_character}
 
 -- ---- characters that are kept
@@ -57,15 +55,6 @@ are_visible = All-weaker (Passes is_kept_character) (Passes is_visible) kept_vis
 
 are_kept : (set : AsciiSet) → passing_outside is_kept_character set ≡ true → (bytes : List ℕ) → All (Passes is_kept_character) bytes → All (IsKept set) bytes
 are_kept set outside = All-weaker (Passes is_kept_character) (IsKept set) (λ b passes. kept_from_passes is_kept_character set outside b (kept_ascii b passes) passes)
-
--- a byte is kept if it is not of those that may be escaped
-pub kept_tested : (b : ℕ) (escaped : Bool) → escaped ≡ should_percent_encode ESCAPED b → not escaped ≡ is_kept_character b
-kept_tested b false e = sym (passes_from_kept ESCAPED is_kept_character refl b (sym e))
-kept_tested b true e = by_value (is_kept_character b) refl
-  where
-    by_value : (is : Bool) → is_kept_character b ≡ is → false ≡ is
-    by_value false is = refl
-    by_value true is = absurd (false≢true (sym (e ∙ kept_from_passes is_kept_character ESCAPED refl b (kept_ascii b is) is)))
 
 -- ---- paths
 

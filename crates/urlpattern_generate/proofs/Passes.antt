@@ -12,7 +12,7 @@ use Rattle.urlpattern_links.specs.Links.{OfEachGroup, OfFirst, captures_after, t
 use Rattle.urlpattern_meaning.proofs.PrintedTexts.{escaped_first, escaped_none, escaped_one}
 use Rattle.urlpattern_meaning.proofs.PrintingLaws.{plain_printed}
 use Rattle.urlpattern_meaning.specs.PartMeaning.{Captures}
-use Rattle.urlpattern_meaning.specs.Printing.{escaped_pattern, first_part, goes_on, has_custom_name, in_braces, joined, joined_with, last_of, needs_braces, pattern_marks, printed, printed_after, printed_part, takes_before}
+use Rattle.urlpattern_meaning.specs.Printing.{escaped_pattern, first_part, goes_on, has_custom_name, in_braces, joined, joined_with, last_of, needs_braces, pattern_marks, printed_after, printed_part, takes_before}
 use Rattle.urlpattern_meaning.specs.RoundTrip.{AreNamed, HasUnskipped, IsUnskipped}
 use Rattle.urlpattern_syntax.proofs.NameCharacters.{name_not_digited}
 use Rattle.urlpattern_syntax.specs.Options.{OptionsView, pathname_options}

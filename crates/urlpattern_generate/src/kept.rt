@@ -9,28 +9,7 @@ ghost use Rattle.urlpattern_generate.specs.Writers.{manner_of_writer};
 ghost use Rattle.urlpattern_syntax.specs.Text.{lacks, line_feed};
 
 use crate::writer::Writer;
-use percent_encoding::{AsciiSet, CONTROLS, ascii_set};
 use urlpattern_eight::ComponentName;
-
-/// What a path, a search or a hash may escape in ASCII.
-const ESCAPED: AsciiSet = ascii_set!(
-    CONTROLS
-        .add(b' ')
-        .add(b'"')
-        .add(b'#')
-        .add(b'\'')
-        .add(b'<')
-        .add(b'>')
-        .add(b'?')
-        .add(b'[')
-        .add(b'\\')
-        .add(b']')
-        .add(b'^')
-        .add(b'`')
-        .add(b'{')
-        .add(b'|')
-        .add(b'}')
-);
 
 impl Writer<'_> {
     /// Whether a value is of those that the component is known to take as they are.
@@ -118,7 +97,27 @@ fn is_kept_text(value: &[u8]) -> bool
 fn is_kept_byte(b: u8) -> bool
     ensures { result ≡ is_kept_character b }
 {
-    !ESCAPED.should_percent_encode(b)
+    b.is_ascii_alphanumeric()
+        || matches!(
+            b,
+            b'-' | b'.'
+                | b'_'
+                | b'~'
+                | b'/'
+                | b'!'
+                | b'$'
+                | b'%'
+                | b'&'
+                | b'('
+                | b')'
+                | b'*'
+                | b'+'
+                | b','
+                | b':'
+                | b';'
+                | b'='
+                | b'@'
+        )
 }
 
 /// Whether a value is a label of a host in lower case without digits.

@@ -1,7 +1,6 @@
 use Rattle.std.proofs.Common.{◌≡◌, ◌∙◌, ◌∷◌, [], Some, ap, refl, rules, subst, sym}
-use Rattle.std.specs.Prelude.{IsTrue, not}
+use Rattle.std.specs.Prelude.{IsTrue}
 use Rattle.std.specs.Str.{chars}
-use Rattle.urlpattern_core.proofs.MatcherTexts.{lacks-searched}
 use Rattle.urlpattern_core.specs.Matchers.{matcher_view}
 use Rattle.urlpattern_generate.proofs.GeneratingLemmas.{canonical_written}
 use Rattle.urlpattern_generate.proofs.KeptTexts.{nothing, nothing_is}
@@ -20,7 +19,7 @@ returns g c canonical =
     let pattern = text_of c.args.component.now.pattern_string in
     let text = text_of c.in_ok-text.text in
     let same : text ≡ chars c.given_alone-given.result.now = search rules in
-    let line = (lacks-searched line_feed c.given_alone-given.result.now c.contains.result c.given_alone-given.utf8 c.contains.ensures.cases).0 (ap not c.if-contains.false) in
+    let line = c.has_line_feed.ensures c.if-has_line_feed.false in
     let is = ap chars (sym c.deref.ensures) ∙ is_asterisk c.deref.result.now c.is_same_text.result c.is_same_text.ensures.same c.if-not-is_same_text.false in
     canonical_written answer matcher manner pattern text
     (whole_written answer matcher self.component self.hierarchical manner pattern refl is text (same ∙ c.given_alone-given.ensures) canonical (nothing c.in_ok-text.text)
