@@ -272,17 +272,25 @@ pub fn repeat<R: Files + AllocGlobal>(
 ) -> io::Result<bool> {
     let text = fs::read_to_string(rt, path)?;
     for line in text.lines() {
-        match (
-            serde_json::from_str::<Value>(rt.alloc(), line),
-            Call::named(call),
-        ) {
-            (Ok(pair), Some(call)) if optional_text(&pair, "name") == Some(name) => {
-                return Ok(repeat_pair(rt.alloc(), &pair, call, count).is_ok());
+        match serde_json::from_str::<Value>(rt.alloc(), line) {
+            Ok(pair) if optional_text(&pair, "name") == Some(name) => {
+                return Ok(repeat_named(rt.alloc(), &pair, call, count));
             }
             _ => {}
         }
     }
     Ok(false)
+}
+
+/// Calls the call of a name so many times for a pair. Returns whether there is such a call.
+fn repeat_named(alloc: Global, pair: &Value, call: &str, count: u64) -> bool {
+    if call == "link" {
+        return matches!(links::repeat_pair(alloc, pair, count), Ok(true));
+    }
+    match Call::named(call) {
+        Some(call) => repeat_pair(alloc, pair, call, count).is_ok(),
+        None => false,
+    }
 }
 
 /// Calls a call of a pair so many times.

@@ -8,6 +8,7 @@ use Rattle.std.specs.Str.{IsUtf8, chars}
 use Rattle.std.specs.declared.alloc.Global.{Global}
 use Rattle.urlpattern_generate.proofs.PlainReadings.{kept}
 use Rattle.urlpattern_generate.specs.Manners.{unchanged}
+use Rattle.urlpattern_syntax.specs.Text.{text_of}
 
 -- a `String` of other bytes
 of_bytes : (string : String Global) (bytes : List ℕ) → IsUtf8 bytes → length bytes < 2 ^ 63 → String Global
@@ -27,6 +28,14 @@ kept_slash string = kept_ascii string (codes "/") (IsAscii-cons 47 [] (omega ari
 
 pub kept_nothing : (string : String Global) → unchanged [] (Ok [])
 kept_nothing string = kept_ascii string [] IsAscii-nil (lit< tt)
+
+-- there is an empty one
+pub nothing : String Global → String Global
+nothing string = of_bytes string [] (IsUtf8-from_ascii [] IsAscii-nil) (lit< tt)
+
+pub nothing_is : (string : String Global) → text_of (nothing string) ≡ []
+unfolding nothing of_bytes
+nothing_is string = chars-IsAscii [] IsAscii-nil
 
 -- a slash has one byte
 pub slash_is : chars (codes "/") ≡ codes "/"

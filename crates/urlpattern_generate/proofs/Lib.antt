@@ -1,4 +1,5 @@
 pub mod AskedLemmas
+pub mod CompletedPasses
 pub mod Fronts
 pub mod GeneratingLemmas
 pub mod GivenLemmas

@@ -1,15 +1,14 @@
 -- Texts that a pass over a pattern text reads and writes.
-use Rattle.std.proofs.Common.{◌≡◌, ◌≢◌, ◌∙◌, ◌⊎◌, ◌==◌, ℕ, zero, suc, Bool, false, true, not, List, [], ◌∷◌, ◌++◌, None, Some, ap, arith, inl, inr, length, map, refl, subst, sym}
+use Rattle.std.proofs.Common.{◌≡◌, ◌≢◌, ◌∙◌, ◌⊎◌, ◌==◌, ℕ, zero, suc, Bool, false, true, List, [], ◌∷◌, ◌++◌, None, Some, ap, arith, inl, inr, length, refl, subst, sym}
 use Rattle.std.proofs.lemmas.Bool.{and_parts, eqb-false, eqb-true, false≢true, not-true}
 use Rattle.std.proofs.lemmas.Slice.Eq.{bytes_eq-Decides}
-use Rattle.std.specs.Borrow.{Bor}
 use Rattle.std.specs.Char.{is_ascii_digit}
 use Rattle.std.specs.List.{list_all}
 use Rattle.std.specs.Prelude.{Contains, IfSome, IsTrue, Option, bytes_eq, codes, if◌then◌else◌}
 use Rattle.std.specs.Str.{IsUtf8, chars}
 use Rattle.urlpattern_generate.specs.Asked.{capture_by_modifier, capture_not_given, empty_or_none}
 use Rattle.urlpattern_generate.specs.Manners.{WritingManner}
-use Rattle.urlpattern_generate.specs.Passing.{Completes, IsCompleted}
+use Rattle.urlpattern_generate.specs.Passing.{Completes, IsCompleted, NamedCapture, is_other, names_of}
 use Rattle.urlpattern_links.specs.CopySearch.{AreSomeWith}
 use Rattle.urlpattern_links.specs.Links.{AreTextsWith, IsCopyText, MayCapture}
 use Rattle.urlpattern_meaning.specs.PartMeaning.{Allows, Captures, IsWildcardText}
@@ -104,13 +103,13 @@ begun manner left names before written parts captures text none empty nothing h 
 -- ---- names
 
 -- no name is the same, by a test of each
-pub is_new_name : (names : List (Bor (List ℕ))) (name : List ℕ) → list_all (λ (other : Bor (List ℕ)). not (bytes_eq (chars other.now) name)) names ≡ true → ¬ Contains (map (λ (other : Bor (List ℕ)). chars other.now) names) name
+pub is_new_name : (groups : List NamedCapture) (name : List ℕ) → list_all (is_other name) groups ≡ true → ¬ Contains (names_of groups) name
 is_new_name [] name all (k, within, same) = absurd (omega (arith, within))
-is_new_name (other ∷ names) name all (zero, within, same) =
-    let first = (and_parts (not (bytes_eq (chars other.now) name)) (list_all (λ (one : Bor (List ℕ)). not (bytes_eq (chars one.now) name)) names) all).0 in
-    absurd (false≢true (sym (not-true (bytes_eq (chars other.now) name) first) ∙ (bytes_eq-Decides (chars other.now) name).1 same))
-is_new_name (other ∷ names) name all (suc k, within, same) =
-    is_new_name names name (and_parts (not (bytes_eq (chars other.now) name)) (list_all (λ (one : Bor (List ℕ)). not (bytes_eq (chars one.now) name)) names) all).1 (k, omega (arith, within), same)
+is_new_name (other ∷ groups) name all (zero, within, same) =
+    let first = (and_parts (is_other name other) (list_all (is_other name) groups) all).0 in
+    absurd (false≢true (sym (not-true (bytes_eq (chars other.0.now) name) first) ∙ (bytes_eq-Decides (chars other.0.now) name).1 same))
+is_new_name (other ∷ groups) name all (suc k, within, same) =
+    is_new_name groups name (and_parts (is_other name other) (list_all (is_other name) groups) all).1 (k, omega (arith, within), same)
 
 -- what is so of a value, if there is one
 pub if_some : {X : Type 0} (found : Option X) (P Q : X → Type 0) → ((x : X) → P x → Q x) → IfSome found P → IfSome found Q

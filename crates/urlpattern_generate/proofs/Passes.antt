@@ -1,31 +1,22 @@
 -- What completes a pattern text that is passed over once: a run of characters, a group, and the end.
-use Rattle.std.proofs.Common.{◌≡◌, ◌≢◌, ◌∙◌, ℕ, suc, Bool, true, false, not, ◌&&◌, ◌||◌, List, [], ◌∷◌, ◌++◌, append_assoc, map, None, Some, Option, ap, arith, inl, inr, refl, subst, sym}
+use Rattle.std.proofs.Common.{◌≡◌, ◌≢◌, ◌∙◌, ℕ, suc, Bool, true, false, not, ◌&&◌, ◌||◌, List, [], ◌∷◌, ◌++◌, append_assoc, map, None, Some, Option, ap, inl, refl, subst, sym}
 use Rattle.std.proofs.lemmas.Bool.{and_from, and_parts, and_right, false≢true, not-true, or_left, or_right}
 use Rattle.std.proofs.lemmas.List.Folds.{list_all-append}
 use Rattle.std.proofs.lemmas.List.{append-nil, append_cancel_right}
-use Rattle.std.proofs.lemmas.List.Elements.{All-cons, All-nil, All-weaker, Contains-append_left, Contains-push}
-use Rattle.std.proofs.lemmas.List.Kept.{AllPairs-cons}
 use Rattle.std.specs.List.{list_all}
-use Rattle.std.specs.Prelude.{All, AllPairs, Contains, bytes_eq, codes, filter, if◌then◌else◌}
+use Rattle.std.specs.Prelude.{Contains, bytes_eq, codes, filter, if◌then◌else◌}
 use Rattle.std.specs.Str.{chars}
-use Rattle.urlpattern_eight.specs.declared.eight.ComponentName.{ComponentName}
-use Rattle.urlpattern_eight.specs.declared.eight.ComponentName.TheVariants.{Protocol, Username, Password, Hostname, Port, Pathname, Search, Hash}
-use Rattle.urlpattern_generate.specs.Generating.{IsWrittenText}
-use Rattle.urlpattern_generate.specs.Manners.{WritingManner, options_for, unchanged}
-use Rattle.urlpattern_generate.specs.Passing.{AreKept, AreNewAfter, Completes, IsCompleted, IsFront, IsKeptPart, IsKeptText, IsLeftOut, IsRun, IsToCapture, Place, goes_on_first, is_group_mark, is_plain_first, is_run_character, may_go_on}
+use Rattle.urlpattern_generate.specs.Manners.{WritingManner}
+use Rattle.urlpattern_generate.specs.Passing.{AreNewAfter, Completes, IsCompleted, IsFront, IsKeptPart, IsKeptText, IsLeftOut, IsRun, IsToCapture, Place, goes_on_first, is_group_mark, is_plain_first, is_run_character, may_go_on}
 use Rattle.urlpattern_links.specs.Links.{OfEachGroup, OfFirst, captures_after, text_of_group, text_of_part, text_of_parts}
 use Rattle.urlpattern_meaning.proofs.PrintedTexts.{escaped_first, escaped_none, escaped_one}
 use Rattle.urlpattern_meaning.proofs.PrintingLaws.{plain_printed}
-use Rattle.urlpattern_meaning.proofs.ReadsBack.{reads_back, standard_point}
-use Rattle.urlpattern_meaning.proofs.StandingItems.{EachText}
-use Rattle.urlpattern_meaning.specs.Matching.{Answers, MatcherView}
 use Rattle.urlpattern_meaning.specs.PartMeaning.{Captures}
-use Rattle.urlpattern_meaning.specs.Printing.{encoded_texts, escaped_pattern, first_part, goes_on, has_custom_name, in_braces, joined, joined_with, last_of, needs_braces, pattern_marks, printed, printed_after, printed_part, takes_before}
-use Rattle.urlpattern_meaning.specs.RoundTrip.{AreNamed, HasUnskipped, IsPrintable, IsStandard, IsUnskipped}
+use Rattle.urlpattern_meaning.specs.Printing.{escaped_pattern, first_part, goes_on, has_custom_name, in_braces, joined, joined_with, last_of, needs_braces, pattern_marks, printed_after, printed_part, takes_before}
+use Rattle.urlpattern_meaning.specs.RoundTrip.{AreNamed, HasUnskipped, IsUnskipped}
 use Rattle.urlpattern_syntax.proofs.NameCharacters.{name_not_digited}
 use Rattle.urlpattern_syntax.specs.Options.{OptionsView, pathname_options}
 use Rattle.urlpattern_syntax.specs.Parts.{PartView, fixed_text}
-use Rattle.urlpattern_syntax.specs.Reading.{Reads}
 use Rattle.urlpattern_syntax.specs.RegexpText.{escaped, group_names, is_empty, is_fixed_text, is_plain, is_unmodified, modifier_text}
 use Rattle.urlpattern_syntax.specs.Text.{begins_with, is_among, is_name_part}
 use Rattle.urlpattern_syntax.specs.Tokens.{IsName, SkipsBy, is_ignored}
@@ -395,70 +386,4 @@ name_front admits number names text name rest modifier is_name cut stops =
       numbered = ap (λ own. if own then number else suc number) custom;
       unskipped_prefix = refl;
       unskipped_suffix = refl;
-    }
-
--- ---- the whole pattern text
-
--- What is to be shown of names that are new after others.
-record AreDistinctAfter (earlier names : List (List ℕ)) : Type 0 where
-  pub new : All (λ name. ¬ Contains earlier name) names
-  pub distinct : AllPairs (λ name other. name ≢ other) names
-
-distinct_after : (earlier names : List (List ℕ)) → AreNewAfter earlier names → AreDistinctAfter earlier names
-distinct_after earlier [] h = record { new = All-nil (λ name. ¬ Contains earlier name); distinct = λ i j d lt within. absurd (omega arith) }
-distinct_after earlier (name ∷ names) h =
-    let more = distinct_after (earlier ++ name ∷ []) names h.1 in
-    record {
-      new = All-cons (λ other. ¬ Contains earlier other) name names h.0
-          (All-weaker (λ other. ¬ Contains (earlier ++ name ∷ []) other) (λ other. ¬ Contains earlier other)
-          (λ other none has. none (Contains-append_left earlier (name ∷ []) other has)) names more.new);
-      distinct = AllPairs-cons (λ one other. one ≢ other) name names
-          (All-weaker (λ other. ¬ Contains (earlier ++ name ∷ []) other) (λ other. name ≢ other)
-          (λ other none e. none (subst (Contains (earlier ++ name ∷ [])) e (Contains-push earlier name))) names more.new)
-          more.distinct;
-    }
-
-kept_first : (kind : PartType) (part : PartView) (texts : List (List ℕ)) → IsKeptPart kind part → EachText IsKeptText texts →
-    EachText IsKeptText ((if is_fixed_text kind then part.value ∷ [] else part.prefix ∷ part.suffix ∷ []) ++ texts)
-kept_first FixedText part texts kept more = (kept, more)
-kept_first Regexp part texts kept more = (kept.0, (kept.1, more))
-kept_first SegmentWildcard part texts kept more = (kept.0, (kept.1, more))
-kept_first FullWildcard part texts kept more = (kept.0, (kept.1, more))
-
-kept_texts : (parts : List PartView) → AreKept parts → EachText IsKeptText (encoded_texts parts)
-kept_texts [] kept = tt
-kept_texts (part ∷ parts) kept = kept_first part.kind part (encoded_texts parts) kept.0 (kept_texts parts kept.1)
-
-standard : (component : ComponentName) (hierarchical : Bool) → IsStandard (options_for component hierarchical)
-standard Protocol hierarchical = inl (refl, refl)
-standard Username hierarchical = inl (refl, refl)
-standard Password hierarchical = inl (refl, refl)
-standard Hostname hierarchical = inr (inl (refl, refl))
-standard Port hierarchical = inl (refl, refl)
-standard Pathname true = inr (inr (refl, refl))
-standard Pathname false = inl (refl, refl)
-standard Search hierarchical = inl (refl, refl)
-standard Hash hierarchical = inl (refl, refl)
-
-pub completed_written : {E : Type 0} (answer : E → List ℕ → Option Captures) (matcher : MatcherView E) (manner : WritingManner) (component : ComponentName) (hierarchical : Bool) (pattern : List ℕ) (captures : Captures) (text : List ℕ) →
-    manner.options ≡ options_for component hierarchical → IsCompleted manner pattern captures text → Answers answer matcher text (Some captures) → IsWrittenText answer matcher manner pattern text
-completed_written answer matcher manner component hierarchical pattern captures text options (parts, h) answers =
-    let printable : IsPrintable manner.options parts = record {
-      point = standard_point manner.options (subst IsStandard (sym options) (standard component hierarchical));
-      pattern_parts = record { fields = h.fields; names = h.named; distinct = (distinct_after [] (group_names parts) h.new).distinct };
-      texts = h.filled;
-      unskipped = h.unskipped;
-    } in
-    let back : Reads (printed manner.options parts) manner.options unchanged (joined parts) =
-    reads_back manner.options unchanged IsKeptText parts printable (subst (λ of. EachText IsKeptText (encoded_texts of)) (sym h.apart) (kept_texts parts h.kept)) (λ of kept. kept) in
-    record {
-      parts = parts;
-      captures = captures;
-      is_asked = record {
-        reads = subst (λ of. Reads of manner.options unchanged parts) (h.printed None refl (λ marked part. refl)) (subst (Reads (printed manner.options parts) manner.options unchanged) h.apart back);
-        are_asked = h.asked;
-      };
-      may_capture = h.may;
-      is_written = h.written;
-      is_matched = answers;
     }

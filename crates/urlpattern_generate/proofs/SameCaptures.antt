@@ -2,6 +2,7 @@
 use Rattle.std.proofs.Common.{◌≡◌, ℕ, List, drop, map, Option, String}
 use Rattle.std.specs.Borrow.{Bor}
 use Rattle.std.specs.declared.alloc.Global.{Global}
+use Rattle.urlpattern_generate.specs.Passing.{NamedCapture, captures_of}
 use Rattle.urlpattern_links.specs.Refused.{given_captures}
 use Rattle.urlpattern_syntax.specs.Text.{option_text}
 
@@ -18,9 +19,9 @@ AreSameFrom found wanted i = map option_text (drop i found) ≡ given_captures (
 abbrev pub AreSame : Found → Wanted → Type 0
 AreSame found wanted = map option_text found ≡ given_captures wanted
 
--- the same of captures that are lent
-abbrev pub AreEqualFrom : (found lent : Found) → ℕ → Type 0
-AreEqualFrom found lent i = map option_text (drop i found) ≡ map option_text (drop i lent)
+-- the same of what groups capture
+abbrev pub AreEqualFrom : Found → List NamedCapture → ℕ → Type 0
+AreEqualFrom found groups i = map option_text (drop i found) ≡ captures_of (drop i groups)
 
-abbrev pub AreEqual : (found lent : Found) → Type 0
-AreEqual found lent = map option_text found ≡ map option_text lent
+abbrev pub AreEqual : Found → List NamedCapture → Type 0
+AreEqual found groups = map option_text found ≡ captures_of groups

@@ -1,5 +1,5 @@
 -- The text of a component whose groups capture what is given, and why there is none.
-use Rattle.std.specs.Prelude.{◌≡◌, ◌≢◌, ◌⊎◌, ◌≤◌, ℕ, Bool, List, length, MatchBool, Option, Some, None, Ok}
+use Rattle.std.specs.Prelude.{◌≡◌, ◌≢◌, ◌⊎◌, ◌≤◌, ℕ, Bool, IsTrue, List, length, MatchBool, Option, Some, None, Ok}
 use Rattle.std.specs.Str.{chars}
 use Rattle.url.specs.Parser.{Parsed}
 use Rattle.urlpattern_canonical.specs.Canonical.{long_text}
@@ -44,6 +44,10 @@ IsReadOtherwise answer matcher canonical bytes captures = AnswersOtherwise answe
 abbrev pub IsAnswered : {E : Type 0} → Bool → (answer : E → List ℕ → Option Captures) → MatcherView E → (text : List ℕ) → Captures → Type 0
 IsAnswered is answer matcher text captures =
     MatchBool is (Answers answer matcher text (Some captures)) (AnswersOtherwise answer matcher text captures)
+
+-- if this says so, the matcher finds these captures in the text
+abbrev pub IsConfirmed : {E : Type 0} → Bool → (answer : E → List ℕ → Option Captures) → MatcherView E → (text : List ℕ) → Captures → Type 0
+IsConfirmed is answer matcher text captures = IsTrue is → Answers answer matcher text (Some captures)
 
 -- whether the text of these bytes is canonical
 abbrev pub TellsCanonical : Bool → (List ℕ → Parsed (List ℕ)) → (bytes : List ℕ) → Type 0

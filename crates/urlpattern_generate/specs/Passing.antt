@@ -1,7 +1,7 @@
 -- A pattern text that is passed over once, while a text is drafted for it: what is left of it, and what the parts of the rest give.
 use Rattle.std.specs.Prelude.{◌≡◌, ◌≢◌, ◌&&◌, ◌||◌, ◌<◌, ◌^◌, ℕ, Bool, false, true, not, List, [], ◌∷◌, ◌++◌, bytes_eq, length, map, Contains, Option, Some, None, Ok, codes}
 use Rattle.std.specs.List.{list_all}
-use Rattle.std.specs.Str.{IsUtf8, chars}
+use Rattle.std.specs.{Borrow.Bor, Str.IsUtf8, Str.chars}
 use Rattle.urlpattern_generate.specs.Asked.{AreAsked, IsAsked}
 use Rattle.urlpattern_eight.specs.declared.eight.ComponentName.{ComponentName}
 use Rattle.urlpattern_generate.specs.Manners.{WritingManner, options_for, unchanged}
@@ -38,6 +38,10 @@ pub record IsRun (prefix text rest : List ℕ) : Type 0 where
   pub cut : text ≡ run ++ rest
   pub all : list_all is_run_character run ≡ true
   pub apart : begins_with is_group_mark rest ≡ true → run ≢ [] → bytes_eq (last_of run) prefix ≡ false
+
+-- a character before this text is no prefix of a group with which the text begins
+abbrev pub IsNoPrefix : (prefix : List ℕ) → (first : ℕ) → (after : List ℕ) → Type 0
+IsNoPrefix prefix first after = begins_with is_group_mark after ≡ true → bytes_eq (first ∷ []) prefix ≡ false
 
 -- ---- places in a pattern text
 
@@ -103,19 +107,33 @@ IsCompleted manner pattern captures text =
 
 -- ---- what is passed
 
+-- the name of a group, and what it captures
+abbrev pub NamedCapture : Type 0
+NamedCapture = Bor (List ℕ) × Option (Bor (List ℕ))
+
+abbrev pub names_of : List NamedCapture → List (List ℕ)
+names_of groups = map (λ (group : NamedCapture). chars group.0.now) groups
+
+abbrev pub captures_of : List NamedCapture → Captures
+captures_of groups = map (λ (group : NamedCapture). option_text group.1) groups
+
+-- the group has another name
+abbrev pub is_other : (name : List ℕ) → NamedCapture → Bool
+is_other name group = not (bytes_eq (chars group.0.now) name)
+
 abbrev pub place_of : Pass → Place
 place_of pass = record {
   left = chars pass.left.now;
   admits = pass.admits_asterisk;
   number = pass.number;
-  names = map (λ name. chars name.now) pass.names.items;
+  names = names_of pass.groups.items;
 }
 
 -- with what completes the rest the pattern text is completed
 abbrev pub IsPassed : WritingManner → (plain : Bool) → (pattern : List ℕ) → Pass → Type 0
 IsPassed manner plain pattern pass =
     (parts : List PartView) (captures : Captures) (text : List ℕ) → Completes manner plain (place_of pass) parts captures text →
-    IsCompleted manner pattern (map option_text pass.captures.items ++ captures) (text_of pass.text ++ text)
+    IsCompleted manner pattern (captures_of pass.groups.items ++ captures) (text_of pass.text ++ text)
 
 -- what is passed of a pattern text stays so
 abbrev pub KeepsPassed : WritingManner → (plain plain_after : Bool) → (before after : Pass) → Type 0
@@ -124,7 +142,7 @@ KeepsPassed manner plain plain_after before after = (pattern : List ℕ) → IsP
 -- so that the whole is completed
 abbrev pub CompletesPassed : WritingManner → (before after : Pass) → Type 0
 CompletesPassed manner before after =
-    (pattern : List ℕ) → IsPassed manner true pattern before → IsCompleted manner pattern (map option_text after.captures.items) (text_of after.text)
+    (pattern : List ℕ) → IsPassed manner true pattern before → IsCompleted manner pattern (captures_of after.groups.items) (text_of after.text)
 
 -- ---- a fixed text that is left out
 
@@ -137,6 +155,10 @@ pub record IsLeftOut (bytes : List ℕ) (modifier : PartModifier) (text rest : L
   pub few : length bytes < 2 ^ 63
   pub modified : is_unmodified modifier ≡ false
   pub fewest : fewest_copies modifier (chars bytes) ≡ []
+
+-- it begins with such a fixed text
+abbrev pub BeginsLeftOut : (text rest : List ℕ) → Type 0
+BeginsLeftOut text rest = (bytes : List ℕ) × (modifier : PartModifier) × IsLeftOut bytes modifier text rest
 
 -- ---- groups
 
@@ -176,6 +198,10 @@ IsFrontOf options left number group =
     (admits : Bool) (names : List (List ℕ)) →
     IsFrontGroup options (record { left = left; admits = admits; number = number; names = names }) group
 
+-- the same of a group between braces, the first of which is passed
+abbrev pub IsBracedFront : OptionsView → (left : List ℕ) → (number : ℕ) → Group → Type 0
+IsBracedFront options left number group = IsFrontOf options (codes "{" ++ left) number group
+
 -- the same at each place at which an asterisk is no modifier, where the group has no prefix
 abbrev pub IsBareFront : OptionsView → (left : List ℕ) → (number : ℕ) → Group → Type 0
 IsBareFront options left number group =
@@ -207,6 +233,13 @@ IsNoWildcard options value = (value ≢ segment_wildcard options) × (value ≢ 
 abbrev pub IsOwnExpression : OptionsView → List ℕ → Type 0
 IsOwnExpression options value = IsRegexpBody value × IsNoWildcard options value
 
+-- the same in whichever component
+abbrev pub IsNoWildcardOfAny : List ℕ → Type 0
+IsNoWildcardOfAny value = (component : ComponentName) (hierarchical : Bool) → IsNoWildcard (options_for component hierarchical) value
+
+abbrev pub IsOwnExpressionOfAny : List ℕ → Type 0
+IsOwnExpressionOfAny value = (component : ComponentName) (hierarchical : Bool) → IsOwnExpression (options_for component hierarchical) value
+
 -- a group with this prefix and suffix stands between braces
 abbrev pub NeedsBraces : OptionsView → (prefix suffix : List ℕ) → Type 0
 NeedsBraces options prefix suffix = not (is_empty suffix) || (not (is_empty prefix) && not (bytes_eq prefix options.prefix)) ≡ true
@@ -219,7 +252,7 @@ IsToCapture manner part capture = IsAsked manner part capture × MayCapture mann
 abbrev pub PassesGroup : (before : Pass) → Group → Option (List ℕ) → (after : Pass) → Type 0
 PassesGroup before group capture after =
     (manner : WritingManner) (pattern : List ℕ) → IsFrontGroup manner.options (place_of before) group → IsToCapture manner (part_of group) capture →
-    ¬ Contains (map (λ name. chars name.now) before.names.items) (chars group.name.now) → IsPassed manner false pattern before → IsPassed manner true pattern after
+    ¬ Contains (names_of before.groups.items) (chars group.name.now) → IsPassed manner false pattern before → IsPassed manner true pattern after
 
 -- nothing is passed of this pattern text
 abbrev pub IsBegun : (pattern : List ℕ) → Pass → Type 0

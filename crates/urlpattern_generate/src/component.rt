@@ -64,6 +64,15 @@ impl Writer<'_> {
         if let Some(text) = self.kept_text(component) {
             return Ok(text);
         }
+        self.tested_text(component)
+    }
+
+    /// The text of a component, which is tested whether it is canonical.
+    #[inline(never)]
+    fn tested_text<R: RegExp>(&self, component: &Component<R>) -> Result<String, GenerateError>
+        ensures generated { IfOk result (λ text. WritesCanonical R.answer component.now self.now (text_of text)) }
+        ensures refused { IfErr result (CannotWrite R.answer component.now self.now) }
+    {
         let text = match self.text(component) {
             Ok(text) => text,
             Err(error) => return Err(error),
@@ -119,6 +128,7 @@ impl Writer<'_> {
     }
 
     /// The text of a component whose pattern text has to be parsed.
+    #[inline(never)]
     fn text_by_parts<R: RegExp>(&self, component: &Component<R>) -> Result<String, GenerateError>
         ensures written { IfOk result (λ text. Writes R.answer component.now self.now (text_of text)) }
         ensures refused { IfErr result (CannotWrite R.answer component.now self.now) }

@@ -1,10 +1,8 @@
 //! Custom expressions in a pattern text.
 
-ghost use Rattle.std.specs.Prelude.{◌≡◌, ◌∷◌, ◌++◌, ◌<◌, ℕ, Bool, IfSome, codes, false, length};
+ghost use Rattle.std.specs.Prelude.{◌≡◌, ◌∷◌, ◌++◌, ◌<◌, ℕ, IfSome, codes, false, length};
 ghost use Rattle.std.specs.Str.{chars};
-ghost use Rattle.urlpattern_eight.specs.declared.eight.ComponentName.{ComponentName};
-ghost use Rattle.urlpattern_generate.specs.Manners.{options_for};
-ghost use Rattle.urlpattern_generate.specs.Passing.{IsNoWildcard, IsOwnExpression};
+ghost use Rattle.urlpattern_generate.specs.Passing.{IsNoWildcardOfAny, IsOwnExpressionOfAny};
 ghost use Rattle.urlpattern_syntax.specs.declared.tokenizer.TokenType.TheVariants.{Regexp};
 ghost use Rattle.urlpattern_syntax.specs.Text.{BeginsWith, begins_with, is_among};
 ghost use Rattle.urlpattern_syntax.specs.Tokens.{IsLexed};
@@ -16,7 +14,7 @@ use urlpattern_syntax::tokenizer::{before, split_first};
 /// brackets of its own, or is that of an asterisk or of a name.
 pub(crate) fn expression(text: &str) -> Option<(&str, &str)>
     ensures cut { IfSome result (λ found. chars text.now ≡ chars found.0.now ++ (codes ")" ++ chars found.1.now)) }
-    ensures own { IfSome result (λ found. (component : ComponentName) (hierarchical : Bool) → IsOwnExpression (options_for component hierarchical) (chars found.0.now)) }
+    ensures own { IfSome result (λ found. IsOwnExpressionOfAny (chars found.0.now)) }
     ensures len { IfSome result (λ found. length found.1.now < length text.now) }
 {
     if begins_no_body(text) {
@@ -71,7 +69,7 @@ fn after_escaped(text: &str) -> Option<&str>
 
 /// Whether an expression is that of an asterisk or of a name.
 fn is_wildcard(value: &str) -> bool
-    ensures { result ≡ false → (component : ComponentName) (hierarchical : Bool) → IsNoWildcard (options_for component hierarchical) (chars value.now) }
+    ensures { result ≡ false → IsNoWildcardOfAny (chars value.now) }
 {
     if is_same_text(value, ".*") || is_same_text(value, ".+?") {
         return true;

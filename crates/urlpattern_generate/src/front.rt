@@ -1,11 +1,10 @@
 //! What is at the front of a pattern text: a group, or a fixed text that may be left out.
 
 ghost use Rattle.std.specs.Char.{is_ascii_digit};
-ghost use Rattle.std.specs.Prelude.{◌≡◌, ◌&&◌, ◌++◌, ◌<◌, ◌≤◌, ℕ, IfSome, IsTrue, List, codes, decimal, false, length, true};
+ghost use Rattle.std.specs.Prelude.{◌≡◌, ◌&&◌, ◌++◌, ◌<◌, ◌≤◌, IfSome, IsTrue, codes, decimal, false, length, true};
 ghost use Rattle.std.specs.Str.{chars};
-ghost use Rattle.urlpattern_generate.specs.Passing.{IsBareFront, IsFrontGroup, IsFrontOf, IsLeftOut, IsPlaceholderOf, NeedsBraces, is_group_mark, is_run_character, may_go_on, place_of};
+ghost use Rattle.urlpattern_generate.specs.Passing.{BeginsLeftOut, IsBareFront, IsBracedFront, IsFrontGroup, IsFrontOf, IsPlaceholderOf, NeedsBraces, is_group_mark, is_run_character, may_go_on, place_of};
 ghost use Rattle.urlpattern_generate.specs.Writers.{manner_of_writer};
-ghost use Rattle.urlpattern_syntax.specs.declared.parser.PartModifier.{PartModifier as Modifier};
 ghost use Rattle.urlpattern_syntax.specs.Options.{pathname_options};
 ghost use Rattle.urlpattern_syntax.specs.RegexpText.{is_unmodified, modifier_text};
 ghost use Rattle.urlpattern_syntax.specs.Text.{begins_with, is_name_part};
@@ -53,7 +52,7 @@ impl Writer<'_> {
 
     /// The group at the front of a text whose first brace is passed.
     fn braced_group<'d>(&self, number: usize, text: &'d str) -> Option<Group<'d>>
-        ensures front { IfSome result (IsFrontOf (manner_of_writer self.now).options (codes "{" ++ chars text.now) number) }
+        ensures front { IfSome result (IsBracedFront (manner_of_writer self.now).options (chars text.now) number) }
         ensures len { IfSome result (λ group. length group.rest.now ≤ length text.now) }
     {
         let start = after_plain(text);
@@ -236,7 +235,7 @@ fn name_at(text: &str) -> Option<(&str, &str)>
 
 /// What follows a fixed text between braces that may be left out. `None`: none is at the front.
 pub(crate) fn after_left_out(text: &str) -> Option<&str>
-    ensures left { IfSome result (λ rest. (bytes : List ℕ) × (modifier : Modifier) × IsLeftOut bytes modifier (chars text.now) (chars rest.now)) }
+    ensures left { IfSome result (λ rest. BeginsLeftOut (chars text.now) (chars rest.now)) }
     ensures len { IfSome result (λ rest. length rest.now < length text.now) }
 {
     let (open, value) = split_first(text)?;

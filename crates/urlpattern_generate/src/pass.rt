@@ -1,10 +1,10 @@
 //! Drafts in one pass over a pattern text. Nothing is parsed into parts.
 
-ghost use Rattle.std.specs.Prelude.{◌≡◌, ◌∷◌, ◌++◌, ◌<◌, ◌≤◌, [], ℕ, IfOk, IfSome, IsTrue, List, Ok, OnOk, Some, bytes_eq, codes, false, length, not, true};
-ghost use Rattle.std.specs.{Borrow.Bor, Char.is_ascii_digit, List.list_all, Str.chars};
+ghost use Rattle.std.specs.Prelude.{◌≡◌, ◌++◌, ◌<◌, ◌≤◌, [], ℕ, IfOk, IfSome, IsTrue, List, Ok, OnOk, Some, bytes_eq, codes, false, length, not, true};
+ghost use Rattle.std.specs.{Char.is_ascii_digit, List.list_all, Str.chars};
 ghost use Rattle.url.specs.Ascii.{slash};
 ghost use Rattle.urlpattern_generate.specs.{Asked.capture_not_given, Writers.Drafts, Writers.manner_of_writer};
-ghost use Rattle.urlpattern_generate.specs.Passing.{CompletesPassed, IsBegun, IsRun, IsToCapture, KeepsPassed, PassesGroup, is_group_mark, part_of};
+ghost use Rattle.urlpattern_generate.specs.Passing.{CompletesPassed, IsBegun, IsNoPrefix, IsRun, IsToCapture, KeepsPassed, PassesGroup, is_other, part_of};
 ghost use Rattle.urlpattern_links.specs.{CopySearch.AreSomeWith, CopySearch.IsCutAtFirst, Links.MayCapture, Links.text_of_group};
 ghost use Rattle.urlpattern_meaning.specs.PartMeaning.{IsWildcardText};
 ghost use Rattle.urlpattern_syntax.specs.{Options.OptionsView, Options.pathname_options};
@@ -31,8 +31,7 @@ pub(crate) struct Pass<'d> {
     pub(crate) left: &'d str,
     pub(crate) admits_asterisk: bool,
     pub(crate) number: usize,
-    names: Vec<&'d str>,
-    captures: Vec<Option<&'d str>>,
+    groups: Vec<(&'d str, Option<&'d str>)>,
     text: String,
 }
 
@@ -54,6 +53,7 @@ impl Writer<'_> {
     ///
     /// `None`: the pattern text has what is not passed over, a group is given what may not be canonical, or the component does not match
     /// the text with these groups. The error is that memory ran out.
+    #[inline(never)]
     pub(crate) fn passed_draft<R: RegExp>(
         &self,
         component: &Component<R>,
@@ -65,7 +65,7 @@ impl Writer<'_> {
         if !self.pass_all(&mut pass)? {
             return Ok(None);
         }
-        if self.is_found(&component.matcher, &pass.text, &pass.captures)? {
+        if self.is_found(&component.matcher, &pass.text, &pass.groups)? {
             return Ok(Some(pass.text));
         }
         Ok(None)
@@ -89,7 +89,7 @@ impl Writer<'_> {
             let Some(capture) = self.capture_of(&group) else {
                 return Ok(false);
             };
-            if !is_new(&pass.names, group.name) {
+            if !is_new(&pass.groups, group.name) {
                 return Ok(false);
             }
             pass.pass_group(&group, capture)?;
@@ -128,7 +128,7 @@ impl Writer<'_> {
 
     /// Whether a character is the prefix of a group with which the text after it begins.
     fn is_prefix(&self, first: char, after: &str) -> bool
-        ensures { result ≡ false → begins_with is_group_mark (chars after.now) ≡ true → bytes_eq (first ∷ []) (manner_of_writer self.now).options.prefix ≡ false }
+        ensures { result ≡ false → IsNoPrefix (manner_of_writer self.now).options.prefix first (chars after.now) }
     {
         if first != '/' {
             return false;
@@ -205,8 +205,7 @@ impl<'d> Pass<'d> {
             left: pattern,
             admits_asterisk: true,
             number: 0,
-            names: Vec::with_capacity(alloc, groups)?,
-            captures: Vec::with_capacity(alloc, groups)?,
+            groups: Vec::with_capacity(alloc, groups)?,
             text: String::with_capacity(alloc, pattern.len().saturating_add(ROOM))?,
         })
     }
@@ -217,8 +216,7 @@ impl<'d> Pass<'d> {
         ensures left { OnOk result (self.new.left.now ≡ group.now.rest.now) }
     {
         push_group(&mut self.text, group, capture)?;
-        self.captures.push(capture)?;
-        self.names.push(group.name)?;
+        self.groups.push((group.name, capture))?;
         self.left = group.rest;
         self.number = group.number;
         self.admits_asterisk = group.modifier != PartModifier::None;
@@ -310,8 +308,8 @@ fn split_segment(text: &str) -> Option<(&str, &str)>
 }
 
 /// Whether no group has this name.
-fn is_new(names: &[&str], name: &str) -> bool
-    ensures { result ≡ list_all (λ (other : Bor (List ℕ)). not (bytes_eq (chars other.now) (chars name.now))) names.now }
+fn is_new(groups: &[(&str, Option<&str>)], name: &str) -> bool
+    ensures { result ≡ list_all (is_other (chars name.now)) groups.now }
 {
-    names.iter().all(|other| !is_same_text(other, name))
+    groups.iter().all(|group| !is_same_text(group.0, name))
 }

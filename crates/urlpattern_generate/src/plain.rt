@@ -1,11 +1,11 @@
 //! Pattern texts that need no parser: plain texts, and an asterisk alone.
 
 ghost use Rattle.std.specs.List.{list_all};
-ghost use Rattle.std.specs.Prelude.{◌≡◌, ◌↔◌, [], codes, IfErr, IfOk, IfSome, IsTrue, unwrap_or};
+ghost use Rattle.std.specs.Prelude.{◌≡◌, ◌↔◌, [], codes, IfErr, IfOk, IfSome, IsTrue, false, unwrap_or};
 ghost use Rattle.std.specs.Str.{chars};
 ghost use Rattle.urlpattern_generate.specs.PlainPatterns.{IsOpen, is_plain_character};
 ghost use Rattle.urlpattern_generate.specs.Writers.{CannotWrite, Drafts, Writes, manner_of_writer};
-ghost use Rattle.urlpattern_syntax.specs.Text.{text_of};
+ghost use Rattle.urlpattern_syntax.specs.Text.{lacks, line_feed, text_of};
 
 use crate::error::GenerateError;
 use crate::groups::{given_text, is_same_text};
@@ -51,11 +51,10 @@ impl Writer<'_> {
             return Ok(None);
         }
         let given = self.given_alone();
-        if given.contains('\n') || !is_captured(&component.matcher, given, given) {
+        if has_line_feed(given) || !is_captured(&component.matcher, given, given) {
             return Ok(None);
         }
-        let mut text = String::new(self.alloc);
-        text.push_str(given)?;
+        let text = String::from_str(self.alloc, given)?;
         Ok(Some(text))
     }
 
@@ -93,6 +92,16 @@ impl Writer<'_> {
             None => "",
         }
     }
+}
+
+/// Whether a text has a line feed.
+fn has_line_feed(text: &str) -> bool
+    ensures { result ≡ false → IsTrue (lacks line_feed (chars text.now)) }
+{
+    if text.is_empty() {
+        return false;
+    }
+    text.contains('\n')
 }
 
 /// Whether each character of a pattern text is plain.

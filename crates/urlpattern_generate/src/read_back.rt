@@ -4,8 +4,8 @@ ghost use Rattle.std.specs.Prelude.{◌≡◌, ◌↔◌, ◌∷◌, [], Some, I
 ghost use Rattle.std.specs.Str.{chars};
 ghost use Rattle.urlpattern_core.specs.Matchers.{matcher_view};
 ghost use Rattle.urlpattern_meaning.specs.{CaptureTexts.captures_view, Matching.Answers};
-ghost use Rattle.urlpattern_generate.specs.Generating.{IsAnswered, TellsCanonical};
-ghost use Rattle.urlpattern_generate.specs.Writers.{manner_of_writer};
+ghost use Rattle.urlpattern_generate.specs.Generating.{IsAnswered, IsConfirmed, TellsCanonical};
+ghost use Rattle.urlpattern_generate.specs.{Passing.captures_of, Writers.manner_of_writer};
 ghost use Rattle.urlpattern_links.specs.Refused.{given_captures};
 ghost use Rattle.urlpattern_syntax.specs.Text.{option_text};
 
@@ -32,18 +32,34 @@ impl Writer<'_> {
         Ok(are_captures(&found, captures))
     }
 
-    /// Whether a matcher finds these captures in a text.
+    /// Whether a matcher finds in a text what groups capture.
     pub(crate) fn is_found<R: RegExp>(
         &self,
         matcher: &Matcher<R>,
         text: &str,
-        captures: &[Option<&str>],
+        groups: &[(&str, Option<&str>)],
     ) -> Result<bool, AllocError>
-        ensures { IfOk result (λ found. IsTrue found →
-            Answers R.answer (matcher_view matcher.now) (chars text.now) (Some (map option_text captures.now))) }
+        ensures { IfOk result (λ is. IsConfirmed is R.answer (matcher_view matcher.now) (chars text.now) (captures_of groups.now)) }
     {
-        match matcher.matches(self.alloc, text) {
-            Ok(Some(found)) => Ok(are_equal(&found, captures)),
+        match matcher.look(text) {
+            None => Ok(false),
+            Some(Look::Matched) => Ok(are_equal(&[], groups)),
+            Some(Look::Captured(captured)) => Ok(are_equal(&[Some(captured)], groups)),
+            Some(Look::Asks { engine, middle }) => self.is_answered(engine, middle, groups),
+        }
+    }
+
+    /// Whether an engine finds in a text what groups capture.
+    fn is_answered<R: RegExp>(
+        &self,
+        engine: &R,
+        text: &str,
+        groups: &[(&str, Option<&str>)],
+    ) -> Result<bool, AllocError>
+        ensures { IfOk result (λ is. IsTrue is → R.answer engine.now (chars text.now) ≡ Some (captures_of groups.now)) }
+    {
+        match engine.matches(self.alloc, text) {
+            Ok(Some(found)) => Ok(are_equal(&found, groups)),
             Ok(None) => Ok(false),
             Err(_) => Err(AllocError),
         }
@@ -114,15 +130,15 @@ fn is_same(capture: Option<&str>, other: Option<&str>) -> bool
     }
 }
 
-/// Whether two lists of captures that are lent are the same.
-fn are_equal(found: &[Option<&str>], captures: &[Option<&str>]) -> bool
-    ensures { IsTrue result ↔ (map option_text found.now ≡ map option_text captures.now) }
+/// Whether these are what groups capture.
+fn are_equal(found: &[Option<&str>], groups: &[(&str, Option<&str>)]) -> bool
+    ensures { IsTrue result ↔ (map option_text found.now ≡ captures_of groups.now) }
 {
-    if found.len() != captures.len() {
+    if found.len() != groups.len() {
         return false;
     }
     for i in 0..found.len() {
-        if !is_same(found[i], captures[i]) {
+        if !is_same(found[i], groups[i].1) {
             return false;
         }
     }

@@ -21,7 +21,6 @@ use urlpattern_syntax::parser::{Options, Part};
 #[derive(Drop)]
 pub(crate) struct Writer<'g> {
     pub(crate) alloc: Global,
-    pub(crate) canonicalizer: Canonicalizer,
     pub(crate) component: ComponentName,
     pub(crate) hierarchical: bool,
     pub(crate) is_ipv6: bool,
@@ -42,7 +41,6 @@ impl<'g> Writer<'g> {
     {
         Self {
             alloc,
-            canonicalizer: Canonicalizer::new(alloc),
             component,
             hierarchical,
             is_ipv6: begins_ipv6(pattern),
@@ -75,7 +73,17 @@ impl Writer<'_> {
         if self.keeps(text) {
             return Ok(String::from_str(self.alloc, text)?);
         }
-        let values = &self.canonicalizer;
+        self.canonical_by_url(text)
+    }
+
+    /// The canonical form of a value of the component, as `url` makes it.
+    ///
+    /// The error is the refusal of `url`, or that memory ran out.
+    #[inline(never)]
+    fn canonical_by_url(&self, text: &str) -> Result<String, Error>
+        ensures { IsAnswer ((manner_of_writer self.now).canonical (chars text.now)) (length text.now) result }
+    {
+        let values = Canonicalizer::new(self.alloc);
         match self.component {
             ComponentName::Protocol => values.protocol(text),
             ComponentName::Username => values.username(text),

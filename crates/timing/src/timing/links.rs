@@ -39,6 +39,38 @@ impl<'a> Timed for Text<'a> {
     }
 }
 
+/// Links what a pair captures so many times. Returns whether it captures something that is linked.
+pub fn repeat_pair(alloc: Global, pair: &Value, count: u64) -> Result<bool, Error> {
+    let Some(given) = pair.get("pattern") else {
+        return Ok(false);
+    };
+    let subject = Subject::<PatternRegexp>::new(alloc, given, pair)?;
+    let linked = match subject.pattern.captures(alloc, &subject.url)? {
+        Some(found) => {
+            let groups = found.to_groups(alloc)?;
+            repeat_link(alloc, &subject.pattern, &groups, count)
+        }
+        None => Ok(false),
+    };
+    drop(subject);
+    linked
+}
+
+/// Links these groups so many times. Returns whether there is a link.
+fn repeat_link(
+    alloc: Global,
+    pattern: &UrlPattern<PatternRegexp>,
+    groups: &[GivenGroup<'_>],
+    count: u64,
+) -> Result<bool, Error> {
+    let link = Link { pattern, groups };
+    let mut is_linked = true;
+    for _ in 0..count {
+        is_linked &= link.call(alloc)?;
+    }
+    Ok(is_linked)
+}
+
 /// Prints what the link of the pair of a line takes: its name, the link, and the parse of its text.
 pub fn time_line<R: AllocGlobal + Clock, O: Write>(
     rt: &R,

@@ -2,7 +2,6 @@ use Rattle.std.proofs.Common.{rules, ◌≡◌, ◌++◌, ◌∙◌, ap, codes}
 use Rattle.std.specs.Str.{chars}
 use Rattle.urlpattern_generate.proofs.Fronts.{named_is}
 use Rattle.urlpattern_generate.specs.Manners.{options_for}
-use Rattle.urlpattern_generate.specs.Passing.{IsOwnExpression}
 use Rattle.urlpattern_syntax.specs.Tokens.{IsName}
 use Rattle.urlpattern_generate.proofs.front.named_expression.Goals as goal
 
@@ -17,5 +16,5 @@ returns-clause-own c component hierarchical prefix suffix modifier =
     let is : IsName name = search rules in
     let begins : end ≡ codes "(" ++ body = search rules in
     let cut : body ≡ value ++ (codes ")" ++ rest) = search rules in
-    let own : IsOwnExpression (options_for component hierarchical) value = search (rules, c.in_ok-value.ensures.own) in
+    let own = c.in_ok-value.ensures.own component hierarchical in
     named_is (options_for component hierarchical) c.args.number name value prefix suffix body rest modifier own cut (chars c.args.text.now) (whole ∙ ap (λ x. codes ":" ++ (name ++ x)) begins) is

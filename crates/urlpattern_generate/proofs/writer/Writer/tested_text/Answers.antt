@@ -5,7 +5,7 @@ use Rattle.urlpattern_generate.proofs.GeneratingLemmas.{canonical_written, not_c
 use Rattle.urlpattern_generate.specs.Generating.{IsWrittenText}
 use Rattle.urlpattern_generate.specs.Writers.{manner_of_writer}
 use Rattle.urlpattern_syntax.specs.Text.{text_of}
-use Rattle.urlpattern_generate.proofs.writer.Writer.canonical_text.Goals as goal
+use Rattle.urlpattern_generate.proofs.writer.Writer.tested_text.Goals as goal
 
 pub returns-then-branch-clause-generated : goal.returns-then-branch-clause-generated
 returns-then-branch-clause-generated g c =
