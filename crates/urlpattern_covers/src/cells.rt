@@ -26,8 +26,7 @@ pub(crate) fn cells_of(
     options: &Options,
     part: &Part,
 ) -> Result<Vec<Cell>, AllocError>
-    ensures { IfOk result (λ cells.
-        cells.items ≡ reverse (cells_of (options_view options.now) (part_view part.now).kind (part_view part.now))) }
+    ensures { IfOk result (λ cells. cells.items ≡ reverse (cells_of (options_view options.now) part.now.kind (part_view part.now))) }
 {
     let mut cells = Vec::new(alloc);
     match part.kind {

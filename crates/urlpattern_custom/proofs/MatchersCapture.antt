@@ -1,21 +1,20 @@
 -- A matcher answers what its parts capture.
-use Rattle.std.proofs.Common.{◌≡◌, ◌↔◌, ℕ, ◌≤◌, List, [], ◌∷◌, ◌++◌, length, false, Option, Some, None, refl, sym, ap, ◌∙◌, subst, append_assoc, append-nil, true≢false}
+use Rattle.std.proofs.Common.{◌≡◌, ◌↔◌, ℕ, List, [], ◌∷◌, ◌++◌, false, Option, Some, None, refl, sym, ap, ◌∙◌, subst, append_assoc, append-nil, true≢false}
 use Rattle.std.proofs.lemmas.List.Elements.{All-head, All-tail}
-use Rattle.std.specs.Prelude.{◌≢◌, ◌&&◌, All, IsTrue, Ok, Err, option_to_list}
+use Rattle.std.specs.Prelude.{◌≢◌, ◌&&◌, All, IsTrue, Ok, option_to_list}
 use Rattle.std.specs.Str.{all_scalars}
 use Rattle.urlpattern_core.specs.Components.{IsEngineOf}
 use Rattle.urlpattern_core.specs.FirstWays.{Keeping, Taking}
 use Rattle.urlpattern_core.specs.declared.regexp.RegExp.{Ghosts as Engine}
 use Rattle.urlpattern_custom.proofs.Catching.{Then}
-use Rattle.urlpattern_custom.proofs.MatchersTaken.{all_plain, engine_taken, fast_plain, fast_taken, made_between, middle_all, middle_length, written}
+use Rattle.urlpattern_custom.proofs.MatchersTaken.{HasRoomForFewer, TookAsKept, all_plain, asked, engine_taken, fast_plain, fast_taken, matcher_asks, middle_all}
 use Rattle.urlpattern_custom.specs.LawsOfTexts.{IsCapturedByParts, IsSomeIfTaken, MatchersCapture, PartsCaptureMeanings, Room, ValuesCapture}
 use Rattle.urlpattern_custom.specs.PartCaptures.{PartCaptures, PartsCapture}
-use Rattle.urlpattern_custom.specs.PartTexts.{CapturesNothing, PartsTake, StandsAlone}
-use Rattle.urlpattern_meaning.proofs.MatcherMeaning.{HasEnds, ends_of, scalars_middle}
-use Rattle.urlpattern_meaning.proofs.MatchingLaws.{IsFast, fast_means, middle_kept, part_of}
+use Rattle.urlpattern_custom.specs.PartTexts.{CapturesNothing, PartsTake}
+use Rattle.urlpattern_meaning.proofs.MatcherMeaning.{HasEnds}
+use Rattle.urlpattern_meaning.proofs.MatchingLaws.{fast_means, part_of}
 use Rattle.urlpattern_meaning.proofs.PartTrees.{IsNotCustom}
-use Rattle.urlpattern_meaning.specs.FirstAnswers.{TookText}
-use Rattle.urlpattern_meaning.specs.Matching.{Accepts, Answers, ArePeeled, InnerView, IsRemoved, Literal, MatcherView, Matches, RegExp, SingleCapture, end_text}
+use Rattle.urlpattern_meaning.specs.Matching.{Answers, ArePeeled, IsRemoved, MatcherView, Matches, RegExp, end_text}
 use Rattle.urlpattern_meaning.specs.PartMeaning.{AreGenerated, Captures, PartMeans, PartsMean}
 use Rattle.urlpattern_syntax.specs.Options.{OptionsView}
 use Rattle.urlpattern_syntax.specs.Parts.{PartView}
@@ -23,7 +22,7 @@ use Rattle.urlpattern_syntax.specs.declared.parser.PartModifier.{PartModifier}
 use Rattle.urlpattern_syntax.specs.declared.parser.PartModifier.TheVariants as modifiers
 use Rattle.urlpattern_syntax.specs.declared.parser.PartType.{PartType}
 use Rattle.urlpattern_syntax.specs.declared.parser.PartType.TheVariants.{FixedText, Regexp, SegmentWildcard, FullWildcard}
-use Rattle.urlpattern_syntax.specs.RegexpText.{is_fixed_text, is_unmodified, regexp_text}
+use Rattle.urlpattern_syntax.specs.RegexpText.{is_fixed_text, is_unmodified}
 
 -- ---- what parts mean
 
@@ -112,12 +111,9 @@ peeled_captures options parts front middle back text inner captures peeled cut i
 engine_captured : {E : Type 0} (answer : E → List ℕ → Option Captures) (options : OptionsView) (parts : List PartView) (front : Option PartView) (middle : List PartView) (back : Option PartView) (matcher : MatcherView E) (engine : E) (text : List ℕ) (result : Option Captures) →
     ArePeeled parts front middle back → HasEnds options matcher (end_text front) (end_text back) → matcher.inner ≡ RegExp (Ok engine) → options.ignore_case ≡ false →
     ((t : List ℕ) → IsTrue (all_scalars t) → IsCapturedByParts options middle t (answer engine t)) → IsTrue (all_scalars text) → Answers answer matcher text result → IsCapturedByParts options parts text result
-engine_captured answer options parts front middle back matcher engine text (Some captures) peeled ends is case captured fine (inner, has_middle, accepts) =
-    let e = (middle_kept matcher text inner (ends.2 ∙ case)).0 has_middle in
-    let found : answer engine inner ≡ Some captures = subst (λ i. Accepts answer matcher.ignore_case i inner captures) is accepts in
-    let cut : text ≡ end_text front ++ inner ++ end_text back = e ∙ ap (λ t. t ++ inner ++ matcher.suffix) ends.0 ∙ ap (λ t. end_text front ++ inner ++ t) ends.1 in
-    let here : IsTrue (all_scalars inner) = scalars_middle (end_text front) inner (end_text back) (subst (λ t. IsTrue (all_scalars t)) cut fine) in
-    peeled_captures options parts front middle back text inner captures peeled cut (subst (λ result. IsCapturedByParts options middle inner result) found (captured inner here))
+engine_captured answer options parts front middle back matcher engine text (Some captures) peeled ends is case captured fine matches =
+    let of = asked answer options (end_text front) (end_text back) matcher engine ends is case text captures fine matches in
+    peeled_captures options parts front middle back text of.inner captures peeled of.cut (subst (λ result. IsCapturedByParts options middle of.inner result) of.found (captured of.inner of.scalars))
 engine_captured answer options parts front middle back matcher engine text None peeled ends is case captured fine never = λ takes.
     let taken = engine_taken answer options parts front middle back matcher engine text None peeled ends is case (λ t good. captured_taken options middle t (answer engine t) (captured t good)) fine never in
     true≢false (sym (taken.1 takes))
@@ -130,28 +126,13 @@ fast_captured answer options parts matcher text (Some captures) plain same match
 fast_captured answer options parts matcher text None plain same never = λ takes. true≢false (sym ((fast_taken answer options parts matcher text None plain same never).1 takes))
 
 -- where the engine took its text, and its values answer what the parts capture, so do the matchers
-pub matchers_capture : {E : Type 0} (engine : Engine E) (Keeps : Keeping) (Fits : Room) (Took : Taking E) → ValuesCapture engine Keeps Fits
-    → ((options : OptionsView) (parts middle : List PartView) → length (written options middle) ≤ length (written options parts) → Fits (regexp_text options parts) → Fits (regexp_text options middle))
-    → ((options : OptionsView) (flags : List ℕ) (inner : InnerView E) → options.ignore_case ≡ false → Took options flags inner → TookText (λ value. Keeps flags) inner)
+pub matchers_capture : {E : Type 0} (engine : Engine E) (Keeps : Keeping) (Fits : Room) (Took : Taking E) → ValuesCapture engine Keeps Fits → HasRoomForFewer Fits → TookAsKept Took Keeps
     → MatchersCapture engine Fits Took
-matchers_capture {E} engine Keeps Fits Took values shorter took options flags parts matcher made silent text result no_feed fine answers = by_inner matcher.inner refl (took options flags matcher.inner made.case_kept made.took)
-  where
-    fast : IsFast matcher.inner → IsCapturedByParts options parts text result
-    fast is =
-        let m = made.is_made in
-        fast_captured engine.answer options parts matcher text result (all_plain parts m.front m.middle m.back m.are_peeled (fast_plain (IsEngineOf engine false flags) options (end_text m.front) m.middle (end_text m.back) matcher m.is_made is))
-        (λ captures. fast_means engine.answer (IsEngineOf engine false flags) options parts matcher text captures m made.case_kept no_feed is) answers
-
-    by_inner : (inner : InnerView E) → matcher.inner ≡ inner → TookText (λ value. Keeps flags) inner → IsCapturedByParts options parts text result
-    by_inner (Literal literal) e keeps = fast (subst (λ i. IsFast i) (sym e) tt)
-    by_inner (SingleCapture filter allow_empty) e keeps = fast (subst (λ i. IsFast i) (sym e) tt)
-    by_inner (RegExp (Err error)) e keeps = absurd keeps
-    by_inner (RegExp (Ok value)) e keeps =
-        let m = made.is_made in
-        let is = made_between (IsEngineOf engine false flags) options (end_text m.front) m.middle (end_text m.back) matcher (Ok value) m.is_made e in
-        engine_captured engine.answer options parts m.front m.middle m.back matcher value text result m.are_peeled
-        (ends_of (IsEngineOf engine false flags) options (end_text m.front) m.middle (end_text m.back) matcher (Ok value) m.is_made e) e made.case_kept
-        (λ t good. values options flags m.middle value keeps (middle_all (λ part. StandsAlone part.kind part.value) parts m.front m.middle m.back m.are_peeled made.alone)
-        (middle_all (λ part. CapturesNothing part.kind part.value) parts m.front m.middle m.back m.are_peeled silent)
-        (shorter options parts m.middle (middle_length options parts m.front m.middle m.back m.are_peeled) made.fits) is t good)
-        fine answers
+matchers_capture engine Keeps Fits Took values shorter took options flags parts matcher made silent text result no_feed fine answers =
+    let m = made.is_made in
+    let silent_middle = middle_all (λ part. CapturesNothing part.kind part.value) parts m.front m.middle m.back m.are_peeled silent in
+    matcher_asks engine Keeps Fits Took shorter took options flags parts matcher made (IsCapturedByParts options parts text result)
+    (λ is. fast_captured engine.answer options parts matcher text result (all_plain parts m.front m.middle m.back m.are_peeled (fast_plain (IsEngineOf engine false flags) options (end_text m.front) m.middle (end_text m.back) matcher m.is_made is))
+    (λ captures. fast_means engine.answer (IsEngineOf engine false flags) options parts matcher text captures m made.case_kept no_feed is) answers)
+    (λ value e keeps ends of. engine_captured engine.answer options parts m.front m.middle m.back matcher value text result m.are_peeled ends e made.case_kept
+    (values options flags m.middle value keeps of.alone silent_middle of.fits of.is_made) fine answers)

@@ -12,8 +12,8 @@ use Rattle.urlpattern_custom.proofs.Denoting.{Joined, AreSameTexts, joined_same}
 use Rattle.urlpattern_custom.proofs.ItemsOf.{joined_assoc, nothing_joined, same_then, same_texts}
 use Rattle.urlpattern_custom.proofs.GroupItems.{one_copy}
 use Rattle.urlpattern_custom.proofs.TakenMeanings.{means_takes, parts_take_meanings}
-use Rattle.urlpattern_custom.specs.LawsOfTexts.{HasNumbers, IsSomeIfTaken, MatchersAnswerTaken, Room, ValuesAnswerTaken}
-use Rattle.urlpattern_custom.specs.PartTexts.{PartTakes, PartsTake, StandsAlone}
+use Rattle.urlpattern_custom.specs.LawsOfTexts.{HasNumbers, IsSomeIfTaken, IsTakenAlone, MatchersAnswerTaken, Room, ValuesAnswerTaken}
+use Rattle.urlpattern_custom.specs.PartTexts.{AllStandAlone, PartTakes, PartsTake, StandsAlone}
 use Rattle.urlpattern_meaning.proofs.MatcherMeaning.{HasEnds, ends_of, not_fast, scalars_middle}
 use Rattle.urlpattern_meaning.proofs.MatchingLaws.{IsFast, fast_means, middle_kept, part_of}
 use Rattle.urlpattern_meaning.proofs.PartTrees.{IsNotCustom}
@@ -86,23 +86,46 @@ peeled_takes options parts front middle back text peeled fine =
 
 -- ---- a matcher that asks an engine
 
+-- What an engine is asked of a text that a matcher matches: what is between the texts that are removed. It answers the captures of the match.
+pub record IsAsked {E : Type 0} (answer : E → List ℕ → Option Captures) (front back : List ℕ) (engine : E) (text : List ℕ) (captures : Captures) : Type 0 where
+  pub inner : List ℕ
+  pub cut : text ≡ front ++ inner ++ back
+  pub scalars : IsTrue (all_scalars inner)
+  pub found : answer engine inner ≡ Some captures
+
+module _ {E : Type 0} (answer : E → List ℕ → Option Captures) (options : OptionsView) (front back : List ℕ) (matcher : MatcherView E) (engine : E)
+    (ends : HasEnds options matcher front back) (is : matcher.inner ≡ RegExp (Ok engine)) (case : options.ignore_case ≡ false) (text : List ℕ) where
+  pub asked : (captures : Captures) → IsTrue (all_scalars text) → Matches answer matcher text captures → IsAsked answer front back engine text captures
+  asked captures scalars (inner, has_middle, accepts) =
+      let e = (middle_kept matcher text inner (ends.2 ∙ case)).0 has_middle in
+      let cut : text ≡ front ++ inner ++ back = e ∙ ap (λ t. t ++ inner ++ matcher.suffix) ends.0 ∙ ap (λ t. front ++ inner ++ t) ends.1 in
+      record {
+        inner = inner;
+        cut = cut;
+        scalars = scalars_middle front inner back (subst (λ t. IsTrue (all_scalars t)) cut scalars);
+        found = subst (λ i. Accepts answer matcher.ignore_case i inner captures) is accepts;
+      }
+
+  -- a text is matched with what the engine answers to what is between them
+  pub answered : (inner : List ℕ) (captures : Captures) → text ≡ front ++ inner ++ back → answer engine inner ≡ Some captures → Matches answer matcher text captures
+  answered inner captures cut found =
+      let whole : text ≡ matcher.prefix ++ inner ++ matcher.suffix = cut ∙ ap (λ t. t ++ inner ++ back) (sym ends.0) ∙ ap (λ t. matcher.prefix ++ inner ++ t) (sym ends.1) in
+      (inner, (middle_kept matcher text inner (ends.2 ∙ case)).1 whole, subst (λ i. Accepts answer matcher.ignore_case i inner captures) (sym is) found)
+
+-- an engine's captures, or None, are those of the parts where its own are those of the middle
 pub engine_taken : {E : Type 0} (answer : E → List ℕ → Option Captures) (options : OptionsView) (parts : List PartView) (front : Option PartView) (middle : List PartView) (back : Option PartView) (matcher : MatcherView E) (engine : E) (text : List ℕ) (result : Option Captures) →
     ArePeeled parts front middle back → HasEnds options matcher (end_text front) (end_text back) → matcher.inner ≡ RegExp (Ok engine) → options.ignore_case ≡ false →
     ((t : List ℕ) → IsTrue (all_scalars t) → IsSomeIfTaken options middle t (answer engine t)) → IsTrue (all_scalars text) → Answers answer matcher text result → IsSomeIfTaken options parts text result
-engine_taken answer options parts front middle back matcher engine text (Some captures) peeled ends is case taken fine (inner, has_middle, accepts) =
-    let e = (middle_kept matcher text inner (ends.2 ∙ case)).0 has_middle in
-    let found : answer engine inner ≡ Some captures = subst (λ i. Accepts answer matcher.ignore_case i inner captures) is accepts in
-    let cut : text ≡ end_text front ++ inner ++ end_text back = e ∙ ap (λ t. t ++ inner ++ matcher.suffix) ends.0 ∙ ap (λ t. end_text front ++ inner ++ t) ends.1 in
-    let here : IsTrue (all_scalars inner) = scalars_middle (end_text front) inner (end_text back) (subst (λ t. IsTrue (all_scalars t)) cut fine) in
-    (λ some. (peeled_takes options parts front middle back text peeled fine).1 (inner, cut, (taken inner here).0 (ap is_some found)), λ takes. refl)
+engine_taken answer options parts front middle back matcher engine text (Some captures) peeled ends is case taken fine matches =
+    let of = asked answer options (end_text front) (end_text back) matcher engine ends is case text captures fine matches in
+    (λ some. (peeled_takes options parts front middle back text peeled fine).1 (of.inner, of.cut, (taken of.inner of.scalars).0 (ap is_some of.found)), λ takes. refl)
 engine_taken answer options parts front middle back matcher engine text None peeled ends is case taken fine never = (
   λ some. absurd (true≢false (sym some)),
   λ takes.
       let cut = (peeled_takes options parts front middle back text peeled fine).0 takes in
       let here : IsTrue (all_scalars cut.0) = scalars_middle (end_text front) cut.0 (end_text back) (subst (λ t. IsTrue (all_scalars t)) cut.1 fine) in
-      let whole : text ≡ matcher.prefix ++ cut.0 ++ matcher.suffix = cut.1 ∙ ap (λ t. t ++ cut.0 ++ end_text back) (sym ends.0) ∙ ap (λ t. matcher.prefix ++ cut.0 ++ t) (sym ends.1) in
       let found = value_of_IsSome (answer engine cut.0) ((taken cut.0 here).1 cut.2) in
-      absurd (never found.0 (cut.0, (middle_kept matcher text cut.0 (ends.2 ∙ case)).1 whole, subst (λ i. Accepts answer matcher.ignore_case i cut.0 found.0) (sym is) found.1)),
+      absurd (never found.0 (answered answer options (end_text front) (end_text back) matcher engine ends is case text cut.0 found.0 cut.1 found.1)),
 )
 
 -- ---- a matcher that asks none
@@ -198,28 +221,50 @@ fast_taken answer options parts matcher text None plain same never = (
   λ takes. let means = (parts_take_meanings options parts text plain).0 takes in absurd (never means.0 ((same means.0).1 means.1)),
 )
 
--- where the engine took its text, and its values answer captures to what the parts take, so do the matchers
-pub matchers_taken : {E : Type 0} (engine : Engine E) (Keeps : Keeping) (Fits : Room) (Took : Taking E) → ValuesAnswerTaken engine Keeps Fits
-    → ((options : OptionsView) (parts middle : List PartView) → length (written options middle) ≤ length (written options parts) → Fits (regexp_text options parts) → Fits (regexp_text options middle))
-    → ((options : OptionsView) (flags : List ℕ) (inner : InnerView E) → options.ignore_case ≡ false → Took options flags inner → TookText (λ value. Keeps flags) inner)
-    → MatchersAnswerTaken engine Fits Took
-matchers_taken {E} engine Keeps Fits Took values shorter took options flags parts matcher made text result no_feed fine answers = by_inner matcher.inner refl (took options flags matcher.inner made.case_kept made.took)
-  where
-    fast : IsFast matcher.inner → IsSomeIfTaken options parts text result
-    fast is =
-        let m = made.is_made in
-        fast_taken engine.answer options parts matcher text result (all_plain parts m.front m.middle m.back m.are_peeled (fast_plain (IsEngineOf engine false flags) options (end_text m.front) m.middle (end_text m.back) matcher m.is_made is))
-        (λ captures. fast_means engine.answer (IsEngineOf engine false flags) options parts matcher text captures m made.case_kept no_feed is) answers
+-- what the engine has of the parts between the ends: its value was made of their text
+pub record IsOfMiddle {E : Type 0} (engine : Engine E) (Fits : (regexp : List ℕ) → Type 0) (options : OptionsView) (flags : List ℕ) (middle : List PartView) (value : E) : Type 0 where
+  pub alone : AllStandAlone middle
+  pub fits : Fits (regexp_text options middle)
+  pub is_made : engine.IsMade value (regexp_text options middle) flags
 
-    by_inner : (inner : InnerView E) → matcher.inner ≡ inner → TookText (λ value. Keeps flags) inner → IsSomeIfTaken options parts text result
+-- there is room for the expression of some parts where there is for that of more
+abbrev pub HasRoomForFewer : Room → Type 0
+HasRoomForFewer Fits =
+    (options : OptionsView) (parts middle : List PartView) → length (written options middle) ≤ length (written options parts) → Fits (regexp_text options parts) → Fits (regexp_text options middle)
+
+-- what an engine took, it took with flags that are kept
+abbrev pub TookAsKept : {E : Type 0} → Taking E → Keeping → Type 0
+TookAsKept {E} Took Keeps = (options : OptionsView) (flags : List ℕ) (inner : InnerView E) → options.ignore_case ≡ false → Took options flags inner → TookText (λ value. Keeps flags) inner
+
+-- a matcher asks no engine, or a value that was made of the text of the parts between the ends
+pub matcher_asks : {E : Type 0} (engine : Engine E) (Keeps : Keeping) (Fits : Room) (Took : Taking E) → HasRoomForFewer Fits → TookAsKept Took Keeps
+    → (options : OptionsView) (flags : List ℕ) (parts : List PartView) (matcher : MatcherView E) (made : IsTakenAlone engine Fits Took options flags parts matcher)
+    → (Is : Type 0) → (IsFast matcher.inner → Is)
+    → ((value : E) → matcher.inner ≡ RegExp (Ok value) → Keeps flags → HasEnds options matcher (end_text made.is_made.front) (end_text made.is_made.back)
+    → IsOfMiddle engine Fits options flags made.is_made.middle value → Is)
+    → Is
+matcher_asks {E} engine Keeps Fits Took shorter took options flags parts matcher made Is fast asks = by_inner matcher.inner refl (took options flags matcher.inner made.case_kept made.took)
+  where
+    by_inner : (inner : InnerView E) → matcher.inner ≡ inner → TookText (λ value. Keeps flags) inner → Is
     by_inner (Literal literal) e keeps = fast (subst (λ i. IsFast i) (sym e) tt)
     by_inner (SingleCapture filter allow_empty) e keeps = fast (subst (λ i. IsFast i) (sym e) tt)
     by_inner (RegExp (Err error)) e keeps = absurd keeps
     by_inner (RegExp (Ok value)) e keeps =
         let m = made.is_made in
-        let is = made_between (IsEngineOf engine false flags) options (end_text m.front) m.middle (end_text m.back) matcher (Ok value) m.is_made e in
-        engine_taken engine.answer options parts m.front m.middle m.back matcher value text result m.are_peeled
-        (ends_of (IsEngineOf engine false flags) options (end_text m.front) m.middle (end_text m.back) matcher (Ok value) m.is_made e) e made.case_kept
-        (λ t good. values options flags m.middle value keeps (middle_all (λ part. StandsAlone part.kind part.value) parts m.front m.middle m.back m.are_peeled made.alone)
-        (shorter options parts m.middle (middle_length options parts m.front m.middle m.back m.are_peeled) made.fits) is t good)
-        fine answers
+        asks value e keeps (ends_of (IsEngineOf engine false flags) options (end_text m.front) m.middle (end_text m.back) matcher (Ok value) m.is_made e)
+        (record {
+          alone = middle_all (λ part. StandsAlone part.kind part.value) parts m.front m.middle m.back m.are_peeled made.alone;
+          fits = shorter options parts m.middle (middle_length options parts m.front m.middle m.back m.are_peeled) made.fits;
+          is_made = made_between (IsEngineOf engine false flags) options (end_text m.front) m.middle (end_text m.back) matcher (Ok value) m.is_made e;
+        })
+
+-- where the engine took its text, and its values answer captures to what the parts take, so do the matchers
+pub matchers_taken : {E : Type 0} (engine : Engine E) (Keeps : Keeping) (Fits : Room) (Took : Taking E) → ValuesAnswerTaken engine Keeps Fits → HasRoomForFewer Fits → TookAsKept Took Keeps
+    → MatchersAnswerTaken engine Fits Took
+matchers_taken engine Keeps Fits Took values shorter took options flags parts matcher made text result no_feed fine answers =
+    let m = made.is_made in
+    matcher_asks engine Keeps Fits Took shorter took options flags parts matcher made (IsSomeIfTaken options parts text result)
+    (λ is. fast_taken engine.answer options parts matcher text result (all_plain parts m.front m.middle m.back m.are_peeled (fast_plain (IsEngineOf engine false flags) options (end_text m.front) m.middle (end_text m.back) matcher m.is_made is))
+    (λ captures. fast_means engine.answer (IsEngineOf engine false flags) options parts matcher text captures m made.case_kept no_feed is) answers)
+    (λ value e keeps ends of. engine_taken engine.answer options parts m.front m.middle m.back matcher value text result m.are_peeled ends e made.case_kept
+    (values options flags m.middle value keeps of.alone of.fits of.is_made) fine answers)

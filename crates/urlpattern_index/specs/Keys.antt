@@ -85,3 +85,7 @@ abbrev pub form_key : FormView → Hashes → ℕ
 form_key form hashes =
     let hosts = mixed (if form.has_protocol then hashes.protocol else 0) (if form.has_hostname then hashes.hostname else 0) in
     mixed (mixed_segments hosts form.segments hashes.segments) (if form.is_whole then 1 else 0)
+
+-- the address fits the form, and has this key by it
+abbrev pub IsKeyBy : FormView → Hashes → (key : ℕ) → Type 0
+IsKeyBy form hashes key = Fits form hashes × (key ≡ form_key form hashes)

@@ -78,6 +78,10 @@ abbrev pub FindsBy : (forms : List FormView) → (keys : List ℕ) → Hashes �
 FindsBy forms keys hashes number =
     (form : FormView) × Contains forms form × Fits form hashes × (slice_get keys number ≡ Some (form_key form hashes))
 
+-- the pattern of this number, not below another, is found by one of the forms
+abbrev pub FindsByFrom : (forms : List FormView) → (keys : List ℕ) → Hashes → (from number : ℕ) → Type 0
+FindsByFrom forms keys hashes from number = (from ≤ number) × FindsBy forms keys hashes number
+
 -- the pattern of this number, not below another, is found by the form
 abbrev pub FindsFrom : FormView → (keys : List ℕ) → Hashes → (from number : ℕ) → Type 0
 FindsFrom form keys hashes from number = (from ≤ number) × Fits form hashes × (slice_get keys number ≡ Some (form_key form hashes))

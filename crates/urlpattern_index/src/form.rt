@@ -2,7 +2,7 @@
 ghost use Rattle.arrayvec.specs.ArrayVec.{array_vec_len};
 ghost use Rattle.std.specs.Prelude.{◌≡◌, ◌≤◌, ◌<◌, ◌↔◌, IsTrue, IfNone, IfSome, chars, option_map, length, if◌then◌else◌};
 ghost use Rattle.urlpattern_index.specs.FixedTexts.{fixed_texts, FixedTexts};
-ghost use Rattle.urlpattern_index.specs.Keys.{AreEnough, Fits, form_key, form_view, group_of_form, hashes_view, option_hash};
+ghost use Rattle.urlpattern_index.specs.Keys.{AreEnough, Fits, IsKeyBy, form_key, form_view, group_of_form, hashes_view, option_hash};
 ghost use Rattle.urlpattern_index.specs.Segments.{IsPlaceFor};
 
 use crate::address::AddressHashes;
@@ -43,7 +43,7 @@ pub(crate) struct Place {
 impl Form {
     /// The key of an address. `None`: its path has too few segments, or too many.
     pub(crate) fn key(&self, hashes: &AddressHashes) -> Option<u64>
-        ensures some { IfSome result (λ key. Fits (form_view self.now) (hashes_view hashes.now) × (key ≡ form_key (form_view self.now) (hashes_view hashes.now))) }
+        ensures some { IfSome result (IsKeyBy (form_view self.now) (hashes_view hashes.now)) }
         ensures none { IfNone result (¬ Fits (form_view self.now) (hashes_view hashes.now)) }
     {
         if self.fits(hashes.segments.len()) {

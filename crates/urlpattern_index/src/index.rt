@@ -4,7 +4,7 @@ ghost use Rattle.std.specs.List.{remove};
 ghost use Rattle.std.specs.Prelude.{◌≡◌, ◌≤◌, ◌<◌, ◌++◌, ◌∷◌, [], if◌then◌else◌, Some, length, map, replicate, vec_capacity, vec_len, IsTrue, Contains, OnErr, OnOk};
 ghost use Rattle.urlpattern_index.specs.FixedTexts.{fixed_texts};
 ghost use Rattle.urlpattern_index.specs.Keys.{form_view, group, group_of_form, hashes_view};
-ghost use Rattle.urlpattern_index.specs.Listed.{Finds, FindsBy, FindsFrom, GetsPattern, IsFirstFrom, IsLeast, lesser, lowered, without};
+ghost use Rattle.urlpattern_index.specs.Listed.{Finds, FindsByFrom, FindsFrom, GetsPattern, IsFirstFrom, IsLeast, lesser};
 ghost use Rattle.urlpattern_index.specs.Segments.{IsPlaceFor};
 
 use crate::address::AddressHashes;
@@ -101,7 +101,7 @@ impl Index {
 
     /// The same of the patterns that are listed by some forms.
     fn first_by_forms(&self, forms: &[Form], hashes: &AddressHashes, from: usize) -> Option<usize>
-        ensures { IsLeast (λ number. (from ≤ number) × FindsBy (map (λ form. form_view form) forms.now) self.now.keys (hashes_view hashes.now) number) result }
+        ensures { IsLeast (FindsByFrom (map (λ form. form_view form) forms.now) self.now.keys (hashes_view hashes.now) from) result }
     {
         let mut least = None;
         for form in forms {

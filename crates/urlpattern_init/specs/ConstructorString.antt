@@ -3,6 +3,8 @@ use Rattle.std.specs.Prelude.{◌≡◌, ℕ, ◌*◌, ◌≤◌, ◌⊎◌, Boo
 use Rattle.url.specs.declared.Url.{Url}
 use Rattle.urlpattern_init.specs.SpecialProtocol.{RefusesProtocol}
 use Rattle.urlpattern_split.specs.Split.{HasProtocol, IsSplit, LacksProtocol}
+use Rattle.urlpattern_split.specs.Splitting.{split_values, text_of_source, tokens_of}
+use Rattle.urlpattern_split.specs.declared.{components.Split.Split, tokens.Source.Source}
 use Rattle.urlpattern_init.specs.declared.init.UrlPatternInit.{UrlPatternInit}
 use Rattle.urlpattern_eight.specs.Eight.{Values}
 use Rattle.urlpattern_syntax.specs.Errors.{ErrorView}
@@ -12,6 +14,10 @@ use Rattle.urlpattern_syntax.specs.Tokens.{AreLenientTokens, TokenView}
 abbrev pub SplitsInto : (IsSpecial : List ℕ → Bool → Type 0) → (text : List ℕ) → Values → Type 0
 SplitsInto IsSpecial text components =
     (tokens : List TokenView) × AreLenientTokens text tokens × IsSplit IsSpecial text tokens components
+
+-- so the text of a source is, by the tokens that the source has
+abbrev pub IsSplitOf : (IsSpecial : List ℕ → Bool → Type 0) → Source → Split → Type 0
+IsSplitOf IsSpecial source split = IsSplit IsSpecial (text_of_source source) (tokens_of source) (split_values split)
 
 -- The text is split into these components where its protocol, if it has one, is given this answer.
 abbrev pub SplitsAs : (text : List ℕ) → (special : Bool) → Values → Type 0

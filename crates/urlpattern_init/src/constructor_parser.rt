@@ -4,12 +4,12 @@
 
 ghost use Rattle.std.specs.Prelude.{◌≡◌, IfErr, IfOk, IfSome, ◌*◌, ◌≤◌, length};
 ghost use Rattle.std.specs.Str.{chars};
-ghost use Rattle.urlpattern_init.specs.ConstructorString.{AreFewTurns, HasProtocolOrBase, RefusesString, SplitsInto};
+ghost use Rattle.urlpattern_init.specs.ConstructorString.{AreFewTurns, HasProtocolOrBase, IsSplitOf, RefusesString, SplitsInto};
 ghost use Rattle.urlpattern_eight.specs.Eight.{at};
 ghost use Rattle.urlpattern_init.specs.Inheritance.{values_view};
 ghost use Rattle.urlpattern_init.specs.SpecialProtocol.{IsSpecialTo, RefusesProtocol};
-ghost use Rattle.urlpattern_split.specs.Split.{HasProtocol, IsSplit};
-ghost use Rattle.urlpattern_split.specs.Splitting.{IsOwned, IsSource, split_values, text_of_source, tokens_of};
+ghost use Rattle.urlpattern_split.specs.Split.{HasProtocol};
+ghost use Rattle.urlpattern_split.specs.Splitting.{IsOwned, IsSource, split_values, text_of_source};
 ghost use Rattle.urlpattern_syntax.specs.Errors.{MemoryOr, OnlyOutOfMemory};
 ghost use Rattle.urlpattern_syntax.specs.Text.{option_text};
 
@@ -102,7 +102,7 @@ pub fn protocol_of(alloc: Global, pattern: &str) -> Result<Option<&str>, Error>
 /// The error is that of the protocol's pattern, or that memory ran out.
 fn split<'a, R: RegExp>(alloc: Global, source: &Source<'_, 'a>) -> Result<Split<'a>, Error>
     requires { IsSource source.now }
-    ensures split { IfOk result (λ split. IsSplit (IsSpecialTo R.RegExp) (text_of_source source.now) (tokens_of source.now) (split_values split)) }
+    ensures split { IfOk result (IsSplitOf (IsSpecialTo R.RegExp) source.now) }
     ensures turns { IfOk result (λ split. split.turns ≤ 2 * length source.now.tokens.now) }
     ensures refused { IfErr result (MemoryOr (λ error. HasProtocol (text_of_source source.now) (λ protocol. RefusesProtocol protocol error))) }
 {

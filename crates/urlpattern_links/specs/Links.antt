@@ -25,6 +25,10 @@ abbrev pub IsOfCopies : (Is : List ℕ → Type 0) → PartView → Option (List
 IsOfCopies Is part None = ⊥
 IsOfCopies Is part (Some text) = (n : ℕ) × Allows part.modifier (suc n) × AreTextsWith Is (part.suffix ++ part.prefix) n text
 
+-- copies of the group may capture this
+abbrev pub CopiesMayCapture : OptionsView → PartView → Option (List ℕ) → Type 0
+CopiesMayCapture options part capture = IsOfCopies (IsCopyText options part.kind) part capture
+
 -- the group may capture this
 abbrev pub MayCapture : OptionsView → PartView → Option (List ℕ) → Type 0
 MayCapture options part capture = IsOfNoCopies part capture ⊎ IsOfCopies (IsCopyText options part.kind) part capture
@@ -42,6 +46,10 @@ abbrev pub OfFirst : (Is : PartView → Option (List ℕ) → Type 0) → PartTy
 OfFirst Is PartType.FixedText part captures = Unit {0}
 OfFirst Is kind part [] = ⊥
 OfFirst Is kind part (capture ∷ captures) = Is part capture
+
+-- the part may capture the first of these, if it is a group
+abbrev pub MayCaptureFirst : OptionsView → PartView → Captures → Type 0
+MayCaptureFirst options part captures = OfFirst (MayCapture options) part.kind part captures
 
 -- this is said of each group of the parts and its capture, and there are no other captures
 abbrev pub OfEachGroup : (Is : PartView → Option (List ℕ) → Type 0) → List PartView → Captures → Type 0
@@ -70,6 +78,10 @@ abbrev pub text_of_part : PartType → PartView → Captures → List ℕ
 text_of_part PartType.FixedText part captures = fewest_copies part.modifier part.value
 text_of_part kind part [] = []
 text_of_part kind part (capture ∷ captures) = text_of_group part capture
+
+-- a part, where a group has the first of these captures
+abbrev pub text_of_first : PartView → Captures → List ℕ
+text_of_first part captures = text_of_part part.kind part captures
 
 -- parts whose groups have these captures
 abbrev pub text_of_parts : List PartView → Captures → List ℕ

@@ -3,7 +3,7 @@
 ghost use Rattle.std.specs.Prelude.{◌≡◌, ◌↔◌, ◌≤◌, ◌++◌, ◌&&◌, List, length, IfNone, IfOk, IfSome, IsTrue, None, Some, ℕ};
 ghost use Rattle.std.specs.Str.{chars};
 ghost use Rattle.urlpattern_links.specs.CopySearch.{Allowed, AreSomeWith, IsCutAtFirst};
-ghost use Rattle.urlpattern_links.specs.Links.{IsCopyText, IsOfCopies, IsOfNoCopies, MayCapture};
+ghost use Rattle.urlpattern_links.specs.Links.{CopiesMayCapture, IsOfCopies, IsOfNoCopies, MayCapture};
 ghost use Rattle.urlpattern_meaning.specs.Matching.{MayBeEmpty};
 ghost use Rattle.urlpattern_syntax.specs.{Options.options_view, Parts.part_view, RegexpText.is_empty, Text.lacks, Text.text_of};
 
@@ -59,7 +59,7 @@ fn is_of_copies(
     part: &Part,
     text: &str,
 ) -> Result<bool, AllocError>
-    ensures { IfOk result (λ are. IsTrue are ↔ IsOfCopies (IsCopyText (options_view options.now) part.now.kind) (part_view part.now) (Some (chars text.now))) }
+    ensures { IfOk result (λ are. IsTrue are ↔ CopiesMayCapture (options_view options.now) (part_view part.now) (Some (chars text.now))) }
 {
     match part.kind {
         PartType::FixedText => Ok(false),

@@ -2,8 +2,8 @@
 
 ghost use Rattle.std.specs.Prelude.{◌≡◌, ◌++◌, length, IfErr, IfOk, OnOk};
 ghost use Rattle.std.specs.Str.{chars};
-ghost use Rattle.urlpattern_links.specs.Links.{MayCapture, MayCaptureAll, OfFirst, RefusesCapture, RefusesFirst, RefusesGroup, captures_after, fewest_copies, text_of_group, text_of_part, text_of_parts};
-ghost use Rattle.urlpattern_links.specs.Refused.{MayNeedOne, ReportsCapture, given_captures};
+ghost use Rattle.urlpattern_links.specs.Links.{MayCapture, MayCaptureAll, MayCaptureFirst, RefusesCapture, RefusesGroup, captures_after, fewest_copies, text_of_first, text_of_group, text_of_parts};
+ghost use Rattle.urlpattern_links.specs.Refused.{GetsText, MayNeedOne, ReportsCapture, ReportsFirst, given_captures};
 ghost use Rattle.urlpattern_syntax.specs.{Options.options_view, Parts.part_view, Parts.parts_view, RegexpText.group_names, Text.option_text, Text.text_of};
 
 use crate::error::LinkError;
@@ -50,10 +50,10 @@ fn push_part<'c>(
     captures: &'c [Option<String>],
 ) -> Result<&'c [Option<String>], LinkError>
     requires { MayNeedOne part.now.kind (length captures.now) }
-    ensures written { OnOk result (text_of text.new ≡ text_of text.old ++ text_of_part part.now.kind (part_view part.now) (given_captures captures.entry.now)) }
+    ensures written { OnOk result (GetsText text.old text.new (text_of_first (part_view part.now) (given_captures captures.entry.now))) }
     ensures left { IfOk result (λ left. given_captures left.now ≡ captures_after part.now.kind (given_captures captures.entry.now)) }
-    ensures may { OnOk result (OfFirst (MayCapture (options_view options.now)) part.now.kind (part_view part.now) (given_captures captures.entry.now)) }
-    ensures refused { IfErr result (ReportsCapture (RefusesFirst (options_view options.now) part.now.kind (part_view part.now) (given_captures captures.entry.now))) }
+    ensures may { OnOk result (MayCaptureFirst (options_view options.now) (part_view part.now) (given_captures captures.entry.now)) }
+    ensures refused { IfErr result (ReportsFirst (options_view options.now) (part_view part.now) (given_captures captures.entry.now)) }
 {
     if part.kind == PartType::FixedText {
         push_fixed(text, part)?;
@@ -70,7 +70,7 @@ fn push_part<'c>(
 
 /// Appends a fixed text, in as few copies as its modifier allows.
 fn push_fixed(text: &mut String, part: &Part) -> Result<(), AllocError>
-    ensures { OnOk result (text_of text.new ≡ text_of text.old ++ fewest_copies part.now.modifier (text_of part.now.value)) }
+    ensures { OnOk result (GetsText text.old text.new (fewest_copies part.now.modifier (text_of part.now.value))) }
 {
     match part.modifier {
         PartModifier::None | PartModifier::OneOrMore => {
@@ -88,7 +88,7 @@ fn push_group(
     part: &Part,
     capture: Option<&str>,
 ) -> Result<(), LinkError>
-    ensures written { OnOk result (text_of text.new ≡ text_of text.old ++ text_of_group (part_view part.now) (option_text capture.entry)) }
+    ensures written { OnOk result (GetsText text.old text.new (text_of_group (part_view part.now) (option_text capture.entry))) }
     ensures may { OnOk result (MayCapture (options_view options.now) (part_view part.now) (option_text capture.entry)) }
     ensures refused { IfErr result (ReportsCapture (RefusesGroup (options_view options.now) (part_view part.now) (option_text capture.entry))) }
 {
@@ -107,7 +107,7 @@ fn push_group(
 
 /// Appends a text between the prefix and the suffix of a part.
 fn push_between(text: &mut String, part: &Part, between: &str) -> Result<(), AllocError>
-    ensures { OnOk result (text_of text.new ≡ text_of text.old ++ (text_of part.now.prefix ++ chars between.now ++ text_of part.now.suffix)) }
+    ensures { OnOk result (GetsText text.old text.new (text_of part.now.prefix ++ chars between.now ++ text_of part.now.suffix)) }
 {
     text.push_str(&part.prefix)?;
     text.push_str(between)?;

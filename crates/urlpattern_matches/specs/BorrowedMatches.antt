@@ -1,5 +1,5 @@
 -- A match that is borrowed from the pattern and from what it matches, as a result.
-use Rattle.std.specs.Prelude.{ℕ, List, ◌++◌, map, zip, IfOk, IfSome, Option, Result, String, option_map, string_eq}
+use Rattle.std.specs.Prelude.{◌≡◌, ℕ, List, ◌++◌, map, zip, IfOk, IfSome, Option, Result, String, option_map, string_eq}
 use Rattle.std.specs.{Borrow.Bor, HashMap.HashMap, HashMap.IsUnique, List.filter_map, List.flat_map, Slice.Iter.iter_rest, Str.chars}
 use Rattle.std.specs.declared.alloc.Global.{Global}
 use Rattle.urlpattern_eight.specs.declared.eight.ComponentName.{ComponentName}
@@ -64,6 +64,10 @@ texts_captured groups = filter_map text_captured groups
 
 abbrev pub lent_group : ComponentName × Bor (List ℕ) × Bor (List ℕ) → GroupText
 lent_group group = (group.0, chars group.1.now, chars group.2.now)
+
+-- groups of a component get those of these that took part
+abbrev pub GetTaken : (old new : List (ComponentName × Bor (List ℕ) × Bor (List ℕ))) → ComponentName → List (List ℕ × Option (List ℕ)) → Type 0
+GetTaken old new component groups = map lent_group new ≡ map lent_group old ++ texts_captured (named_groups component groups)
 
 -- ---- the groups of a result
 

@@ -2,9 +2,9 @@
 ghost use Rattle.std.specs.Cmp.Lexicographic.{slice_cmp};
 ghost use Rattle.std.specs.HashMap.{IsUnique, get_by_text, keys};
 ghost use Rattle.std.specs.Ordering.{nat_cmp};
-ghost use Rattle.std.specs.Prelude.{◌≡◌, ◌++◌, map, option_copied, string_bytes, string_eq, IfOk, IsPermutation, IsSorted, OnOk};
+ghost use Rattle.std.specs.Prelude.{◌≡◌, map, option_copied, string_bytes, string_eq, IfOk, IsPermutation, IsSorted, OnOk};
 ghost use Rattle.std.specs.Str.{chars};
-ghost use Rattle.urlpattern_matches.specs.BorrowedMatches.{all_listed_groups, lent_group, listed_groups, named_groups, texts_captured, HasDistinctGroups};
+ghost use Rattle.urlpattern_matches.specs.BorrowedMatches.{all_listed_groups, lent_group, listed_groups, texts_captured, GetTaken, HasDistinctGroups};
 ghost use Rattle.urlpattern_matches.specs.GroupTexts.{captured_bytes, lent_bytes, texts_of, AreGroups, HasNoGroups, IsWithoutGroups};
 ghost use Rattle.urlpattern_matches.specs.ResultViews.{captured_text, component_result_view, result_view, results_of, IsCopy};
 ghost use Rattle.urlpattern_eight.specs.Eight.{at, components};
@@ -208,7 +208,7 @@ fn add_taken<'r>(
     component: ComponentName,
     groups: &'r Groups,
 ) -> Result<(), AllocError>
-    ensures added { OnOk result (map lent_group taken.new.items ≡ map lent_group taken.old.items ++ texts_captured (named_groups component (listed_groups groups.now))) }
+    ensures added { OnOk result (GetTaken taken.old.items taken.new.items component (listed_groups groups.now)) }
     ensures differ { OnOk result (IsUnique string_eq groups.now) }
 {
     for (name, capture) in groups {

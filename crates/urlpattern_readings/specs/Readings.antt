@@ -43,6 +43,10 @@ pub record IsReadBeside {E : Type 0} (manner : Manner) (compiled : ComponentView
 abbrev pub IsReadFor : {E : Type 0} → Manner → ComponentView E → Result ComponentParts Error → Type 0
 IsReadFor manner compiled result = IfOk result (IsReadBeside manner compiled)
 
+-- the parts of each component of a pattern are read so, in its manner
+abbrev pub AreReadBeside : {E : Type 0} → (manners : ComponentName → Manner) → PatternView E → PatternParts → Type 0
+AreReadBeside manners pattern parts = (name : ComponentName) → IsReadBeside (manners name) (pattern name) (at parts.components name)
+
 -- The parts of each component are read of these values, which were compiled to this pattern.
 pub record AreReadByValues {E : Type 0} (answer : E → List ℕ → Option Captures) (asked : UrlPatternOptions) (values : Values) (pattern : PatternView E) (parts : PatternParts) : Type 0 where
   pub hierarchical : Bool

@@ -10,9 +10,7 @@ ghost use Rattle.urlpattern_init.specs.Inheritance.{values_view};
 ghost use Rattle.urlpattern_pattern.specs.ByText.{AnswersByItsText};
 ghost use Rattle.urlpattern_create.specs.CompilerSteps.{manner_by};
 ghost use Rattle.urlpattern_pattern.specs.Patterns.{pattern_view};
-ghost use Rattle.urlpattern_readings.specs.Readings.{AreItsParts, AreMadeOf, AreReadByValues, IsAccepted, IsReadBeside, IsReadFor};
-ghost use Rattle.urlpattern_eight.specs.Eight.{at};
-ghost use Rattle.urlpattern_eight.specs.declared.eight.ComponentName.{ComponentName};
+ghost use Rattle.urlpattern_readings.specs.Readings.{AreItsParts, AreMadeOf, AreReadBeside, AreReadByValues, IsAccepted, IsReadFor};
 
 use std::alloc::Global;
 use urlpattern_canonical::canonicalize_and_process::Canonicalizer;
@@ -75,7 +73,7 @@ fn read_each<R: RegExp>(
     pattern: &UrlPattern<R>,
     hierarchical: bool,
 ) -> Result<PatternParts, Error>
-    ensures { IfOk result (λ parts. (name : ComponentName) → IsReadBeside (manner_by compiler.now hierarchical name) (pattern_view pattern.now name) (at parts.components name)) }
+    ensures { IfOk result (AreReadBeside (manner_by compiler.now hierarchical) (pattern_view pattern.now)) }
 {
     let value = |name: ComponentName| -> Result<ComponentParts, Error>
         ensures { IsReadFor (manner_by compiler.entry.now hierarchical name) (pattern_view pattern.entry.now name) result }

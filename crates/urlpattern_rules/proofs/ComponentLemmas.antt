@@ -1,11 +1,8 @@
 -- What is known of one component.
-use Rattle.std.proofs.Common.{◌≡◌, ◌≢◌, ◌∙◌, ℕ, Bool, true, false, List, [], ◌∷◌, ◌++◌, ◌⊎◌, inl, inr, refl, sym, subst, ap, append-nil, Option, Some, None, Result, Ok, Err, IfOk}
+use Rattle.std.proofs.Common.{◌≡◌, ℕ, List, [], ◌∷◌, ◌++◌, inl, inr, refl, sym, subst, append-nil, Some, Result, Ok, Err, IfOk}
 use Rattle.std.specs.declared.alloc.{AllocError.AllocError}
-use Rattle.std.specs.List.{list_any}
-use Rattle.std.specs.Prelude.{◌||◌, IsTrue}
-use Rattle.std.specs.Str.{all_scalars}
-use Rattle.std.proofs.lemmas.List.Elements.{All-cons, All-head, All-nil, All-tail}
-use Rattle.urlpattern_covers.specs.Answers.{IsCovering, IsOverlap, IsReason, IsTooMuch, is_custom_kind, is_custom_part}
+use Rattle.std.specs.Prelude.{IsTrue}
+use Rattle.urlpattern_covers.specs.Answers.{IsCovering, IsOverlap, IsReason, IsTooMuch}
 use Rattle.urlpattern_covers.specs.Meaning.{MeansText}
 use Rattle.urlpattern_covers.specs.declared.parts.Covering.{Covering}
 use Rattle.urlpattern_covers.specs.declared.parts.Covering.TheVariants as coverings
@@ -13,38 +10,9 @@ use Rattle.urlpattern_covers.specs.declared.parts.Overlap.{Overlap}
 use Rattle.urlpattern_covers.specs.declared.parts.Overlap.TheVariants as overlaps
 use Rattle.urlpattern_covers.specs.declared.parts.Reason.{Reason}
 use Rattle.urlpattern_covers.specs.declared.parts.Reason.TheVariants as reasons
-use Rattle.urlpattern_meaning.specs.PartMeaning.{AreGenerated}
-use Rattle.urlpattern_rules.specs.Comparing.{AreApart, AreSame, IsComponentCovering, IsComponentOverlap, IsExample, IsKnown, IsMeantBy, IsOnlyIn, IsReasonAlone, IsReasonFor, IsUnknownBy, MeansAllOf, MeansIn, TakesEachLine, TakesNoLine, anything_part}
+use Rattle.urlpattern_rules.specs.Comparing.{AreSame, IsComponentCovering, IsComponentOverlap, IsExample, IsKnown, IsReasonAlone, IsReasonFor, IsUnknownBy, TakesEachLine, anything_part}
 use Rattle.urlpattern_rules.specs.declared.component.ComponentParts.{ComponentParts}
-use Rattle.urlpattern_syntax.specs.declared.parser.{Part.Part, PartType.PartType}
-use Rattle.urlpattern_syntax.specs.{Options.OptionsView, Options.default_options, Options.options_view, Parts.PartView, Parts.part_view, Parts.parts_view, Text.lacks, Text.line_feed}
-
--- ---- custom regular expressions
-
-kind_other : (kind : PartType) → is_custom_kind kind ≡ false → kind ≢ PartType.Regexp
-kind_other kind e same = let custom : is_custom_kind kind ≡ true = ap is_custom_kind same in absurd cc
-
-kind_custom : (kind : PartType) → is_custom_kind kind ≡ true → kind ≡ PartType.Regexp
-kind_custom PartType.Regexp e = refl
-kind_custom PartType.FixedText e = absurd cc
-kind_custom PartType.SegmentWildcard e = absurd cc
-kind_custom PartType.FullWildcard e = absurd cc
-
-generated_cases : (part : Part) (parts : List Part) (b : Bool) → is_custom_part part ≡ b → (b || list_any is_custom_part parts) ≡ false → (list_any is_custom_part parts ≡ false → AreGenerated (parts_view parts)) → AreGenerated (parts_view (part ∷ parts))
-generated_cases part parts true e none later = absurd cc
-generated_cases part parts false e none later = All-cons (λ (it : PartView). it.kind ≢ PartType.Regexp) (part_view part) (parts_view parts) (kind_other part.kind e) (later none)
-
-pub generated : (parts : List Part) → list_any is_custom_part parts ≡ false → AreGenerated (parts_view parts)
-generated [] none = All-nil (λ (it : PartView). it.kind ≢ PartType.Regexp)
-generated (part ∷ parts) none = generated_cases part parts (is_custom_part part) refl none (generated parts)
-
-custom_cases : (part : Part) (parts : List Part) (b : Bool) → is_custom_part part ≡ b → (b || list_any is_custom_part parts) ≡ true → (list_any is_custom_part parts ≡ true → ¬ AreGenerated (parts_view parts)) → ¬ AreGenerated (parts_view (part ∷ parts))
-custom_cases part parts true e some later are = All-head (λ (it : PartView). it.kind ≢ PartType.Regexp) (part_view part) (parts_view parts) are (kind_custom part.kind e)
-custom_cases part parts false e some later are = later some (All-tail (λ (it : PartView). it.kind ≢ PartType.Regexp) (part_view part) (parts_view parts) are)
-
-pub custom : (parts : List Part) → list_any is_custom_part parts ≡ true → ¬ AreGenerated (parts_view parts)
-custom [] some are = absurd cc
-custom (part ∷ parts) some are = custom_cases part parts (is_custom_part part) refl some (custom parts) are
+use Rattle.urlpattern_syntax.specs.{Options.OptionsView, Options.default_options, Options.options_view, Parts.PartView, Parts.parts_view, Text.lacks, Text.line_feed}
 
 -- ---- reasons
 

@@ -9,7 +9,7 @@ use Rattle.std.specs.String.{string_eq}
 use Rattle.std.specs.declared.alloc.Global.{Global}
 use Rattle.urlpattern_covers.specs.Answers.{is_custom_part}
 use Rattle.urlpattern_meaning.specs.PartMeaning.{PartsMean}
-use Rattle.urlpattern_rules.proofs.ComponentLemmas.{custom, generated}
+use Rattle.urlpattern_covers.proofs.AnswerLemmas.{custom, generated}
 use Rattle.urlpattern_rules.proofs.NamelessParts.{all_nameless, generated_renamed, renamed, unnamed_views}
 use Rattle.urlpattern_rules.specs.Comparing.{AreSame, IsKnown, IsSettled, MeansAllOf, unnamed, unnamed_view}
 use Rattle.urlpattern_rules.specs.declared.component.ComponentParts.{ComponentParts}

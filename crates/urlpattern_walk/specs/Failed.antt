@@ -1,5 +1,5 @@
 -- States of a match from which no way leads on, one bit for each.
-use Rattle.std.specs.Prelude.{Bool, ◌≡◌, ℕ, ◌+◌, ◌*◌, ◌/◌, ◌%◌, List, [], ◌⊎◌, ◌++◌, length, None, slice_index}
+use Rattle.std.specs.Prelude.{Bool, ◌≡◌, ℕ, ◌+◌, ◌*◌, ◌/◌, ◌%◌, List, [], ◌⊎◌, ◌++◌, length, None, slice_index, IsTrue}
 use Rattle.std.specs.Str.{chars, IsUtf8}
 use Rattle.std.specs.Int.{bit_at}
 use Rattle.urlpattern_steps.specs.declared.step.Step.{Step}
@@ -21,6 +21,15 @@ pub record IsStateOf (ignore_case : Bool) (whole : Whole) (steps : List Step) (t
   pub of_case : whole.ignore_case ≡ ignore_case
   pub of_steps : EndsWith whole.steps steps
   pub of_text : EndsWith whole.text text
+
+-- no way leads on from this state of the match
+abbrev pub IsDeadState : Whole → List Step → (text : List ℕ) → Type 0
+IsDeadState whole steps text = (ignore_case : Bool) × IsStateOf ignore_case whole steps text × (walk ignore_case steps text ≡ None)
+
+-- where this state of the match is remembered, no way leads on from it
+abbrev pub RemembersDead : Whole → List Step → (text : List ℕ) → (is_remembered : Bool) → Type 0
+RemembersDead whole steps text is_remembered =
+    (ignore_case : Bool) → IsStateOf ignore_case whole steps text → IsTrue is_remembered → walk ignore_case steps text ≡ None
 
 -- the bit for the state in which these steps and this text are left
 abbrev pub bit_of : (whole : List ℕ) → List Step → (text : List ℕ) → ℕ

@@ -1,5 +1,5 @@
 -- Which steps the text of an expression is read as.
-use Rattle.std.specs.Prelude.{◌≡◌, ◌≢◌, ◌⊎◌, ℕ, Bool, true, false, length, List, [], ◌∷◌, ◌++◌, take, drop, codes, All, Option, Some, IsSomeAnd}
+use Rattle.std.specs.Prelude.{◌≡◌, ◌≢◌, ◌⊎◌, ℕ, Bool, true, false, length, List, [], ◌∷◌, ◌++◌, take, drop, codes, All, Option, Some, IfSome, IsSomeAnd}
 use Rattle.std.specs.Borrow.{Bor}
 use Rattle.std.specs.Global.{Global}
 use Rattle.std.specs.declared.vec.Vec.{Vec}
@@ -57,6 +57,10 @@ IsRunOf end false items = (one : Atom) × IsAllBut end one × (items ≡ Item on
 abbrev pub IsRunStep : (end : ℕ) → (is_greedy : Bool) → Step → Type 0
 IsRunStep end true step = (end ≡ line_feed) × (step ≡ Anything)
 IsRunStep end false step = step ≡ Segment end
+
+-- whichever run the step is of, it is found
+abbrev pub FindsRun : Step → Option (ℕ × Bool) → Type 0
+FindsRun step found = (end : ℕ) (is_greedy : Bool) → IsRunStep end is_greedy step → IsSomeAnd found (λ run. (run.0 ≡ end) × (run.1 ≡ is_greedy))
 
 -- whether such runs that are taken so often may take nothing
 abbrev pub AllowsEmptyRun : (is_greedy : Bool) → Quantifier → (may_be_empty : Bool) → Type 0
@@ -212,9 +216,14 @@ EndsSegments end is_greedy own text rest =
     (characters : List Character) × (items : Items) × AreCharacters characters × AreItems items × IsRunOf end is_greedy items × AreSegments end is_greedy characters own
     × (text ≡ characters_text characters ++ last_text items rest)
 
--- the steps of segments that the text ends were added to others
-abbrev pub AddsSegments : (end : ℕ) → (is_greedy : Bool) → (old new : Vec Step Global) → (text rest : List ℕ) → Type 0
-AddsSegments end is_greedy old new text rest = (own : List Step) × EndsSegments end is_greedy own text rest × (new.items ≡ old.items ++ own)
+-- the steps of segments that the text ends were added to others, if a rest is left
+abbrev pub AddsSegments : (end : ℕ) → (is_greedy : Bool) → (old new : Vec Step Global) → (text : List ℕ) → (left : Option (Bor (List ℕ))) → Type 0
+AddsSegments end is_greedy old new text left =
+    IfSome left (λ rest. (own : List Step) × EndsSegments end is_greedy own text (chars rest.now) × (new.items ≡ old.items ++ own))
+
+-- whatever steps of segments the text ends, their rest is left
+abbrev pub ReadsSegments : (end : ℕ) → (is_greedy : Bool) → (text : List ℕ) → Option (Bor (List ℕ)) → Type 0
+ReadsSegments end is_greedy text read = (own : List Step) (rest : List ℕ) → EndsSegments end is_greedy own text rest → IsLeft read rest
 
 -- ---- expressions
 

@@ -98,6 +98,14 @@ pub record IsRow (ignore_case : Bool) (text : List ℕ) (steps : List Step) (row
 abbrev pub row_at : List (Vec Bool Global) → ℕ → List Bool
 row_at rows n = get_or (map (λ (row : Vec Bool Global). row.items) rows) n []
 
+-- the rows have the row of these steps
+abbrev pub HaveRow : (ignore_case : Bool) (text : List ℕ) (steps : List Step) (rows : List (Vec Bool Global)) → Type 0
+HaveRow ignore_case text steps rows = IsRow ignore_case text steps (row_at rows (length steps))
+
+-- by the rows, the steps take the text, or do not
+abbrev pub IsTakenByRows : (rows : List (Vec Bool Global)) (steps : List Step) (text : List ℕ) (is_taken : Bool) → Type 0
+IsTakenByRows rows steps text is_taken = (ignore_case : Bool) → HaveRow ignore_case text steps rows → is_taken ≡ is_some (walk ignore_case steps text)
+
 -- a row for each end of the steps, by how many there are
 pub record AreRows (ignore_case : Bool) (text : List ℕ) (steps : List Step) (rows : List (Vec Bool Global)) : Type 0 where
   pub count : length rows ≡ suc (length steps)

@@ -1,12 +1,15 @@
 -- What a clause sees of captures that are added to others.
-use Rattle.std.specs.Prelude.{◌≡◌, Bool, false, List, [], ◌∷◌, ◌++◌, ℕ, ◌==◌, length, map, Option, Some, None, option_map, if◌then◌else◌}
+use Rattle.std.specs.Prelude.{◌≡◌, Bool, false, List, [], ◌∷◌, ◌++◌, ℕ, ◌==◌, length, map, Option, Some, None, Result, option_map, if◌then◌else◌, IfOk, IfSome}
 use Rattle.std.specs.Borrow.{Bor}
 use Rattle.std.specs.Global.{Global}
 use Rattle.std.specs.declared.vec.Vec.{Vec}
 use Rattle.std.specs.Str.{chars, IsUtf8}
 use Rattle.urlpattern_meaning.specs.PartMeaning.{Captures}
+use Rattle.urlpattern_steps.specs.declared.step.Group.{Group}
 use Rattle.urlpattern_steps.specs.declared.step.Segments.{Segments}
 use Rattle.urlpattern_steps.specs.declared.step.Step.{Step}
+use Rattle.urlpattern_steps.specs.declared.step.Step.TheVariants.{Maybe}
+use Rattle.urlpattern_walk.specs.Table.{HaveRow, following, given}
 use Rattle.urlpattern_walk.specs.declared.walk.Attempt.{Attempt}
 use Rattle.urlpattern_steps.specs.Walk.{Continuation, captured_front, literal_text, segmented, single_run, walk}
 use Rattle.urlpattern_syntax.specs.Text.{option_text}
@@ -17,6 +20,10 @@ abbrev pub IsCutFor : Continuation → (text : List ℕ) → Option ℕ → (fou
 IsCutFor gives text None found = found ≡ None
 IsCutFor gives text (Some n) found =
     (front rest : List ℕ) × IsUtf8 front × IsUtf8 rest × (text ≡ front ++ rest) × (length front ≡ n) × (found ≡ gives (chars front) (chars rest)) × ¬ (found ≡ None)
+
+-- where the front of a text ends that a step takes, so that the steps after those of it take the rest
+abbrev pub IsEndOfFront : (ignore_case : Bool) → Step → (others : List Step) → (text : List ℕ) → Option ℕ → Type 0
+IsEndOfFront ignore_case step others text end = IsCutFor (given ignore_case step others) text end (walk ignore_case (step ∷ others) (chars text))
 
 -- where segments end that are the first that the other steps lead on from; the text between two is that of the literal steps
 abbrev pub IsEndOfSegments : (ignore_case : Bool) → Segments → (literal others : List Step) → (text : List ℕ) → (end : Option ℕ) → Type 0
@@ -65,6 +72,10 @@ pub record FollowsSteps (old new : Attempt) (is_taken : Bool) (found : Option Ca
   pub same : is_taken ≡ false → new.captures.items ≡ old.captures.items
   pub whole : new.failed ≡ old.failed
 
+-- whether steps are followed is answered so
+abbrev pub AreFollowed : {E : Type 0} → (old new : Attempt) → (answered : Result Bool E) → (found : Option Captures) → Type 0
+AreFollowed old new answered found = IfOk answered (λ is_taken. FollowsSteps old new is_taken found)
+
 -- the same where some captures may be added though the steps do not take the text
 pub record FollowsOn (old new : Attempt) (is_taken : Bool) (found : Option Captures) : Type 0 where
   pub adds : Adds old.captures new.captures is_taken found
@@ -75,3 +86,13 @@ pub record FollowsOn (old new : Attempt) (is_taken : Bool) (found : Option Captu
 abbrev pub LeavesWalk : (ignore_case : Bool) (old new : KeptVec) → (steps : List Step) → (text : List ℕ) → (left : List Step) → (rest : List ℕ) → Type 0
 LeavesWalk ignore_case old new steps text left rest =
     with_captures old.items (walk ignore_case steps (chars text)) ≡ with_captures new.items (walk ignore_case left (chars rest))
+
+-- the front that the first step takes, if it is taken, leaves the steps after those of that step
+abbrev pub LeavesFollowing : (ignore_case : Bool) (old new : KeptVec) → Step → (others : List Step) → (text : List ℕ) → (left : Option (Bor (List ℕ))) → Type 0
+LeavesFollowing ignore_case old new step others text left =
+    IfSome left (λ rest. LeavesWalk ignore_case old new (step ∷ others) text (following step others) rest.now)
+
+-- of a group that may be missing and the others these are left, by the row of the others
+abbrev pub LeavesChosen : (rows : List (Vec Bool Global)) (old new : KeptVec) → Group → (others : List Step) → (text : List ℕ) → (left : List Step) → Type 0
+LeavesChosen rows old new group others text left =
+    (ignore_case : Bool) → HaveRow ignore_case (chars text) others rows → LeavesWalk ignore_case old new (Maybe group ∷ others) text left text

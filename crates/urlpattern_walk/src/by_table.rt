@@ -1,12 +1,12 @@
 //! Matches a text by steps and a table of the ends of the text that they take.
 
-ghost use Rattle.std.specs.Prelude.{◌≡◌, ◌∷◌, ◌++◌, [], Bool, List, length, None, Some, IfNone, IfOk, IfSome, OnOk, if◌then◌else◌};
+ghost use Rattle.std.specs.Prelude.{◌≡◌, ◌∷◌, ◌++◌, [], None, Some, IfNone, IfOk, IfSome, OnOk, if◌then◌else◌};
 ghost use Rattle.std.specs.Str.{chars};
 ghost use Rattle.urlpattern_meaning.specs.CaptureTexts.{captures_view};
 ghost use Rattle.urlpattern_walk.specs.Failed.{EndsWith};
 ghost use Rattle.urlpattern_steps.specs.Walk.{walk};
-ghost use Rattle.urlpattern_walk.specs.Table.{following, row_at, is_capture, IsRow, IsSingle};
-ghost use Rattle.urlpattern_walk.specs.Taken.{LeavesWalk};
+ghost use Rattle.urlpattern_walk.specs.Table.{following, is_capture, IsRow, IsSingle};
+ghost use Rattle.urlpattern_walk.specs.Taken.{LeavesChosen, LeavesFollowing};
 
 use crate::fronts::{following, front_of, is_capture};
 use crate::table::{is_taken, row_for, rows_of};
@@ -81,8 +81,7 @@ fn choose_group<'s>(
     others: &'s [Step],
     text: &str,
 ) -> Result<&'s [Step], OutOfMemory>
-    ensures chosen { IfOk result (λ left. (ignore_case : Bool) → IsRow ignore_case (chars text.now) others.now (row_at rows.now (length others.now))
-        → LeavesWalk ignore_case captures.old captures.new (Step.Maybe group ∷ others.now) text.now left.now text.now) }
+    ensures chosen { IfOk result (λ left. LeavesChosen rows.now captures.old captures.new group others.now text.now left.now) }
     ensures end { IfOk result (λ left. EndsWith others.now left.now) }
 {
     if is_taken(rows, others, text) {
@@ -109,7 +108,7 @@ fn take_front<'t>(
 ) -> Result<Option<&'t str>, OutOfMemory>
     requires single { IsSingle step }
     requires row { IsRow ignore_case (chars text.now) (following step others.now) row.now }
-    ensures taken { IfOk result (λ left. IfSome left (λ rest. LeavesWalk ignore_case captures.old captures.new (step ∷ others.now) text.now (following step others.now) rest.now)) }
+    ensures taken { IfOk result (LeavesFollowing ignore_case captures.old captures.new step others.now text.now) }
     ensures none { IfOk result (λ left. IfNone left (walk ignore_case (step ∷ others.now) (chars text.now) ≡ None)) }
     ensures end { IfOk result (λ left. IfSome left (λ rest. EndsWith (chars text.now) (chars rest.now))) }
 {

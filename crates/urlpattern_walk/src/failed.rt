@@ -1,9 +1,8 @@
 //! States of a match from which no way leads on.
 
-ghost use Rattle.std.specs.Prelude.{◌≡◌, ◌⊎◌, ℕ, Bool, false, None, IfOk, IfSome, IsTrue};
+ghost use Rattle.std.specs.Prelude.{◌≡◌, ◌⊎◌, ℕ, false, IfOk, IfSome, IsTrue};
 ghost use Rattle.std.specs.Str.{chars};
-ghost use Rattle.urlpattern_walk.specs.Failed.{HasBit, IsStateOf, bit_of};
-ghost use Rattle.urlpattern_steps.specs.Walk.{walk};
+ghost use Rattle.urlpattern_walk.specs.Failed.{HasBit, IsDeadState, RemembersDead, bit_of};
 
 use std::alloc::{AllocError, Global};
 use std::marker::Model;
@@ -59,7 +58,7 @@ impl<'s, 't> Failed<'s, 't> {
 
     /// Whether the state is remembered.
     pub fn contains(&self, steps: &[Step], text: &str) -> bool
-        ensures { (ignore_case : Bool) → IsStateOf ignore_case self.now steps.now (chars text.now) → IsTrue result → walk ignore_case steps.now (chars text.now) ≡ None }
+        ensures { RemembersDead self.now steps.now (chars text.now) result }
     {
         if !self.has_room() {
             return false;
@@ -72,7 +71,7 @@ impl<'s, 't> Failed<'s, 't> {
 
     /// Remembers the state, if there is room.
     pub fn insert(&mut self, steps: &[Step], text: &str)
-        requires { (ignore_case : Bool) × IsStateOf ignore_case self.old steps.now (chars text.now) × (walk ignore_case steps.now (chars text.now) ≡ None) }
+        requires { IsDeadState self.old steps.now (chars text.now) }
         ensures { self.new ≡ self.old }
     {
         if !self.has_room() {

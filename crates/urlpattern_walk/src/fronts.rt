@@ -1,11 +1,10 @@
 //! The front of a text that a step takes, found from the end of the text to its front.
 
-ghost use Rattle.std.specs.Prelude.{◌≡◌, ◌∷◌, ◌++◌, ℕ, List, Bool, Option, Some, None, length, option_map, take, IfOk, if◌then◌else◌};
-ghost use Rattle.std.specs.Option.{option_or};
+ghost use Rattle.std.specs.Prelude.{◌≡◌, ◌∷◌, Option, Some, None, length, option_map, take, IfOk, if◌then◌else◌};
 ghost use Rattle.std.specs.Str.{chars};
-ghost use Rattle.urlpattern_steps.specs.Walk.{going_on, literals, walk};
-ghost use Rattle.urlpattern_walk.specs.Table.{begun_of, run_end, following, given, has, later_of, own_count, stretch_of, whole_of, is_capture, IsEntryAfter, IsRow, IsSingle};
-ghost use Rattle.urlpattern_walk.specs.Taken.{IsCutFor};
+ghost use Rattle.urlpattern_steps.specs.Walk.{literals};
+ghost use Rattle.urlpattern_walk.specs.Table.{begun_of, run_end, following, has, later_of, own_count, stretch_of, whole_of, is_capture, IsEntryAfter, IsRow, IsSingle};
+ghost use Rattle.urlpattern_walk.specs.Taken.{IsEndOfFront};
 
 use std::alloc::Global;
 use urlpattern_steps::repeats::{begun_after, first_steps, goes_on, pass};
@@ -38,7 +37,7 @@ pub fn front_of(
     requires single { IsSingle step }
     requires after { IsRow ignore_case (chars text.now) (following step others.now) row_after.now }
     ensures row { IfOk result (λ front. IsRow ignore_case (chars text.now) (step ∷ others.now) front.row.items) }
-    ensures end { IfOk result (λ front. IsCutFor (given ignore_case step others.now) text.now front.end (walk ignore_case (step ∷ others.now) (chars text.now))) }
+    ensures end { IfOk result (λ front. IsEndOfFront ignore_case step others.now text.now front.end) }
 {
     let stretch = stretch_of(step);
     let literal = own_steps(step, others);

@@ -2,7 +2,7 @@
 
 ghost use Rattle.std.specs.Prelude.{◌≡◌, ◌↔◌, ◌∷◌, ℕ, ◌<◌, ◌≤◌, List, length, drop, codes, IfNone, IfOk, IfSome, IsTrue};
 ghost use Rattle.std.specs.Str.{chars};
-ghost use Rattle.urlpattern_walk.specs.ReadSteps.{AddsSegments, AreCopySteps, AreGrouped, AreLiterals, AreStepsOf, ClosesSegments, EndsSegments, IsGenerated, IsGroup, IsLeft, MakeUp, ReadsLast};
+ghost use Rattle.urlpattern_walk.specs.ReadSteps.{AddsSegments, AreCopySteps, AreGrouped, AreLiterals, AreStepsOf, ClosesSegments, IsGenerated, IsGroup, MakeUp, ReadsLast, ReadsSegments};
 ghost use Rattle.urlpattern_steps.specs.Walk.{capture_count};
 
 use crate::tokens::{
@@ -168,8 +168,8 @@ fn read_segments<'a>(
     is_greedy: bool,
     text: &'a str,
 ) -> Result<Option<&'a str>, AllocError>
-    ensures read { IfOk result (λ read. IfSome read (λ rest. AddsSegments end is_greedy steps.old steps.new (chars text.now) (chars rest.now))) }
-    ensures reads { IfOk result (λ read. (own : List Step) (rest : List ℕ) → EndsSegments end is_greedy own (chars text.now) rest → IsLeft read rest) }
+    ensures read { IfOk result (AddsSegments end is_greedy steps.old steps.new (chars text.now)) }
+    ensures reads { IfOk result (ReadsSegments end is_greedy (chars text.now)) }
     ensures len { IfOk result (λ read. IfSome read (λ rest. length rest.now < length text.now)) }
 {
     let first = steps.len();

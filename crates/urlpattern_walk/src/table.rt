@@ -1,9 +1,8 @@
 //! Which ends of a text the ends of the steps take: a row for each end of the steps.
 
-ghost use Rattle.std.specs.Prelude.{◌≡◌, ◌∷◌, ◌||◌, ℕ, ◌<◌, [], Bool, List, length, is_some, IfOk};
+ghost use Rattle.std.specs.Prelude.{◌≡◌, ◌∷◌, ◌||◌, ℕ, ◌<◌, [], Bool, length, IfOk};
 ghost use Rattle.std.specs.Str.{chars};
-ghost use Rattle.urlpattern_steps.specs.Walk.{walk};
-ghost use Rattle.urlpattern_walk.specs.Table.{has, row_at, AreRows, IsRow};
+ghost use Rattle.urlpattern_walk.specs.Table.{has, row_at, AreRows, IsRow, IsTakenByRows};
 
 use crate::fronts::{following, front_of, has};
 use std::alloc::Global;
@@ -104,8 +103,7 @@ pub fn row_for<'r>(rows: &'r [Vec<bool>], steps: &[Step]) -> &'r [bool]
 
 /// Whether the steps take an end of a text whole, of which the row for them is given.
 pub fn is_taken(rows: &[Vec<bool>], steps: &[Step], text: &str) -> bool
-    ensures { (ignore_case : Bool) → IsRow ignore_case (chars text.now) steps.now (row_at rows.now (length steps.now))
-        → result ≡ is_some (walk ignore_case steps.now (chars text.now)) }
+    ensures { IsTakenByRows rows.now steps.now (chars text.now) result }
 {
     has(row_for(rows, steps), character_count(text))
 }

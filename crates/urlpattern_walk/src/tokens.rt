@@ -1,8 +1,8 @@
 //! What stands in the text of an expression.
 
-ghost use Rattle.std.specs.Prelude.{◌≡◌, ◌≢◌, ◌∷◌, ◌++◌, ℕ, ◌<◌, ◌≤◌, Bool, List, length, codes, IfNone, IfSome, IsSomeAnd, IsTrue};
+ghost use Rattle.std.specs.Prelude.{◌≡◌, ◌≢◌, ◌∷◌, ◌++◌, ℕ, ◌<◌, ◌≤◌, Bool, List, length, codes, IfNone, IfSome, IsTrue};
 ghost use Rattle.std.specs.Str.{chars};
-ghost use Rattle.urlpattern_walk.specs.ReadSteps.{BeginsWithCaptured, BeginsWithCharacter, BeginsWithRegexpToken, IsRead, IsRepeatOf, IsRunOf, IsRunStep, IsStepOf, IsUnquantified, AllowsEmptyRun, ReadsCaptured, ReadsFirstSegments, ReadsRuns, ReadsRegexpTokens, RepeatsRuns, quantifier_of, times_text};
+ghost use Rattle.urlpattern_walk.specs.ReadSteps.{BeginsWithCaptured, BeginsWithCharacter, BeginsWithRegexpToken, IsRead, IsRepeatOf, IsRunOf, IsStepOf, IsUnquantified, AllowsEmptyRun, FindsRun, ReadsCaptured, ReadsFirstSegments, ReadsRuns, ReadsRegexpTokens, RepeatsRuns, quantifier_of, times_text};
 ghost use Rattle.urlpattern_meaning.specs.Dialect.{Captured, IsCharacter, IsClassCharacter, Items};
 ghost use Rattle.urlpattern_syntax.specs.RegexpText.{regexp_marks};
 ghost use Rattle.urlpattern_syntax.specs.Text.{is_among};
@@ -157,8 +157,7 @@ fn repeated_run(run: Step, times: Times) -> Option<Step>
 /// The character that ends a run, and whether it is of any number of characters, as many as what follows allows.
 pub fn run_of(step: Step) -> Option<(char, bool)>
     ensures run { IfSome result (λ run. (items : Items) → IsStepOf step (Captured items) → IsRunOf run.0 run.1 items) }
-    ensures reads { (end : ℕ) (is_greedy : Bool) → IsRunStep end is_greedy step →
-        IsSomeAnd result (λ run. (run.0 ≡ end) × (run.1 ≡ is_greedy)) }
+    ensures reads { FindsRun step result }
 {
     match step {
         Step::Segment(end) => Some((end, false)),

@@ -1,11 +1,11 @@
 //! Matches a text by steps.
 
-ghost use Rattle.std.specs.Prelude.{◌≡◌, ◌∷◌, ◌++◌, List, replicate, None, IfOk, OnOk};
+ghost use Rattle.std.specs.Prelude.{◌≡◌, ◌∷◌, ◌++◌, replicate, None, IfOk, OnOk};
 ghost use Rattle.std.specs.Str.{chars};
 ghost use Rattle.urlpattern_meaning.specs.CaptureTexts.{captures_view};
 ghost use Rattle.urlpattern_walk.specs.Failed.{IsStateOf};
 ghost use Rattle.urlpattern_steps.specs.Walk.{captured_front, walk};
-ghost use Rattle.urlpattern_walk.specs.Taken.{FollowsSteps, FollowsOn};
+ghost use Rattle.urlpattern_walk.specs.Taken.{AreFollowed, FollowsOn};
 
 mod copies;
 mod runs;
@@ -63,7 +63,7 @@ impl<'t> Attempt<'_, 't> {
     #[cycle(following)]
     fn follow(&mut self, ignore_case: bool, steps: &[Step], text: &'t str) -> Taken
         requires { IsStateOf ignore_case self.old.failed steps.now (chars text.now) }
-        ensures { IfOk result (λ taken. FollowsSteps self.old self.new taken (walk ignore_case steps.now (chars text.now))) }
+        ensures { AreFollowed self.old self.new result (walk ignore_case steps.now (chars text.now)) }
     {
         let count = self.captures.len();
         if self.follow_on(ignore_case, steps, text)? {
@@ -74,8 +74,6 @@ impl<'t> Attempt<'_, 't> {
     }
 
     /// Whether the steps take the text whole. What they capture is added, and where they do not, some of it.
-    ///
-    /// A state is remembered from which no way in which the first of the steps may take the text leads on.
     #[cycle(following)]
     fn follow_on(&mut self, ignore_case: bool, steps: &[Step], text: &'t str) -> Taken
         requires { IsStateOf ignore_case self.old.failed steps.now (chars text.now) }
@@ -114,19 +112,36 @@ impl<'t> Attempt<'_, 't> {
                     others,
                     rest,
                 ),
-                _ => {
-                    if self.failed.contains(left, rest) {
-                        return Ok(false);
-                    }
-                    if self.follow_first(ignore_case, step, left, others, rest)? {
-                        return Ok(true);
-                    }
-                    self.failed.insert(left, rest);
-                    return Ok(false);
-                }
+                _ => return self.follow_once(ignore_case, step, left, others, rest),
             }
         }
         Ok(rest.is_empty())
+    }
+
+    /// Whether the steps take the text whole. What they capture is added, and where they do not, some of it.
+    ///
+    /// A state is remembered from which no way in which the first of the steps may take the text leads on, and is not tried again.
+    #[cycle(following)]
+    fn follow_once(
+        &mut self,
+        ignore_case: bool,
+        step: &Step,
+        steps: &[Step],
+        others: &[Step],
+        text: &'t str,
+    ) -> Taken
+        requires state { IsStateOf ignore_case self.old.failed steps.now (chars text.now) }
+        requires first { steps.now ≡ step.now ∷ others.now }
+        ensures { IfOk result (λ taken. FollowsOn self.old self.new taken (walk ignore_case steps.now (chars text.now))) }
+    {
+        if self.failed.contains(steps, text) {
+            return Ok(false);
+        }
+        if self.follow_first(ignore_case, step, steps, others, text)? {
+            return Ok(true);
+        }
+        self.failed.insert(steps, text);
+        Ok(false)
     }
 
     /// Whether the steps take the text whole. What they capture is added, and where they do not, some of it.
@@ -189,7 +204,7 @@ impl<'t> Attempt<'_, 't> {
         rest: &'t str,
     ) -> Taken
         requires { IsStateOf ignore_case self.old.failed steps.now (chars rest.now) }
-        ensures { IfOk result (λ taken. FollowsSteps self.old self.new taken (captured_front (walk ignore_case steps.now) (chars front.now) (chars rest.now))) }
+        ensures { AreFollowed self.old self.new result (captured_front (walk ignore_case steps.now) (chars front.now) (chars rest.now)) }
     {
         self.captures.push(Some(front))?;
         if self.follow(ignore_case, steps, rest)? {

@@ -1,10 +1,9 @@
 //! The text of one component whose groups capture what is given.
 ghost use Rattle.std.specs.Prelude.{◌≡◌, ◌↔◌, [], Some, IfErr, IfOk, IsTrue};
 ghost use Rattle.urlpattern_generate.specs.Manners.{given_groups};
-ghost use Rattle.urlpattern_create.specs.Compiled.{IsPathKind};
-ghost use Rattle.urlpattern_pattern.specs.GeneratedTexts.{GeneratesText, MayRefuseGroups, printed_values};
+ghost use Rattle.urlpattern_pattern.specs.GeneratedTexts.{GeneratesText, MayRefuseGroups};
+ghost use Rattle.urlpattern_pattern.specs.LinkedUrls.{HasPathKind};
 ghost use Rattle.urlpattern_pattern.specs.Patterns.{pattern_view};
-ghost use Rattle.urlpattern_eight.specs.declared.eight.ComponentName.TheVariants as names;
 ghost use Rattle.urlpattern_syntax.specs.Errors.{OnlyOutOfMemory};
 ghost use Rattle.urlpattern_syntax.specs.Text.{text_of};
 
@@ -58,7 +57,7 @@ impl<R: RegExp> UrlPattern<R> {
     ///
     /// The error is that memory ran out.
     pub(super) fn has_hierarchical_path(&self, alloc: Global) -> Result<bool, Error>
-        ensures path_kind { IfOk result (IsPathKind R.answer (printed_values (pattern_view self.now)) (pattern_view self.now names.Protocol).matcher) }
+        ensures path_kind { IfOk result (HasPathKind R.answer (pattern_view self.now)) }
         ensures memory { OnlyOutOfMemory result }
     {
         if is_empty_text(&self.protocol.pattern_string)

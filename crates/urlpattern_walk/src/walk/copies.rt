@@ -1,10 +1,10 @@
 //! Matches copies of a text, with the steps after them.
 
-ghost use Rattle.std.specs.Prelude.{◌∷◌, List, IfOk};
+ghost use Rattle.std.specs.Prelude.{◌∷◌};
 ghost use Rattle.std.specs.Str.{chars};
 ghost use Rattle.urlpattern_walk.specs.Failed.{IsStateOf};
 ghost use Rattle.urlpattern_steps.specs.Walk.{walk, walk_copies};
-ghost use Rattle.urlpattern_walk.specs.Taken.{FollowsSteps};
+ghost use Rattle.urlpattern_walk.specs.Taken.{AreFollowed};
 
 use crate::walk::{Attempt, Taken};
 use urlpattern_steps::repeats::{after_literals, first_steps, pass, skip_copies, without_copy};
@@ -23,7 +23,7 @@ impl<'t> Attempt<'_, 't> {
         text: &'t str,
     ) -> Taken
         requires { IsStateOf ignore_case self.old.failed steps.now (chars text.now) }
-        ensures { IfOk result (λ taken. FollowsSteps self.old self.new taken (walk ignore_case (Step.Copies copies ∷ steps.now) (chars text.now))) }
+        ensures { AreFollowed self.old self.new result (walk ignore_case (Step.Copies copies ∷ steps.now) (chars text.now)) }
     {
         let first = copies.text.first;
         let literal = first_steps(steps, copies.text.others);
@@ -49,7 +49,7 @@ impl<'t> Attempt<'_, 't> {
         text: &'t str,
     ) -> Taken
         requires { IsStateOf ignore_case self.old.failed others.now (chars text.now) }
-        ensures { IfOk result (λ taken. FollowsSteps self.old self.new taken (walk_copies ignore_case first literal.now others.now (chars text.now))) }
+        ensures { AreFollowed self.old self.new result (walk_copies ignore_case first literal.now others.now (chars text.now)) }
     {
         let rest = skip_copies(text, first, literal, ignore_case);
         let mut front = before(text, rest);

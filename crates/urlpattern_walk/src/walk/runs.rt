@@ -1,10 +1,10 @@
 //! Matches runs of characters, each with the steps after it.
 
-ghost use Rattle.std.specs.Prelude.{◌≡◌, ◌∷◌, List, IfOk};
+ghost use Rattle.std.specs.Prelude.{◌≡◌, ◌∷◌};
 ghost use Rattle.std.specs.Str.{chars};
 ghost use Rattle.urlpattern_walk.specs.Failed.{IsStateOf};
 ghost use Rattle.urlpattern_steps.specs.Walk.{walk};
-ghost use Rattle.urlpattern_walk.specs.Taken.{FollowsSteps};
+ghost use Rattle.urlpattern_walk.specs.Taken.{AreFollowed};
 
 use crate::runs::{longest_front, next_of_run, remember_run};
 use crate::walk::{Attempt, Taken};
@@ -26,7 +26,7 @@ impl<'t> Attempt<'_, 't> {
     ) -> Taken
         requires state { IsStateOf ignore_case self.old.failed steps.now (chars text.now) }
         requires first { steps.now ≡ Step.Segment end ∷ others.now }
-        ensures { IfOk result (λ taken. FollowsSteps self.old self.new taken (walk ignore_case steps.now (chars text.now))) }
+        ensures { AreFollowed self.old self.new result (walk ignore_case steps.now (chars text.now)) }
     {
         let mut rest = text;
         while let Some((_, remaining)) = next_of_run(&self.failed, ignore_case, end, steps, rest) {
@@ -51,7 +51,7 @@ impl<'t> Attempt<'_, 't> {
     ) -> Taken
         requires state { IsStateOf ignore_case self.old.failed steps.now (chars text.now) }
         requires first { steps.now ≡ Step.Anything ∷ others.now }
-        ensures { IfOk result (λ taken. FollowsSteps self.old self.new taken (walk ignore_case steps.now (chars text.now))) }
+        ensures { AreFollowed self.old self.new result (walk ignore_case steps.now (chars text.now)) }
     {
         let mut front = longest_front(&self.failed, ignore_case, steps, text);
         loop {
@@ -78,7 +78,7 @@ impl<'t> Attempt<'_, 't> {
         text: &'t str,
     ) -> Taken
         requires { IsStateOf ignore_case self.old.failed steps.now (chars text.now) }
-        ensures { IfOk result (λ taken. FollowsSteps self.old self.new taken (walk ignore_case (Step.Longest run ∷ steps.now) (chars text.now))) }
+        ensures { AreFollowed self.old self.new result (walk ignore_case (Step.Longest run ∷ steps.now) (chars text.now)) }
     {
         let (mut front, _) = split_at_first(text, run.end, ignore_case);
         while let Some(shorter) = without_last(front) {

@@ -1,10 +1,10 @@
 //! Matches segments with a text between each two, with the steps after them.
 
-ghost use Rattle.std.specs.Prelude.{◌∷◌, List, IfOk, OnOk};
+ghost use Rattle.std.specs.Prelude.{◌∷◌, IfOk, OnOk};
 ghost use Rattle.std.specs.Str.{chars};
 ghost use Rattle.urlpattern_walk.specs.Failed.{IsStateOf};
 ghost use Rattle.urlpattern_steps.specs.Walk.{walk};
-ghost use Rattle.urlpattern_walk.specs.Taken.{FollowsSteps, IsEndHere, IsEndOfSegments, Untouched};
+ghost use Rattle.urlpattern_walk.specs.Taken.{AreFollowed, IsEndHere, IsEndOfSegments, Untouched};
 
 use crate::walk::{Attempt, Taken};
 use std::mem;
@@ -25,7 +25,7 @@ impl<'t> Attempt<'_, 't> {
         text: &'t str,
     ) -> Taken
         requires { IsStateOf ignore_case self.old.failed steps.now (chars text.now) }
-        ensures { IfOk result (λ taken. FollowsSteps self.old self.new taken (walk ignore_case (Step.Segments segments ∷ steps.now) (chars text.now))) }
+        ensures { AreFollowed self.old self.new result (walk ignore_case (Step.Segments segments ∷ steps.now) (chars text.now)) }
     {
         let literal = first_steps(steps, segments.separator.others);
         let others = pass(steps, segments.separator.others);

@@ -1,6 +1,7 @@
 use Rattle.std.proofs.Common.{Global, Vec, ◌≡◌, ◌≤◌, ◌<◌, ◌∙◌, ◌++◌, [], List, ap, append-nil, arith, length, map, subst, sym}
 use Rattle.std.proofs.lemmas.List.{length-map}
-use Rattle.urlpattern_index.proofs.NumberLemmas.{group-at, group-past, groups_view, least_by_groups}
+use Rattle.urlpattern_index.proofs.GroupLemmas.{group-at, group-past, groups_view}
+use Rattle.urlpattern_index.proofs.NumberLemmas.{least_by_groups}
 use Rattle.urlpattern_index.specs.Keys.{FormView, form_view, forms_for, group, hashes_view}
 use Rattle.urlpattern_index.specs.declared.form.Form.{Form}
 use Rattle.urlpattern_index.specs.Listed.{FindsBy, IsLeast, Listing, lesser}

@@ -1,7 +1,7 @@
 use Rattle.std.proofs.Common.{◌≡◌, ◌∙◌, false, true, sym, subst}
 use Rattle.std.specs.List.{list_any}
 use Rattle.urlpattern_covers.specs.Answers.{is_custom_part}
-use Rattle.urlpattern_rules.proofs.ComponentLemmas.{custom, generated}
+use Rattle.urlpattern_covers.proofs.AnswerLemmas.{custom, generated}
 use Rattle.urlpattern_rules.proofs.component.ComponentParts.unknown.Goals as goal
 
 pub returns-then-has_custom-clause-reason : goal.returns-then-has_custom-clause-reason

@@ -51,6 +51,9 @@ decreases-end_of_segments l = 10 * length l.others.now + 3
 abbrev pub decreases-follow_segments : goal.decreases-follow_segments
 decreases-follow_segments l = 10 * length l.steps.now + 4
 
+abbrev pub decreases-follow_once : goal.decreases-follow_once
+decreases-follow_once l = 10 * length l.others.now + 6
+
 abbrev pub decreases-follow_first : goal.decreases-follow_first
 decreases-follow_first l = 10 * length l.others.now + 5
 
