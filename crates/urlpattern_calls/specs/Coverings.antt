@@ -22,18 +22,18 @@ use Rattle.urlpattern_rules.specs.declared.pattern.{Parting.Parting, PatternPart
 -- ---- parts
 
 -- the parts are those of the pattern that the init is compiled to
-abbrev pub ArePartsOfInit : UrlPatternInit → (ignore_case : Bool) → PatternParts → Type 0
-ArePartsOfInit init ignores parts =
+abbrev pub ArePartsOfCompiledInit : UrlPatternInit → (ignore_case : Bool) → PatternParts → Type 0
+ArePartsOfCompiledInit init ignores parts =
     (compiled : PatternView PatternRegexp) × IsPatternOfInit pattern_engine init (c_options ignores) compiled × ArePartsBy pattern_engine compiled parts
 
 -- the same of a constructor string with this base URL
 abbrev pub ArePartsOfText : (text base : List ℕ) → (ignore_case : Bool) → PatternParts → Type 0
 ArePartsOfText text base ignores parts =
-    (init : UrlPatternInit) × IsInitOfText pattern_engine (chars text) (given_base base) init × ArePartsOfInit init ignores parts
+    (init : UrlPatternInit) × IsInitOfText pattern_engine (chars text) (given_base base) init × ArePartsOfCompiledInit init ignores parts
 
 -- the same of an init that JSON gives
 abbrev pub ArePartsOfJson : (json : List ℕ) → (ignore_case : Bool) → PatternParts → Type 0
-ArePartsOfJson json ignores parts = (init : UrlPatternInit) × IsInitOfJson json init × ArePartsOfInit init ignores parts
+ArePartsOfJson json ignores parts = (init : UrlPatternInit) × IsInitOfJson json init × ArePartsOfCompiledInit init ignores parts
 
 -- why an init is not compiled
 abbrev pub IsNoPatternOfInit : UrlPatternInit → (ignore_case : Bool) → Status → Type 0

@@ -30,26 +30,26 @@ init_subject_number subjects.Base = 1
 init_subject_number (subjects.Component name) = 2 + component_number name
 
 -- the place that is at fault, in the text of this number
-abbrev pub place_of : (subject : ℕ) → Diagnosis → Place
-place_of subject diagnosis = record { subject = subject; start = diagnosis.fault.span.start; end = diagnosis.fault.span.end }
+abbrev pub place_of_diagnosis : (subject : ℕ) → Diagnosis → Place
+place_of_diagnosis subject diagnosis = record { subject = subject; start = diagnosis.fault.span.start; end = diagnosis.fault.span.end }
 
 -- the reason and the place are those of a diagnosis, whose error is one with which the pattern is refused
 pub record IsDiagnosis (Refuses : ErrorView → Type 0) (number : Subject → ℕ) (place : Place) (reason : List ℕ) : Type 0 where
   pub diagnosis : Diagnosis
   pub is_refused : Refuses (error_view diagnosis.error)
   pub is_reason : reason ≡ string_bytes diagnosis.reason
-  pub is_place : place ≡ place_of (number diagnosis.subject) diagnosis
+  pub is_place : place ≡ place_of_diagnosis (number diagnosis.subject) diagnosis
 
 -- the errors with which the constructor string is refused
-abbrev pub RefusesText : (text base : List ℕ) → (ignore_case : Bool) → ErrorView → Type 0
-RefusesText text base ignores error = RefusesToCompile text (given_base base) ignores error
+abbrev pub RefusesTextByOptions : (text base : List ℕ) → (ignore_case : Bool) → ErrorView → Type 0
+RefusesTextByOptions text base ignores error = RefusesToCompile text (given_base base) ignores error
 
 -- Why the pattern is refused is written; NoMatch: it is not refused.
 abbrev pub IsDiagnosed : (text base : List ℕ) → (ignore_case : Bool) → (old new : List ℕ) → (needed : ℕ) → Place → Status → Type 0
 IsDiagnosed text base ignores old new needed place statuses.Done =
-    WritesToBuffer (IsDiagnosis (RefusesText text base ignores) subject_number place) old new needed statuses.Done
+    WritesToBuffer (IsDiagnosis (RefusesTextByOptions text base ignores) subject_number place) old new needed statuses.Done
 IsDiagnosed text base ignores old new needed place statuses.TooSmall =
-    WritesToBuffer (IsDiagnosis (RefusesText text base ignores) subject_number place) old new needed statuses.TooSmall
+    WritesToBuffer (IsDiagnosis (RefusesTextByOptions text base ignores) subject_number place) old new needed statuses.TooSmall
 IsDiagnosed text base ignores old new needed place statuses.NoMatch =
     ((pattern : PatternView PatternRegexp) × IsPatternOfText pattern_engine (chars text) (given_base base) (c_options ignores) pattern) × (new ≡ old)
 IsDiagnosed text base ignores old new needed place status = IsNoUrl text base status × (new ≡ old)

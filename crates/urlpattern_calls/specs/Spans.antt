@@ -104,13 +104,13 @@ abbrev pub IsGroupPut : ComponentName → (group : ℕ) → (capture : Option (L
 IsGroupPut component group capture from to old new old_spans new_spans = ArePut ((component, group, capture) ∷ []) from to old new old_spans new_spans
 
 -- the list begins with these elements, and the rest of it is as it was
-abbrev pub BeginsWith : {A : Type 0} → (elements old new : List A) → Type 0
-BeginsWith elements old new = (length elements ≤ length old) × (new ≡ elements ++ drop (length elements) old)
+abbrev pub BeginsWithElements : {A : Type 0} → (elements old new : List A) → Type 0
+BeginsWithElements elements old new = (length elements ≤ length old) × (new ≡ elements ++ drop (length elements) old)
 
 -- Done: the texts and the spans of the groups are written. TooSmall: there is no room for both.
 abbrev pub AreWritten : List NumberedGroup → (old new : List ℕ) → (old_spans new_spans : List Span) → (needed : Sizes) → Status → Type 0
 AreWritten groups old new old_spans new_spans needed statuses.Done =
-    (needed ≡ sizes_of groups) × BeginsWith (texts_of_groups groups) old new × BeginsWith (spans_from 0 groups) old_spans new_spans
+    (needed ≡ sizes_of groups) × BeginsWithElements (texts_of_groups groups) old new × BeginsWithElements (spans_from 0 groups) old_spans new_spans
 AreWritten groups old new old_spans new_spans needed statuses.TooSmall =
     (needed ≡ sizes_of groups) × ((length old < needed.bytes) ⊎ (length old_spans < needed.spans))
 AreWritten groups old new old_spans new_spans needed statuses.OutOfMemory = Unit {0}

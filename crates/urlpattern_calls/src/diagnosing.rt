@@ -1,6 +1,6 @@
 //! Says what is wrong with a pattern that is refused.
 ghost use Rattle.std.specs.Prelude.{◌≡◌, length, string_bytes};
-ghost use Rattle.urlpattern_calls.specs.Diagnoses.{init_subject_number, place_of, subject_number, IsDiagnosed, IsInitDiagnosed};
+ghost use Rattle.urlpattern_calls.specs.Diagnoses.{init_subject_number, place_of_diagnosis, subject_number, IsDiagnosed, IsInitDiagnosed};
 ghost use Rattle.urlpattern_calls.specs.Texts.{IsWritten};
 
 use crate::adding::{given_base, options};
@@ -89,7 +89,7 @@ fn write_diagnosis(
 ) -> Status
     ensures written { IsWritten (string_bytes diagnosis.now.reason) buffer.old buffer.new result }
     ensures needed { needed.new ≡ length (string_bytes diagnosis.now.reason) }
-    ensures place { place.new ≡ place_of subject diagnosis.now }
+    ensures place { place.new ≡ place_of_diagnosis subject diagnosis.now }
 {
     *place = Place {
         subject,

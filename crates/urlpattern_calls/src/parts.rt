@@ -2,7 +2,7 @@
 ghost use Rattle.std.specs.Prelude.{◌≡◌, IfErr, IfOk};
 ghost use Rattle.urlpattern.specs.Patterns.{pattern_view};
 ghost use Rattle.urlpattern_calls.specs.Calls.{c_options};
-ghost use Rattle.urlpattern_calls.specs.Coverings.{ArePartsOfInit, ArePartsOfJson, ArePartsOfText, IsNoPatternOfInit, IsNoPatternOfJson, IsNoPatternOfText};
+ghost use Rattle.urlpattern_calls.specs.Coverings.{ArePartsOfCompiledInit, ArePartsOfJson, ArePartsOfText, IsNoPatternOfInit, IsNoPatternOfJson, IsNoPatternOfText};
 ghost use Rattle.urlpattern_create.specs.Compiled.{IsPatternOfInit, pattern_values};
 ghost use Rattle.urlpattern_engine.specs.PatternRegexps.{pattern_answer, pattern_engine};
 ghost use Rattle.urlpattern_pattern.specs.ByText.{AnswersByItsText};
@@ -77,7 +77,7 @@ fn parts_of_init(
     init: &UrlPatternInit,
     ignore_case: bool,
 ) -> Result<PatternParts, Status>
-    ensures parts { IfOk result (ArePartsOfInit init.now ignore_case) }
+    ensures parts { IfOk result (ArePartsOfCompiledInit init.now ignore_case) }
     ensures none { IfErr result (IsNoPatternOfInit init.now ignore_case) }
 {
     let Ok(copy) = copy_of(init) else {
@@ -108,7 +108,7 @@ fn read_parts(
 ) -> Result<PatternParts, Status>
     requires compiled { IsPatternOfInit pattern_engine init.now (c_options ignore_case) (pattern_view pattern.now) }
     requires by_text { AnswersByItsText pattern_answer init.now (c_options ignore_case) (pattern_view pattern.now) }
-    ensures parts { IfOk result (ArePartsOfInit init.now ignore_case) }
+    ensures parts { IfOk result (ArePartsOfCompiledInit init.now ignore_case) }
     ensures none { IfErr result (IsNoPatternOfInit init.now ignore_case) }
 {
     match parts_of(alloc, pattern, init, &options(ignore_case)) {

@@ -12,7 +12,7 @@ use Rattle.urlpattern_eight.specs.declared.eight.ComponentName.{ComponentName}
 use Rattle.urlpattern_eight.specs.declared.eight.ComponentName.TheVariants.{Protocol, Username, Password, Hostname, Port, Pathname, Search, Hash}
 use Rattle.urlpattern_generate.proofs.Passes.{name_front, not_fixed, run_alone, run_unskipped}
 use Rattle.urlpattern_generate.specs.Manners.{options_for}
-use Rattle.urlpattern_generate.specs.Passing.{IsApart, IsFront, IsLeftOut, IsNoWildcard, IsOwnExpression, IsPlaceholder, NeedsBraces, Place, is_group_mark, is_run_character, may_go_on}
+use Rattle.urlpattern_generate.specs.Passing.{IsApart, IsFirstPart, IsLeftOut, IsNoWildcard, IsOwnExpression, IsPlaceholder, NeedsBraces, Place, is_group_mark, is_run_character, may_go_on}
 use Rattle.urlpattern_links.specs.Links.{fewest_copies}
 use Rattle.urlpattern_meaning.specs.Printing.{admits_asterisk, escaped_pattern, goes_on, has_custom_name, has_other_prefix, has_suffix, in_braces, is_asterisk, is_segment, last_of, needs_braces, printed_fixed, printed_group, printed_match, printed_name, printed_part, printed_suffix, takes_before, takes_next}
 use Rattle.urlpattern_meaning.specs.RoundTrip.{IsUnskipped}
@@ -32,20 +32,20 @@ use Rattle.urlpattern_syntax.specs.declared.tokenizer.TokenType.TheVariants as t
 -- the group as it is made
 pub name_is : (admits : Bool) (number : ℕ) (names : List (List ℕ)) (left text name value prefix suffix rest : List ℕ) (modifier : PartModifier) → prefix ≡ codes "/" → value ≡ [] → suffix ≡ [] → left ≡ codes "/:" ++ text →
     IsName name → text ≡ name ++ (modifier_text modifier ++ rest) → is_unmodified modifier && begins_with may_go_on rest ≡ false →
-    IsFront pathname_options (record { left = left; admits = admits; number = number; names = names })
+    IsFirstPart pathname_options (record { left = left; admits = admits; number = number; names = names })
     (record { kind = SegmentWildcard; value = value; modifier = modifier; name = name; prefix = prefix; suffix = suffix }) rest number
 name_is admits number names left text name value prefix suffix rest modifier slash none bare begins is_name cut stops =
     subst
-    (λ own. IsFront pathname_options (record { left = left; admits = admits; number = number; names = names })
+    (λ own. IsFirstPart pathname_options (record { left = left; admits = admits; number = number; names = names })
     (record { kind = SegmentWildcard; value = value; modifier = modifier; name = name; prefix = own; suffix = suffix }) rest number) (sym slash)
     (subst
-    (λ own. IsFront pathname_options (record { left = left; admits = admits; number = number; names = names })
+    (λ own. IsFirstPart pathname_options (record { left = left; admits = admits; number = number; names = names })
     (record { kind = SegmentWildcard; value = own; modifier = modifier; name = name; prefix = codes "/"; suffix = suffix }) rest number) (sym none)
     (subst
-    (λ own. IsFront pathname_options (record { left = left; admits = admits; number = number; names = names })
+    (λ own. IsFirstPart pathname_options (record { left = left; admits = admits; number = number; names = names })
     (record { kind = SegmentWildcard; value = []; modifier = modifier; name = name; prefix = codes "/"; suffix = own }) rest number) (sym bare)
     (subst
-    (λ own. IsFront pathname_options (record { left = own; admits = admits; number = number; names = names })
+    (λ own. IsFirstPart pathname_options (record { left = own; admits = admits; number = number; names = names })
     (record { kind = SegmentWildcard; value = []; modifier = modifier; name = name; prefix = codes "/"; suffix = [] }) rest number) (sym begins)
     (name_front admits number names text name rest modifier is_name cut stops))))
 
@@ -97,7 +97,7 @@ module _ (options : OptionsView) (place : Place) (part : PartView) (text after r
 
   placed_alone : part.suffix ≡ [] → has_other_prefix options part ≡ false → ((before : Option PartView) → IsApart options before place.left → takes_before options before part ≡ false) →
       ((before : Option PartView) → admits_asterisk before ≡ place.admits → is_asterisk before part false ≡ not (has_custom_name part)) → (goes_on part ≡ true → begins_with may_go_on place.left ≡ true) →
-      list_all is_run_character part.prefix ≡ true → place.left ≡ part.prefix ++ text → after ≡ modifier_text part.modifier ++ rest → IsFront options place part rest number
+      list_all is_run_character part.prefix ≡ true → place.left ≡ part.prefix ++ text → after ≡ modifier_text part.modifier ++ rest → IsFirstPart options place part rest number
   placed_alone suffix other taken admitted goes run left cut = record {
     printed = λ before next e apart goes.
         ap (λ own. own ++ rest)
@@ -117,7 +117,7 @@ module _ (options : OptionsView) (place : Place) (part : PartView) (text after r
   }
 
   -- after the prefix code point
-  pub slash_placed : part.suffix ≡ [] → part.prefix ≡ codes "/" → options.prefix ≡ codes "/" → place.left ≡ codes "/" ++ text → after ≡ modifier_text part.modifier ++ rest → IsFront options place part rest number
+  pub slash_placed : part.suffix ≡ [] → part.prefix ≡ codes "/" → options.prefix ≡ codes "/" → place.left ≡ codes "/" ++ text → after ≡ modifier_text part.modifier ++ rest → IsFirstPart options place part rest number
   slash_placed suffix prefix point left cut =
       placed_alone suffix
       (ap (λ own. not (is_empty own) && not (bytes_eq own options.prefix)) prefix ∙ ap (λ own. not (bytes_eq (codes "/") own)) point)
@@ -132,7 +132,7 @@ module _ (options : OptionsView) (place : Place) (part : PartView) (text after r
       taken (Some before) = ap (λ own. ((is_empty own && is_fixed_text before.kind) && not (is_empty before.value)) && bytes_eq (last_of before.value) options.prefix) prefix
 
   -- alone, where an asterisk is no modifier
-  pub bare_placed : part.suffix ≡ [] → part.prefix ≡ [] → place.admits ≡ true → place.left ≡ text → after ≡ modifier_text part.modifier ++ rest → IsFront options place part rest number
+  pub bare_placed : part.suffix ≡ [] → part.prefix ≡ [] → place.admits ≡ true → place.left ≡ text → after ≡ modifier_text part.modifier ++ rest → IsFirstPart options place part rest number
   bare_placed suffix prefix admits left cut =
       placed_alone suffix
       (ap (λ own. not (is_empty own) && not (bytes_eq own options.prefix)) prefix)
@@ -144,7 +144,7 @@ module _ (options : OptionsView) (place : Place) (part : PartView) (text after r
 
   -- between braces, for a suffix or a prefix that is not the prefix code point
   pub braced_placed : has_suffix part || has_other_prefix options part ≡ true → list_all is_run_character part.prefix ≡ true → list_all is_run_character part.suffix ≡ true →
-      place.left ≡ codes "{" ++ (part.prefix ++ text) → after ≡ part.suffix ++ (codes "}" ++ (modifier_text part.modifier ++ rest)) → IsFront options place part rest number
+      place.left ≡ codes "{" ++ (part.prefix ++ text) → after ≡ part.suffix ++ (codes "}" ++ (modifier_text part.modifier ++ rest)) → IsFirstPart options place part rest number
   braced_placed needs prefix suffix left cut = record {
     printed = λ before next e apart goes.
         ap (λ own. own ++ rest)

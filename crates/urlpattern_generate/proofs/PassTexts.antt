@@ -8,7 +8,7 @@ use Rattle.std.specs.Prelude.{Contains, IfSome, IsTrue, Option, bytes_eq, codes,
 use Rattle.std.specs.Str.{IsUtf8, chars}
 use Rattle.urlpattern_generate.specs.Asked.{capture_by_modifier, capture_not_given, empty_or_none}
 use Rattle.urlpattern_generate.specs.Manners.{WritingManner}
-use Rattle.urlpattern_generate.specs.Passing.{Completes, IsCompleted, NamedCapture, is_other, names_of}
+use Rattle.urlpattern_generate.specs.Passing.{Completes, IsCompleted, NamedCapture, is_other, names_in_pass}
 use Rattle.urlpattern_links.specs.CopySearch.{AreSomeWith}
 use Rattle.urlpattern_links.specs.Links.{AreTextsWith, IsCopyText, MayCapture}
 use Rattle.urlpattern_meaning.specs.PartMeaning.{Allows, Captures, IsWildcardText}
@@ -103,7 +103,7 @@ begun manner left names before written parts captures text none empty nothing h 
 -- ---- names
 
 -- no name is the same, by a test of each
-pub is_new_name : (groups : List NamedCapture) (name : List ℕ) → list_all (is_other name) groups ≡ true → ¬ Contains (names_of groups) name
+pub is_new_name : (groups : List NamedCapture) (name : List ℕ) → list_all (is_other name) groups ≡ true → ¬ Contains (names_in_pass groups) name
 is_new_name [] name all (k, within, same) = absurd (omega (arith, within))
 is_new_name (other ∷ groups) name all (zero, within, same) =
     let first = (and_parts (is_other name other) (list_all (is_other name) groups) all).0 in

@@ -7,7 +7,7 @@ use Rattle.std.specs.List.{list_all}
 use Rattle.std.specs.Prelude.{Contains, bytes_eq, codes, filter, if◌then◌else◌}
 use Rattle.std.specs.Str.{chars}
 use Rattle.urlpattern_generate.specs.Manners.{WritingManner}
-use Rattle.urlpattern_generate.specs.Passing.{AreNewAfter, Completes, IsCompleted, IsFront, IsKeptPart, IsKeptText, IsLeftOut, IsRun, IsToCapture, Place, goes_on_first, is_group_mark, is_plain_first, is_run_character, may_go_on}
+use Rattle.urlpattern_generate.specs.Passing.{AreNewAfter, Completes, IsCompleted, IsFirstPart, IsKeptPart, IsKeptText, IsLeftOut, IsRun, IsToCapture, Place, goes_on_first, is_group_mark, is_plain_first, is_run_character, may_go_on}
 use Rattle.urlpattern_links.specs.Links.{OfEachGroup, OfFirst, captures_after, text_of_group, text_of_part, text_of_parts}
 use Rattle.urlpattern_meaning.proofs.PrintedTexts.{escaped_first, escaped_none, escaped_one}
 use Rattle.urlpattern_meaning.proofs.PrintingLaws.{plain_printed}
@@ -223,7 +223,7 @@ none_taken true b c = refl
 none_taken false b c = refl
 
 pub group_completes : (manner : WritingManner) (place : Place) (part : PartView) (rest : List ℕ) (number : ℕ) (capture : Option (List ℕ)) (parts : List PartView) (captures : Captures) (text : List ℕ) →
-    IsFront manner.options place part rest number → IsKeptText part.prefix → IsKeptText part.suffix → IsToCapture manner part capture → ¬ Contains place.names part.name →
+    IsFirstPart manner.options place part rest number → IsKeptText part.prefix → IsKeptText part.suffix → IsToCapture manner part capture → ¬ Contains place.names part.name →
     Completes manner true (record { left = rest; admits = not (is_unmodified part.modifier); number = number; names = place.names ++ part.name ∷ [] }) parts captures text →
     Completes manner false place (part ∷ parts) (capture ∷ captures) (text_of_group part capture ++ text)
 group_completes manner place part rest number capture parts captures text front kept_prefix kept_suffix takes new h =
@@ -253,7 +253,7 @@ group_completes manner place part rest number capture parts captures text front 
 -- of a pass, by what it has after the group
 pub group_passed : (manner : WritingManner) (pattern : List ℕ) (before : Captures) (written : List ℕ) (place : Place) (part : PartView) (rest : List ℕ) (number : ℕ) (capture : Option (List ℕ))
     (admits : Bool) (names : List (List ℕ)) (own : Captures) (text : List ℕ) →
-    IsFront manner.options place part rest number → IsKeptText part.prefix → IsKeptText part.suffix → IsToCapture manner part capture → ¬ Contains place.names part.name → Leads manner false pattern place before written →
+    IsFirstPart manner.options place part rest number → IsKeptText part.prefix → IsKeptText part.suffix → IsToCapture manner part capture → ¬ Contains place.names part.name → Leads manner false pattern place before written →
     admits ≡ not (is_unmodified part.modifier) → names ≡ place.names ++ part.name ∷ [] → own ≡ before ++ capture ∷ [] → text ≡ written ++ text_of_group part capture →
     Leads manner true pattern (record { left = rest; admits = admits; number = number; names = names }) own text
 group_passed manner pattern before written place part rest number capture admits names own text front kept_prefix kept_suffix takes new leads is_admits is_names is_own is_text parts captures more h =
@@ -368,7 +368,7 @@ name_unbraced (Some before) (Some next) name modifier e = and_last (has_custom_n
 
 pub name_front : (admits : Bool) (number : ℕ) (names : List (List ℕ)) (text name rest : List ℕ) (modifier : PartModifier) → IsName name → text ≡ name ++ (modifier_text modifier ++ rest) →
     is_unmodified modifier && begins_with may_go_on rest ≡ false →
-    IsFront pathname_options (record { left = codes "/:" ++ text; admits = admits; number = number; names = names }) (name_part name modifier) rest number
+    IsFirstPart pathname_options (record { left = codes "/:" ++ text; admits = admits; number = number; names = names }) (name_part name modifier) rest number
 name_front admits number names text name rest modifier is_name cut stops =
     let custom : has_custom_name (name_part name modifier) ≡ true = ap not (name_not_digited name is_name) in
     record {

@@ -2,7 +2,7 @@
 use Rattle.std.proofs.Common.{◌≡◌, ℕ, List, drop, map, Option, String}
 use Rattle.std.specs.Borrow.{Bor}
 use Rattle.std.specs.declared.alloc.Global.{Global}
-use Rattle.urlpattern_generate.specs.Passing.{NamedCapture, captures_of}
+use Rattle.urlpattern_generate.specs.Passing.{NamedCapture, captures_in_pass}
 use Rattle.urlpattern_links.specs.Refused.{given_captures}
 use Rattle.urlpattern_syntax.specs.Text.{option_text}
 
@@ -21,7 +21,7 @@ AreSame found wanted = map option_text found ≡ given_captures wanted
 
 -- the same of what groups capture
 abbrev pub AreEqualFrom : Found → List NamedCapture → ℕ → Type 0
-AreEqualFrom found groups i = map option_text (drop i found) ≡ captures_of (drop i groups)
+AreEqualFrom found groups i = map option_text (drop i found) ≡ captures_in_pass (drop i groups)
 
 abbrev pub AreEqual : Found → List NamedCapture → Type 0
-AreEqual found groups = map option_text found ≡ captures_of groups
+AreEqual found groups = map option_text found ≡ captures_in_pass groups

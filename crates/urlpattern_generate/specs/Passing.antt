@@ -111,29 +111,29 @@ IsCompleted manner pattern captures text =
 abbrev pub NamedCapture : Type 0
 NamedCapture = Bor (List ℕ) × Option (Bor (List ℕ))
 
-abbrev pub names_of : List NamedCapture → List (List ℕ)
-names_of groups = map (λ (group : NamedCapture). chars group.0.now) groups
+abbrev pub names_in_pass : List NamedCapture → List (List ℕ)
+names_in_pass groups = map (λ (group : NamedCapture). chars group.0.now) groups
 
-abbrev pub captures_of : List NamedCapture → Captures
-captures_of groups = map (λ (group : NamedCapture). option_text group.1) groups
+abbrev pub captures_in_pass : List NamedCapture → Captures
+captures_in_pass groups = map (λ (group : NamedCapture). option_text group.1) groups
 
 -- the group has another name
 abbrev pub is_other : (name : List ℕ) → NamedCapture → Bool
 is_other name group = not (bytes_eq (chars group.0.now) name)
 
-abbrev pub place_of : Pass → Place
-place_of pass = record {
+abbrev pub place_in_pass : Pass → Place
+place_in_pass pass = record {
   left = chars pass.left.now;
   admits = pass.admits_asterisk;
   number = pass.number;
-  names = names_of pass.groups.items;
+  names = names_in_pass pass.groups.items;
 }
 
 -- with what completes the rest the pattern text is completed
 abbrev pub IsPassed : WritingManner → (plain : Bool) → (pattern : List ℕ) → Pass → Type 0
 IsPassed manner plain pattern pass =
-    (parts : List PartView) (captures : Captures) (text : List ℕ) → Completes manner plain (place_of pass) parts captures text →
-    IsCompleted manner pattern (captures_of pass.groups.items ++ captures) (text_of pass.text ++ text)
+    (parts : List PartView) (captures : Captures) (text : List ℕ) → Completes manner plain (place_in_pass pass) parts captures text →
+    IsCompleted manner pattern (captures_in_pass pass.groups.items ++ captures) (text_of pass.text ++ text)
 
 -- what is passed of a pattern text stays so
 abbrev pub KeepsPassed : WritingManner → (plain plain_after : Bool) → (before after : Pass) → Type 0
@@ -142,7 +142,7 @@ KeepsPassed manner plain plain_after before after = (pattern : List ℕ) → IsP
 -- so that the whole is completed
 abbrev pub CompletesPassed : WritingManner → (before after : Pass) → Type 0
 CompletesPassed manner before after =
-    (pattern : List ℕ) → IsPassed manner true pattern before → IsCompleted manner pattern (captures_of after.groups.items) (text_of after.text)
+    (pattern : List ℕ) → IsPassed manner true pattern before → IsCompleted manner pattern (captures_in_pass after.groups.items) (text_of after.text)
 
 -- ---- a fixed text that is left out
 
@@ -177,7 +177,7 @@ abbrev pub part_of : Group → PartView
 part_of group = affixed group (chars group.prefix.now) (chars group.suffix.now) group.modifier
 
 -- The part is the first of what is left at a place, and this follows it, after so many groups without a name of their own.
-pub record IsFront (options : OptionsView) (place : Place) (part : PartView) (rest : List ℕ) (number : ℕ) : Type 0 where
+pub record IsFirstPart (options : OptionsView) (place : Place) (part : PartView) (rest : List ℕ) (number : ℕ) : Type 0 where
   pub printed : (before next : Option PartView) → admits_asterisk before ≡ place.admits → IsApart options before place.left →
       (goes_on_first next ≡ true → begins_with may_go_on rest ≡ true) → printed_part options before part next ++ rest ≡ place.left
   pub is_group : part.kind ≢ PartType.FixedText
@@ -190,7 +190,7 @@ pub record IsFront (options : OptionsView) (place : Place) (part : PartView) (re
 
 -- a group of the pass stands there
 abbrev pub IsFrontGroup : OptionsView → Place → Group → Type 0
-IsFrontGroup options place group = IsFront options place (part_of group) (chars group.rest.now) group.number
+IsFrontGroup options place group = IsFirstPart options place (part_of group) (chars group.rest.now) group.number
 
 -- it stands at each place with this left, after so many groups without a name of their own
 abbrev pub IsFrontOf : OptionsView → (left : List ℕ) → (number : ℕ) → Group → Type 0
@@ -220,8 +220,8 @@ pub record IsPlaceholder (options : OptionsView) (number : ℕ) (text : List ℕ
   pub numbered : following_number number part.kind part ≡ after
 
 -- it does, whatever prefix, suffix and modifier the group has, and in whichever component
-abbrev pub IsPlaceholderOf : (number : ℕ) → (text : List ℕ) → Group → Type 0
-IsPlaceholderOf number text group =
+abbrev pub IsPlaceholderGroup : (number : ℕ) → (text : List ℕ) → Group → Type 0
+IsPlaceholderGroup number text group =
     (component : ComponentName) (hierarchical : Bool) (prefix suffix : List ℕ) (modifier : PartModifier) →
     IsPlaceholder (options_for component hierarchical) number text (affixed group prefix suffix modifier) (chars group.rest.now) group.number
 
@@ -251,8 +251,8 @@ IsToCapture manner part capture = IsAsked manner part capture × MayCapture mann
 -- the pass goes on after the group
 abbrev pub PassesGroup : (before : Pass) → Group → Option (List ℕ) → (after : Pass) → Type 0
 PassesGroup before group capture after =
-    (manner : WritingManner) (pattern : List ℕ) → IsFrontGroup manner.options (place_of before) group → IsToCapture manner (part_of group) capture →
-    ¬ Contains (names_of before.groups.items) (chars group.name.now) → IsPassed manner false pattern before → IsPassed manner true pattern after
+    (manner : WritingManner) (pattern : List ℕ) → IsFrontGroup manner.options (place_in_pass before) group → IsToCapture manner (part_of group) capture →
+    ¬ Contains (names_in_pass before.groups.items) (chars group.name.now) → IsPassed manner false pattern before → IsPassed manner true pattern after
 
 -- nothing is passed of this pattern text
 abbrev pub IsBegun : (pattern : List ℕ) → Pass → Type 0

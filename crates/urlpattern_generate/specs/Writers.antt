@@ -51,8 +51,8 @@ CannotWrite answer component writer error =
     RefusesGroups answer view.matcher writer.component (manner_of_writer writer) view.pattern_string error
 
 -- these are the parts of a component's pattern text, and what their groups are to capture
-abbrev pub Asks : Writer → (pattern : List ℕ) → List PartView → Captures → Type 0
-Asks writer pattern parts captures = AsksFor (manner_of_writer writer) pattern parts captures
+abbrev pub AsksByWriter : Writer → (pattern : List ℕ) → List PartView → Captures → Type 0
+AsksByWriter writer pattern parts captures = AsksFor (manner_of_writer writer) pattern parts captures
 
 -- an error of the parser is reported as this
 abbrev pub IsPatternError : ComponentName → Error → GenerateError → Type 0

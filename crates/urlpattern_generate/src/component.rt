@@ -3,7 +3,7 @@
 ghost use Rattle.std.specs.Prelude.{◌≡◌, IfErr, IfOk, IfSome};
 ghost use Rattle.urlpattern_generate.specs.Generating.{HasDraft, HasText, LacksText};
 ghost use Rattle.urlpattern_generate.specs.Manners.{given_groups, unchanged};
-ghost use Rattle.urlpattern_generate.specs.Writers.{Asks, CannotWrite, Drafts, Writes, WritesCanonical, manner_of_writer};
+ghost use Rattle.urlpattern_generate.specs.Writers.{AsksByWriter, CannotWrite, Drafts, Writes, WritesCanonical, manner_of_writer};
 ghost use Rattle.urlpattern_links.specs.Refused.{given_captures};
 ghost use Rattle.urlpattern_syntax.specs.{Options.options_view, Parts.parts_view, Reading.Reads, Text.text_of};
 
@@ -169,7 +169,7 @@ impl Writer<'_> {
         captures: &[Option<String>],
     ) -> Result<String, GenerateError>
         requires options { options_view options.now ≡ (manner_of_writer self.now).options }
-        requires asked { Asks self.now (text_of component.now.pattern_string) (parts_view parts.now) (given_captures captures.now) }
+        requires asked { AsksByWriter self.now (text_of component.now.pattern_string) (parts_view parts.now) (given_captures captures.now) }
         ensures written { IfOk result (λ text. Writes R.answer component.now self.now (text_of text)) }
         ensures refused { IfErr result (CannotWrite R.answer component.now self.now) }
     {

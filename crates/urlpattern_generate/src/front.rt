@@ -3,7 +3,7 @@
 ghost use Rattle.std.specs.Char.{is_ascii_digit};
 ghost use Rattle.std.specs.Prelude.{◌≡◌, ◌&&◌, ◌++◌, ◌<◌, ◌≤◌, IfSome, IsTrue, codes, decimal, false, length, true};
 ghost use Rattle.std.specs.Str.{chars};
-ghost use Rattle.urlpattern_generate.specs.Passing.{BeginsLeftOut, IsBareFront, IsBracedFront, IsFrontGroup, IsFrontOf, IsPlaceholderOf, NeedsBraces, is_group_mark, is_run_character, may_go_on, place_of};
+ghost use Rattle.urlpattern_generate.specs.Passing.{BeginsLeftOut, IsBareFront, IsBracedFront, IsFrontGroup, IsFrontOf, IsPlaceholderGroup, NeedsBraces, is_group_mark, is_run_character, may_go_on, place_in_pass};
 ghost use Rattle.urlpattern_generate.specs.Writers.{manner_of_writer};
 ghost use Rattle.urlpattern_syntax.specs.Options.{pathname_options};
 ghost use Rattle.urlpattern_syntax.specs.RegexpText.{is_unmodified, modifier_text};
@@ -19,7 +19,7 @@ use urlpattern_syntax::tokenizer::{before, is_name_part, is_name_start, split_fi
 impl Writer<'_> {
     /// The group at the front of what is left. `None`: none is there that is passed over.
     pub(crate) fn front_group<'d>(&self, pass: &Pass<'d>) -> Option<Group<'d>>
-        ensures front { IfSome result (λ group. IsFrontGroup (manner_of_writer self.now).options (place_of pass.now) group) }
+        ensures front { IfSome result (λ group. IsFrontGroup (manner_of_writer self.now).options (place_in_pass pass.now) group) }
         ensures len { IfSome result (λ group. length group.rest.now < length pass.now.left.now) }
     {
         let (first, after) = split_first(pass.left)?;
@@ -131,7 +131,7 @@ fn named_group(number: usize, text: &str) -> Option<Group<'_>>
 
 /// The asterisk or the custom expression at the front of a text, a group without prefix, suffix and modifier.
 fn placeholder(number: usize, text: &str) -> Option<Group<'_>>
-    ensures own { IfSome result (IsPlaceholderOf number (chars text.now)) }
+    ensures own { IfSome result (IsPlaceholderGroup number (chars text.now)) }
     ensures len { IfSome result (λ group. length group.rest.now < length text.now) }
 {
     let (mark, after) = split_first(text)?;
@@ -145,7 +145,7 @@ fn placeholder(number: usize, text: &str) -> Option<Group<'_>>
 
 /// The group of an asterisk, which is passed.
 fn asterisk(number: usize, rest: &str) -> Option<Group<'_>>
-    ensures own { IfSome result (IsPlaceholderOf number (codes "*" ++ chars rest.now)) }
+    ensures own { IfSome result (IsPlaceholderGroup number (codes "*" ++ chars rest.now)) }
     ensures len { IfSome result (λ group. group.rest.now ≡ rest.now) }
 {
     let name = number_name(number)?;
@@ -163,7 +163,7 @@ fn asterisk(number: usize, rest: &str) -> Option<Group<'_>>
 
 /// The group of a custom expression without name, whose first bracket is passed.
 fn numbered_expression(number: usize, text: &str) -> Option<Group<'_>>
-    ensures own { IfSome result (IsPlaceholderOf number (codes "(" ++ chars text.now)) }
+    ensures own { IfSome result (IsPlaceholderGroup number (codes "(" ++ chars text.now)) }
     ensures len { IfSome result (λ group. length group.rest.now < length text.now) }
 {
     let (value, rest) = expression(text)?;
@@ -182,7 +182,7 @@ fn numbered_expression(number: usize, text: &str) -> Option<Group<'_>>
 
 /// The group of a name and a custom expression.
 fn named_expression(number: usize, text: &str) -> Option<Group<'_>>
-    ensures own { IfSome result (IsPlaceholderOf number (chars text.now)) }
+    ensures own { IfSome result (IsPlaceholderGroup number (chars text.now)) }
     ensures len { IfSome result (λ group. length group.rest.now < length text.now) }
 {
     let (name, end) = name_at(text)?;

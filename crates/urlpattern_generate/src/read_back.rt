@@ -5,7 +5,7 @@ ghost use Rattle.std.specs.Str.{chars};
 ghost use Rattle.urlpattern_core.specs.Matchers.{matcher_view};
 ghost use Rattle.urlpattern_meaning.specs.{CaptureTexts.captures_view, Matching.Answers};
 ghost use Rattle.urlpattern_generate.specs.Generating.{IsAnswered, IsConfirmed, TellsCanonical};
-ghost use Rattle.urlpattern_generate.specs.{Passing.captures_of, Writers.manner_of_writer};
+ghost use Rattle.urlpattern_generate.specs.{Passing.captures_in_pass, Writers.manner_of_writer};
 ghost use Rattle.urlpattern_links.specs.Refused.{given_captures};
 ghost use Rattle.urlpattern_syntax.specs.Text.{option_text};
 
@@ -39,7 +39,7 @@ impl Writer<'_> {
         text: &str,
         groups: &[(&str, Option<&str>)],
     ) -> Result<bool, AllocError>
-        ensures { IfOk result (λ is. IsConfirmed is R.answer (matcher_view matcher.now) (chars text.now) (captures_of groups.now)) }
+        ensures { IfOk result (λ is. IsConfirmed is R.answer (matcher_view matcher.now) (chars text.now) (captures_in_pass groups.now)) }
     {
         match matcher.look(text) {
             None => Ok(false),
@@ -56,7 +56,7 @@ impl Writer<'_> {
         text: &str,
         groups: &[(&str, Option<&str>)],
     ) -> Result<bool, AllocError>
-        ensures { IfOk result (λ is. IsTrue is → R.answer engine.now (chars text.now) ≡ Some (captures_of groups.now)) }
+        ensures { IfOk result (λ is. IsTrue is → R.answer engine.now (chars text.now) ≡ Some (captures_in_pass groups.now)) }
     {
         match engine.matches(self.alloc, text) {
             Ok(Some(found)) => Ok(are_equal(&found, groups)),
@@ -132,7 +132,7 @@ fn is_same(capture: Option<&str>, other: Option<&str>) -> bool
 
 /// Whether these are what groups capture.
 fn are_equal(found: &[Option<&str>], groups: &[(&str, Option<&str>)]) -> bool
-    ensures { IsTrue result ↔ (map option_text found.now ≡ captures_of groups.now) }
+    ensures { IsTrue result ↔ (map option_text found.now ≡ captures_in_pass groups.now) }
 {
     if found.len() != groups.len() {
         return false;

@@ -31,7 +31,7 @@ abbrev pub GivesNothing : (text : List ℕ) → Given → Type 0
 GivesNothing text given = (group : Group) → ¬ GivesGroup text given group
 
 -- one of the parts gives nothing, or memory ran out
-abbrev pub RefusesGiven : (text : List ℕ) → List Given → Unlinked → Type 0
-RefusesGiven text given unlinked.Given = Any (GivesNothing text) given
-RefusesGiven text given unlinked.OutOfMemory = Unit {0}
-RefusesGiven text given (unlinked.NoLink error) = ⊥
+abbrev pub RefusesParts : (text : List ℕ) → List Given → Unlinked → Type 0
+RefusesParts text given unlinked.Given = Any (GivesNothing text) given
+RefusesParts text given unlinked.OutOfMemory = Unit {0}
+RefusesParts text given (unlinked.NoLink error) = ⊥

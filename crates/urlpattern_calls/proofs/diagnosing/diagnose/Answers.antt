@@ -4,7 +4,7 @@ use Rattle.std.specs.Str.{chars}
 use Rattle.urlpattern.specs.Errors.{error_view}
 use Rattle.urlpattern.specs.FromString.{RefusesPatternOfText}
 use Rattle.urlpattern_calls.specs.Calls.{given_base, c_options}
-use Rattle.urlpattern_calls.specs.Diagnoses.{place_of}
+use Rattle.urlpattern_calls.specs.Diagnoses.{place_of_diagnosis}
 use Rattle.urlpattern_engine.specs.PatternRegexps.{pattern_engine}
 use Rattle.urlpattern_inputs.specs.declared.options.UrlPatternOptions.{UrlPatternOptions}
 use Rattle.urlpattern_calls.proofs.CallLemmas.{diagnosed}
@@ -21,5 +21,5 @@ returns-in-Ok-Some c =
     let why = subst (λ bytes. Refuses bytes (given_base c.args.base.now) (c_options c.args.ignore_case)) c.in-Ok.ensures.cases.0 by_base in
     diagnosed c.args.text.now c.args.base.now c.args.ignore_case c.write_diagnosis.new.place
     (string_bytes found.reason) c.args.buffer.now c.write_diagnosis.new.buffer c.write_diagnosis.new.needed c.write_diagnosis.result
-    (record { diagnosis = found; is_refused = why; is_reason = refl; is_place = c.write_diagnosis.ensures.place ∙ ap (λ number. place_of number found) c.subject_number-subject.ensures })
+    (record { diagnosis = found; is_refused = why; is_reason = refl; is_place = c.write_diagnosis.ensures.place ∙ ap (λ number. place_of_diagnosis number found) c.subject_number-subject.ensures })
     c.write_diagnosis.ensures.needed c.write_diagnosis.ensures.written

@@ -1,7 +1,7 @@
 use Rattle.std.proofs.Common.{◌∙◌, ap, refl, subst}
 use Rattle.std.specs.Prelude.{string_bytes}
 use Rattle.urlpattern.specs.Errors.{error_view}
-use Rattle.urlpattern_calls.specs.Diagnoses.{place_of}
+use Rattle.urlpattern_calls.specs.Diagnoses.{place_of_diagnosis}
 use Rattle.urlpattern_create.specs.Compiled.{RefusesInit}
 use Rattle.urlpattern_engine.specs.PatternRegexps.{pattern_engine}
 use Rattle.urlpattern_inputs.specs.declared.options.UrlPatternOptions.{UrlPatternOptions}
@@ -19,6 +19,6 @@ returns-in-Ok-Some c =
       diagnosis = found;
       is_refused = (c.in-Ok.init, c.in-Ok.ensures.found, why);
       is_reason = refl;
-      is_place = c.write_diagnosis.ensures.place ∙ ap (λ number. place_of number found) c.init_subject_number-subject.ensures;
+      is_place = c.write_diagnosis.ensures.place ∙ ap (λ number. place_of_diagnosis number found) c.init_subject_number-subject.ensures;
     })
     c.write_diagnosis.ensures.needed c.write_diagnosis.ensures.written

@@ -5,7 +5,7 @@ use Rattle.std.specs.Prelude.{length}
 use Rattle.std.specs.Str.{chars}
 use Rattle.urlpattern_generate.proofs.PassTexts.{is_new_name}
 use Rattle.urlpattern_generate.proofs.Passes.{end_leads}
-use Rattle.urlpattern_generate.specs.Passing.{IsPassed, captures_of, is_other, place_of}
+use Rattle.urlpattern_generate.specs.Passing.{IsPassed, captures_in_pass, is_other, place_in_pass}
 use Rattle.urlpattern_generate.specs.Writers.{manner_of_writer}
 use Rattle.urlpattern_syntax.proofs.TextLemmas.{chars-empty}
 use Rattle.urlpattern_syntax.specs.Text.{text_of}
@@ -14,7 +14,7 @@ use Rattle.urlpattern_generate.proofs.writer.Writer.pass_all.Goals as goal
 pub returns-then-is_empty : goal.returns-then-is_empty
 returns-then-is_empty c all pattern passed =
     let new = c.pass_run.new.pass in
-    end_leads (manner_of_writer c.args.self.now) pattern (captures_of new.groups.items) (text_of new.text) (place_of new)
+    end_leads (manner_of_writer c.args.self.now) pattern (captures_in_pass new.groups.items) (text_of new.text) (place_in_pass new)
     (chars-empty new.left.now (eqb-true (length new.left.now) 0 (sym c.is_empty.ensures ∙ c.if-is_empty.true)))
     (c.in_ok-pass_run.ensures.passed pattern (c.loop-pass.invariant pattern passed))
 
