@@ -97,3 +97,7 @@ RefusesSecondBase input base error = (error ≡ views.BaseUrlWithInit) × HasIni
 -- the bytes of the longer text of the two
 abbrev pub longer_bytes : (base : Option (List ℕ)) → (text : List ℕ) → ℕ
 longer_bytes base text = max (length text) (text_bytes base)
+
+-- why the text is no URL under the base is reported
+abbrev pub ReportsUrl : (base : Option (List ℕ)) → (text : List ℕ) → ErrorView → Type 0
+ReportsUrl base text = Reports (parsed_text base text) (longer_bytes base text)

@@ -1,13 +1,13 @@
 //! What a pattern is constructed from, and what it is matched against.
-ghost use Rattle.std.specs.Prelude.{◌≡◌, None, Ok, Some, max, option_copied, option_map, IfErr, IfOk};
+ghost use Rattle.std.specs.Prelude.{◌≡◌, None, Ok, Some, option_copied, IfErr, IfOk};
 ghost use Rattle.url.specs.Parser as url_spec;
 ghost use Rattle.urlpattern_init.specs.Inheritance.{values_view};
-ghost use Rattle.urlpattern_quirks.specs.Inputs.{IsCopyOfText, FindsInput, IsConstructedFrom, IsInitOf, RefusesInput, RefusesSecondBase, longer_bytes, parsed_base, parsed_text, plain_base, plain_values, text_bytes};
+ghost use Rattle.urlpattern_quirks.specs.Inputs.{IsCopyOfText, FindsInput, IsConstructedFrom, IsInitOf, RefusesInput, RefusesSecondBase, ReportsUrl, parsed_base, parsed_text, plain_base, plain_values, text_bytes};
 ghost use Rattle.urlpattern_canonical.specs.Canonical.{Reports};
 ghost use Rattle.urlpattern_inputs.specs.declared.input.StringOrInit.TheVariants as plain_inputs;
 ghost use Rattle.urlpattern_eight.specs.Eight.{at};
 ghost use Rattle.urlpattern_syntax.specs.Errors.{MemoryOr, OnlyOutOfMemory};
-ghost use Rattle.urlpattern_syntax.specs.Text.{text_of, option_text};
+ghost use Rattle.urlpattern_syntax.specs.Text.{option_text};
 
 use regex::Regex;
 use std::alloc::{AllocError, Global};
@@ -153,8 +153,7 @@ fn owned(alloc: Global, text: Option<&str>) -> Result<Option<String>, AllocError
 /// The error is the refusal of `url`, or that memory ran out.
 fn parse_text(alloc: Global, text: &str, base_url: Option<&str>) -> Result<Url, Error>
     ensures ok { IfOk result (λ url. parsed_text (option_copied base_url.entry) text.now ≡ Ok url) }
-    ensures err { IfErr result (MemoryOr (Reports (parsed_text (option_copied base_url.entry) text.now)
-        (longer_bytes (option_copied base_url.entry) text.now))) }
+    ensures err { IfErr result (MemoryOr (ReportsUrl (option_copied base_url.entry) text.now)) }
 {
     match base_url {
         Some(base) => {
