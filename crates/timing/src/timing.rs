@@ -4,12 +4,14 @@
 mod hostile;
 mod links;
 mod lists;
+mod repeating;
 mod rounds;
 mod routes;
 mod rules;
 
 use crate::calls::{is_set, optional_text};
 use regex::Regex;
+pub use repeating::repeat;
 use rounds::{Timed, least};
 use serde_json::Value;
 use std::alloc::Global;
@@ -24,7 +26,12 @@ use urlpattern::quirks::{
     StringOrInit, UrlPatternInit, process_construct_pattern_input, process_match_input,
 };
 use urlpattern::regexp::{PatternRegexp, RegExp};
-use urlpattern::{ComponentName, Error, UrlPattern, UrlPatternMatchInput, UrlPatternOptions};
+use urlpattern::{
+    ComponentName, Error, UrlPattern, UrlPatternCaptures, UrlPatternMatchInput, UrlPatternOptions,
+};
+
+/// How many bytes of captured texts are copied.
+const ROOM: usize = 256;
 
 /// What is timed.
 #[derive(Clone, Copy, Drop)]
@@ -47,10 +54,12 @@ enum Call {
     ParseUrl,
     /// The maps are made that a result of the pattern has, with the names of the groups and nothing that they capture.
     Maps,
+    /// It captures the groups of that URL, and each captured text is copied to a buffer.
+    Copies,
 }
 
 /// What is timed, in the order of the columns.
-const CALLS: [Call; 9] = [
+const CALLS: [Call; 10] = [
     Call::Parse,
     Call::ExecText,
     Call::ExecMiss,
@@ -60,22 +69,8 @@ const CALLS: [Call; 9] = [
     Call::Captures,
     Call::TestLent,
     Call::Maps,
+    Call::Copies,
 ];
-
-impl Call {
-    /// The call of a name.
-    fn named(name: &str) -> Option<Call> {
-        match name {
-            "parse" => Some(Call::Parse),
-            "exec" => Some(Call::ExecUrl),
-            "test" => Some(Call::TestUrl),
-            "captures" => Some(Call::Captures),
-            "test_url" => Some(Call::TestLent),
-            "Url::parse" => Some(Call::ParseUrl),
-            _ => None,
-        }
-    }
-}
 
 /// A pattern, what it was given as, and what it is asked about.
 #[derive(Drop)]
@@ -126,6 +121,7 @@ impl<'a, E: RegExp> Subject<'a, E> {
             Call::Captures => self.captures(alloc),
             Call::TestLent => self.test_lent(alloc),
             Call::Maps => self.maps(alloc),
+            Call::Copies => self.copies(alloc),
         }
     }
 
@@ -166,6 +162,15 @@ impl<'a, E: RegExp> Subject<'a, E> {
     #[inline(never)]
     fn captures(&self, alloc: Global) -> Result<bool, Error> {
         Ok(self.pattern.captures(alloc, &self.url)?.is_some())
+    }
+
+    /// Asks for the groups of the URL, borrowed, and copies them.
+    #[inline(never)]
+    fn copies(&self, alloc: Global) -> Result<bool, Error> {
+        match self.pattern.captures(alloc, &self.url)? {
+            Some(found) => Ok(are_copied(&found)),
+            None => Ok(false),
+        }
     }
 
     /// Asks whether the URL is matched, and lends it.
@@ -216,6 +221,22 @@ fn given_as<'a>(alloc: Global, value: &'a Value) -> Result<StringOrInit<'a>, Err
     }
 }
 
+/// Copies what groups captured to a buffer, as far as there is room. Says whether anything was copied.
+#[inline(always)]
+fn are_copied(found: &UrlPatternCaptures<'_, '_>) -> bool {
+    let mut buffer = [0_u8; ROOM];
+    let mut end = 0_usize;
+    for (_, _, capture) in found.iter() {
+        let bytes = capture.unwrap_or("").as_bytes();
+        let start = end;
+        end = start.saturating_add(bytes.len());
+        if end <= ROOM && start < end {
+            buffer[start..end].copy_from_slice(bytes);
+        }
+    }
+    end > 0 && buffer[0] > 0
+}
+
 /// Makes a map of groups with these names. Says whether there is one.
 fn make_map(alloc: Global, names: &[String]) -> Result<bool, Error> {
     let mut groups: HashMap<String, Option<String>> = HashMap::new(alloc);
@@ -249,7 +270,7 @@ pub fn run<R: Files + AllocGlobal + Clock, O: Write>(
 ) -> io::Result<()> {
     writeln!(
         out,
-        "name\tengine\tparse\texec\tmiss\texec of Url\ttest of Url\tUrl::parse\tcaptures of &Url\ttest of &Url\tmaps"
+        "name\tengine\tparse\texec\tmiss\texec of Url\ttest of Url\tUrl::parse\tcaptures of &Url\ttest of &Url\tmaps\tcopied captures"
     )?;
     for path in paths {
         let text = fs::read_to_string(rt, path)?;
@@ -259,49 +280,6 @@ pub fn run<R: Files + AllocGlobal + Clock, O: Write>(
     }
     lists::run(rt, out)?;
     hostile::run(rt, out)
-}
-
-/// Calls a call so many times for the pair of this name in a file, over `PatternRegexp`. Returns whether there are such a pair and
-/// such a call.
-pub fn repeat<R: Files + AllocGlobal>(
-    rt: &R,
-    path: &str,
-    name: &str,
-    call: &str,
-    count: u64,
-) -> io::Result<bool> {
-    let text = fs::read_to_string(rt, path)?;
-    for line in text.lines() {
-        match serde_json::from_str::<Value>(rt.alloc(), line) {
-            Ok(pair) if optional_text(&pair, "name") == Some(name) => {
-                return Ok(repeat_named(rt.alloc(), &pair, call, count));
-            }
-            _ => {}
-        }
-    }
-    Ok(false)
-}
-
-/// Calls the call of a name so many times for a pair. Returns whether there is such a call.
-fn repeat_named(alloc: Global, pair: &Value, call: &str, count: u64) -> bool {
-    if call == "link" {
-        return matches!(links::repeat_pair(alloc, pair, count), Ok(true));
-    }
-    match Call::named(call) {
-        Some(call) => repeat_pair(alloc, pair, call, count).is_ok(),
-        None => false,
-    }
-}
-
-/// Calls a call of a pair so many times.
-fn repeat_pair(alloc: Global, pair: &Value, call: Call, count: u64) -> Result<(), Error> {
-    if let Some(given) = pair.get("pattern") {
-        let subject = Subject::<PatternRegexp>::new(alloc, given, pair)?;
-        for _ in 0..count {
-            subject.call(alloc, call)?;
-        }
-    }
-    Ok(())
 }
 
 /// Prints what the link of what each pair captures takes: its name, and a column each for the link and for `Url::parse` of its text.

@@ -1,0 +1,70 @@
+//! Calls one call many times, for a tool that counts instructions.
+
+use super::{Call, Subject, links};
+use crate::calls::optional_text;
+use serde_json::Value;
+use std::alloc::Global;
+use std::rt::Files;
+use std::{fs, io};
+use urlpattern::Error;
+use urlpattern::regexp::PatternRegexp;
+
+impl Call {
+    /// The call of a name.
+    fn named(name: &str) -> Option<Call> {
+        match name {
+            "parse" => Some(Call::Parse),
+            "exec" => Some(Call::ExecUrl),
+            "test" => Some(Call::TestUrl),
+            "captures" => Some(Call::Captures),
+            "copies" => Some(Call::Copies),
+            "test_url" => Some(Call::TestLent),
+            "Url::parse" => Some(Call::ParseUrl),
+            _ => None,
+        }
+    }
+}
+
+/// Calls a call so many times for the pair of this name in a file, over `PatternRegexp`. Returns whether there are such a pair and
+/// such a call.
+pub fn repeat<R: Files + AllocGlobal>(
+    rt: &R,
+    path: &str,
+    name: &str,
+    call: &str,
+    count: u64,
+) -> io::Result<bool> {
+    let text = fs::read_to_string(rt, path)?;
+    for line in text.lines() {
+        match serde_json::from_str::<Value>(rt.alloc(), line) {
+            Ok(pair) if optional_text(&pair, "name") == Some(name) => {
+                return Ok(repeat_named(rt.alloc(), &pair, call, count));
+            }
+            _ => {}
+        }
+    }
+    Ok(false)
+}
+
+/// Calls the call of a name so many times for a pair. Returns whether there is such a call.
+fn repeat_named(alloc: Global, pair: &Value, call: &str, count: u64) -> bool {
+    if call == "link" {
+        return matches!(links::repeat_pair(alloc, pair, count), Ok(true));
+    }
+    match Call::named(call) {
+        Some(call) => repeat_pair(alloc, pair, call, count).is_ok(),
+        None => false,
+    }
+}
+
+/// Calls a call of a pair so many times.
+fn repeat_pair(alloc: Global, pair: &Value, call: Call, count: u64) -> Result<(), Error> {
+    if let Some(given) = pair.get("pattern") {
+        let subject = Subject::<PatternRegexp>::new(alloc, given, pair)?;
+        for _ in 0..count {
+            subject.call(alloc, call)?;
+        }
+    }
+    Ok(())
+}
+
