@@ -1,5 +1,5 @@
 -- What one group captures in the match of an input.
-use Rattle.std.specs.Prelude.{◌≡◌, ◌⊎◌, ℕ, List, codes, Option, None}
+use Rattle.std.specs.Prelude.{◌≡◌, ◌⊎◌, ℕ, List, codes, Option, None, Some}
 use Rattle.std.specs.Str.{chars}
 use Rattle.url.specs.Parts.{Parts}
 use Rattle.urlpattern.specs.Match.{HasNoMatch, IsMatch, IsMatchOf, IsRefused}
@@ -26,10 +26,14 @@ NamesUser answer users url user = IsCaptured answer users (inputs.Url url) Pathn
 abbrev pub NamesNone : {E : Type 0} → (answer : E → List ℕ → Option Captures) → (users : PatternView E) → Parts → Type 0
 NamesNone answer users url = HasNoMatch answer users (inputs.Url url) ⊎ NamesUser answer users url None
 
--- the user that a path alone names: what the group `id` captures of it
-abbrev pub NamesUserByPath : {E : Type 0} → (answer : E → List ℕ → Option Captures) → (users : PatternView E) → (path : List ℕ) → Option (List ℕ) → Type 0
-NamesUserByPath answer users path user =
-    (result : ComponentName → ResultView) × IsMatchOf answer users (pathname_alone path) result × (captured_text (result Pathname) (chars (codes "id")) ≡ user)
+-- what the group `id` captures of a path alone that the pattern of users matches
+abbrev pub CapturesIdOfPath : {E : Type 0} → (answer : E → List ℕ → Option Captures) → (users : PatternView E) → (path : List ℕ) → Option (List ℕ) → Type 0
+CapturesIdOfPath answer users path id =
+    (result : ComponentName → ResultView) × IsMatchOf answer users (pathname_alone path) result × (captured_text (result Pathname) (chars (codes "id")) ≡ id)
 
-abbrev pub NamesNoneByPath : {E : Type 0} → (answer : E → List ℕ → Option Captures) → (users : PatternView E) → (path : List ℕ) → Type 0
-NamesNoneByPath answer users path = IsRefused answer users (pathname_alone path) ⊎ NamesUserByPath answer users path None
+-- the user that a path alone names
+abbrev pub PathNamesUser : {E : Type 0} → (answer : E → List ℕ → Option Captures) → (users : PatternView E) → (path user : List ℕ) → Type 0
+PathNamesUser answer users path user = CapturesIdOfPath answer users path (Some user)
+
+abbrev pub PathNamesNone : {E : Type 0} → (answer : E → List ℕ → Option Captures) → (users : PatternView E) → (path : List ℕ) → Type 0
+PathNamesNone answer users path = IsRefused answer users (pathname_alone path) ⊎ CapturesIdOfPath answer users path None

@@ -1,7 +1,7 @@
 //! A server that has a path and no URL.
 
-ghost use Rattle.example.specs.NamedUsers.{NamesNoneByPath, NamesUserByPath};
-ghost use Rattle.std.specs.Prelude.{IfNone, IfOk, IfSome, Some};
+ghost use Rattle.example.specs.NamedUsers.{PathNamesNone, PathNamesUser};
+ghost use Rattle.std.specs.Prelude.{IfNone, IfOk, IfSome};
 ghost use Rattle.std.specs.Str.{chars};
 ghost use Rattle.urlpattern.specs.Errors.{OnlyOutOfMemory};
 ghost use Rattle.urlpattern.specs.Patterns.{pattern_view};
@@ -22,8 +22,8 @@ pub fn user<'u, R: RegExp>(
     users: &UrlPattern<R>,
     path: &'u str,
 ) -> Result<Option<&'u str>, Error>
-    ensures some { IfOk result (λ found. IfSome found (λ id. NamesUserByPath R.answer (pattern_view users.now) (chars path.now) (Some (chars id.now)))) }
-    ensures none { IfOk result (λ found. IfNone found (NamesNoneByPath R.answer (pattern_view users.now) (chars path.now))) }
+    ensures some { IfOk result (λ found. IfSome found (λ id. PathNamesUser R.answer (pattern_view users.now) (chars path.now) (chars id.now))) }
+    ensures none { IfOk result (λ found. IfNone found (PathNamesNone R.answer (pattern_view users.now) (chars path.now))) }
     ensures memory { OnlyOutOfMemory result }
 {
     // docs: path

@@ -7,12 +7,13 @@ ghost use Rattle.urlpattern.specs.Inheritance.{texts_of_url};
 ghost use Rattle.urlpattern.specs.Match.{HasMatch};
 ghost use Rattle.urlpattern.specs.Mismatch.{IsMismatch};
 ghost use Rattle.urlpattern.specs.Patterns.{pattern_view};
+ghost use Rattle.urlpattern.specs.UrlPatternMatchInput.TheVariants as inputs;
 
 use std::alloc::Global;
 use url::Url;
 use urlpattern::laws::tests_agree_with_matches;
 use urlpattern::regexp::RegExp;
-use urlpattern::{ComponentName, Error, UrlPattern, UrlPatternMatchInput};
+use urlpattern::{ComponentName, Error, UrlPattern};
 
 /// Why a URL may not be seen: the first of its components that the pattern does not match. `None`: it may be seen, as the pattern
 /// matches it.
@@ -23,8 +24,8 @@ pub fn refusal<R: RegExp>(
     permitted: &UrlPattern<R>,
     url: &Url,
 ) -> Result<Option<ComponentName>, Error>
-    ensures permitted { IfOk result (λ refused. IfNone refused (HasMatch R.answer (pattern_view permitted.now) (UrlPatternMatchInput.Url url.now))) }
-    ensures refused { IfOk result (λ refused. IfSome refused (λ _. ¬ HasMatch R.answer (pattern_view permitted.now) (UrlPatternMatchInput.Url url.now))) }
+    ensures permitted { IfOk result (λ refused. IfNone refused (HasMatch R.answer (pattern_view permitted.now) (inputs.Url url.now))) }
+    ensures refused { IfOk result (λ refused. IfSome refused (λ _. ¬ HasMatch R.answer (pattern_view permitted.now) (inputs.Url url.now))) }
     ensures first { IfOk result (λ refused. IfSome refused (IsMismatch R.answer (pattern_view permitted.now) (texts_of_url url.now))) }
     ensures memory { OnlyOutOfMemory result }
 {

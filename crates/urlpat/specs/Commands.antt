@@ -28,8 +28,8 @@ abbrev pub DoesAny : Flags → (Has : (name table : List ℕ) → Type 0) → (w
 DoesAny flags Has words status input old new = DoesRules flags Has words status input old new ⊎ Does flags words status input old new
 
 -- unless the run failed, its words are answered
-abbrev pub AnswersWords : Flags → (Has : (name table : List ℕ) → Type 0) → (words : List (String Global)) → (status : ℕ) → (input old new : Option (List ℕ)) → Type 0
-AnswersWords flags Has words status input old new = status ≢ FAILED → DoesAny flags Has (words_view words) status input old new
+abbrev pub RunsAny : Flags → (Has : (name table : List ℕ) → Type 0) → (words : List (String Global)) → (status : ℕ) → (input old new : Option (List ℕ)) → Type 0
+RunsAny flags Has words status input old new = status ≢ FAILED → DoesAny flags Has (words_view words) status input old new
 
 -- the words may be answered with a report beside the answer: `url` refuses their input, or they ask for lines or for patterns
 abbrev pub MayReport : (words : List (List ℕ)) → Type 0

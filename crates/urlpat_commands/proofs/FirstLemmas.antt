@@ -6,7 +6,7 @@ use Rattle.std.proofs.lemmas.Option.{slice_get-map, slice_get_read}
 use Rattle.std.specs.List.{AllZip}
 use Rattle.std.specs.Prelude.{MatchOption, Option, None, Some, String, option_map, string_bytes}
 use Rattle.std.specs.declared.alloc.Global.{Global}
-use Rattle.urlpat_commands.specs.Answers.{ArePatternsOf, IsFirstText, IsFirstTextBy, IsUnmatchedByAll, IsUnmatchedByEach, RefusesOneOf}
+use Rattle.urlpat_commands.specs.Answers.{ArePatterns, IsFirstText, IsFirstTextBy, IsUnmatchedByAll, IsUnmatchedByEach, RefusesOneOf}
 use Rattle.urlpat_matching.specs.PatternWords.{IsPatternOf, RefusesPatternOf}
 use Rattle.serde_json.specs.Data.{Data, no_members, number, put, unsigned}
 use Rattle.serde_json.specs.Written.{has_float}
@@ -38,17 +38,17 @@ take-more xs i x within is = (take_at_read xs i x within).1 ∙ ap (λ y. take i
 module _ (ignores : Bool) (base : Option (List ℕ)) (words : List (String Global)) (index : ℕ) (word : String Global) (within : index < length words) (is_word : word ≡ get_or words index word) where
   -- the next word is compiled
   pub patterns-more : (list next : List (UrlPattern PatternRegexp)) (pattern : UrlPattern PatternRegexp) → next ≡ list ++ pattern ∷ []
-      → ArePatternsOf ignores (map (λ w. string_bytes w) (take index words)) base (patterns_view list) → IsPatternOf ignores (string_bytes word) base (pattern_view pattern)
-      → ArePatternsOf ignores (map (λ w. string_bytes w) (take (index + 1) words)) base (patterns_view next)
+      → ArePatterns ignores (map (λ w. string_bytes w) (take index words)) base (patterns_view list) → IsPatternOf ignores (string_bytes word) base (pattern_view pattern)
+      → ArePatterns ignores (map (λ w. string_bytes w) (take (index + 1) words)) base (patterns_view next)
   patterns-more list next pattern is_next are is =
       let texts = ap (map (λ w. string_bytes w)) (take-more words index word within is_word) ∙ map-push (λ w. string_bytes w) (take index words) word in
       let views = ap (λ patterns. patterns_view patterns) is_next ∙ map-push (λ p. pattern_view p) list pattern in
-      subst (λ (ts : List (List ℕ)). ArePatternsOf ignores ts base (patterns_view next)) (sym texts)
-      (subst (λ (vs : List (PatternView PatternRegexp)). ArePatternsOf ignores (map (λ w. string_bytes w) (take index words) ++ string_bytes word ∷ []) base vs) (sym views)
+      subst (λ (ts : List (List ℕ)). ArePatterns ignores ts base (patterns_view next)) (sym texts)
+      (subst (λ (vs : List (PatternView PatternRegexp)). ArePatterns ignores (map (λ w. string_bytes w) (take index words) ++ string_bytes word ∷ []) base vs) (sym views)
       (all_zip-push (λ text view. IsPatternOf ignores text base view) (map (λ w. string_bytes w) (take index words)) (patterns_view list) (string_bytes word) (pattern_view pattern) are is))
 
   -- the next word is refused
-  pub refuses-one : (list : List (UrlPattern PatternRegexp)) (error : Error) → ArePatternsOf ignores (map (λ w. string_bytes w) (take index words)) base (patterns_view list)
+  pub refuses-one : (list : List (UrlPattern PatternRegexp)) (error : Error) → ArePatterns ignores (map (λ w. string_bytes w) (take index words)) base (patterns_view list)
       → MemoryOr (RefusesPatternOf ignores (string_bytes word) base) error → MemoryOr (RefusesOneOf ignores (map (λ w. string_bytes w) words) base) error
   refuses-one list error are (inl memory) = inl memory
   refuses-one list error are (inr refused) = inr (record {
@@ -56,14 +56,14 @@ module _ (ignores : Bool) (base : Option (List ℕ)) (words : List (String Globa
     text = string_bytes word;
     earlier = patterns_view list;
     is_there = slice_get-map (λ w. string_bytes w) words index ∙ ap (option_map (λ w. string_bytes w)) (slice_get_read words (length words) index word refl within is_word);
-    are_compiled = subst (λ (ts : List (List ℕ)). ArePatternsOf ignores ts base (patterns_view list)) (sym (take-map (λ w. string_bytes w) index words)) are;
+    are_compiled = subst (λ (ts : List (List ℕ)). ArePatterns ignores ts base (patterns_view list)) (sym (take-map (λ w. string_bytes w) index words)) are;
     refuses = refused;
   })
 
 -- ---- the first match
 
 -- what a list answers is an answer of the texts that it is compiled from
-pub first_found_by : (flags : Flags) (patterns : List (List ℕ)) (input : List ℕ) (base : Option (List ℕ)) (compiled : List (PatternView PatternRegexp)) (found : Option (String Global)) → ArePatternsOf flags.ignore_case patterns base compiled
+pub first_found_by : (flags : Flags) (patterns : List (List ℕ)) (input : List ℕ) (base : Option (List ℕ)) (compiled : List (PatternView PatternRegexp)) (found : Option (String Global)) → ArePatterns flags.ignore_case patterns base compiled
     → MatchOption found (IsUnmatchedByAll compiled input base) (λ text. IsFirstTextBy flags.json compiled input base (string_bytes text))
     → MatchOption found (IsUnmatchedByEach flags.ignore_case patterns input base) (λ text. IsFirstText flags patterns input base (string_bytes text))
 first_found_by flags patterns input base compiled None are answer = (compiled, are, answer)

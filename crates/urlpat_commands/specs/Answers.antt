@@ -74,8 +74,8 @@ FailsComponent kind pattern (failures.Refused error) = MemoryOr (RefusesComponen
 -- ---- what the first match captures
 
 -- the constructor strings with this base URL are compiled to the patterns, one to each
-abbrev pub ArePatternsOf : (ignores : Bool) → (texts : List (List ℕ)) → (base : Option (List ℕ)) → List (PatternView PatternRegexp) → Type 0
-ArePatternsOf ignores texts base patterns = AllZip (λ text pattern. IsPatternOf ignores text base pattern) texts patterns
+abbrev pub ArePatterns : (ignores : Bool) → (texts : List (List ℕ)) → (base : Option (List ℕ)) → List (PatternView PatternRegexp) → Type 0
+ArePatterns ignores texts base patterns = AllZip (λ text pattern. IsPatternOf ignores text base pattern) texts patterns
 
 -- One of the constructor strings is refused with this error, and those before it are compiled.
 pub record RefusesOneOf (ignores : Bool) (texts : List (List ℕ)) (base : Option (List ℕ)) (error : ErrorView) : Type 0 where
@@ -83,7 +83,7 @@ pub record RefusesOneOf (ignores : Bool) (texts : List (List ℕ)) (base : Optio
   pub text : List ℕ
   pub earlier : List (PatternView PatternRegexp)
   pub is_there : slice_get texts index ≡ Some text
-  pub are_compiled : ArePatternsOf ignores (take index texts) base earlier
+  pub are_compiled : ArePatterns ignores (take index texts) base earlier
   pub refuses : RefusesPatternOf ignores text base error
 
 -- the text shows which pattern is the first that matches, and what its groups capture
@@ -103,7 +103,7 @@ pub record IsFirstTextBy (json : Bool) (compiled : List (PatternView PatternRege
 
 abbrev pub IsFirstText : Flags → (patterns : List (List ℕ)) → (input : List ℕ) → (base : Option (List ℕ)) → (text : List ℕ) → Type 0
 IsFirstText flags patterns input base text =
-    (compiled : List (PatternView PatternRegexp)) × ArePatternsOf flags.ignore_case patterns base compiled × IsFirstTextBy flags.json compiled input base text
+    (compiled : List (PatternView PatternRegexp)) × ArePatterns flags.ignore_case patterns base compiled × IsFirstTextBy flags.json compiled input base text
 
 -- no pattern of the list matches the input
 abbrev pub IsUnmatchedByAll : (compiled : List (PatternView PatternRegexp)) → (input : List ℕ) → (base : Option (List ℕ)) → Type 0
@@ -111,7 +111,7 @@ IsUnmatchedByAll compiled input base = IsUnmatchedByAllUnder compiled input (bas
 
 abbrev pub IsUnmatchedByEach : (ignores : Bool) → (patterns : List (List ℕ)) → (input : List ℕ) → (base : Option (List ℕ)) → Type 0
 IsUnmatchedByEach ignores patterns input base =
-    (compiled : List (PatternView PatternRegexp)) × ArePatternsOf ignores patterns base compiled × IsUnmatchedByAll compiled input base
+    (compiled : List (PatternView PatternRegexp)) × ArePatterns ignores patterns base compiled × IsUnmatchedByAll compiled input base
 
 -- what is found is the text of the first match; None where there is none
 abbrev pub FindsFirst : Flags → (patterns : List (List ℕ)) → (input : List ℕ) → (base : Option (List ℕ)) → Option (String Global) → Type 0

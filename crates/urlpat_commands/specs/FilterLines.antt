@@ -1,18 +1,20 @@
 -- What `filter` answers to its words and to the lines that it reads. Words and texts are bytes.
-use Rattle.std.specs.Prelude.{◌≡◌, ◌⊎◌, ℕ, Bool, List, [], codes, Option, None, Some, IfSome}
+use Rattle.std.specs.Prelude.{◌≡◌, ◌≢◌, ◌⊎◌, ℕ, Bool, List, [], codes, Option, None, Some, IfSome, String}
+use Rattle.std.specs.declared.alloc.Global.{Global}
 use Rattle.std.specs.Str.{chars}
 use Rattle.url.specs.Parts.{Parts}
 use Rattle.urlpat_matching.specs.InputUrls.{BaseView, IsUrlUnder, base_view}
 use Rattle.urlpat_matching.specs.PatternWords.{IsPatternOf, base_of}
 use Rattle.urlpat_matching.specs.MatchTexts.{IsUnmatchedUnder}
-use Rattle.urlpat_commands.specs.Answers.{Prints}
+use Rattle.urlpat_commands.specs.Answers.{AreAnswered, FailsWhere, Prints}
 use Rattle.urlpat_matching.specs.GroupLines.{group_bytes}
 use Rattle.urlpat_matching.specs.MatchJson.{IsMatchJson}
 use Rattle.urlpat_matching.specs.Status.{status_of}
+use Rattle.urlpat_matching.specs.declared.status.TheConstants.{FAILED}
 use Rattle.urlpat_filter.specs.Filters.{FilterAnswers, FiltersText}
 use Rattle.urlpat_lines.specs.declared.answers.Verdict.{Verdict}
 use Rattle.urlpat_words.specs.Queries.{IsQueryOf}
-use Rattle.urlpat_words.specs.Words.{AreWordsAfter}
+use Rattle.urlpat_words.specs.Words.{AreWordsAfter, words_view}
 use Rattle.urlpat_words.specs.declared.flags.Flags.{Flags}
 use Rattle.urlpat_words.specs.declared.query.Query.{Query}
 use Rattle.urlpat_words.specs.declared.query.Shape.{Shape}
@@ -57,6 +59,10 @@ FiltersLines flags words status input old new =
     × IfSome input (λ text. (any : Bool) × (status ≡ status_of any)
     × FiltersText (IsFiltered compiled (base_view (base_of query.base.now)) query) query.shape text any old new)
 
+-- unless the run failed, they are
+abbrev pub FilterReplies : Flags → (words : List (String Global)) → (status : ℕ) → (input old new : Option (List ℕ)) → Type 0
+FilterReplies flags words status input old new = status ≢ FAILED → FiltersLines flags (words_view words) status input old new
+
 -- the words are those of `filter`
 abbrev pub AskToFilter : (words : List (List ℕ)) → Type 0
 AskToFilter words = (rest : List (List ℕ)) × AreWordsAfter (codes "filter") words rest
@@ -65,3 +71,11 @@ AskToFilter words = (rest : List (List ℕ)) × AreWordsAfter (codes "filter") w
 abbrev pub Does : Flags → (words : List (List ℕ)) → (status : ℕ) → (input old new : Option (List ℕ)) → Type 0
 Does flags words status input old new =
     ((rest : List (List ℕ)) × AreWordsAfter (codes "filter") words rest × FiltersLines flags rest status input old new) ⊎ Prints flags words status old new
+
+-- unless the run failed, they are
+abbrev pub RunsOne : Flags → (words : List (String Global)) → (status : ℕ) → (input old new : Option (List ℕ)) → Type 0
+RunsOne flags words status input old new = status ≢ FAILED → Does flags (words_view words) status input old new
+
+-- the words have no answer, and this is so; or they have one, or ask for lines
+abbrev pub FailsOne : Flags → (words : List (List ℕ)) → (IsSo : Type 0) → Type 0
+FailsOne flags words IsSo = FailsWhere flags words IsSo ⊎ AreAnswered flags words ⊎ AskToFilter words

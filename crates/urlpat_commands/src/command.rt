@@ -4,7 +4,7 @@ ghost use Rattle.std.specs.Prelude.{◌≡◌, ◌≢◌, ◌⊎◌, map, string
 ghost use Rattle.urlpat_commands.specs.Answers.{FailsComponent, FailsWhere, AreAnswered, IsCommandAnswer, IsComponentAnswer, IsComponentFailure, IsComponentText, CopiesBytes, IsFailure, IsPrintedOf, Prints, IsFirstAnswer, IsFirstFailure, IsShortAnswer, IsShortFailure, IsMatchAnswer, IsMatchFailure};
 ghost use Rattle.urlpat_words.specs.Words.{words_view};
 ghost use Rattle.urlpat_commands.specs.Kinds.{IsKind, NamesOptions};
-ghost use Rattle.urlpat_commands.specs.FilterLines.{AskToFilter, Does};
+ghost use Rattle.urlpat_commands.specs.FilterLines.{AskToFilter, FailsOne, RunsOne};
 ghost use Rattle.urlpat_commands.specs.Notes.{HasRefusedInput};
 ghost use Rattle.urlpat_commands.specs.Report.{component_lines, no_match_text};
 ghost use Rattle.urlpattern.specs.Options.{options_view};
@@ -43,9 +43,9 @@ pub fn run<In: BufRead, Out: Write, Err: Write>(
     err: &mut Err,
 ) -> u8
     ensures status { (result ≡ DONE) ⊎ (result ≡ NO_MATCH) ⊎ (result ≡ FAILED) }
-    ensures answers { result ≢ FAILED → Does flags (words_view words.now) result (In.remaining input.old) (Out.contents out.old) (Out.contents out.new) }
+    ensures answers { RunsOne flags words.now result (In.remaining input.old) (Out.contents out.old) (Out.contents out.new) }
     ensures quiet { result ≢ FAILED → (err.new ≡ err.old) ⊎ HasRefusedInput (words_view words.now) ⊎ AskToFilter (words_view words.now) }
-    ensures fails { result ≡ FAILED → FailsWhere flags (words_view words.now) (out.new ≡ out.old) ⊎ AreAnswered flags (words_view words.now) ⊎ AskToFilter (words_view words.now) }
+    ensures fails { result ≡ FAILED → FailsOne flags (words_view words.now) (out.new ≡ out.old) }
 {
     match words_after(words, "filter") {
         Some(rest) => filter(alloc, rest, flags, input, out, err),

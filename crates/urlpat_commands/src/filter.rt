@@ -1,10 +1,9 @@
 //! The command `filter`: the lines of a reader whose URLs match a pattern.
 
-ghost use Rattle.std.specs.Prelude.{◌≡◌, ◌≢◌, ◌⊎◌, OnOk};
+ghost use Rattle.std.specs.Prelude.{◌≡◌, ◌⊎◌, OnOk};
 ghost use Rattle.urlpat_matching.specs.MatchTexts.{IsUnmatchedUnder};
 ghost use Rattle.urlpat_matching.specs.InputUrls.{kept_base};
-ghost use Rattle.urlpat_words.specs.Words.{words_view};
-ghost use Rattle.urlpat_commands.specs.FilterLines.{FiltersLines, HasPiece, IsPieceOf};
+ghost use Rattle.urlpat_commands.specs.FilterLines.{FilterReplies, HasPiece, IsPieceOf};
 ghost use Rattle.urlpat_filter.specs.Filters.{GetsPiece};
 ghost use Rattle.urlpattern.specs.BorrowedMatches.{pattern_captures_view};
 ghost use Rattle.urlpattern.specs.Patterns.{pattern_view};
@@ -50,7 +49,7 @@ pub fn filter<In: BufRead, Out: Write, Err: Write>(
     err: &mut Err,
 ) -> u8
     ensures status { (result ≡ DONE) ⊎ (result ≡ NO_MATCH) ⊎ (result ≡ FAILED) }
-    ensures answers { result ≢ FAILED → FiltersLines flags (words_view words.now) result (In.remaining input.old) (Out.contents out.old) (Out.contents out.new) }
+    ensures answers { FilterReplies flags words.now result (In.remaining input.old) (Out.contents out.old) (Out.contents out.new) }
 {
     let Some(query) = query_of(words, flags.json) else {
         let _ = err.write_all(usage(flags.json).as_bytes());

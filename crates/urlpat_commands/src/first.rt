@@ -1,7 +1,7 @@
 //! The command `first`: the first of some patterns that matches a URL, and what its groups capture.
 
 ghost use Rattle.std.specs.Prelude.{option_copied, string_bytes, IfErr, IfOk};
-ghost use Rattle.urlpat_commands.specs.Answers.{ArePatternsOf, FindsFirst, FindsFirstBy, RefusesOneOf, ShowsFirst};
+ghost use Rattle.urlpat_commands.specs.Answers.{ArePatterns, FindsFirst, FindsFirstBy, RefusesOneOf, ShowsFirst};
 ghost use Rattle.urlpat_matching.specs.PatternWords.{base_of};
 ghost use Rattle.urlpat_words.specs.Words.{words_view};
 ghost use Rattle.urlpattern.specs.BorrowedMatches.{pattern_captures_view};
@@ -45,7 +45,7 @@ fn compiled_list(
     base: Option<&str>,
     ignore_case: bool,
 ) -> Result<UrlPatternList<PatternRegexp>, Error>
-    ensures compiled { IfOk result (λ list. ArePatternsOf ignore_case (words_view patterns.now) (option_copied base.entry) (patterns_view list)) }
+    ensures compiled { IfOk result (λ list. ArePatterns ignore_case (words_view patterns.now) (option_copied base.entry) (patterns_view list)) }
     ensures refused { IfErr result (MemoryOr (RefusesOneOf ignore_case (words_view patterns.now) (option_copied base.entry))) }
 {
     let mut list = UrlPatternList::new(alloc);

@@ -1,13 +1,15 @@
 -- What `explain` is about: a constructor string and what is made of it.
-use Rattle.std.specs.Prelude.{ℕ, List, Option, option_map}
+use Rattle.std.specs.Prelude.{◌≡◌, ◌++◌, ℕ, List, Option, String, map, option_map, string_bytes, zip}
 use Rattle.std.specs.Borrow.{Bor}
+use Rattle.std.specs.declared.alloc.Global.{Global}
 use Rattle.urlpat_explain.specs.declared.explained.Explained.{Explained}
 use Rattle.urlpattern_eight.specs.Eight.{Texts, Values}
 use Rattle.urlpattern_eight.specs.declared.eight.Eight.{Eight}
 use Rattle.urlpattern_engine.specs.declared.pattern_regexp.PatternRegexp.{PatternRegexp}
 use Rattle.urlpattern_init.specs.Inheritance.{values_view}
-use Rattle.urlpattern_matches.specs.GroupTexts.{borrowed_texts}
+use Rattle.urlpattern_matches.specs.GroupTexts.{borrowed_texts, texts_of}
 use Rattle.urlpattern_pattern.specs.Patterns.{PatternView, pattern_view}
+use Rattle.urlpattern_syntax.specs.Text.{option_text}
 
 -- A constructor string, as bytes; the pattern that it is compiled to; the texts that it gives to components; and the values that
 -- they result in.
@@ -28,3 +30,11 @@ explained_view explained = record {
 -- texts that are lent, if there are some
 abbrev pub lent_texts : Option (Bor (Eight (Bor (List ℕ)))) → Option Texts
 lent_texts texts = option_map (λ lent. borrowed_texts lent.now) texts
+
+-- groups of these names, each with what it captured
+abbrev pub named_captures : (names : List (String Global)) → (captures : List (Option (Bor (List ℕ)))) → List (List ℕ × Option (List ℕ))
+named_captures names captures = zip (texts_of names) (map option_text captures)
+
+-- a text gets another at its end
+abbrev pub GetsBytes : (old new : String Global) → List ℕ → Type 0
+GetsBytes old new text = string_bytes new ≡ string_bytes old ++ text

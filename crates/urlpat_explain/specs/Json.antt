@@ -90,5 +90,5 @@ abbrev pub IsExplanationJson : ExplainedView → (texts : Option Texts) → (tex
 IsExplanationJson explained texts text = (tree : Data) × IsExplanationTree explained texts tree × (text ≡ json_line tree)
 
 -- an object's entries gain, at the name of a component, its tree
-abbrev pub GainsExplained : (before after : List (String Global × Value)) → ExplainedView → (texts : Option Texts) → ComponentName → Type 0
-GainsExplained before after explained texts name = (tree : Data) × IsExplainedTree explained texts name tree × Gain before after (name_text name) (Some tree)
+abbrev pub GainsTree : (before after : List (String Global × Value)) → ExplainedView → (texts : Option Texts) → ComponentName → Type 0
+GainsTree before after explained texts name = (tree : Data) × IsExplainedTree explained texts name tree × Gain before after (name_text name) (Some tree)

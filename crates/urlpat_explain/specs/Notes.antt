@@ -40,8 +40,12 @@ value_notes given values =
     names_line INHERITED.now (inherited_names given values components) ++ names_line LEFT_OUT.now (left_out_names values components)
     ++ port_note given.port values.port
 
--- the places of the texts in the constructor string, and the notes on them
+-- the places of the texts in the constructor string
+abbrev pub ArePlaces : ExplainedView → (places : List ℕ) → Type 0
+ArePlaces explained places = ArePlaceCells explained.string explained.given places
+
+-- they are, and the notes on the texts
 abbrev pub AreNotes : ExplainedView → (notes : List ℕ) → Type 0
 AreNotes explained notes =
-    (places : List ℕ) × ArePlaceCells explained.string explained.given places
+    (places : List ℕ) × ArePlaces explained places
     × (notes ≡ names_line PLACES.now places ++ value_notes explained.given explained.values)

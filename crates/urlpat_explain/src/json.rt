@@ -1,13 +1,12 @@
 //! An explanation as JSON, on a line.
 
 ghost use Rattle.serde_json.specs.View.{view};
-ghost use Rattle.std.specs.Prelude.{◌≡◌, ◌∷◌, Some, string_bytes, IfOk, OnOk, codes, map, zip};
+ghost use Rattle.std.specs.Prelude.{◌≡◌, Some, string_bytes, IfOk, OnOk};
 ghost use Rattle.std.specs.Str.{chars};
-ghost use Rattle.urlpat_explain.specs.Explained.{explained_view, lent_texts};
-ghost use Rattle.urlpat_explain.specs.Json.{GainsExplained, GainsMatch, IsExplainedTree, IsExplanationJson, IsExplanationTree, capture_tree, groups_named, pattern_members, place_members, verdict_members};
+ghost use Rattle.urlpat_explain.specs.Explained.{explained_view, lent_texts, named_captures};
+ghost use Rattle.urlpat_explain.specs.Json.{GainsTree, GainsMatch, IsExplainedTree, IsExplanationJson, IsExplanationTree, capture_tree, groups_named, pattern_members, place_members, verdict_members};
 ghost use Rattle.urlpattern_core.specs.Components.{component_view};
 ghost use Rattle.urlpattern_inputs.specs.Trees.{GainAll, object_of};
-ghost use Rattle.urlpattern_matches.specs.GroupTexts.{texts_of};
 ghost use Rattle.urlpattern_syntax.specs.Text.{option_text};
 
 use crate::explained::Explained;
@@ -93,7 +92,7 @@ fn put_component(
     texts: Option<&Eight<&str>>,
     name: ComponentName,
 ) -> Result<(), Error>
-    ensures { OnOk result (GainsExplained members.old.entries members.new.entries (explained_view explained.now) (lent_texts texts.entry) name) }
+    ensures { OnOk result (GainsTree members.old.entries members.new.entries (explained_view explained.now) (lent_texts texts.entry) name) }
 {
     let tree = component_tree(alloc, explained, texts, name)?;
     serde_json::put(members, alloc, name.as_str(), tree)?;
@@ -184,7 +183,7 @@ fn put_verdict(
     names: &[String],
     captures: &[Option<&str>],
 ) -> Result<(), AllocError>
-    ensures { OnOk result (GainAll members.old.entries members.new.entries (verdict_members matches (zip (texts_of names.now) (map option_text captures.now)))) }
+    ensures { OnOk result (GainAll members.old.entries members.new.entries (verdict_members matches (named_captures names.now captures.now))) }
 {
     let groups = groups_tree(alloc, names, captures)?;
     serde_json::put(members, alloc, "matches", Value::from(matches))?;
@@ -197,7 +196,7 @@ fn groups_tree(
     names: &[String],
     captures: &[Option<&str>],
 ) -> Result<Value, AllocError>
-    ensures { IfOk result (λ tree. view tree ≡ object_of (groups_named (zip (texts_of names.now) (map option_text captures.now)))) }
+    ensures { IfOk result (λ tree. view tree ≡ object_of (groups_named (named_captures names.now captures.now))) }
 {
     let mut groups = Map::new(alloc);
     for (name, capture) in names.iter().zip(captures) {

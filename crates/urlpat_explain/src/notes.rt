@@ -1,11 +1,11 @@
 //! Notes on a pattern: where its components are in the constructor string, what it inherits from the base URL, what it leaves out, and
 //! what its port is.
 
-ghost use Rattle.std.specs.Prelude.{◌≡◌, ◌++◌, string_bytes, IfOk, OnOk};
+ghost use Rattle.std.specs.Prelude.{◌≡◌, string_bytes, IfOk, OnOk};
 ghost use Rattle.urlpat_matching.specs.GroupLines.{GetsLines};
-ghost use Rattle.urlpat_explain.specs.Explained.{explained_view};
-ghost use Rattle.urlpat_explain.specs.Notes.{AreNotes, inherited_name, left_out_name, names_line, port_note, value_notes};
-ghost use Rattle.urlpat_explain.specs.Places.{ArePlaceCells, place_cell};
+ghost use Rattle.urlpat_explain.specs.Explained.{explained_view, GetsBytes};
+ghost use Rattle.urlpat_explain.specs.Notes.{AreNotes, ArePlaces, inherited_name, left_out_name, names_line, port_note, value_notes};
+ghost use Rattle.urlpat_explain.specs.Places.{place_cell};
 ghost use Rattle.urlpattern_init.specs.Inheritance.{values_view};
 ghost use Rattle.urlpattern_syntax.specs.Text.{option_text};
 
@@ -47,7 +47,7 @@ pub fn push_notes(
 
 /// The components that are in the constructor string, each with its place.
 fn places_of(alloc: Global, explained: &Explained<'_>) -> Result<String, AllocError>
-    ensures { IfOk result (λ cells. ArePlaceCells (explained_view explained.now).string (explained_view explained.now).given (string_bytes cells)) }
+    ensures { IfOk result (λ cells. ArePlaces (explained_view explained.now) (string_bytes cells)) }
 {
     let mut cells = String::new(alloc);
     for name in ComponentName::all() {
@@ -63,7 +63,7 @@ fn push_place(
     name: ComponentName,
     place: Option<Span>,
 ) -> Result<(), AllocError>
-    ensures { OnOk result (string_bytes cells.new ≡ string_bytes cells.old ++ place_cell name place) }
+    ensures { OnOk result (GetsBytes cells.old cells.new (place_cell name place)) }
 {
     let Some(Span { start, end }) = place else {
         return Ok(());
@@ -106,7 +106,7 @@ fn push_inherited(
     given: Option<&str>,
     value: Option<&str>,
 ) -> Result<(), AllocError>
-    ensures { OnOk result (string_bytes names.new ≡ string_bytes names.old ++ inherited_name name (option_text given.entry) (option_text value.entry)) }
+    ensures { OnOk result (GetsBytes names.old names.new (inherited_name name (option_text given.entry) (option_text value.entry))) }
 {
     if given.is_none() && value.is_some() {
         names.push(' ')?;
@@ -121,7 +121,7 @@ fn push_left_out(
     name: ComponentName,
     value: Option<&str>,
 ) -> Result<(), AllocError>
-    ensures { OnOk result (string_bytes names.new ≡ string_bytes names.old ++ left_out_name name (option_text value.entry)) }
+    ensures { OnOk result (GetsBytes names.old names.new (left_out_name name (option_text value.entry))) }
 {
     if value.is_none() {
         names.push(' ')?;
@@ -132,7 +132,7 @@ fn push_left_out(
 
 /// Appends a line with names, if there are some.
 fn push_names(notes: &mut String, lead: &str, names: &str) -> Result<(), AllocError>
-    ensures { OnOk result (string_bytes notes.new ≡ string_bytes notes.old ++ names_line lead.now names.now) }
+    ensures { OnOk result (GetsBytes notes.old notes.new (names_line lead.now names.now)) }
 {
     if names.is_empty() {
         return Ok(());
@@ -148,7 +148,7 @@ fn push_port_note(
     given: Option<&str>,
     value: Option<&str>,
 ) -> Result<(), AllocError>
-    ensures { OnOk result (string_bytes notes.new ≡ string_bytes notes.old ++ port_note (option_text given.entry) (option_text value.entry)) }
+    ensures { OnOk result (GetsBytes notes.old notes.new (port_note (option_text given.entry) (option_text value.entry))) }
 {
     let (Some(given), Some(value)) = (given, value) else {
         return Ok(());

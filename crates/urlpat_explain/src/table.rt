@@ -1,12 +1,13 @@
 //! A line for each component of a pattern, in columns.
 
 ghost use Rattle.std.specs.List.{flat_map};
-ghost use Rattle.std.specs.Prelude.{◌≡◌, ◌++◌, length, map, option_copied, string_bytes, zip, IfOk, OnOk};
+ghost use Rattle.std.specs.Prelude.{◌≡◌, length, string_bytes, IfOk, OnOk};
 ghost use Rattle.std.specs.Str.{chars};
 ghost use Rattle.urlpat_matching.specs.GroupLines.{GetsLines};
+ghost use Rattle.urlpat_explain.specs.Explained.{GetsBytes, named_captures};
 ghost use Rattle.urlpat_explain.specs.Rows.{IsMatchTable, IsVerdict, column, group_cell, pattern_cell, pattern_table, shown, text_cell, widest};
 ghost use Rattle.urlpattern_core.specs.Components.{component_view};
-ghost use Rattle.urlpattern_matches.specs.GroupTexts.{borrowed_texts, texts_of};
+ghost use Rattle.urlpattern_matches.specs.GroupTexts.{borrowed_texts};
 ghost use Rattle.urlpattern_pattern.specs.Patterns.{pattern_view};
 ghost use Rattle.urlpattern_syntax.specs.Text.{option_text};
 
@@ -116,7 +117,7 @@ fn length_of(text: &str) -> usize
 
 /// Appends a text, spaces up to a width, and two more.
 fn push_column(alloc: Global, row: &mut String, text: &str, width: usize) -> Result<(), AllocError>
-    ensures { OnOk result (string_bytes row.new ≡ string_bytes row.old ++ column width text.now) }
+    ensures { OnOk result (GetsBytes row.old row.new (column width text.now)) }
 {
     let missing = width.saturating_sub(length_of(text));
     let spaces = " ".repeat(alloc, missing)?;
@@ -151,7 +152,7 @@ fn push_groups(
     names: &[String],
     captures: &[Option<&str>],
 ) -> Result<(), AllocError>
-    ensures { OnOk result (string_bytes row.new ≡ string_bytes row.old ++ flat_map group_cell (zip (texts_of names.now) (map option_text captures.now))) }
+    ensures { OnOk result (GetsBytes row.old row.new (flat_map group_cell (named_captures names.now captures.now))) }
 {
     for (name, capture) in names.iter().zip(captures) {
         push_group(row, name, *capture)?;
@@ -161,7 +162,7 @@ fn push_groups(
 
 /// Appends a group: its name, and what it captured, if it took part.
 fn push_group(row: &mut String, name: &str, capture: Option<&str>) -> Result<(), AllocError>
-    ensures { OnOk result (string_bytes row.new ≡ string_bytes row.old ++ group_cell (chars name.now, option_text capture.entry)) }
+    ensures { OnOk result (GetsBytes row.old row.new (group_cell (chars name.now, option_text capture.entry))) }
 {
     row.push_str("  ")?;
     row.push_str(name)?;

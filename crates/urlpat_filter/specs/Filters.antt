@@ -6,6 +6,7 @@ use Rattle.urlpat_filter.specs.declared.filter.Outcome.TheVariants as outcomes
 use Rattle.urlpat_lines.specs.Answers.{AreAnswersTo, lines_of, selected_by}
 use Rattle.urlpat_lines.specs.declared.answers.Verdict.{Verdict}
 use Rattle.urlpat_lines.specs.declared.answers.Verdict.TheVariants as verdicts
+use Rattle.urlpat_words.specs.declared.query.Query.{Query}
 use Rattle.urlpat_words.specs.declared.query.Shape.{Shape}
 use Rattle.urlpat_words.specs.declared.query.Shape.TheVariants as shapes
 
@@ -69,5 +70,10 @@ FiltersText Answers shape text any old new =
     × Appends old new (written ++ count_line shape selected) × (any ≡ nat_lt 0 selected)
 
 -- what a reader has, if that is known, has such answers
-abbrev pub FiltersInput : (Answers : (text line : List ℕ) → Verdict → (written : List ℕ) → Type 0) → Shape → (input : Option (List ℕ)) → (any : Bool) → (old new : Option (List ℕ)) → Type 0
-FiltersInput Answers shape input any old new = IfSome input (λ text. FiltersText Answers shape text any old new)
+abbrev pub Filters : (Answers : (text line : List ℕ) → Verdict → (written : List ℕ) → Type 0) → Shape → (input old new : Option (List ℕ)) → (any : Bool) → Type 0
+Filters Answers shape input old new any = IfSome input (λ text. FiltersText Answers shape text any old new)
+
+-- it has the answers to a query
+abbrev pub FiltersFor : (Matches : (text : List ℕ) → Shape → (piece : List ℕ) → Type 0) → (Differs : (text : List ℕ) → Type 0) → Query
+    → (input old new : Option (List ℕ)) → (any : Bool) → Type 0
+FiltersFor Matches Differs query = Filters (FilterAnswers Matches Differs query.inverted query.shape) query.shape

@@ -1,7 +1,7 @@
 //! The command `filter`, over anything that matches lines.
 ghost use Rattle.std.specs.Prelude.{◌≡◌, ℕ, List, IfOk, IfSome, OnOk, None, nat_lt};
 ghost use Rattle.std.specs.Io.KnownBytes.{Appends};
-ghost use Rattle.urlpat_filter.specs.Filters.{AnswersMatched, AnswersUnmatched, FilterAnswers, FiltersInput, FiltersText, GetsPiece, IsOutcome, asked_shape, count_line};
+ghost use Rattle.urlpat_filter.specs.Filters.{AnswersMatched, AnswersUnmatched, FilterAnswers, Filters, FiltersFor, GetsPiece, IsOutcome, asked_shape, count_line};
 ghost use Rattle.urlpat_lines.specs.Answers.{selected_by};
 ghost use Rattle.urlpat_words.specs.declared.query.Shape.{Shape as Asked};
 
@@ -58,7 +58,7 @@ pub fn filter_lines<In: BufRead, Out: Write, Err: Write, M: LineMatcher>(
     out: &mut Out,
     err: &mut Err,
 ) -> Option<bool>
-    ensures { IfSome result (λ any. IfSome (In.remaining input.old) (λ text. FiltersText (FilterAnswers (M.Matches matcher.now) (M.Differs matcher.now) query.entry.inverted query.entry.shape) query.entry.shape text any (Out.contents out.old) (Out.contents out.new))) }
+    ensures { IfSome result (FiltersFor (M.Matches matcher.now) (M.Differs matcher.now) query.entry (In.remaining input.old) (Out.contents out.old) (Out.contents out.new)) }
 {
     let rule = LineFilter {
         matcher,
@@ -78,7 +78,7 @@ pub fn write_answers<In: BufRead, Out: Write, Err: Write, R: Rule>(
     out: &mut Out,
     err: &mut Err,
 ) -> Option<bool>
-    ensures { IfSome result (λ any. FiltersInput (R.Answers rule.now) shape.entry (In.remaining input.old) any (Out.contents out.old) (Out.contents out.new)) }
+    ensures { IfSome result (Filters (R.Answers rule.now) shape.entry (In.remaining input.old) (Out.contents out.old) (Out.contents out.new)) }
 {
     match answer_lines(alloc, rule, input, out, err) {
         Ok(tally) => finish(shape, tally, out, err),

@@ -1,10 +1,11 @@
 -- The answers to the lines of a reader. Texts are bytes.
-use Rattle.std.specs.Prelude.{◌≡◌, ◌⊎◌, ℕ, ◌+◌, ◌<◌, List, [], ◌∷◌, ◌++◌, length, Option}
+use Rattle.std.specs.Prelude.{◌≡◌, ◌⊎◌, ℕ, ◌+◌, ◌<◌, List, [], ◌∷◌, ◌++◌, length, IfSome, Option}
 use Rattle.std.specs.Io.KnownBytes.{Appends}
 use Rattle.bstr.specs.Records.{records}
 use Rattle.bstr.specs.Text.{without_terminator}
 use Rattle.std.specs.Str.{IsUtf8}
 use Rattle.urlpat_lines.specs.declared.reading.TheConstants.{LONGEST}
+use Rattle.urlpat_lines.specs.declared.answers.Tally.{Tally}
 use Rattle.urlpat_lines.specs.declared.answers.Verdict.{Verdict}
 use Rattle.urlpat_lines.specs.declared.answers.Verdict.TheVariants as verdicts
 
@@ -47,3 +48,7 @@ module _ (Answers : (text line : List ℕ) → Verdict → (written : List ℕ) 
   -- the answers to the lines of a text are written, and so many lines are selected
   abbrev pub WritesAnswers : (text : List ℕ) → (selected : ℕ) → (old new : Option (List ℕ)) → Type 0
   WritesAnswers text selected old new = (written : List ℕ) × AreAnswersTo (lines_of text) selected written × Appends old new written
+
+  -- so it is with what a reader has, if that is known
+  abbrev pub WritesInput : (input old new : Option (List ℕ)) → Tally → Type 0
+  WritesInput input old new tally = IfSome input (λ text. WritesAnswers text tally.selected old new)

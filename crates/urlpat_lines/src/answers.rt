@@ -1,7 +1,7 @@
 //! The answers to the lines of a reader.
-ghost use Rattle.std.specs.Prelude.{◌≡◌, ◌+◌, ◌<◌, ◌^◌, ℕ, List, IfOk, IfSome, OnOk};
+ghost use Rattle.std.specs.Prelude.{◌≡◌, ◌+◌, ◌<◌, ◌^◌, ℕ, List, IfOk, OnOk};
 ghost use Rattle.std.specs.Io.KnownBytes.{Appends};
-ghost use Rattle.urlpat_lines.specs.Answers.{AppendsAnswer, AppendsAnswerTo, WritesAnswers, selected_by};
+ghost use Rattle.urlpat_lines.specs.Answers.{AppendsAnswer, AppendsAnswerTo, WritesInput, selected_by};
 ghost use Rattle.urlpat_lines.specs.declared.answers.Verdict.{Verdict};
 
 use crate::reading::{LONGEST, read_line, without_end};
@@ -81,7 +81,7 @@ pub fn answer_lines<In: BufRead, Out: Write, Err: Write, R: Rule>(
     out: &mut Out,
     err: &mut Err,
 ) -> Result<Tally, Fault>
-    ensures { IfOk result (λ tally. IfSome (In.remaining input.old) (λ text. WritesAnswers (R.Answers rule.now) text tally.selected (Out.contents out.old) (Out.contents out.new))) }
+    ensures { IfOk result (WritesInput (R.Answers rule.now) (In.remaining input.old) (Out.contents out.old) (Out.contents out.new)) }
 {
     let mut tally = Tally {
         selected: 0,

@@ -121,5 +121,5 @@ RoutesLines flags Has words status input old new =
 abbrev pub RoutesTable : Flags → (table : List ℕ) → (base : Option (Bor (List ℕ))) → (status : ℕ) → (input old new : Option (List ℕ)) → Type 0
 RoutesTable flags table base status input old new = status ≢ FAILED → RoutesBy flags table (option_copied base) status input old new
 
-abbrev pub RoutesFile : Flags → (Has : (name table : List ℕ) → Type 0) → (words : List (String Global)) → (status : ℕ) → (input old new : Option (List ℕ)) → Type 0
-RoutesFile flags Has words status input old new = status ≢ FAILED → RoutesLines flags Has (words_view words) status input old new
+abbrev pub Replies : Flags → (Has : (name table : List ℕ) → Type 0) → (words : List (String Global)) → (status : ℕ) → (input old new : Option (List ℕ)) → Type 0
+Replies flags Has words status input old new = status ≢ FAILED → RoutesLines flags Has (words_view words) status input old new

@@ -2,7 +2,7 @@
 
 ghost use Rattle.std.specs.Prelude.{◌≡◌, ◌⊎◌, option_copied, IfSome};
 ghost use Rattle.urlpat_matching.specs.InputUrls.{kept_base};
-ghost use Rattle.urlpat_rules.specs.Routes.{AreRoutesOf, IsLineAnswered, RoutesFile, RoutesTable, unmatched_text};
+ghost use Rattle.urlpat_rules.specs.Routes.{AreRoutesOf, IsLineAnswered, Replies, RoutesTable, unmatched_text};
 ghost use Rattle.urlpat_tables.specs.Tables.{entries_view};
 
 use crate::row::push_route;
@@ -45,7 +45,7 @@ pub fn route<T: Tables, In: BufRead, Out: Write, Err: Write>(
     err: &mut Err,
 ) -> u8
     ensures status { (result ≡ DONE) ⊎ (result ≡ NO_MATCH) ⊎ (result ≡ FAILED) }
-    ensures answers { RoutesFile flags (T.Has tables.now) words.now result (In.remaining input.old) (Out.contents out.old) (Out.contents out.new) }
+    ensures answers { Replies flags (T.Has tables.now) words.now result (In.remaining input.old) (Out.contents out.old) (Out.contents out.new) }
 {
     let Some((name, base)) = table_words(words) else {
         let _ = err.write_all(ROUTE_USAGE.as_bytes());

@@ -41,6 +41,10 @@ IsFirstMatchOf {E} answer patterns texts (Some first) =
     × All (λ earlier. IsRefused answer earlier texts) (take first.0 patterns)
 IsFirstMatchOf answer patterns texts None = All (λ pattern. IsRefused answer pattern texts) patterns
 
+-- so it is with a match that is borrowed
+abbrev pub IsFirstCaptured : {E : Type 0} → (answer : E → List ℕ → Option Captures) → List (PatternView E) → Texts → Option (ℕ × UrlPatternCaptures) → Type 0
+IsFirstCaptured answer patterns texts found = IsFirstMatchOf answer patterns texts (first_captures_view found)
+
 -- where a match of eight texts is found, its groups are those of the pattern at its index, in their order
 abbrev pub HasGroupsInOrder : {E : Type 0} → (answer : E → List ℕ → Option Captures) → List (PatternView E) → Texts → Option (ℕ × UrlPatternCaptures) → Type 0
 HasGroupsInOrder {E} answer patterns texts found =

@@ -1,6 +1,6 @@
 -- The matches of a list after the first one.
 use Rattle.std.specs.Prelude.{◌≡◌, ◌+◌, ◌<◌, ◌≤◌, ℕ, List, length, Option, Some, None, Result, Ok, Err, slice_get}
-use Rattle.urlpattern.specs.FirstMatch.{FirstView, patterns_view}
+use Rattle.urlpattern.specs.FirstMatch.{FirstView, first_captures_view, patterns_view}
 use Rattle.urlpattern.specs.declared.list.matches.UrlPatternMatches.{UrlPatternMatches}
 use Rattle.urlpattern_meaning.specs.PartMeaning.{Captures}
 use Rattle.urlpattern_matches.specs.declared.captures.UrlPatternCaptures.{UrlPatternCaptures}
@@ -24,6 +24,10 @@ IsFirstMatchFrom {E} answer patterns texts from (Some first) =
     × ((pattern : PatternView E) × (slice_get patterns first.0 ≡ Some pattern) × IsMatchOf answer pattern texts first.1)
     × AreRefusedBetween answer patterns texts from first.0
 IsFirstMatchFrom answer patterns texts from None = AreRefusedBetween answer patterns texts from (length patterns)
+
+-- so it is with a match that is borrowed
+abbrev pub IsFirstCapturedFrom : {E : Type 0} → (answer : E → List ℕ → Option Captures) → List (PatternView E) → Texts → (from : ℕ) → Option (ℕ × UrlPatternCaptures) → Type 0
+IsFirstCapturedFrom answer patterns texts from found = IsFirstMatchFrom answer patterns texts from (first_captures_view found)
 
 -- a pattern whose index is not below another asks an engine, and none between them matches
 abbrev pub AsksBeforeMatchFrom : {E : Type 0} → (answer : E → List ℕ → Option Captures) → List (PatternView E) → Texts → (from : ℕ) → Type 0

@@ -8,7 +8,7 @@ use Rattle.urlpattern_index.specs.Keys.{hashes_of}
 use Rattle.urlpattern_index.specs.Listed.{Finds, Listing}
 use Rattle.urlpattern_eight.specs.declared.eight.ComponentName.TheVariants.{Hostname, Pathname, Protocol}
 use Rattle.urlpattern_eight.specs.Eight.{Texts}
-use Rattle.urlpattern_meaning.specs.Matching.{IsMatched, Literal, MatcherView}
+use Rattle.urlpattern_meaning.specs.Matching.{Accepts, InnerView, IsMatched, Literal, MatcherView}
 use Rattle.urlpattern_meaning.specs.PartMeaning.{Captures}
 use Rattle.urlpattern_pattern.specs.Match.{IsRefused}
 use Rattle.urlpattern_pattern.specs.Patterns.{PatternView, pattern_view}
@@ -26,6 +26,10 @@ text_matcher text = record { prefix = []; suffix = []; inner = Literal text; ign
 abbrev pub IsFixedText : {E : Type 0} → MatcherView E → Option (List ℕ) → Type 0
 IsFixedText matcher (Some text) = matcher ≡ text_matcher text
 IsFixedText matcher None = Unit {0}
+
+-- the outline is one of each text that is matched between prefix and suffix, where case is kept
+abbrev pub OutlinesInner : {E : Type 0} → (answer : E → List ℕ → Option Captures) → InnerView E → (outline : List OutlineItem) → Type 0
+OutlinesInner answer inner outline = (text : List ℕ) (captures : Captures) → Accepts answer false inner text captures → HasOutline outline text
 
 -- These texts are fixed of those that the pattern matches.
 pub record AreFixed {E : Type 0} (answer : E → List ℕ → Option Captures) (pattern : PatternView E) (fixed : FixedTexts) : Type 0 where

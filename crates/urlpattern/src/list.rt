@@ -9,17 +9,17 @@ ghost use Rattle.std.specs.Prelude.{◌≡◌, ◌==◌, ◌++◌, ◌<◌, [], 
 ghost use Rattle.std.specs.Slice.Iter.{iter_rest};
 ghost use Rattle.urlpattern_init.specs.Inheritance.{texts_of_url};
 ghost use Rattle.urlpattern_init.specs.declared.init.UrlPatternMatchInput.TheVariants as inputs;
-ghost use Rattle.urlpattern_matches.specs.GroupTexts.{borrowed_texts};
-ghost use Rattle.urlpattern.specs.FirstMatch.{first_captures_view, first_view, patterns_view, CopiesFirstMatch, HasGroupsInOrder, IsFirstMatch, IsFirstMatchOf, AsksBeforeMatch};
+ghost use Rattle.urlpattern.specs.FirstMatch.{first_captures_view, first_view, patterns_view, CopiesFirstMatch, HasGroupsInOrder, IsFirstCaptured, IsFirstMatch, AsksBeforeMatch};
 ghost use Rattle.urlpattern.specs.PatternKeys.{address_of};
 ghost use Rattle.urlpattern_index.specs.FixedTexts.{address_texts};
 ghost use Rattle.urlpattern_index.specs.Keys.{hashes_of, hashes_view};
-ghost use Rattle.urlpattern.specs.NextMatch.{matches_left, AsksBeforeMatchFrom, IsFirstMatchFrom};
+ghost use Rattle.urlpattern.specs.NextMatch.{matches_left, AsksBeforeMatchFrom, IsFirstCapturedFrom};
 ghost use Rattle.urlpattern_pattern.specs.Match.{IfUrl};
 ghost use Rattle.urlpattern_matches.specs.MatchInput.{texts_view};
 ghost use Rattle.urlpattern_pattern.specs.declared.pattern.UrlPattern.{UrlPattern};
 ghost use Rattle.urlpattern_syntax.specs.Errors.{OnlyOutOfMemory};
 
+mod finding;
 mod fixed;
 mod matches;
 
@@ -30,16 +30,14 @@ use std::marker::Model;
 use std::slice;
 use url::{Url, quirks};
 use urlpattern_core::Error;
-use urlpattern_core::error::OutOfMemory;
 use urlpattern_core::regexp::RegExp;
-use urlpattern_eight::Eight;
 use urlpattern_index::{Address, AddressHashes, Fixed, Index};
 use urlpattern_init::UrlPatternMatchInput;
 use urlpattern_inputs::MatchInput;
 use urlpattern_matches::{
     UrlPatternCaptures, UrlPatternResult, input_texts, parse_match_input, url_texts,
 };
-use urlpattern_pattern::{UrlPattern, captures_of_texts};
+use urlpattern_pattern::UrlPattern;
 
 /// Patterns in their order, as the routes of a router.
 ///
@@ -266,7 +264,7 @@ impl<R: RegExp> UrlPatternList<R> {
     ) -> Result<Option<(usize, UrlPatternCaptures<'p, 'u>)>, Error>
         requires within { index < length self.now }
         requires hashes { hashes_view hashes.now ≡ hashes_of (address_of (texts_of_url url.now)) }
-        ensures first { IfOk result (λ found. IsFirstMatchFrom R.answer (patterns_view self.now) (texts_of_url url.now) index (first_captures_view found)) }
+        ensures first { IfOk result (IsFirstCapturedFrom R.answer (patterns_view self.now) (texts_of_url url.now) index) }
         ensures groups { IfOk result (HasGroupsInOrder R.answer (patterns_view self.now) (texts_of_url url.now)) }
         ensures memory { OnlyOutOfMemory result }
         ensures asked { IfErr result (λ _. AsksBeforeMatchFrom R.answer (patterns_view self.now) (texts_of_url url.now) index) }
@@ -283,7 +281,7 @@ impl<R: RegExp> UrlPatternList<R> {
         alloc: Global,
         input: &'u MatchInput,
     ) -> Result<Option<(usize, UrlPatternCaptures<'p, 'u>)>, Error>
-        ensures first { IfOk result (λ found. IsFirstMatchOf R.answer (patterns_view self.now) (texts_view input.now) (first_captures_view found)) }
+        ensures first { IfOk result (IsFirstCaptured R.answer (patterns_view self.now) (texts_view input.now)) }
         ensures groups { IfOk result (HasGroupsInOrder R.answer (patterns_view self.now) (texts_view input.now)) }
         ensures memory { OnlyOutOfMemory result }
         ensures asked { IfErr result (λ _. AsksBeforeMatch R.answer (patterns_view self.now) (texts_view input.now)) }
@@ -299,94 +297,6 @@ impl<R: RegExp> UrlPatternList<R> {
         ensures { matches_left result ≡ record { patterns = patterns_view self.now; texts = texts_of_url url.now; from = 0 } }
     {
         UrlPatternMatches::new(self, alloc, url_texts(url))
-    }
-
-    /// The first match of eight texts, copied. `None`: no pattern matches them.
-    ///
-    /// The error is that memory ran out.
-    fn first_result(
-        &self,
-        alloc: Global,
-        texts: Eight<&str>,
-    ) -> Result<Option<(usize, UrlPatternResult)>, Error>
-        ensures first { IfOk result (λ found. IsFirstMatchOf R.answer (patterns_view self.now) (borrowed_texts texts.entry) (first_view found)) }
-        ensures memory { OnlyOutOfMemory result }
-        ensures copied { IfErr result (λ _. CopiesFirstMatch R.answer (patterns_view self.now) (borrowed_texts texts.entry)) }
-    {
-        match self.first(alloc, texts)? {
-            Some((index, captures)) => Ok(Some((index, captures.to_result(alloc)?))),
-            None => Ok(None),
-        }
-    }
-
-    /// The first match of eight texts. `None`: no pattern matches them.
-    ///
-    /// Only an engine allocates.
-    fn first<'p, 'u>(
-        &'p self,
-        alloc: Global,
-        texts: Eight<&'u str>,
-    ) -> Result<Option<(usize, UrlPatternCaptures<'p, 'u>)>, OutOfMemory>
-        ensures first { IfOk result (λ found.
-            IsFirstMatchOf R.answer (patterns_view self.now) (borrowed_texts texts.entry) (first_captures_view found)) }
-        ensures groups { IfOk result (HasGroupsInOrder R.answer (patterns_view self.now) (borrowed_texts texts.entry)) }
-        ensures asked { IfErr result (λ _. AsksBeforeMatch R.answer (patterns_view self.now) (borrowed_texts texts.entry)) }
-    {
-        self.first_from(alloc, &texts, 0)
-    }
-
-    /// The first match of eight texts by a pattern whose index is not below another. `None`: no such pattern matches them.
-    ///
-    /// Only an engine allocates.
-    fn first_from<'p, 'u>(
-        &'p self,
-        alloc: Global,
-        texts: &Eight<&'u str>,
-        from: usize,
-    ) -> Result<Option<(usize, UrlPatternCaptures<'p, 'u>)>, OutOfMemory>
-        ensures first { IfOk result (λ found.
-            IsFirstMatchFrom R.answer (patterns_view self.now) (borrowed_texts texts.now) from (first_captures_view found)) }
-        ensures groups { IfOk result (HasGroupsInOrder R.answer (patterns_view self.now) (borrowed_texts texts.now)) }
-        ensures asked { IfErr result (λ _. AsksBeforeMatchFrom R.answer (patterns_view self.now) (borrowed_texts texts.now) from) }
-    {
-        let mut hashes = AddressHashes::new();
-        hashes.fill(Address {
-            protocol: texts.protocol,
-            hostname: texts.hostname,
-            pathname: texts.pathname,
-        });
-        match self.index.first_from(&hashes, from) {
-            Some(index) => self.first_listed(alloc, texts, &hashes, index),
-            None => Ok(None),
-        }
-    }
-
-    /// The first match of eight texts by the pattern at an index, or by a later one. `None`: none of them matches the texts.
-    ///
-    /// Only an engine allocates.
-    fn first_listed<'p, 'u>(
-        &'p self,
-        alloc: Global,
-        texts: &Eight<&'u str>,
-        hashes: &AddressHashes,
-        index: usize,
-    ) -> Result<Option<(usize, UrlPatternCaptures<'p, 'u>)>, OutOfMemory>
-        requires within { index < length self.now }
-        requires hashes { hashes_view hashes.now ≡ hashes_of (address_of (borrowed_texts texts.now)) }
-        ensures first { IfOk result (λ found.
-            IsFirstMatchFrom R.answer (patterns_view self.now) (borrowed_texts texts.now) index (first_captures_view found)) }
-        ensures groups { IfOk result (HasGroupsInOrder R.answer (patterns_view self.now) (borrowed_texts texts.now)) }
-        ensures asked { IfErr result (λ _. AsksBeforeMatchFrom R.answer (patterns_view self.now) (borrowed_texts texts.now) index) }
-    {
-        let mut found = Some(index);
-        while let Some(index) = found {
-            let pattern = &self.patterns[index];
-            if let Some(captures) = captures_of_texts(alloc, pattern, texts)? {
-                return Ok(Some((index, captures)));
-            }
-            found = self.index.first_from(hashes, index + 1);
-        }
-        Ok(None)
     }
 }
 

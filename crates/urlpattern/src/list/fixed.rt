@@ -3,9 +3,8 @@ ghost use Rattle.std.specs.Prelude.{◌≡◌, ◌++◌, ◌∷◌, [], ℕ, fal
 ghost use Rattle.std.specs.Str.{chars};
 ghost use Rattle.urlpattern_core.specs.Matchers.{inner_view, matcher_view};
 ghost use Rattle.urlpattern_meaning.specs.Outlines.{HasOutline};
-ghost use Rattle.urlpattern_meaning.specs.Matching.{Accepts, IsMatched, PassesFilter};
-ghost use Rattle.urlpattern_meaning.specs.PartMeaning.{Captures};
-ghost use Rattle.urlpattern.specs.PatternKeys.{IsFixedText, characters};
+ghost use Rattle.urlpattern_meaning.specs.Matching.{IsMatched, PassesFilter};
+ghost use Rattle.urlpattern.specs.PatternKeys.{IsFixedText, OutlinesInner, characters};
 ghost use Rattle.urlpattern_syntax.specs.Text.{option_text};
 
 use std::alloc::Global;
@@ -73,7 +72,7 @@ fn inner_outline<R: RegExp>(
     alloc: Global,
     inner: &InnerMatcher<R>,
 ) -> Result<Vec<OutlineItem>, OutOfMemory>
-    ensures { IfOk result (λ outline. (text : List ℕ) (captures : Captures) → Accepts R.answer false (inner_view inner.now) text captures → HasOutline outline.items text) }
+    ensures { IfOk result (λ outline. OutlinesInner R.answer (inner_view inner.now) outline.items) }
 {
     match inner {
         InnerMatcher::Literal { literal } => characters_of(alloc, literal),

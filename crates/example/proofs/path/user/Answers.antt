@@ -6,7 +6,7 @@ use Rattle.urlpattern.specs.Eight.{Texts}
 use Rattle.urlpattern.specs.Match.{IsMatchOf, IsRefused}
 use Rattle.urlpattern.specs.Patterns.{pattern_view}
 use Rattle.example.proofs.Captured.{none_captured, some_captured}
-use Rattle.example.specs.NamedUsers.{NamesUserByPath}
+use Rattle.example.specs.NamedUsers.{CapturesIdOfPath}
 use Rattle.example.proofs.path.user.Goals as goal
 
 pub returns-clause-some : goal.returns-clause-some
@@ -14,7 +14,7 @@ returns-clause-some g c =
     let answer = g.R.RegExp.answer in
     let pattern = pattern_view c.args.users.now in
     let match = pattern_captures_view c.in-Some.found in
-    let Is : Option (List ℕ) → Type 0 = NamesUserByPath answer pattern (chars c.args.path.now) in
+    let Is : Option (List ℕ) → Type 0 = CapturesIdOfPath answer pattern (chars c.args.path.now) in
     let is_match = subst (λ (texts : Texts). IsMatchOf answer pattern texts match) c.pathname_texts.ensures (rw c.in-Some.is at c.in_ok-found.ensures.matched) in
     some_captured c.get.result Is (match, is_match, sym c.get.ensures)
 
@@ -23,7 +23,7 @@ returns-clause-none g c =
     let answer = g.R.RegExp.answer in
     let pattern = pattern_view c.args.users.now in
     let match = pattern_captures_view c.in-Some.found in
-    let Is : Option (List ℕ) → Type 0 = NamesUserByPath answer pattern (chars c.args.path.now) in
+    let Is : Option (List ℕ) → Type 0 = CapturesIdOfPath answer pattern (chars c.args.path.now) in
     let is_match = subst (λ (texts : Texts). IsMatchOf answer pattern texts match) c.pathname_texts.ensures (rw c.in-Some.is at c.in_ok-found.ensures.matched) in
     none_captured c.get.result Is _ (match, is_match, sym c.get.ensures)
 

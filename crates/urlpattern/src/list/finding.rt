@@ -1,0 +1,105 @@
+//! The first match of eight texts, by the index of a list.
+ghost use Rattle.std.specs.Prelude.{◌≡◌, ◌<◌, length, IfErr, IfOk};
+ghost use Rattle.urlpattern_matches.specs.GroupTexts.{borrowed_texts};
+ghost use Rattle.urlpattern.specs.FirstMatch.{first_view, patterns_view, AsksBeforeMatch, CopiesFirstMatch, HasGroupsInOrder, IsFirstCaptured, IsFirstMatchOf};
+ghost use Rattle.urlpattern.specs.PatternKeys.{address_of};
+ghost use Rattle.urlpattern_index.specs.Keys.{hashes_of, hashes_view};
+ghost use Rattle.urlpattern.specs.NextMatch.{AsksBeforeMatchFrom, IsFirstCapturedFrom};
+ghost use Rattle.urlpattern_syntax.specs.Errors.{OnlyOutOfMemory};
+
+use super::UrlPatternList;
+use std::alloc::Global;
+use urlpattern_core::Error;
+use urlpattern_core::error::OutOfMemory;
+use urlpattern_core::regexp::RegExp;
+use urlpattern_eight::Eight;
+use urlpattern_index::{Address, AddressHashes};
+use urlpattern_matches::{UrlPatternCaptures, UrlPatternResult};
+use urlpattern_pattern::captures_of_texts;
+
+impl<R: RegExp> UrlPatternList<R> {
+    /// The first match of eight texts, copied. `None`: no pattern matches them.
+    ///
+    /// The error is that memory ran out.
+    pub(super) fn first_result(
+        &self,
+        alloc: Global,
+        texts: Eight<&str>,
+    ) -> Result<Option<(usize, UrlPatternResult)>, Error>
+        ensures first { IfOk result (λ found. IsFirstMatchOf R.answer (patterns_view self.now) (borrowed_texts texts.entry) (first_view found)) }
+        ensures memory { OnlyOutOfMemory result }
+        ensures copied { IfErr result (λ _. CopiesFirstMatch R.answer (patterns_view self.now) (borrowed_texts texts.entry)) }
+    {
+        match self.first(alloc, texts)? {
+            Some((index, captures)) => Ok(Some((index, captures.to_result(alloc)?))),
+            None => Ok(None),
+        }
+    }
+
+    /// The first match of eight texts. `None`: no pattern matches them.
+    ///
+    /// Only an engine allocates.
+    pub(super) fn first<'p, 'u>(
+        &'p self,
+        alloc: Global,
+        texts: Eight<&'u str>,
+    ) -> Result<Option<(usize, UrlPatternCaptures<'p, 'u>)>, OutOfMemory>
+        ensures first { IfOk result (IsFirstCaptured R.answer (patterns_view self.now) (borrowed_texts texts.entry)) }
+        ensures groups { IfOk result (HasGroupsInOrder R.answer (patterns_view self.now) (borrowed_texts texts.entry)) }
+        ensures asked { IfErr result (λ _. AsksBeforeMatch R.answer (patterns_view self.now) (borrowed_texts texts.entry)) }
+    {
+        self.first_from(alloc, &texts, 0)
+    }
+
+    /// The first match of eight texts by a pattern whose index is not below another. `None`: no such pattern matches them.
+    ///
+    /// Only an engine allocates.
+    pub(super) fn first_from<'p, 'u>(
+        &'p self,
+        alloc: Global,
+        texts: &Eight<&'u str>,
+        from: usize,
+    ) -> Result<Option<(usize, UrlPatternCaptures<'p, 'u>)>, OutOfMemory>
+        ensures first { IfOk result (IsFirstCapturedFrom R.answer (patterns_view self.now) (borrowed_texts texts.now) from) }
+        ensures groups { IfOk result (HasGroupsInOrder R.answer (patterns_view self.now) (borrowed_texts texts.now)) }
+        ensures asked { IfErr result (λ _. AsksBeforeMatchFrom R.answer (patterns_view self.now) (borrowed_texts texts.now) from) }
+    {
+        let mut hashes = AddressHashes::new();
+        hashes.fill(Address {
+            protocol: texts.protocol,
+            hostname: texts.hostname,
+            pathname: texts.pathname,
+        });
+        match self.index.first_from(&hashes, from) {
+            Some(index) => self.first_listed(alloc, texts, &hashes, index),
+            None => Ok(None),
+        }
+    }
+
+    /// The first match of eight texts by the pattern at an index, or by a later one. `None`: none of them matches the texts.
+    ///
+    /// Only an engine allocates.
+    pub(super) fn first_listed<'p, 'u>(
+        &'p self,
+        alloc: Global,
+        texts: &Eight<&'u str>,
+        hashes: &AddressHashes,
+        index: usize,
+    ) -> Result<Option<(usize, UrlPatternCaptures<'p, 'u>)>, OutOfMemory>
+        requires within { index < length self.now }
+        requires hashes { hashes_view hashes.now ≡ hashes_of (address_of (borrowed_texts texts.now)) }
+        ensures first { IfOk result (IsFirstCapturedFrom R.answer (patterns_view self.now) (borrowed_texts texts.now) index) }
+        ensures groups { IfOk result (HasGroupsInOrder R.answer (patterns_view self.now) (borrowed_texts texts.now)) }
+        ensures asked { IfErr result (λ _. AsksBeforeMatchFrom R.answer (patterns_view self.now) (borrowed_texts texts.now) index) }
+    {
+        let mut found = Some(index);
+        while let Some(index) = found {
+            let pattern = &self.patterns[index];
+            if let Some(captures) = captures_of_texts(alloc, pattern, texts)? {
+                return Ok(Some((index, captures)));
+            }
+            found = self.index.first_from(hashes, index + 1);
+        }
+        Ok(None)
+    }
+}
