@@ -3,13 +3,13 @@ use Rattle.std.proofs.Common.{◌≡◌, ℕ, ◌+◌, ◌-◌, ◌≤◌, List,
 use Rattle.std.proofs.lemmas.Bool.{and_parts}
 use Rattle.std.proofs.lemmas.List.{append-nil}
 use Rattle.std.proofs.lemmas.Str.{encodes-append, encodes-chars, encodes_same, scalars-chars, IsCharBoundary-at_seam}
-use Rattle.std.specs.Prelude.{codes, encode_utf8_all}
+use Rattle.std.specs.Prelude.{MatchOption, codes, encode_utf8_all}
 use Rattle.std.specs.Str.{chars, IsCharBoundary, IsUtf8}
 use lib.Utf8.{scalars}
 use Rattle.urlpattern_eight.specs.declared.eight.ComponentName.{ComponentName}
 use Rattle.urlpattern_faults.specs.Faults.{HasTokenFault, IsAfterFront, IsAlone, IsBodyFault, IsTokenFault}
 use Rattle.urlpattern_faults.specs.Spans.{IsSpanAt}
-use Rattle.urlpattern_faults.specs.declared.fault.Fault.{Fault}
+use Rattle.urlpattern_faults.specs.declared.{fault.Fault.Fault, span.Span.Span}
 use Rattle.urlpattern_meaning.proofs.FrontTokens.{fault_at_one, lexed_or_fault, no_fault}
 use Rattle.urlpattern_syntax.specs.Text.{BeginsWith, byte_len, is_among}
 use Rattle.urlpattern_syntax.specs.Tokens.{FaultView, IncompleteEscapeCode, InvalidRegex, IsCut, IsFault, IsFaultAt, IsRegexpFront, IsTokenOf, TokenView}
@@ -73,6 +73,12 @@ ends_from bytes fault place is u =
 pub is_none : {A : Type 0} (found : Option A) → ((x : A) → found ≡ Some x → ⊥) → found ≡ None
 is_none None not_some = refl
 is_none (Some x) not_some = absurd (not_some x refl)
+
+-- so many bytes at a place, if it is found
+pub found_at : (bytes : List ℕ) (len place : ℕ) (found : Option ℕ) (Other : Type 0) (span : Span) (fault : Fault) → found ≡ Some place → IsSpanAt bytes place len span →
+    fault ≡ record { span = span; earlier = None } → MatchOption found Other (λ at. IsAlone (IsSpanAt bytes at len) fault)
+found_at bytes len place found Other span fault e at alone =
+    subst (λ found. MatchOption found Other (λ at. IsAlone (IsSpanAt bytes at len) fault)) (sym e) (subst (IsAlone (IsSpanAt bytes place len)) (sym alone) (at, refl))
 
 -- a backslash at the end
 pub escape_found : (component : Option ComponentName) (bytes : List ℕ) (place : ℕ) (reported : FaultView) (is : IsFault (chars bytes) reported place) (fault : Fault) → IsUtf8 bytes →

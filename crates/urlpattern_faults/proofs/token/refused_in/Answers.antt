@@ -49,25 +49,18 @@ returns-in_default-split_first-clause-left c = after_front _ _ _ c.loop-first.in
 pub loop-first-preserved-in-41 : goal.loop-first-preserved-in-41
 loop-first-preserved-in-41 c =
     let cut : chars c.loop-first.rest.now ≡ 41 ∷ chars c.in-Some.after.now = search rules in
-    let shorter : length c.in-Some.after.now < length c.loop-first.rest.now = search rules in
-    let some : 0 < c.loop-first.depth = omega (arith, c.if-depth-eq0.false) in
     record {
       is_text = search rules;
-      has_read = HasRead-closed _ _ _ _ c.loop-first.invariant.has_read some cut;
-      few = omega arith;
+      has_read = HasRead-closed _ _ _ _ c.loop-first.invariant.has_read (omega (arith, c.if-depth-eq0.false)) cut;
+      few = omega (arith, c.in-Some.ensures.len);
     }
 
 pub loop-first-preserved : goal.loop-first-preserved
-loop-first-preserved c =
-    let cut : chars c.loop-first.rest.now ≡ c.in-Some.first ∷ chars c.in-Some.after.now = search rules in
-    let shorter : length c.in-Some.after.now < length c.loop-first.rest.now = search rules in
-    let ascii : c.in-Some.first < 128 = search rules in
-    let plain : is_among (codes "\\()") c.in-Some.first ≡ false = grind (arith, nat_tests) in
-    record {
-      is_text = search rules;
-      has_read = HasRead-plain _ _ _ _ _ c.loop-first.invariant.has_read cut ascii plain;
-      few = omega arith;
-    }
+loop-first-preserved c = record {
+  is_text = search rules;
+  has_read = HasRead-plain _ _ _ _ _ c.loop-first.invariant.has_read c.in-Some.ensures.cut (search rules) (grind (arith, nat_tests));
+  few = omega (arith, c.in-Some.ensures.len);
+}
 
 pub returns-in_default-2-clause-left : goal.returns-in_default-2-clause-left
 returns-in_default-2-clause-left c = after_front _ _ _ c.loop-first.invariant.has_read c.requires.unmarked

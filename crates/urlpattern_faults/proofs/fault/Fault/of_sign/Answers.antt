@@ -1,12 +1,9 @@
-use Rattle.std.proofs.Common.{◌∙◌, refl, sym, subst}
-use Rattle.std.specs.Prelude.{MatchOption}
-use Rattle.urlpattern_faults.specs.Faults.{IsAlone, IsWholeFault}
-use Rattle.urlpattern_faults.specs.Spans.{IsSpanAt}
+use Rattle.std.proofs.Common.{sym, ◌∙◌}
+use Rattle.urlpattern_faults.specs.Faults.{IsWholeFault, mistyped_colon}
+use Rattle.urlpattern_faults.proofs.TokenFaultLemmas.{found_at}
 use Rattle.urlpattern_faults.proofs.fault.Fault.of_sign.Goals as goal
 
 pub returns-in-Some-clause-fault : goal.returns-in-Some-clause-fault
 returns-in-Some-clause-fault c =
     let text = c.args.text.now in
-    let found = c.of_span.result in
-    subst (λ at. MatchOption at (IsWholeFault text found) (λ place. IsAlone (IsSpanAt text place 1) found)) (sym c.in-Some.is ∙ c.mistyped_colon.ensures)
-    (subst (IsAlone (IsSpanAt text c.in-Some.place 1)) (sym c.of_span.ensures) (c.at.ensures.at, refl))
+    found_at text 1 c.in-Some.place (mistyped_colon text) (IsWholeFault text c.of_span.result) c.at.result c.of_span.result (sym c.mistyped_colon.ensures ∙ c.in-Some.is) c.at.ensures.at c.of_span.ensures
