@@ -5,7 +5,8 @@ use Rattle.std.proofs.Common.{◌≡◌, ◌↔◌, ℕ, zero, suc, Bool, true, 
 use Rattle.std.proofs.lemmas.List.{append_cancel_left, append_cancel_right}
 use Rattle.std.proofs.lemmas.List.Folds.{list_all-append}
 use Rattle.std.specs.Prelude.{◌&&◌, ◌==◌, not}
-use Rattle.urlpattern_links.specs.CopySearch.{AreSomeWith, IsTextWithout}
+use Rattle.std.specs.Str.{chars}
+use Rattle.urlpattern_links.specs.CopySearch.{AreSomeWith, IsCutAtFirst, IsTextWithout}
 use Rattle.urlpattern_links.specs.Links.{AreTextsWith}
 use Rattle.urlpattern_meaning.proofs.MatchingLaws.{and_left, and_right}
 use Rattle.urlpattern_meaning.specs.Matching.{MayBeEmpty}
@@ -97,49 +98,46 @@ record IsFirstCut (mark : ℕ) (may_be_empty : Bool) (before after between front
   may : MayBeEmpty may_be_empty first
   are : AreSomeWith (IsTextWithout mark may_be_empty) between later
 
-first_cut : (mark : ℕ) (may_be_empty : Bool) (before after between front behind text : List ℕ) → between ≡ before ++ mark ∷ after → IsTrue (lacks mark before) →
-    text ≡ front ++ mark ∷ behind → IsTrue (lacks mark front) → AreSomeWith (IsTextWithout mark may_be_empty) between text →
-    IsFirstCut mark may_be_empty before after between front behind
-first_cut mark may_be_empty before after between front behind text e h cut k (zero, is) = absurd (stands_in mark front behind (subst (λ t. IsTrue (lacks mark t)) cut is.1))
-first_cut mark may_be_empty before after between front behind text e h cut k (suc n, (first, rest, also, is, more)) =
-    let one = cut_once mark front behind (first ++ before) (after ++ rest) k (lacks_both mark first before is.1 h)
-    (sym cut ∙ also ∙ ap (λ t. first ++ (t ++ rest)) e ∙ parts_of first before mark after rest) in
-    record { first = first; later = rest; is_front = one.0; is_behind = one.1; may = is.0; are = (n, more) }
+-- where the text between copies and these texts are cut where the character stands first
+module _ {mark : ℕ} {between before after text front behind : List ℕ} (may_be_empty : Bool) (whole : IsCutAtFirst mark between before after) (here : IsCutAtFirst mark text front behind) where
+  first_cut : AreSomeWith (IsTextWithout mark may_be_empty) (chars between) (chars text) → IsFirstCut mark may_be_empty (chars before) (chars after) (chars between) (chars front) (chars behind)
+  first_cut (zero, is) = absurd (stands_in mark (chars front) (chars behind) (subst (λ t. IsTrue (lacks mark t)) here.cut is.1))
+  first_cut (suc n, (first, rest, also, is, more)) =
+      let one = cut_once mark (chars front) (chars behind) (first ++ chars before) (chars after ++ rest) here.is_first (lacks_both mark first (chars before) is.1 whole.is_first)
+      (sym here.cut ∙ also ∙ ap (λ t. first ++ (t ++ rest)) whole.cut ∙ parts_of first (chars before) mark (chars after) rest) in
+      record { first = first; later = rest; is_front = one.0; is_behind = one.1; may = is.0; are = (n, more) }
 
--- the first text is cut off
-pub more_where_cut : (mark : ℕ) (may_be_empty : Bool) (before after between front behind text first later : List ℕ) → between ≡ before ++ mark ∷ after → IsTrue (lacks mark before) →
-    text ≡ front ++ mark ∷ behind → IsTrue (lacks mark front) → front ≡ first ++ before → behind ≡ after ++ later → MayBeEmpty may_be_empty first →
-    AreSomeWith (IsTextWithout mark may_be_empty) between text ↔ AreSomeWith (IsTextWithout mark may_be_empty) between later
-more_where_cut mark may_be_empty before after between front behind text first later e h cut k is_front is_behind may = (
-  λ are.
-      let found = first_cut mark may_be_empty before after between front behind text e h cut k are in
-      subst (AreSomeWith (IsTextWithout mark may_be_empty) between) (append_cancel_left after found.later later (sym found.is_behind ∙ is_behind)) found.are,
-  λ (n, are). (
-    suc n,
-    (
-      first,
-      later,
-      cut ∙ ap (λ t. t ++ mark ∷ behind) is_front ∙ ap (λ t. (first ++ before) ++ mark ∷ t) is_behind ∙ sym (parts_of first before mark after later) ∙ ap (λ t. first ++ (t ++ later)) (sym e),
-      (may, lacks_left mark first before (subst (λ t. IsTrue (lacks mark t)) is_front k)),
-      are,
+  -- the first text is cut off
+  pub more_where_cut : (first later : List ℕ) → chars front ≡ first ++ chars before → chars behind ≡ chars after ++ later → MayBeEmpty may_be_empty first →
+      AreSomeWith (IsTextWithout mark may_be_empty) (chars between) (chars text) ↔ AreSomeWith (IsTextWithout mark may_be_empty) (chars between) later
+  more_where_cut first later is_front is_behind may = (
+    λ are.
+        let found = first_cut are in
+        subst (AreSomeWith (IsTextWithout mark may_be_empty) (chars between)) (append_cancel_left (chars after) found.later later (sym found.is_behind ∙ is_behind)) found.are,
+    λ (n, are). (
+      suc n,
+      (
+        first,
+        later,
+        here.cut ∙ ap (λ t. t ++ mark ∷ chars behind) is_front ∙ ap (λ t. (first ++ chars before) ++ mark ∷ t) is_behind ∙ sym (parts_of first (chars before) mark (chars after) later)
+            ∙ ap (λ t. first ++ (t ++ later)) (sym whole.cut),
+        (may, lacks_left mark first (chars before) (subst (λ t. IsTrue (lacks mark t)) is_front here.is_first)),
+        are,
+      ),
     ),
-  ),
-)
+  )
 
-pub none_where_no_front : (mark : ℕ) (may_be_empty : Bool) (before after between front behind text : List ℕ) → between ≡ before ++ mark ∷ after → IsTrue (lacks mark before) →
-    text ≡ front ++ mark ∷ behind → IsTrue (lacks mark front) → ((first : List ℕ) → ¬ (front ≡ first ++ before)) → ¬ AreSomeWith (IsTextWithout mark may_be_empty) between text
-none_where_no_front mark may_be_empty before after between front behind text e h cut k never are =
-    let found = first_cut mark may_be_empty before after between front behind text e h cut k are in
-    never found.first found.is_front
+  pub none_where_no_front : ((first : List ℕ) → ¬ (chars front ≡ first ++ chars before)) → ¬ AreSomeWith (IsTextWithout mark may_be_empty) (chars between) (chars text)
+  none_where_no_front never are = let found = first_cut are in never found.first found.is_front
 
-pub none_where_no_behind : (mark : ℕ) (may_be_empty : Bool) (before after between front behind text : List ℕ) → between ≡ before ++ mark ∷ after → IsTrue (lacks mark before) →
-    text ≡ front ++ mark ∷ behind → IsTrue (lacks mark front) → ((later : List ℕ) → ¬ (behind ≡ after ++ later)) → ¬ AreSomeWith (IsTextWithout mark may_be_empty) between text
-none_where_no_behind mark may_be_empty before after between front behind text e h cut k never are =
-    let found = first_cut mark may_be_empty before after between front behind text e h cut k are in
-    never found.later found.is_behind
+  pub none_where_no_behind : ((later : List ℕ) → ¬ (chars behind ≡ chars after ++ later)) → ¬ AreSomeWith (IsTextWithout mark may_be_empty) (chars between) (chars text)
+  none_where_no_behind never are = let found = first_cut are in never found.later found.is_behind
 
-pub none_where_short : (mark : ℕ) (may_be_empty : Bool) (before after between front behind text first : List ℕ) → between ≡ before ++ mark ∷ after → IsTrue (lacks mark before) →
-    text ≡ front ++ mark ∷ behind → IsTrue (lacks mark front) → front ≡ first ++ before → ¬ MayBeEmpty may_be_empty first → ¬ AreSomeWith (IsTextWithout mark may_be_empty) between text
-none_where_short mark may_be_empty before after between front behind text first e h cut k is_front short are =
-    let found = first_cut mark may_be_empty before after between front behind text e h cut k are in
-    short (subst (MayBeEmpty may_be_empty) (append_cancel_right found.first first before (sym found.is_front ∙ is_front)) found.may)
+  pub none_where_short : (first : List ℕ) → chars front ≡ first ++ chars before → ¬ MayBeEmpty may_be_empty first → ¬ AreSomeWith (IsTextWithout mark may_be_empty) (chars between) (chars text)
+  none_where_short first is_front short are =
+      let found = first_cut are in
+      short (subst (MayBeEmpty may_be_empty) (append_cancel_right found.first first (chars before) (sym found.is_front ∙ is_front)) found.may)
+
+-- what does not hold is tested to be false
+pub refuted : {Is : Type 0} → ¬ Is → IsTrue false ↔ Is
+refuted never = (λ t. absurd (false≢true t), λ is. absurd (never is))

@@ -7,4 +7,5 @@ mod pieces;
 mod text;
 
 pub use error::LinkError;
+pub use pieces::is_bare;
 pub use text::text_of_parts;

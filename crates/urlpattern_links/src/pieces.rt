@@ -46,7 +46,7 @@ fn is_of_no_copies(part: &Part, text: &str) -> bool
 }
 
 /// Whether a part has neither prefix nor suffix.
-fn is_bare(part: &Part) -> bool
+pub fn is_bare(part: &Part) -> bool
     ensures { result ≡ (is_empty (text_of part.now.prefix) && is_empty (text_of part.now.suffix)) }
 {
     part.prefix.is_empty() && part.suffix.is_empty()

@@ -1,7 +1,7 @@
 use Rattle.std.proofs.Common.{rules, sym, ◌∙◌}
 use Rattle.std.proofs.lemmas.Bool.{false≢true}
 use Rattle.std.specs.Str.{chars}
-use Rattle.urlpattern_links.proofs.SearchLemmas.{more_where_cut, none_where_no_behind, none_where_no_front, none_where_short, one_where_lacking, one_where_last}
+use Rattle.urlpattern_links.proofs.SearchLemmas.{more_where_cut, none_where_no_behind, none_where_no_front, none_where_short, one_where_lacking, one_where_last, refuted}
 use Rattle.urlpattern_links.proofs.pieces.CopyTexts.are_some.Goals as goal
 
 pub returns-in_default : goal.returns-in_default
@@ -11,42 +11,20 @@ returns-in_default c =
 
 pub returns-in_default-without_back : goal.returns-in_default-without_back
 returns-in_default-without_back c =
-    let whole = c.in-Some.ensures.cut in
-    let here = c.in-Some-split_at_first.ensures.cut in (
-      λ t. absurd (false≢true t),
-      λ are. absurd (none_where_no_front c.args.self.mark c.args.self.may_be_empty (chars c.in-Some.before.now) (chars c.in-Some.after.now) (chars c.args.between.now)
-          (chars c.in-Some-split_at_first.front.now) (chars c.in-Some-split_at_first.behind.now) (chars c.loop-front.rest.now)
-          whole.cut whole.is_first here.cut here.is_first c.in_default-without_back.ensures.none (c.loop-front.invariant.same.0 are)),
-    )
+    refuted (λ are. none_where_no_front c.args.self.may_be_empty c.in-Some.ensures.cut c.in-Some-split_at_first.ensures.cut c.in_default-without_back.ensures.none (c.loop-front.invariant.same.0 are))
 
 pub returns-in_default-without_front : goal.returns-in_default-without_front
 returns-in_default-without_front c =
-    let whole = c.in-Some.ensures.cut in
-    let here = c.in-Some-split_at_first.ensures.cut in (
-      λ t. absurd (false≢true t),
-      λ are. absurd (none_where_no_behind c.args.self.mark c.args.self.may_be_empty (chars c.in-Some.before.now) (chars c.in-Some.after.now) (chars c.args.between.now)
-          (chars c.in-Some-split_at_first.front.now) (chars c.in-Some-split_at_first.behind.now) (chars c.loop-front.rest.now)
-          whole.cut whole.is_first here.cut here.is_first c.in_default-without_front.ensures.none (c.loop-front.invariant.same.0 are)),
-    )
+    refuted (λ are. none_where_no_behind c.args.self.may_be_empty c.in-Some.ensures.cut c.in-Some-split_at_first.ensures.cut c.in_default-without_front.ensures.none (c.loop-front.invariant.same.0 are))
 
 pub returns-then-not-is_long_enough : goal.returns-then-not-is_long_enough
 returns-then-not-is_long_enough c =
-    let whole = c.in-Some.ensures.cut in
-    let here = c.in-Some-split_at_first.ensures.cut in (
-      λ t. absurd (false≢true t),
-      λ are. absurd (none_where_short c.args.self.mark c.args.self.may_be_empty (chars c.in-Some.before.now) (chars c.in-Some.after.now) (chars c.args.between.now)
-          (chars c.in-Some-split_at_first.front.now) (chars c.in-Some-split_at_first.behind.now) (chars c.loop-front.rest.now) (chars c.in-Some-without_back.first.now)
-          whole.cut whole.is_first here.cut here.is_first c.in-Some-without_back.ensures.cut
-          (λ may. false≢true (sym c.if-not-is_long_enough.true ∙ c.is_long_enough.ensures.1 may)) (c.loop-front.invariant.same.0 are)),
-    )
+    refuted (λ are. none_where_short c.args.self.may_be_empty c.in-Some.ensures.cut c.in-Some-split_at_first.ensures.cut _ c.in-Some-without_back.ensures.cut
+    (λ may. false≢true (sym c.if-not-is_long_enough.true ∙ c.is_long_enough.ensures.1 may)) (c.loop-front.invariant.same.0 are))
 
 pub loop-front-preserved : goal.loop-front-preserved
 loop-front-preserved c =
-    let whole = c.in-Some.ensures.cut in
-    let here = c.in-Some-split_at_first.ensures.cut in
-    let same = more_where_cut c.args.self.mark c.args.self.may_be_empty (chars c.in-Some.before.now) (chars c.in-Some.after.now) (chars c.args.between.now)
-    (chars c.in-Some-split_at_first.front.now) (chars c.in-Some-split_at_first.behind.now) (chars c.loop-front.rest.now) (chars c.in-Some-without_back.first.now)
-    (chars c.in-Some-without_front.later.now) whole.cut whole.is_first here.cut here.is_first c.in-Some-without_back.ensures.cut c.in-Some-without_front.ensures.cut
+    let same = more_where_cut c.args.self.may_be_empty c.in-Some.ensures.cut c.in-Some-split_at_first.ensures.cut _ _ c.in-Some-without_back.ensures.cut c.in-Some-without_front.ensures.cut
     (c.is_long_enough.ensures.0 c.if-not-is_long_enough.false) in
     record {
       is_text = search rules;
