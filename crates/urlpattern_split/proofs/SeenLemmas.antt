@@ -60,11 +60,6 @@ count_more mark tokens from depth i after =
     ∙ count_by_one p (range_with_len from (i - from)) (from + (i - from))
     ∙ ap (λ x. count_by p (range_with_len from (i - from)) + cond (p x) 1 0) f
 
-pub count_here : (mark : List ℕ) (tokens : List TokenView) (from depth : ℕ) → count_seen mark tokens from depth from ≡ 0
-count_here mark tokens from depth =
-    let none : from - from ≡ 0 = omega arith in
-    rw none refl
-
 -- ---- a walk
 
 -- the walk has come to a place, and the section has not ended before it
@@ -74,16 +69,6 @@ pub record IsOnTheWay (section : Section) (tokens : List TokenView) (from depth 
   pub none : (other : ℕ) → from ≤ other → other < index → ¬ IsTrue (may_end section tokens from depth other)
   pub opened_is : IsTrue (is_hostname section) → opened ≡ count_seen (codes "[") tokens from depth index
   pub closed_is : IsTrue (is_hostname section) → closed ≡ count_seen (codes "]") tokens from depth index
-
--- the walk begins
-pub way_begins : (section : Section) (tokens : List TokenView) (from depth : ℕ) → IsOnTheWay section tokens from depth from depth 0 0
-way_begins section tokens from depth = record {
-  after = omega arith;
-  depth_is = sym (depth_here tokens from depth);
-  none = λ other after before. absurd (omega arith);
-  opened_is = λ h. sym (count_here (codes "[") tokens from depth);
-  closed_is = λ h. sym (count_here (codes "]") tokens from depth);
-}
 
 -- outside of a hostname brackets do not matter
 ending_same : (section : Section) (b d : Bool) (tokens : List TokenView) (i : ℕ) → (IsTrue (is_hostname section) → b ≡ d) → is_ending section b tokens i ≡ is_ending section d tokens i

@@ -1,5 +1,5 @@
 -- Lemmas on the token at a position: what a read of the code's tokens says of it.
-use Rattle.std.proofs.Common.{◌≡◌, ℕ, zero, suc, ◌-◌, ◌<◌, Bool, true, false, not, ◌&&◌, ◌||◌, Some, None, List, [], ◌∷◌, length, get_or, Bor, refl, sym, ap, ◌∙◌, arith, rules}
+use Rattle.std.proofs.Common.{◌≡◌, ℕ, zero, suc, ◌-◌, ◌<◌, Bool, true, false, Some, None, List, [], ◌∷◌, length, get_or, Bor, refl, sym, ap, ◌∙◌, arith, rules}
 use Rattle.std.proofs.lemmas.Option.{slice_get-get_or, slice_get-map, slice_get_past, slice_get_read}
 use Rattle.std.proofs.lemmas.Slice.Eq.{bytes_eq-Decides}
 use Rattle.std.proofs.lemmas.Str.{IsUtf8-from_ascii, chars-IsAscii}
@@ -7,7 +7,7 @@ use Rattle.std.specs.Option.{option_map}
 use Rattle.std.specs.Prelude.{slice_get}
 use Rattle.std.specs.Slice.{IsItemAt}
 use Rattle.std.specs.Str.{IsAscii, IsUtf8, bytes_eq, chars}
-use Rattle.urlpattern_split.specs.Split.{passes_at, follows_modified, is_character, is_search_sign, takes_modifier}
+use Rattle.urlpattern_split.specs.Split.{passes_at, follows_modified, takes_modifier}
 use Rattle.urlpattern_syntax.specs.Parsing.{views}
 use Rattle.urlpattern_syntax.specs.Tokens.{TokenView, token_view}
 use Rattle.urlpattern_syntax.specs.declared.tokenizer.Token.{Token}
@@ -58,16 +58,6 @@ mark_bytes bytes mark utf8 ascii =
     (λ h. (bytes_eq-Decides bytes (mark ∷ [])).1 (bytes_same bytes (mark ∷ []) utf8 (IsUtf8-from_ascii (mark ∷ []) is_ascii) ((bytes_eq-Decides (chars bytes) (mark ∷ [])).0 h ∙ sym (chars-IsAscii (mark ∷ []) is_ascii))))
 
 -- ---- signs
-
--- a question mark begins the search if it is a character or no modifier
-pub search_sign_of : (tokens : List TokenView) (i : ℕ) (token : TokenView) → slice_get tokens i ≡ Some token → is_search_sign tokens i ≡ (bytes_eq token.value (63 ∷ []) && (is_character token.kind || not (follows_modified tokens i)))
-search_sign_of tokens i token is = rw is (factored (is_character token.kind) (bytes_eq token.value (63 ∷ [])) (not (follows_modified tokens i)))
-  where
-    factored : (a b c : Bool) → ((a && b) || (b && c)) ≡ (b && (a || c))
-    factored true true c = refl
-    factored true false c = refl
-    factored false true c = refl
-    factored false false c = refl
 
 -- the token before a place that is not the first
 pub follows_modified_before : (tokens : List TokenView) (i : ℕ) → ¬ (i ≡ 0) → follows_modified tokens i ≡ passes_at (λ token. takes_modifier token.kind) tokens (i - 1)
