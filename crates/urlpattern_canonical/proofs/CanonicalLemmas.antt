@@ -204,7 +204,7 @@ only_memory asked url bytes error is_url few reported =
         elim refused.1 [ inl same ↦ absurd cc | inr long ↦ absurd (omega (arith, long.1)) ]
     none asked url bytes view is_url few refused = absurd refused
 
-out_of_memory : (error : Error) → error_view error ≡ views.OutOfMemory → error ≡ errors.OutOfMemory
+pub out_of_memory : (error : Error) → error_view error ≡ views.OutOfMemory → error ≡ errors.OutOfMemory
 out_of_memory errors.OutOfMemory e = refl
 out_of_memory errors.BaseUrlRequired e = absurd cc
 out_of_memory errors.BaseUrlWithInit e = absurd cc

@@ -3,7 +3,7 @@ use Rattle.std.proofs.Common.{◌≡◌, ℕ, zero, suc, ◌+◌, ◌<◌, Bool,
 use Rattle.std.specs.Prelude.{filter}
 use Rattle.std.proofs.lemmas.List.{append-nil, take-append-drop}
 use Rattle.std.proofs.lemmas.List.Elements.{filter-append, filter_more}
-use Rattle.urlpattern_faults.specs.Faults.{IsSecondFault, IsSpanOfToken, IsWholeFault, gives_name}
+use Rattle.urlpattern_faults.specs.Faults.{IsSecondFault, IsSpanOfToken, gives_name}
 use Rattle.urlpattern_faults.specs.Spans.{IsSpanIn}
 use Rattle.urlpattern_faults.specs.declared.fault.Fault.{Fault}
 use Rattle.urlpattern_faults.specs.declared.span.Span.{Span}
@@ -40,11 +40,6 @@ module _ (bytes name : List ℕ) (tokens : List Token) (i : ℕ) (token : Token)
       ap (filter (gives_name name)) (sym (take-append-drop (i + 1) tokens)) ∙ filter-append (gives_name name) (take (i + 1) tokens) (drop (i + 1) tokens)
       ∙ ap (λ x. x ++ filter (gives_name name) (drop (i + 1) tokens)) (filter_at true e ∙ ap (λ x. x ++ token ∷ []) h.1) in
       subst (λ x. IsSecondFault bytes x fault) (sym all) (at, rw same h.2)
-
--- one token at most
-pub not_twice : (bytes name : List ℕ) (tokens : List Token) (first : Option Span) (fault : Fault) → HasFirst bytes name tokens first → IsWholeFault bytes fault → IsSecondFault bytes (filter (gives_name name) tokens) fault
-not_twice bytes name tokens None fault h whole = subst (λ x. IsSecondFault bytes x fault) (sym h) whole
-not_twice bytes name tokens (Some span) fault h whole = subst (λ x. IsSecondFault bytes x fault) (sym h.1) whole
 
 -- what a read gives for want of a token
 abbrev pub no_token : Token
