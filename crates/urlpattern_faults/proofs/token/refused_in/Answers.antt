@@ -1,7 +1,7 @@
-use Rattle.std.proofs.Common.{◌≡◌, ◌+◌, ◌≤◌, ◌<◌, ◌∷◌, [], length, codes, false, inl, inr, sym, ap, ◌∙◌, rules, arith}
+use Rattle.std.proofs.Common.{◌≡◌, ◌+◌, ◌≤◌, ◌<◌, ◌∷◌, [], length, inl, inr, sym, ap, ◌∙◌, rules, arith}
 use Rattle.std.specs.Str.{chars}
 use Rattle.std.proofs.lemmas.Bool.Decides.{nat_tests}
-use Rattle.urlpattern_syntax.specs.Text.{byte_len, is_among}
+use Rattle.urlpattern_syntax.specs.Text.{byte_len}
 use Rattle.urlpattern_syntax.proofs.BodyLemmas.{HasRead-plain, HasRead-escaped, HasRead-opened, HasRead-closed}
 use Rattle.urlpattern_syntax.proofs.TextLemmas.{byte_len-char}
 use Rattle.urlpattern_faults.proofs.TokenFaultLemmas.{after_front, all_read, no_end, no_escape}
@@ -10,14 +10,10 @@ use Rattle.urlpattern_faults.proofs.token.refused_in.Goals as goal
 pub loop-first-preserved-then-is_ascii : goal.loop-first-preserved-then-is_ascii
 loop-first-preserved-then-is_ascii c =
     let cut : chars c.loop-first.rest.now ≡ 92 ∷ chars c.in-Some.after.now = search rules in
-    let more : chars c.in-Some.after.now ≡ c.in-Some-split_first.escaped ∷ chars c.in-Some-split_first.next.now = search rules in
-    let shorter : length c.in-Some.after.now < length c.loop-first.rest.now = search rules in
-    let least : length c.in-Some-split_first.next.now < length c.in-Some.after.now = search rules in
-    let ascii : c.in-Some-split_first.escaped < 128 = search rules in
     record {
       is_text = search rules;
-      has_read = HasRead-escaped _ _ _ _ _ _ c.loop-first.invariant.has_read cut more ascii;
-      few = omega arith;
+      has_read = HasRead-escaped _ _ _ _ _ _ c.loop-first.invariant.has_read cut c.in-Some-split_first.ensures.cut (search rules);
+      few = omega (arith, c.in-Some.ensures.len, c.in-Some-split_first.ensures.len);
     }
 
 pub returns-in-Some-2-clause-left : goal.returns-in-Some-2-clause-left
@@ -26,10 +22,9 @@ returns-in-Some-2-clause-left c = after_front _ _ _ c.loop-first.invariant.has_r
 pub returns-in-Some-2-clause-refused : goal.returns-in-Some-2-clause-refused
 returns-in-Some-2-clause-refused c =
     let cut : chars c.loop-first.rest.now ≡ 92 ∷ chars c.in-Some.after.now = search rules in
-    let more : chars c.in-Some.after.now ≡ c.in-Some-split_first.escaped ∷ chars c.in-Some-split_first.next.now = search rules in
     let big : 128 ≤ c.in-Some-split_first.escaped = search rules in
     let len : c.len_utf8.result ≡ byte_len (c.in-Some-split_first.escaped ∷ []) = c.len_utf8.ensures.len ∙ sym (byte_len-char c.in-Some-split_first.escaped) in
-    inr (inl (c.in-Some-split_first.escaped, chars c.in-Some-split_first.next.now, cut ∙ ap (λ x. 92 ∷ x) more, big, ap (λ n. 1 + n) len))
+    inr (inl (c.in-Some-split_first.escaped, chars c.in-Some-split_first.next.now, cut ∙ ap (λ x. 92 ∷ x) c.in-Some-split_first.ensures.cut, big, ap (λ n. 1 + n) len))
 
 pub loop-first-preserved-in-63-1 : goal.loop-first-preserved-in-63-1
 loop-first-preserved-in-63-1 c =
@@ -67,9 +62,8 @@ returns-in_default-2-clause-left c = after_front _ _ _ c.loop-first.invariant.ha
 
 pub returns-in_default-2-clause-refused : goal.returns-in_default-2-clause-refused
 returns-in_default-2-clause-refused c =
-    let cut : chars c.loop-first.rest.now ≡ c.in-Some.first ∷ chars c.in-Some.after.now = search rules in
     let big : 128 ≤ c.in-Some.first = search rules in
-    inl (c.in-Some.first, chars c.in-Some.after.now, cut, big, c.len_utf8-in_default-2.ensures.len ∙ sym (byte_len-char c.in-Some.first))
+    inl (c.in-Some.first, chars c.in-Some.after.now, c.in-Some.ensures.cut, big, c.len_utf8-in_default-2.ensures.len ∙ sym (byte_len-char c.in-Some.first))
 
 pub returns-in-None-clause-end : goal.returns-in-None-clause-end
 returns-in-None-clause-end c =
