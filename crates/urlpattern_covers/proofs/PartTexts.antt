@@ -1,23 +1,22 @@
 -- What the cells of parts take, and what parts mean.
-use Rattle.std.proofs.Common.{◌≡◌, ◌≢◌, ℕ, zero, suc, ◌+◌, Bool, true, false, List, [], ◌∷◌, ◌++◌, Option, Some, None, refl, sym, subst, ap, ◌∙◌, ◌⊎◌, inl, inr, ◌↔◌, arith, append_assoc, append-nil, reverse}
+use Rattle.std.proofs.Common.{◌≡◌, ◌≢◌, ℕ, zero, suc, ◌+◌, true, List, [], ◌∷◌, ◌++◌, Some, refl, sym, subst, ap, ◌∙◌, ◌↔◌, append_assoc, reverse}
 use Rattle.std.proofs.lemmas.List.Elements.{All-head, All-tail}
-use Rattle.std.specs.List.{All, list_all}
+use Rattle.std.specs.List.{list_all}
 use Rattle.std.specs.Prelude.{◌&&◌, IsTrue, unwrap_or}
 use Rattle.urlpattern_covers.specs.Automata.{passes}
 use Rattle.urlpattern_covers.specs.Cells.{cells_of, has_one, text_cells, wildcard_cells}
-use Rattle.urlpattern_covers.specs.declared.automaton.Test.{Test}
-use Rattle.urlpattern_covers.specs.declared.automaton.Test.TheVariants.{Only, AnyBut}
+use Rattle.urlpattern_covers.specs.declared.automaton.Test.TheVariants.{AnyBut}
 use Rattle.urlpattern_covers.specs.declared.cells.Cell.{Cell}
 use Rattle.urlpattern_covers.specs.declared.cells.Cell.TheVariants.{One, Many}
-use Rattle.urlpattern_covers.proofs.CellTexts.{CellsThen, InOrder, OneThen, RunThen, Texts, TimesThen, in_order, one_after, one_reversed, order_append, order_map, pieces_run, run_pieces, text_then, times_map, times_none, times_run}
+use Rattle.urlpattern_covers.proofs.CellTexts.{CellsThen, InOrder, OneThen, RunThen, Texts, TimesThen, in_order, one_after, one_reversed, order_append, pieces_run, run_pieces, text_then, times_none, times_run}
 use Rattle.urlpattern_covers.proofs.Copies.{Absorbs, CopiesThen}
 use Rattle.urlpattern_covers.proofs.StateSets.{both}
-use Rattle.urlpattern_meaning.specs.PartMeaning.{Allows, AreCaptures, AreCopies, AreGenerated, Captures, IsCopyOf, IsWildcardText, PartMeans, PartsMean, capture_of_no_copies}
+use Rattle.urlpattern_meaning.specs.PartMeaning.{AreCaptures, AreCopies, AreGenerated, Captures, IsCopyOf, IsWildcardText, PartsMean, capture_of_no_copies}
 use Rattle.urlpattern_meaning.proofs.Copies.{copies_core}
 use Rattle.urlpattern_syntax.specs.declared.parser.PartModifier.{PartModifier}
 use Rattle.urlpattern_syntax.specs.declared.parser.PartType.{PartType}
 use Rattle.urlpattern_syntax.specs.{Options.OptionsView, Parts.PartView}
-use Rattle.urlpattern_syntax.specs.Text.{IsRepeated, lacks, line_feed}
+use Rattle.urlpattern_syntax.specs.Text.{lacks, line_feed}
 
 -- the text begins with one of these
 abbrev pub BeginsBy : (List ℕ → Type 0) → Texts → List ℕ → Type 0
@@ -94,8 +93,7 @@ copy_in_order options PartType.FixedText part other Rest text =
       λ (first, rest, e, f, after). same.1 (rest, e ∙ ap (λ t. t ++ rest) f, after),
     )
 copy_in_order options PartType.Regexp part other Rest text = absurd (other refl)
-copy_in_order options PartType.SegmentWildcard part other Rest text = between_then options PartType.SegmentWildcard tt part.prefix part.suffix Rest text
-copy_in_order options PartType.FullWildcard part other Rest text = between_then options PartType.FullWildcard tt part.prefix part.suffix Rest text
+copy_in_order options kind part other Rest text = between_then options kind tt part.prefix part.suffix Rest text
 
 pub copy_then : (options : OptionsView) (part : PartView) → part.kind ≢ PartType.Regexp → (Rest : Texts) (text : List ℕ) →
     CellsThen (reverse (cells_of options part.kind part)) Rest text ↔ BeginsBy (IsCopyOf options part.kind part) Rest text
@@ -164,17 +162,11 @@ capture_of : (options : OptionsView) (kind : PartType) (value prefix suffix name
     AreCopies options part n text → (captures : Captures) × AreCaptures kind part n text captures
 capture_of options PartType.FixedText value prefix suffix name modifier other n text copies = ([], refl)
 capture_of options PartType.Regexp value prefix suffix name modifier other n text copies = absurd (other refl)
-capture_of options PartType.SegmentWildcard value prefix suffix name modifier other zero text copies =
-    let part : PartView = record { kind = PartType.SegmentWildcard; value = value; modifier = modifier; name = name; prefix = prefix; suffix = suffix } in
+capture_of options kind value prefix suffix name modifier other zero text copies =
+    let part : PartView = record { kind = kind; value = value; modifier = modifier; name = name; prefix = prefix; suffix = suffix } in
     (capture_of_no_copies part ∷ [], (capture_of_no_copies part, refl, refl))
-capture_of options PartType.SegmentWildcard value prefix suffix name modifier other (suc n) text copies =
-    let core = copies_core (IsWildcardText options PartType.SegmentWildcard) prefix suffix n text copies in
-    (Some core.0 ∷ [], (Some core.0, (core.0, core.1, refl), refl))
-capture_of options PartType.FullWildcard value prefix suffix name modifier other zero text copies =
-    let part : PartView = record { kind = PartType.FullWildcard; value = value; modifier = modifier; name = name; prefix = prefix; suffix = suffix } in
-    (capture_of_no_copies part ∷ [], (capture_of_no_copies part, refl, refl))
-capture_of options PartType.FullWildcard value prefix suffix name modifier other (suc n) text copies =
-    let core = copies_core (IsWildcardText options PartType.FullWildcard) prefix suffix n text copies in
+capture_of options kind value prefix suffix name modifier other (suc n) text copies =
+    let core = copies_core (IsWildcardText options kind) prefix suffix n text copies in
     (Some core.0 ∷ [], (Some core.0, (core.0, core.1, refl), refl))
 
 pub parts_then : (options : OptionsView) (parts : List PartView) → AreGenerated parts → (text : List ℕ) → PartsThen options parts text ↔ ((captures : Captures) × PartsMean options parts text captures)

@@ -4,7 +4,7 @@ use Rattle.std.proofs.lemmas.Bool.{and_parts}
 use Rattle.std.proofs.lemmas.List.{length-replicate}
 use lib.Utf8.{scalars, encodes}
 use Rattle.regex_hir.specs.Meaning.{cat_all}
-use Rattle.regex_hir.specs.Re.{Re, empty, literal, byte_in, char_in, look, cat, alt, group, plus}
+use Rattle.regex_hir.specs.Re.{Re, empty, byte_in, cat, alt, group, plus}
 use Rattle.urlpattern_custom.proofs.Bare.{bare}
 use Rattle.urlpattern_custom.proofs.Denoting.{Texts, Denotes, good_cut}
 use Rattle.urlpattern_custom.proofs.Runs.{RunRounds, one_run, next_run, Runs, run_matches}
@@ -22,11 +22,6 @@ rounds_silent R none i j writes (one_run _ own r) = none i j own r
 rounds_silent R none i j writes (next_run l _ own more rs r) = ap₂ (λ (a b : Writes). a ++ b) (rounds_silent R none i l own rs) (none l j more r)
 
 pub runs_silent : (hay : List ℕ) (re : Re) → is_groupless re ≡ true → (i j : ℕ) (writes : Writes) → Runs hay re i j writes → writes ≡ []
-runs_silent hay empty h i j writes run = run.1
-runs_silent hay (literal bytes) h i j writes run = run.1
-runs_silent hay (byte_in ranges) h i j writes run = run.1
-runs_silent hay (char_in ranges) h i j writes run = run.1
-runs_silent hay (look l) h i j writes run = run.1
 runs_silent hay (cat a b) h i j writes (l, own, more, first, second, all) =
     let both = and_parts _ _ h in
     all ∙ ap₂ (λ (x y : Writes). x ++ y) (runs_silent hay a both.0 i l own first) (runs_silent hay b both.1 l j more second)
@@ -35,17 +30,13 @@ runs_silent hay (alt a b) h i j writes run =
     ⊎_elim (λ (left : Runs hay a i j writes). runs_silent hay a both.0 i j writes left) (λ (right : Runs hay b i j writes). runs_silent hay b both.1 i j writes right) run
 runs_silent hay (group n a) h i j writes run = absurd (true≢false (sym h))
 runs_silent hay (plus greedy a) h i j writes run = rounds_silent (Runs hay a) (runs_silent hay a h) i j writes run
+runs_silent hay re h i j writes run = run.1
 
 pub groupless_bare : (a : Re) → is_groupless (bare a) ≡ is_groupless a
-groupless_bare empty = refl
-groupless_bare (literal bytes) = refl
-groupless_bare (byte_in ranges) = refl
-groupless_bare (char_in ranges) = refl
-groupless_bare (look assertion) = refl
 groupless_bare (cat a b) = ap₂ ◌&&◌ (groupless_bare a) (groupless_bare b)
 groupless_bare (alt a b) = ap₂ ◌&&◌ (groupless_bare a) (groupless_bare b)
-groupless_bare (group n a) = refl
 groupless_bare (plus greedy a) = groupless_bare a
+groupless_bare a = refl
 
 -- ---- captures
 

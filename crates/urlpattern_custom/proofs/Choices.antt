@@ -72,9 +72,7 @@ cuts_quantified quantifier groups choice allowed cuts text =
 pub allows_none : (quantifier : Quantifier) → AllowsGroups quantifier 0
 allows_none Once = tt
 allows_none Optional = tt
-allows_none ZeroOrMore = refl
-allows_none OneOrMore = refl
-allows_none LazyOneOrMore = refl
+allows_none quantifier = refl
 
 pub cuts_looped : (greedy : Bool) (choice : Choice) → Cuts choice 0 → Cuts (looped greedy choice) 0
 cuts_looped true choice cuts = cuts_quantified OneOrMore 0 choice refl cuts
@@ -302,14 +300,10 @@ tries_append g m first next trees others cuts tries also whole good before text 
 
 -- the ways of a pattern are those of another that is the same but for groups
 pub ways_bare : (a : Re) → pattern_ways (bare a) ≡ pattern_ways a
-ways_bare empty = refl
-ways_bare (literal bytes) = refl
-ways_bare (byte_in ranges) = refl
-ways_bare (char_in ranges) = refl
-ways_bare (look assertion) = refl
 ways_bare (cat a b) = ap₂ (λ (first next : Choice). followed_by first next) (ways_bare a) (ways_bare b)
 ways_bare (alt a b) =
     let either : Choice → Choice → Choice = λ first other text. first text ++ other text in
     ap₂ either (ways_bare a) (ways_bare b)
 ways_bare (group n a) = ways_bare a
 ways_bare (plus greedy a) = ap (λ (choice : Choice). looped greedy choice) (ways_bare a)
+ways_bare a = refl

@@ -1,5 +1,5 @@
 -- The laws on custom regular expressions, for each engine.
-use Rattle.std.proofs.Common.{◌≡◌, ◌↔◌, ℕ, List, ◌++◌, Option, Some, None, refl, ap, ◌∙◌}
+use Rattle.std.proofs.Common.{◌≡◌, ◌↔◌, ℕ, List, ◌++◌, false, Option, Some, None, refl, ap, ◌∙◌}
 use Rattle.std.specs.Prelude.{⊤, IfSome, IsTrue, Ok, Err, codes}
 use Rattle.std.specs.Str.{all_scalars}
 use Rattle.regex_hir.specs.Meaning.{alt_all}
@@ -7,9 +7,10 @@ use Rattle.regex_hir.specs.Re.{Re}
 use Rattle.regex_syntax.specs.Brackets.{Nested, join}
 use Rattle.regex_syntax.specs.Grammar.{Place, branches, join_parts}
 use Rattle.urlpattern_core.proofs.FirstMatchers.{flags_agree}
-use Rattle.urlpattern_core.specs.Components.{engine_flags}
-use Rattle.urlpattern_core.specs.FirstWays.{KeepsCase}
+use Rattle.urlpattern_core.specs.Components.{ComponentView, IsComponentOf, engine_flags}
+use Rattle.urlpattern_core.specs.FirstWays.{KeepsCase, Taking}
 use Rattle.urlpattern_core.specs.Regexes.{regex_engine}
+use Rattle.urlpattern_core.specs.declared.regexp.RegExp.{Ghosts as Engine}
 use Rattle.urlpattern_custom.proofs.CustomGroups.{custom_inside, whole_takes}
 use Rattle.urlpattern_custom.proofs.ItemsOf.{at_text}
 use Rattle.urlpattern_custom.proofs.MatchersCapture.{matchers_capture}
@@ -17,11 +18,15 @@ use Rattle.urlpattern_custom.proofs.MatchersFirst.{matchers_first}
 use Rattle.urlpattern_custom.proofs.MatchersTaken.{matchers_taken, shorter_room}
 use Rattle.urlpattern_custom.proofs.ValuesTaken.{pattern_values_capture, pattern_values_first, pattern_values_taken, regex_values_capture, regex_values_first, regex_values_taken}
 use Rattle.urlpattern_custom.specs.Expressions.{ExpressionTakes, TakesWhole}
-use Rattle.urlpattern_custom.specs.LawsOfTexts.{ComponentsCapture, HasNumbers, MatchersAnswerTaken, MatchersCapture, ReadsInGroups, TookAlone}
+use Rattle.urlpattern_custom.specs.LawsOfTexts.{ComponentsCapture, HasNumbers, IsCapturedByParts, IsTakenAlone, MatchersAnswerTaken, MatchersCapture, ReadsInGroups, Room, TookAlone}
 use Rattle.urlpattern_custom.specs.LawsOfWays.{ComponentsAnswerFirstOfParts, MatchersAnswerFirstOfParts}
+use Rattle.urlpattern_custom.specs.PartTexts.{AllCaptureNothing, AllStandAlone}
+use Rattle.urlpattern_custom.specs.PartWays.{parts_first_way}
 use Rattle.urlpattern_engine.specs.PatternRegexps.{pattern_engine}
 use Rattle.urlpattern_meaning.specs.FirstAnswers.{TookText}
-use Rattle.urlpattern_meaning.specs.Matching.{InnerView, Literal, RegExp, SingleCapture}
+use Rattle.urlpattern_meaning.specs.Matching.{EachAnswerIs, InnerView, Literal, MatcherView, RegExp, SingleCapture}
+use Rattle.urlpattern_meaning.specs.PartMeaning.{Captures}
+use Rattle.urlpattern_syntax.specs.{Options.OptionsView, Parts.PartView, RegexpText.regexp_text}
 
 pub reads_in_groups : ReadsInGroups
 unfolding join_parts
@@ -67,18 +72,26 @@ pattern_matchers_first = matchers_first pattern_engine KeepsCase HasNumbers _ pa
 
 -- ---- components
 
+abbrev AreFirst : OptionsView → List PartView → List ℕ → Option Captures → Type 0
+AreFirst options parts text result = result ≡ parts_first_way options parts text
+
+-- what each matcher of an engine answers, that of a component does
+components_answer : {E : Type 0} (engine : Engine E) (Fits : Room) (Took : Taking E) (Are : OptionsView → List PartView → List ℕ → Option Captures → Type 0)
+    → ((options : OptionsView) (inner : InnerView E) → TookText (λ value. ⊤) inner → Took options (engine_flags options) inner)
+    → ((options : OptionsView) (flags : List ℕ) (parts : List PartView) (matcher : MatcherView E) → IsTakenAlone engine Fits Took options flags parts matcher → AllCaptureNothing parts → EachAnswerIs engine.answer matcher (Are options parts))
+    → (options : OptionsView) (parts : List PartView) (component : ComponentView E) → IsComponentOf engine options parts component → AllStandAlone parts → AllCaptureNothing parts → Fits (regexp_text options parts)
+    → options.ignore_case ≡ false → TookText (λ value. ⊤) component.matcher.inner → EachAnswerIs engine.answer component.matcher (Are options parts)
+components_answer engine Fits Took Are given answer options parts component is alone silent fits kept took =
+    answer options (engine_flags options) parts component.matcher (record { is_made = is.has_matcher; alone = alone; fits = fits; case_kept = kept; took = given options component.matcher.inner took }) silent
+
 pub regex_components_capture : ComponentsCapture regex_engine (λ regexp. ⊤)
-regex_components_capture options parts component is alone silent fits kept took =
-    regex_matchers_capture options (engine_flags options) parts component.matcher (record { is_made = is.has_matcher; alone = alone; fits = fits; case_kept = kept; took = took }) silent
+regex_components_capture = components_answer regex_engine (λ regexp. ⊤) (λ options flags. TookText (λ value. ⊤)) IsCapturedByParts (λ options inner took. took) regex_matchers_capture
 
 pub pattern_components_capture : ComponentsCapture pattern_engine HasNumbers
-pattern_components_capture options parts component is alone silent fits kept took =
-    pattern_matchers_capture options (engine_flags options) parts component.matcher (record { is_made = is.has_matcher; alone = alone; fits = fits; case_kept = kept; took = (flags_agree options, took) }) silent
+pattern_components_capture = components_answer pattern_engine HasNumbers TookAlone IsCapturedByParts (λ options inner took. (flags_agree options, took)) pattern_matchers_capture
 
 pub regex_components_first : ComponentsAnswerFirstOfParts regex_engine (λ regexp. ⊤)
-regex_components_first options parts component is alone silent fits kept took =
-    regex_matchers_first options (engine_flags options) parts component.matcher (record { is_made = is.has_matcher; alone = alone; fits = fits; case_kept = kept; took = took }) silent
+regex_components_first = components_answer regex_engine (λ regexp. ⊤) (λ options flags. TookText (λ value. ⊤)) AreFirst (λ options inner took. took) regex_matchers_first
 
 pub pattern_components_first : ComponentsAnswerFirstOfParts pattern_engine HasNumbers
-pattern_components_first options parts component is alone silent fits kept took =
-    pattern_matchers_first options (engine_flags options) parts component.matcher (record { is_made = is.has_matcher; alone = alone; fits = fits; case_kept = kept; took = (flags_agree options, took) }) silent
+pattern_components_first = components_answer pattern_engine HasNumbers TookAlone AreFirst (λ options inner took. (flags_agree options, took)) pattern_matchers_first

@@ -2,7 +2,7 @@
 use Rattle.std.proofs.Common.{◌≡◌, ◌↔◌, ℕ, zero, suc, List, [], ◌++◌, Bool, true, false, ◌&&◌, ◌⊎◌, inl, inr, refl, sym, ap, ap₂, ◌∙◌, subst, append-nil}
 use Rattle.std.proofs.lemmas.Bool.{and_from}
 use lib.Utf8.{scalars}
-use Rattle.regex_hir.specs.Re.{Re, empty, literal, byte_in, char_in, look, cat, alt, group, plus}
+use Rattle.regex_hir.specs.Re.{Re, empty, byte_in, cat, alt, group, plus}
 use Rattle.regex_syntax.specs.Brackets.{Nested}
 use Rattle.urlpattern_custom.proofs.Bare.{bare}
 use Rattle.urlpattern_custom.proofs.Takes.{Takes}
@@ -133,22 +133,13 @@ denotes_quantified LazyOneOrMore sub A d = denotes_plus false sub.value A d
 -- ---- without groups
 
 plain_bare : (a : Re) → takes_characters (bare a) ≡ takes_characters a
-plain_bare empty = refl
-plain_bare (literal bytes) = refl
-plain_bare (byte_in ranges) = refl
-plain_bare (char_in ranges) = refl
-plain_bare (look assertion) = refl
 plain_bare (cat a b) = ap₂ ◌&&◌ (plain_bare a) (plain_bare b)
 plain_bare (alt a b) = ap₂ ◌&&◌ (plain_bare a) (plain_bare b)
 plain_bare (group n a) = plain_bare a
 plain_bare (plus greedy a) = plain_bare a
+plain_bare a = refl
 
 takes_bare : (a : Re) → AreSameTexts (Takes (bare a)) (Takes a)
-takes_bare empty text good = (λ is. is, λ is. is)
-takes_bare (literal bytes) text good = (λ is. is, λ is. is)
-takes_bare (byte_in ranges) text good = (λ is. is, λ is. is)
-takes_bare (char_in ranges) text good = (λ is. is, λ is. is)
-takes_bare (look assertion) text good = (λ is. is, λ is. is)
 takes_bare (cat a b) text good = joined_same (Takes (bare a)) (Takes a) (Takes (bare b)) (Takes b) (takes_bare a) (takes_bare b) text good
 takes_bare (alt a b) text good = (
   λ takes. elim takes [ inl left ↦ inl ((takes_bare a text good).0 left) | inr right ↦ inr ((takes_bare b text good).0 right) ],
@@ -156,6 +147,7 @@ takes_bare (alt a b) text good = (
 )
 takes_bare (group n a) text good = takes_bare a text good
 takes_bare (plus greedy a) text good = quantified_same OneOrMore (Takes (bare a)) (Takes a) (takes_bare a) text good
+takes_bare a text good = (λ is. is, λ is. is)
 
 -- a pattern takes what another takes that is the same but for groups
 pub denotes_bare : (a b : Re) (A : Texts) → bare b ≡ bare a → Denotes a A → Denotes b A

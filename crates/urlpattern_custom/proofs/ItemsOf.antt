@@ -175,15 +175,6 @@ pub record IsItemOf (t : Text) (s : Sense) : Type 0 where
   pub made : s.Known → (g : ℕ) → (core : Nested Re) × Fulfils s g core.value
   pub reads : (rest : Text) (n : ℕ) (names : Names) (found : Nested Re) (end : Place) → item (group_inside n) (at_text names (t ++ rest)) ≡ Some (found, end) → ItemFound s rest names found end
 
-pub same_item : (t : Text) (s u : Sense) → SameSense s u → IsItemOf t s → IsItemOf t u
-same_item t s u p a = record {
-  opens = a.opens;
-  made = λ k g. let is = a.made (p.known k) g in (is.0, fulfils_same s u g is.0.value p is.1);
-  reads = λ rest n names found end e.
-      let is = a.reads rest n names found end e in
-      record { core = is.core; names = is.names; repeats = is.repeats; numbers = λ k. omega (arith, is.numbers (p.known k), p.count); fulfils = fulfils_same s u (length names) _ p is.fulfils };
-}
-
 -- an item, and what is read after it
 pub record OneItem (n : ℕ) (names : Names) (t : Text) (found : List (Nested Re)) (end : Place) : Type 0 where
   pub steps : ℕ

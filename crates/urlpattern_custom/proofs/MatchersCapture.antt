@@ -21,17 +21,15 @@ use Rattle.urlpattern_syntax.specs.Parts.{PartView}
 use Rattle.urlpattern_syntax.specs.declared.parser.PartModifier.{PartModifier}
 use Rattle.urlpattern_syntax.specs.declared.parser.PartModifier.TheVariants as modifiers
 use Rattle.urlpattern_syntax.specs.declared.parser.PartType.{PartType}
-use Rattle.urlpattern_syntax.specs.declared.parser.PartType.TheVariants.{FixedText, Regexp, SegmentWildcard, FullWildcard}
+use Rattle.urlpattern_syntax.specs.declared.parser.PartType.TheVariants.{FixedText, Regexp}
 use Rattle.urlpattern_syntax.specs.RegexpText.{is_fixed_text, is_unmodified}
 
 -- ---- what parts mean
 
 mean_capture : (options : OptionsView) (kind : PartType) (modifier : PartModifier) (value name prefix suffix text : List ℕ) (captures : Captures) →
     PartMeans options (part_of kind modifier value name prefix suffix) text captures → PartCaptures options (part_of kind modifier value name prefix suffix) text captures
-mean_capture options FixedText modifier value name prefix suffix text captures means = record { count = means.count; allowed = means.allowed; are_copies = means.are_copies; are_captures = means.are_captures }
 mean_capture options Regexp modifier value name prefix suffix text captures means = absurd means.are_captures
-mean_capture options SegmentWildcard modifier value name prefix suffix text captures means = record { count = means.count; allowed = means.allowed; are_copies = means.are_copies; are_captures = means.are_captures }
-mean_capture options FullWildcard modifier value name prefix suffix text captures means = record { count = means.count; allowed = means.allowed; are_copies = means.are_copies; are_captures = means.are_captures }
+mean_capture options kind modifier value name prefix suffix text captures means = record { count = means.count; allowed = means.allowed; are_copies = means.are_copies; are_captures = means.are_captures }
 
 -- what parts mean is what they take and capture
 means_captures : (options : OptionsView) (parts : List PartView) (text : List ℕ) (captures : Captures) → PartsMean options parts text captures → PartsCapture options parts text captures
@@ -57,10 +55,8 @@ captures_append options (part ∷ parts) others text captures (first, rest, own,
 
 capture_mean : (options : OptionsView) (kind : PartType) (modifier : PartModifier) (value name prefix suffix text : List ℕ) (captures : Captures) → kind ≢ Regexp →
     PartCaptures options (part_of kind modifier value name prefix suffix) text captures → PartMeans options (part_of kind modifier value name prefix suffix) text captures
-capture_mean options FixedText modifier value name prefix suffix text captures plain is = record { count = is.count; allowed = is.allowed; are_copies = is.are_copies; are_captures = is.are_captures }
 capture_mean options Regexp modifier value name prefix suffix text captures plain is = absurd (plain refl)
-capture_mean options SegmentWildcard modifier value name prefix suffix text captures plain is = record { count = is.count; allowed = is.allowed; are_copies = is.are_copies; are_captures = is.are_captures }
-capture_mean options FullWildcard modifier value name prefix suffix text captures plain is = record { count = is.count; allowed = is.allowed; are_copies = is.are_copies; are_captures = is.are_captures }
+capture_mean options kind modifier value name prefix suffix text captures plain is = record { count = is.count; allowed = is.allowed; are_copies = is.are_copies; are_captures = is.are_captures }
 
 captures_mean : (options : OptionsView) (parts : List PartView) (text : List ℕ) (captures : Captures) → AreGenerated parts → PartsCapture options parts text captures → PartsMean options parts text captures
 captures_mean options [] text captures plain is = is

@@ -20,7 +20,7 @@ use Rattle.urlpattern_syntax.specs.Options.{OptionsView}
 use Rattle.urlpattern_syntax.specs.Parts.{PartView}
 use Rattle.urlpattern_syntax.specs.declared.parser.PartModifier.{PartModifier}
 use Rattle.urlpattern_syntax.specs.declared.parser.PartType.{PartType}
-use Rattle.urlpattern_syntax.specs.declared.parser.PartType.TheVariants.{FixedText, Regexp, SegmentWildcard, FullWildcard}
+use Rattle.urlpattern_syntax.specs.declared.parser.PartType.TheVariants.{FixedText}
 use Rattle.urlpattern_syntax.specs.RegexpText.{affixed_regexp, bare_regexp, escaped_regexp, group_regexp, is_empty, matched_by, part_regexp}
 use Rattle.urlpattern_syntax.specs.Text.{IsRepeated}
 use Rattle.urlpattern_custom.proofs.GroupItems.{Counted, Exactly, affixed_group, bare_group, fixed_part, group_sense}
@@ -74,45 +74,19 @@ part_by options FixedText modifier value name prefix suffix stands good =
       ways = refl;
     })
     (fixed_part modifier (escaped_regexp options value) value (Unit {0}) (Exactly value) (fixed_items options value (good.value refl)))
-part_by options Regexp modifier value name prefix suffix stands good =
-    let group = no_fixed Regexp refl in
+part_by options kind modifier value name prefix suffix stands good =
+    let group = no_fixed kind refl in
     same_items _ _ _
     (record {
       texts = same_texts _;
       count = refl;
       caps = λ text captures fine means.
-          let c = group_copies (IsTakenPiece options Regexp value) Regexp modifier value name prefix suffix text captures means in
+          let c = group_copies (IsTakenPiece options kind value) kind modifier value name prefix suffix text captures means in
           record { count = c.0; allowed = c.1; are_copies = c.2; are_captures = c.3 };
       known = λ k. k;
       ways = refl;
     })
-    (group_items options Regexp modifier value name prefix suffix group stands (good.prefix group) (good.suffix group))
-part_by options SegmentWildcard modifier value name prefix suffix stands good =
-    let group = no_fixed SegmentWildcard refl in
-    same_items _ _ _
-    (record {
-      texts = same_texts _;
-      count = refl;
-      caps = λ text captures fine means.
-          let c = group_copies (IsTakenPiece options SegmentWildcard value) SegmentWildcard modifier value name prefix suffix text captures means in
-          record { count = c.0; allowed = c.1; are_copies = c.2; are_captures = c.3 };
-      known = λ k. k;
-      ways = refl;
-    })
-    (group_items options SegmentWildcard modifier value name prefix suffix group stands (good.prefix group) (good.suffix group))
-part_by options FullWildcard modifier value name prefix suffix stands good =
-    let group = no_fixed FullWildcard refl in
-    same_items _ _ _
-    (record {
-      texts = same_texts _;
-      count = refl;
-      caps = λ text captures fine means.
-          let c = group_copies (IsTakenPiece options FullWildcard value) FullWildcard modifier value name prefix suffix text captures means in
-          record { count = c.0; allowed = c.1; are_copies = c.2; are_captures = c.3 };
-      known = λ k. k;
-      ways = refl;
-    })
-    (group_items options FullWildcard modifier value name prefix suffix group stands (good.prefix group) (good.suffix group))
+    (group_items options kind modifier value name prefix suffix group stands (good.prefix group) (good.suffix group))
 
 pub part_items : (options : OptionsView) (part : PartView) → StandsAlone part.kind part.value → scalars (part_regexp options part) ≡ true → AreItemsOf (part_regexp options part) (part_sense options part)
 part_items options part stands good = part_by options part.kind part.modifier part.value part.name part.prefix part.suffix stands (part_characters options part good)

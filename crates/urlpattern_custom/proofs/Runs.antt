@@ -32,15 +32,11 @@ rounds_match R S each i j writes (one_run _ own r) = one_round j (each i j own r
 rounds_match R S each i j writes (next_run l _ own more rs r) = next_round l j (rounds_match R S each i l own rs) (each l j more r)
 
 pub run_matches : (hay : List ℕ) (re : Re) (i j : ℕ) (writes : Writes) → Runs hay re i j writes → Matches hay re i j
-run_matches hay empty i j writes run = run.0
-run_matches hay (literal bytes) i j writes run = run.0
-run_matches hay (byte_in ranges) i j writes run = run.0
-run_matches hay (char_in ranges) i j writes run = run.0
-run_matches hay (look l) i j writes run = run.0
 run_matches hay (cat a b) i j writes (l, own, more, first, second, all) = (l, run_matches hay a i l own first, run_matches hay b l j more second)
 run_matches hay (alt a b) i j writes run = ⊎_elim (λ (left : Runs hay a i j writes). inl (run_matches hay a i j writes left)) (λ (right : Runs hay b i j writes). inr (run_matches hay b i j writes right)) run
 run_matches hay (group n a) i j writes (own, run, all) = run_matches hay a i j own run
 run_matches hay (plus greedy a) i j writes run = rounds_match (Runs hay a) (Matches hay a) (run_matches hay a) i j writes run
+run_matches hay re i j writes run = run.0
 
 -- ---- an attempt runs
 

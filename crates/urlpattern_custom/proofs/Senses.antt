@@ -95,25 +95,21 @@ no_text text = idle 0 text ∷ []
 pub fulfils_empty : (g : ℕ) → Fulfils (quiet (Unit {0}) Nothing no_text) g empty
 fulfils_empty g = fulfils_quiet (Unit {0}) Nothing no_text g empty denotes_empty (λ k. refl) (λ k. cuts_idle 0) (λ k. tries_idle g 0)
 
+-- a pattern that takes and captures the same as another
+fulfils_by : (s : Sense) (g : ℕ) (a b : Re) → Fulfils s g a → Denotes b s.Is → (s.Known → Catches g s.count b s.Cap) → (is_groupless a ≡ true → is_groupless b ≡ true) → group_count b ≡ group_count a
+    → (s.Known → Tries g s.ways b) → Fulfils s g b
+fulfils_by s g a b f d catches groupless same tries =
+    record { denotes = d; catches = catches; groupless = λ k none. groupless (f.groupless k none); numbered = λ k. omega (arith, f.numbered k, same); cuts = f.cuts; tries = tries }
+
 pub fulfils_alone : (s : Sense) (g : ℕ) (a : Re) → Fulfils s g a → Fulfils s g (alt a (byte_in []))
-fulfils_alone s g a f = record {
-  denotes = denotes_alone a s.Is f.denotes;
-  catches = λ k. catches_alone g s.count a s.Cap (f.catches k);
-  groupless = λ k none. and_from _ _ (f.groupless k none) refl;
-  numbered = λ k. omega (arith, f.numbered k);
-  cuts = f.cuts;
-  tries = λ k. tries_alone g s.ways a (f.tries k);
-}
+fulfils_alone s g a f =
+    fulfils_by s g a (alt a (byte_in [])) f (denotes_alone a s.Is f.denotes) (λ k. catches_alone g s.count a s.Cap (f.catches k)) (λ h. and_from _ _ h refl) (omega arith)
+    (λ k. tries_alone g s.ways a (f.tries k))
 
 pub fulfils_last : (s : Sense) (g : ℕ) (a : Re) → Fulfils s g a → Fulfils s g (cat a empty)
-fulfils_last s g a f = record {
-  denotes = denotes_last a s.Is f.denotes;
-  catches = λ k. catches_last g s.count a s.Cap (f.catches k);
-  groupless = λ k none. and_from _ _ (f.groupless k none) refl;
-  numbered = λ k. omega (arith, f.numbered k);
-  cuts = f.cuts;
-  tries = λ k. tries_last g s.ways a (f.tries k);
-}
+fulfils_last s g a f =
+    fulfils_by s g a (cat a empty) f (denotes_last a s.Is f.denotes) (λ k. catches_last g s.count a s.Cap (f.catches k)) (λ h. and_from _ _ h refl) (omega arith)
+    (λ k. tries_last g s.ways a (f.tries k))
 
 pub fulfils_group : (s : Sense) (g : ℕ) (a : Re) → Fulfils s (suc g) a → Fulfils (whole s) g (group g a)
 fulfils_group s g a f = record {

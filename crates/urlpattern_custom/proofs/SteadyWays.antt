@@ -6,11 +6,11 @@ use Rattle.regex_hir.specs.Text.{char_at, is_some_and}
 use Rattle.regex_syntax.specs.Brackets.{Nested}
 use Rattle.regex_syntax.specs.Grammar.{Names, read}
 use Rattle.regex_syntax.specs.Verdict.{default_config}
-use Rattle.urlpattern_custom.proofs.BeforeText.{Falls, IsCut, cut-append, cut-continued, cut-idle, cut-map, one-cut, taken-cut}
 use Rattle.urlpattern_custom.proofs.Choices.{HasCaptures, Cuts, cuts_captured, cuts_either, cuts_followed, cuts_idle, cuts_one, cuts_quantified}
 use Rattle.urlpattern_custom.proofs.PartItems.{part_count, parts_count}
 use Rattle.urlpattern_custom.specs.PartWays.{affixed_ways, bare_ways, between_ways, captured_whole, copies_ways, exactly, fixed_ways, followed_by, part_ways_by, parts_ways, pattern_ways, piece_ways, several_ways, ways_of_reading}
 use Rattle.urlpattern_meaning.proofs.WayLists.{every-weaker}
+use Rattle.urlpattern_custom.proofs.BeforeText.{Falls, IsCut, cut-append, cut-continued, cut-idle, cut-map, one-cut, taken-cut}
 use Rattle.urlpattern_meaning.proofs.WaysSound.{IsSound}
 use Rattle.urlpattern_meaning.specs.Dialect.{AllowsGroups, Quantifier, Optional, ZeroOrMore, OneOrMore, LazyOneOrMore}
 use Rattle.urlpattern_meaning.specs.Ways.{Choice, capturing, looped, one_that, idle, quantified_ways}
@@ -139,11 +139,8 @@ module _ (prefix suffix : List ℕ) where
 
 steady_part : (options : OptionsView) (kind : PartType) (part : PartView) → Steady (part_ways_by kind options part) (part_count kind)
 steady_part options FixedText part = steady_fixed part.modifier part.value
-steady_part options Regexp part = steady_copies part.prefix part.suffix (is_empty part.prefix && is_empty part.suffix) part.modifier (piece_ways options Regexp part.value) (steady_piece options Regexp part.value)
-steady_part options SegmentWildcard part =
-    steady_copies part.prefix part.suffix (is_empty part.prefix && is_empty part.suffix) part.modifier (piece_ways options SegmentWildcard part.value) (steady_piece options SegmentWildcard part.value)
-steady_part options FullWildcard part =
-    steady_copies part.prefix part.suffix (is_empty part.prefix && is_empty part.suffix) part.modifier (piece_ways options FullWildcard part.value) (steady_piece options FullWildcard part.value)
+steady_part options kind part =
+    steady_copies part.prefix part.suffix (is_empty part.prefix && is_empty part.suffix) part.modifier (piece_ways options kind part.value) (steady_piece options kind part.value)
 
 pub steady_parts : (options : OptionsView) (parts : List PartView) → Steady (parts_ways options parts) (parts_count parts)
 steady_parts options [] = steady_idle 0

@@ -33,10 +33,8 @@ takes_by options FullWildcard modifier value name prefix suffix text plain (n, a
 
 means_by : (options : OptionsView) (kind : PartType) (modifier : PartModifier) (value name prefix suffix text : List ℕ) (captures : Captures) →
     PartMeans options (part_of kind modifier value name prefix suffix) text captures → PartTakes options (part_of kind modifier value name prefix suffix) text
-means_by options FixedText modifier value name prefix suffix text captures means = (means.count, means.allowed, means.are_copies)
 means_by options Regexp modifier value name prefix suffix text captures means = absurd means.are_captures
-means_by options SegmentWildcard modifier value name prefix suffix text captures means = (means.count, means.allowed, means.are_copies)
-means_by options FullWildcard modifier value name prefix suffix text captures means = (means.count, means.allowed, means.are_copies)
+means_by options kind modifier value name prefix suffix text captures means = (means.count, means.allowed, means.are_copies)
 
 -- a text that parts mean is one that they take
 pub means_takes : (options : OptionsView) (parts : List PartView) (text : List ℕ) (captures : Captures) → PartsMean options parts text captures → PartsTake options parts text

@@ -17,14 +17,15 @@ use Rattle.regex_hir.proofs.OptionLemmas.{value_of_IsSome}
 use Rattle.regex_syntax.specs.Brackets.{Nested}
 use Rattle.regex_syntax.specs.Grammar.{Names, read}
 use Rattle.regex_syntax.specs.Verdict.{Reads, default_config}
-use Rattle.urlpattern_core.specs.FirstWays.{KeepsCase}
+use Rattle.urlpattern_core.specs.FirstWays.{KeepsCase, Keeping}
 use Rattle.urlpattern_core.specs.Regexes.{IsRegexOf, group_texts, regex_engine}
+use Rattle.urlpattern_core.specs.declared.regexp.RegExp.{Ghosts as Engine}
 use Rattle.urlpattern_custom.proofs.FirstFound.{found_first}
 use Rattle.urlpattern_custom.proofs.PartItems.{parts_count, parts_items, parts_sense}
 use Rattle.urlpattern_custom.proofs.ItemsOf.{values}
 use Rattle.urlpattern_custom.proofs.Senses.{Fulfils}
 use Rattle.urlpattern_custom.proofs.WholeRead.{between_lines, found_captures, search_is, whole_read}
-use Rattle.urlpattern_custom.specs.LawsOfTexts.{HasNumbers, IsCapturedByParts, IsSomeIfTaken, ValuesAnswerTaken, ValuesCapture}
+use Rattle.urlpattern_custom.specs.LawsOfTexts.{HasNumbers, IsCapturedByParts, IsSomeIfTaken, Room, ValuesAnswerTaken, ValuesCapture}
 use Rattle.urlpattern_custom.specs.LawsOfWays.{FirstWaysAreCaptured, ValuesAnswerFirstOfParts}
 use Rattle.urlpattern_custom.specs.PartCaptures.{PartsCapture}
 use Rattle.urlpattern_custom.specs.PartTexts.{AllCaptureNothing, AllStandAlone, PartsTake}
@@ -35,7 +36,8 @@ use Rattle.urlpattern_engine.specs.PatternRegexps.{IsExpressionOf, pattern_engin
 use Rattle.urlpattern_engine.specs.Readings.{re_answer}
 use Rattle.urlpattern_engine.specs.declared.pattern_regexp.Expression.{Expression}
 use Rattle.urlpattern_engine.specs.declared.pattern_regexp.Expression.TheVariants.{Own, Compiled, Kept, Other}
-use Rattle.urlpattern_meaning.specs.Dialect.{Atom, Items, Nothing, Item, Literal, Dot, AnyBut, Captured, Grouped, IsTreeOf, atom_group_count, atom_text, group_count, items_text, quantifier_text}
+use Rattle.urlpattern_engine.specs.declared.pattern_regexp.PatternRegexp.{PatternRegexp}
+use Rattle.urlpattern_meaning.specs.Dialect.{Atom, Items, Nothing, Item, Captured, Grouped, IsTreeOf, atom_group_count, atom_text, group_count, items_text, quantifier_text}
 use Rattle.urlpattern_meaning.specs.PartMeaning.{Captures}
 use Rattle.urlpattern_regex.proofs.TreesRead.{scalars_parts, tree_is_read}
 use Rattle.urlpattern_syntax.specs.Options.{OptionsView}
@@ -46,27 +48,31 @@ mapped : {A B : Type 0} (f : A → B) (o : Option A) → is_some (option_map f o
 mapped f None = refl
 mapped f (Some a) = refl
 
--- what the grammar reads in the regular expression of parts is found in the texts that they take
-read_taken : (options : OptionsView) (parts : List PartView) (found : Nested Re × Names) → AllStandAlone parts → scalars (regexp_text options parts) ≡ true → read default_config (regexp_text options parts) ≡ Some found
-    → (groups : ℕ) (text : List ℕ) → IsTrue (all_scalars text) → IsSomeIfTaken options parts text (re_answer found.0.value groups text)
-read_taken options parts found alone good reads groups text fine =
-    let t = flat_map (part_regexp options) parts in
-    let inside = scalars_parts t (codes "$") (scalars_parts (codes "^") (t ++ codes "$") good).1 in
-    let whole = (whole_read t (parts_sense options parts) (parts_items options parts alone inside.0) found reads).pattern in
-    let search = search_is whole.own (PartsTake options parts) whole.fulfils.denotes text fine in
-    let same : is_some (re_answer found.0.value groups text) ≡ is_some (find_str (between_lines whole.own).value (encode_utf8_all text) 0) =
-    mapped _ (find_str found.0.value (encode_utf8_all text) 0) ∙ ap (λ (tree : Nested Re). is_some (find_str tree.value (encode_utf8_all text) 0)) whole.is in
-    (λ some. search.0 (sym same ∙ some), λ is. same ∙ search.1 is)
+-- What the grammar reads in a regular expression, by which an engine answers.
+record IsReadFor (regexp : List ℕ) (answer : List ℕ → Option Captures) : Type 0 where
+  good : scalars regexp ≡ true
+  found : Nested Re × Names
+  is_read : read default_config regexp ≡ Some found
+  answers : (text : List ℕ) → IsTrue (all_scalars text) → answer text ≡ re_answer found.0.value (length found.1) text
 
--- an answer that is what the grammar reads
-answers_taken : (options : OptionsView) (parts : List PartView) (answer : List ℕ → Option Captures) → AllStandAlone parts → scalars (regexp_text options parts) ≡ true → IsSome (read default_config (regexp_text options parts))
-    → IfSome (read default_config (regexp_text options parts)) (λ (pattern, names). (text : List ℕ) → IsTrue (all_scalars text) → answer text ≡ re_answer pattern.value (length names) text)
+read_for : (regexp : List ℕ) (answer : List ℕ → Option Captures) → scalars regexp ≡ true → IsSome (read default_config regexp)
+    → IfSome (read default_config regexp) (λ (pattern, names). (text : List ℕ) → IsTrue (all_scalars text) → answer text ≡ re_answer pattern.value (length names) text) → IsReadFor regexp answer
+read_for regexp answer good some reads =
+    let found = value_of_IsSome (read default_config regexp) some in
+    record { good = good; found = found.0; is_read = found.1; answers = rw (found.1) at reads }
+
+-- an answer by what the grammar reads is one exactly to the texts that the parts take
+answers_taken : (options : OptionsView) (parts : List PartView) (answer : List ℕ → Option Captures) → AllStandAlone parts → IsReadFor (regexp_text options parts) answer
     → (text : List ℕ) → IsTrue (all_scalars text) → IsSomeIfTaken options parts text (answer text)
-answers_taken options parts answer alone good some reads text fine =
-    let found = value_of_IsSome (read default_config (regexp_text options parts)) some in
-    let same : answer text ≡ re_answer found.0.0.value (length found.0.1) text = (rw (found.1) at reads) text fine in
-    let is = read_taken options parts found.0 alone good found.1 (length found.0.1) text fine in
-    (λ a. is.0 (sym (ap is_some same) ∙ a), λ takes. ap is_some same ∙ is.1 takes)
+answers_taken options parts answer alone r text fine =
+    let t = flat_map (part_regexp options) parts in
+    let inside = scalars_parts t (codes "$") (scalars_parts (codes "^") (t ++ codes "$") r.good).1 in
+    let whole = (whole_read t (parts_sense options parts) (parts_items options parts alone inside.0) r.found r.is_read).pattern in
+    let search = search_is whole.own (PartsTake options parts) whole.fulfils.denotes text fine in
+    let found : is_some (re_answer r.found.0.value (length r.found.1) text) ≡ is_some (find_str r.found.0.value (encode_utf8_all text) 0) = mapped _ (find_str r.found.0.value (encode_utf8_all text) 0) in
+    let same : is_some (answer text) ≡ is_some (find_str (between_lines whole.own).value (encode_utf8_all text) 0) =
+    ap is_some (r.answers text fine) ∙ found ∙ ap (λ (tree : Nested Re). is_some (find_str tree.value (encode_utf8_all text) 0)) whole.is in
+    (λ some. search.0 (sym same ∙ some), λ is. same ∙ search.1 is)
 
 -- ---- captures
 
@@ -78,42 +84,22 @@ captured_by options parts own f silent count is text fine None e taken = λ take
 captured_by options parts own f silent count is text fine (Some m) e taken =
     subst (λ n. PartsCapture options parts text (group_texts (encode_utf8_all text) n (group_of m))) (sym is) (found_captures own (parts_sense options parts) f silent text fine m e)
 
-read_captured : (options : OptionsView) (parts : List PartView) (found : Nested Re × Names) → AllStandAlone parts → AllCaptureNothing parts → scalars (regexp_text options parts) ≡ true → read default_config (regexp_text options parts) ≡ Some found
-    → (text : List ℕ) → IsTrue (all_scalars text) → IsCapturedByParts options parts text (re_answer found.0.value (length found.1) text)
-read_captured options parts found alone silent good reads text fine =
-    let t = flat_map (part_regexp options) parts in
-    let inside = scalars_parts t (codes "$") (scalars_parts (codes "^") (t ++ codes "$") good).1 in
-    let named = whole_read t (parts_sense options parts) (parts_items options parts alone inside.0) found reads in
-    let count : length found.1 - 1 ≡ parts_count parts = omega (arith, named.numbers silent) in
-    let same : find_str (between_lines named.pattern.own).value (encode_utf8_all text) 0 ≡ find_str found.0.value (encode_utf8_all text) 0 =
-    ap (λ (tree : Nested Re). find_str tree.value (encode_utf8_all text) 0) (sym named.pattern.is) in
-    captured_by options parts named.pattern.own named.pattern.fulfils silent (length found.1 - 1) count text fine (find_str found.0.value (encode_utf8_all text) 0) same
-    (read_taken options parts found alone good reads (length found.1) text fine)
-
-answers_captured : (options : OptionsView) (parts : List PartView) (answer : List ℕ → Option Captures) → AllStandAlone parts → AllCaptureNothing parts → scalars (regexp_text options parts) ≡ true
-    → IsSome (read default_config (regexp_text options parts))
-    → IfSome (read default_config (regexp_text options parts)) (λ (pattern, names). (text : List ℕ) → IsTrue (all_scalars text) → answer text ≡ re_answer pattern.value (length names) text)
-    → (text : List ℕ) → IsTrue (all_scalars text) → IsCapturedByParts options parts text (answer text)
-answers_captured options parts answer alone silent good some reads text fine =
-    let found = value_of_IsSome (read default_config (regexp_text options parts)) some in
-    let same : answer text ≡ re_answer found.0.0.value (length found.0.1) text = (rw (found.1) at reads) text fine in
-    subst (IsCapturedByParts options parts text) (sym same) (read_captured options parts found.0 alone silent good found.1 text fine)
-
 -- ---- the first way
 
--- what is found in the text is what the first way of the parts captures
-read_first : (options : OptionsView) (parts : List PartView) (found : Nested Re × Names) → AllStandAlone parts → AllCaptureNothing parts → scalars (regexp_text options parts) ≡ true → read default_config (regexp_text options parts) ≡ Some found
-    → (text : List ℕ) → IsTrue (all_scalars text) → re_answer found.0.value (length found.1) text ≡ parts_first_way options parts text
+-- it is what is found in the text
+answers_first : (options : OptionsView) (parts : List PartView) (answer : List ℕ → Option Captures) → AllStandAlone parts → AllCaptureNothing parts → IsReadFor (regexp_text options parts) answer
+    → (text : List ℕ) → IsTrue (all_scalars text) → answer text ≡ parts_first_way options parts text
 unfolding parts_first_way
-read_first options parts found alone silent good reads text fine =
+answers_first options parts answer alone silent r text fine =
     let t = flat_map (part_regexp options) parts in
-    let inside = scalars_parts t (codes "$") (scalars_parts (codes "^") (t ++ codes "$") good).1 in
-    let named = whole_read t (parts_sense options parts) (parts_items options parts alone inside.0) found reads in
+    let inside = scalars_parts t (codes "$") (scalars_parts (codes "^") (t ++ codes "$") r.good).1 in
+    let named = whole_read t (parts_sense options parts) (parts_items options parts alone inside.0) r.found r.is_read in
     let own = named.pattern.own in
     let f = named.pattern.fulfils in
-    let count : length found.1 - 1 ≡ parts_count parts = omega (arith, named.numbers silent) in
+    let count : length r.found.1 - 1 ≡ parts_count parts = omega (arith, named.numbers silent) in
     let bytes = encode_utf8_all text in
-    ap (λ (tree : Nested Re). option_map (λ m. group_texts bytes (length found.1 - 1) (group_of m)) (find_str tree.value bytes 0)) named.pattern.is
+    r.answers text fine
+    ∙ ap (λ (tree : Nested Re). option_map (λ m. group_texts bytes (length r.found.1 - 1) (group_of m)) (find_str tree.value bytes 0)) named.pattern.is
     ∙ ap (λ n. option_map (λ m. group_texts bytes n (group_of m)) (find_str (between_lines own).value bytes 0)) count
     ∙ found_first own (parts_ways options parts) (parts_count parts) (f.cuts silent) (f.tries silent) text fine
 
@@ -133,14 +119,12 @@ first_captured options parts text alone silent good fine =
     subst (IsCapturedByParts options parts text) (found_first is.0 (parts_ways options parts) count (is.1.cuts silent) (is.1.tries silent) text fine)
     (captured_by options parts is.0 is.1 silent count refl text fine found refl (λ some. search.0 (sym same ∙ some), λ takes. same ∙ search.1 takes))
 
-answers_first : (options : OptionsView) (parts : List PartView) (answer : List ℕ → Option Captures) → AllStandAlone parts → AllCaptureNothing parts → scalars (regexp_text options parts) ≡ true
-    → IsSome (read default_config (regexp_text options parts))
-    → IfSome (read default_config (regexp_text options parts)) (λ (pattern, names). (text : List ℕ) → IsTrue (all_scalars text) → answer text ≡ re_answer pattern.value (length names) text)
-    → (text : List ℕ) → IsTrue (all_scalars text) → answer text ≡ parts_first_way options parts text
-answers_first options parts answer alone silent good some reads text fine =
-    let found = value_of_IsSome (read default_config (regexp_text options parts)) some in
-    let same : answer text ≡ re_answer found.0.0.value (length found.0.1) text = (rw (found.1) at reads) text fine in
-    same ∙ read_first options parts found.0 alone silent good found.1 text fine
+-- so a value that answers the first way answers what the parts capture
+captured_as_first : {E : Type 0} (engine : Engine E) (Keeps : Keeping) (Fits : Room) → ValuesAnswerFirstOfParts engine Keeps Fits
+    → ((value : E) (regexp flags : List ℕ) → engine.IsMade value regexp flags → scalars regexp ≡ true) → ValuesCapture engine Keeps Fits
+captured_as_first engine Keeps Fits first good options flags parts value keeps alone silent fits made text fine =
+    subst (IsCapturedByParts options parts text) (sym (first options flags parts value keeps alone silent fits made text fine))
+    (first_captured options parts text alone silent (good value (regexp_text options parts) flags made) fine)
 
 -- ---- values
 
@@ -158,10 +142,19 @@ regex_reads regexp regex made = reads_some (regex_source regex) regexp _ _ made.
 text_good : (source : String Global) (regexp : List ℕ) → chars (string_bytes source) ≡ regexp → scalars regexp ≡ true
 text_good source regexp of_text = ap scalars (sym of_text) ∙ scalars-chars (string_bytes source) (IsUtf8-string_bytes source)
 
+regex_read : (regexp flags : List ℕ) (regex : Regex) → IsRegexOf regexp regex → IsReadFor regexp (regex_engine.answer regex)
+regex_read regexp flags regex made =
+    read_for regexp (regex_engine.answer regex) (text_good regex.pattern.source regexp made.of_text) (regex_reads regexp regex made) (regex_values_read regexp flags regex tt made)
+
 pub regex_values_taken : ValuesAnswerTaken regex_engine (λ flags. ⊤) (λ regexp. ⊤)
-regex_values_taken options flags parts regex any alone fits made =
-    let regexp = regexp_text options parts in
-    answers_taken options parts (regex_engine.answer regex) alone (text_good regex.pattern.source regexp made.of_text) (regex_reads regexp regex made) (regex_values_read regexp flags regex any made)
+regex_values_taken options flags parts regex any alone fits made = answers_taken options parts (regex_engine.answer regex) alone (regex_read (regexp_text options parts) flags regex made)
+
+pub regex_values_first : ValuesAnswerFirstOfParts regex_engine (λ flags. ⊤) (λ regexp. ⊤)
+regex_values_first options flags parts regex any alone silent fits made = answers_first options parts (regex_engine.answer regex) alone silent (regex_read (regexp_text options parts) flags regex made)
+
+pub regex_values_capture : ValuesCapture regex_engine (λ flags. ⊤) (λ regexp. ⊤)
+regex_values_capture =
+    captured_as_first regex_engine (λ flags. ⊤) (λ regexp. ⊤) regex_values_first (λ regex regexp flags made. text_good regex.pattern.source regexp made.of_text)
 
 -- ---- values of the own engine
 
@@ -173,11 +166,9 @@ mutual
       omega (arith, atom_few atom, items_few items, length-append (atom_text atom ++ quantifier_text quantifier) (items_text items), length-append (atom_text atom) (quantifier_text quantifier))
 
   atom_few : (atom : Atom) → atom_group_count atom ≤ length (atom_text atom)
-  atom_few (Literal character) = omega arith
-  atom_few Dot = omega arith
-  atom_few (AnyBut character) = omega arith
   atom_few (Captured items) = omega (arith, items_few items, length-append (items_text items) (codes ")"))
   atom_few (Grouped items) = omega (arith, items_few items, length-append (items_text items) (codes ")"))
+  atom_few atom = omega arith
 
 tree_some : (regexp : List ℕ) (tree : Items) → IsTreeOf regexp tree → scalars regexp ≡ true → HasNumbers regexp → IsSome (read default_config regexp)
 tree_some regexp tree is good room =
@@ -203,34 +194,19 @@ expression_some ignore_case regexp (Kept value) kept made room = reads_some (str
 expression_some ignore_case regexp (Other regex) kept made room =
     reads_some (regex_source regex.value) regexp _ _ made.0.of_text (read_kept ignore_case _ _ _ kept (rw (made.0.by_case) at made.0.is_read))
 
+pattern_read : (regexp flags : List ℕ) (value : PatternRegexp) → KeepsCase flags → HasNumbers regexp → pattern_engine.IsMade value regexp flags → IsReadFor regexp (pattern_engine.answer value)
+pattern_read regexp flags value keeps room made =
+    read_for regexp (pattern_engine.answer value) (expression_good value.ignore_case regexp value.expression made.of_text)
+    (expression_some value.ignore_case regexp value.expression (made.by_flags ∙ keeps) made.of_text room) (pattern_values_read regexp flags value keeps made)
+
 pub pattern_values_taken : ValuesAnswerTaken pattern_engine KeepsCase HasNumbers
 pattern_values_taken options flags parts value keeps alone room made =
-    let regexp = regexp_text options parts in
-    answers_taken options parts (pattern_engine.answer value) alone (expression_good value.ignore_case regexp value.expression made.of_text)
-    (expression_some value.ignore_case regexp value.expression (made.by_flags ∙ keeps) made.of_text room) (pattern_values_read regexp flags value keeps made)
-
--- ---- what values capture
-
-pub regex_values_capture : ValuesCapture regex_engine (λ flags. ⊤) (λ regexp. ⊤)
-regex_values_capture options flags parts regex any alone silent fits made =
-    let regexp = regexp_text options parts in
-    answers_captured options parts (regex_engine.answer regex) alone silent (text_good regex.pattern.source regexp made.of_text) (regex_reads regexp regex made) (regex_values_read regexp flags regex any made)
-
-pub pattern_values_capture : ValuesCapture pattern_engine KeepsCase HasNumbers
-pattern_values_capture options flags parts value keeps alone silent room made =
-    let regexp = regexp_text options parts in
-    answers_captured options parts (pattern_engine.answer value) alone silent (expression_good value.ignore_case regexp value.expression made.of_text)
-    (expression_some value.ignore_case regexp value.expression (made.by_flags ∙ keeps) made.of_text room) (pattern_values_read regexp flags value keeps made)
-
--- ---- which of several captures
-
-pub regex_values_first : ValuesAnswerFirstOfParts regex_engine (λ flags. ⊤) (λ regexp. ⊤)
-regex_values_first options flags parts regex any alone silent fits made =
-    let regexp = regexp_text options parts in
-    answers_first options parts (regex_engine.answer regex) alone silent (text_good regex.pattern.source regexp made.of_text) (regex_reads regexp regex made) (regex_values_read regexp flags regex any made)
+    answers_taken options parts (pattern_engine.answer value) alone (pattern_read (regexp_text options parts) flags value keeps room made)
 
 pub pattern_values_first : ValuesAnswerFirstOfParts pattern_engine KeepsCase HasNumbers
 pattern_values_first options flags parts value keeps alone silent room made =
-    let regexp = regexp_text options parts in
-    answers_first options parts (pattern_engine.answer value) alone silent (expression_good value.ignore_case regexp value.expression made.of_text)
-    (expression_some value.ignore_case regexp value.expression (made.by_flags ∙ keeps) made.of_text room) (pattern_values_read regexp flags value keeps made)
+    answers_first options parts (pattern_engine.answer value) alone silent (pattern_read (regexp_text options parts) flags value keeps room made)
+
+pub pattern_values_capture : ValuesCapture pattern_engine KeepsCase HasNumbers
+pattern_values_capture =
+    captured_as_first pattern_engine KeepsCase HasNumbers pattern_values_first (λ value regexp flags made. expression_good value.ignore_case regexp value.expression made.of_text)

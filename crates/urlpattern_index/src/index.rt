@@ -92,11 +92,9 @@ impl Index {
     pub fn first_from(&self, hashes: &AddressHashes, from: usize) -> Option<usize>
         ensures { IsLeast (λ number. (from ≤ number) × Finds self.now (hashes_view hashes.now) number) result }
     {
-        let least = self.first_by_forms(&self.forms[0], hashes, from);
-        match self.forms.get(hashes.segments.len()) {
-            Some(forms) => lesser(least, self.first_by_forms(forms, hashes, from)),
-            None => least,
-        }
+        let least = self.first_by_forms(self.forms_of(0), hashes, from);
+        let whole = self.forms_of(hashes.segments.len());
+        lesser(least, self.first_by_forms(whole, hashes, from))
     }
 
     /// The same of the patterns that are listed by some forms.
@@ -116,6 +114,16 @@ impl Index {
     {
         let key = form.key(hashes)?;
         first_from(self.numbers.get(key), from)
+    }
+
+    /// The forms of the group at a number, none where there is no such group.
+    fn forms_of(&self, number: usize) -> &[Form]
+        ensures { map (λ form. form_view form) result.now ≡ group self.now.forms number }
+    {
+        match self.forms.get(number) {
+            Some(forms) => forms.as_slice(),
+            None => &[],
+        }
     }
 
     /// Where a pattern is listed. Where there are too many forms, it is by the one of what nothing is known of.

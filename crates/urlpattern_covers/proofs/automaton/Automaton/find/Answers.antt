@@ -1,10 +1,11 @@
-use Rattle.std.proofs.Common.{◌≡◌, ◌<◌, ◌≤◌, ◌∙◌, ◌⊎◌, ◌+◌, ap, inl, inr, sym, subst, Bool, true, false, length, length-append, get_or, take, take_all, arith, rules, refl}
+use Rattle.std.proofs.Common.{◌≡◌, ◌<◌, ◌≤◌, ◌∙◌, ◌+◌, ap, sym, subst, Bool, true, false, ℕ, List, length, length-append, get_or, take_all, arith, rules, refl}
 use Rattle.std.proofs.Math.Bool.{beq}
-use Rattle.std.proofs.lemmas.List.Elements.{All-contains, All-get_or}
+use Rattle.std.proofs.lemmas.List.Elements.{All-get_or}
 use Rattle.std.specs.Cmp.{booleans_Decides}
-use Rattle.std.specs.List.{All, Contains}
+use Rattle.std.specs.List.{All}
 use Rattle.std.specs.Prelude.{not}
-use Rattle.urlpattern_covers.specs.Searching.{AreClasses, IsExtended, IsFollowed, IsReached, IsSeen, IsStep, is_in, starts_of}
+use Rattle.urlpattern_covers.specs.Searching.{AreClasses, IsFollowed, IsReached, IsStep, is_in, starts_of}
+use Rattle.urlpattern_covers.specs.declared.automaton.Automaton.{Automaton}
 use Rattle.urlpattern_covers.specs.declared.search.Pair.{Pair}
 use Rattle.urlpattern_covers.proofs.PairLemmas.{IsDone, copy_reached, done_next, found_text, nothing_found, seen_more}
 use Rattle.urlpattern_covers.proofs.automaton.Automaton.find.Goals as goal
@@ -16,27 +17,24 @@ other_than true false h = refl
 other_than false true h = refl
 other_than false false h = absurd cc
 
+-- the copy of a pair that was reached
+reached_copy : (one other : Automaton) (pairs : List Pair) (next : ℕ) (pair copy : Pair) → All (IsReached one other) pairs → next < length pairs → pair ≡ get_or pairs next pair
+    → IsStep pair.state pair.states.items pair.text.items copy → IsReached one other copy
+reached_copy one other pairs next pair copy reached lt at same = copy_reached one other pair copy (subst (IsReached one other) (sym at) (All-get_or (IsReached one other) pairs next pair lt reached)) same
+
 pub returns-then-is_in-is_accepted : goal.returns-then-is_in-is_accepted
 returns-then-is_in-is_accepted c =
     let one = c.args.self.now in
     let other = c.args.other.now in
-    let pairs = c.loop-next.pairs.items in
-    let pair = c.index.result.now in
-    let lt : c.loop-next.next < length pairs = search rules in
-    let reached : IsReached one other pair = subst (IsReached one other) (sym c.index.ensures) (All-get_or (IsReached one other) pairs c.loop-next.next pair lt c.loop-next.invariant.reached) in
     let ends : is_in c.in_ok-pair.pair.states.items 0 ≡ c.args.is_accepted =
     ap (λ f. is_in f 0) (sym c.deref-then-pair-eq0.ensures.value) ∙ sym c.is_in.ensures ∙ (booleans_Decides c.is_in.result c.args.is_accepted).0 c.if-is_in-is_accepted.true in
-    found_text one other c.in_ok-pair.pair c.args.is_accepted (copy_reached one other pair c.in_ok-pair.pair reached c.in_ok-pair.ensures) c.if-pair-eq0.true ends
+    found_text one other c.in_ok-pair.pair c.args.is_accepted
+    (reached_copy one other c.loop-next.pairs.items c.loop-next.next c.index.result.now c.in_ok-pair.pair c.loop-next.invariant.reached (search rules) c.index.ensures c.in_ok-pair.ensures)
+    c.if-pair-eq0.true ends
 
 pub follow-requires-clause-pair : goal.follow-requires-clause-pair
 follow-requires-clause-pair c =
-    let one = c.args.self.now in
-    let other = c.args.other.now in
-    let pairs = c.loop-next.pairs.items in
-    let pair = c.index.result.now in
-    let lt : c.loop-next.next < length pairs = search rules in
-    let reached : IsReached one other pair = subst (IsReached one other) (sym c.index.ensures) (All-get_or (IsReached one other) pairs c.loop-next.next pair lt c.loop-next.invariant.reached) in
-    copy_reached one other pair c.in_ok-pair.pair reached c.in_ok-pair.ensures
+    reached_copy c.args.self.now c.args.other.now c.loop-next.pairs.items c.loop-next.next c.index.result.now c.in_ok-pair.pair c.loop-next.invariant.reached (search rules) c.index.ensures c.in_ok-pair.ensures
 
 pub loop-next-preserved : goal.loop-next-preserved
 loop-next-preserved c =
