@@ -1,6 +1,5 @@
 -- What is known of one component.
-use Rattle.std.proofs.Common.{◌≡◌, ℕ, List, [], ◌∷◌, ◌++◌, inl, inr, refl, sym, subst, append-nil, Some, Result, Ok, Err, IfOk}
-use Rattle.std.specs.declared.alloc.{AllocError.AllocError}
+use Rattle.std.proofs.Common.{◌≡◌, ℕ, List, [], ◌∷◌, ◌++◌, inl, inr, refl, sym, subst, append-nil, Some}
 use Rattle.std.specs.Prelude.{IsTrue}
 use Rattle.urlpattern_covers.specs.Answers.{IsCovering, IsOverlap, IsReason, IsTooMuch}
 use Rattle.urlpattern_covers.specs.Meaning.{MeansText}
@@ -8,28 +7,10 @@ use Rattle.urlpattern_covers.specs.declared.parts.Covering.{Covering}
 use Rattle.urlpattern_covers.specs.declared.parts.Covering.TheVariants as coverings
 use Rattle.urlpattern_covers.specs.declared.parts.Overlap.{Overlap}
 use Rattle.urlpattern_covers.specs.declared.parts.Overlap.TheVariants as overlaps
-use Rattle.urlpattern_covers.specs.declared.parts.Reason.{Reason}
 use Rattle.urlpattern_covers.specs.declared.parts.Reason.TheVariants as reasons
-use Rattle.urlpattern_rules.specs.Comparing.{AreSame, IsComponentCovering, IsComponentOverlap, IsExample, IsKnown, IsReasonAlone, IsReasonFor, IsUnknownBy, TakesEachLine, anything_part}
+use Rattle.urlpattern_rules.specs.Comparing.{AreSame, IsComponentCovering, IsComponentOverlap, IsExample, IsKnown, TakesEachLine, anything_part}
 use Rattle.urlpattern_rules.specs.declared.component.ComponentParts.{ComponentParts}
 use Rattle.urlpattern_syntax.specs.{Options.OptionsView, Options.default_options, Options.options_view, Parts.PartView, Parts.parts_view, Text.lacks, Text.line_feed}
-
--- ---- reasons
-
-pub reason_first : (component other : ComponentParts) (reason : Reason) → IsUnknownBy component reason → IsReasonFor component other reason
-reason_first component other reasons.CustomExpression h = λ both. h both.1
-reason_first component other reasons.IgnoredCase h = inr h
-reason_first component other reasons.TooMany h = absurd h
-
-pub reason_second : (component other : ComponentParts) (reason : Reason) → IsUnknownBy other reason → IsReasonFor component other reason
-reason_second component other reasons.CustomExpression h = λ both. h both.0
-reason_second component other reasons.IgnoredCase h = inl h
-reason_second component other reasons.TooMany h = absurd h
-
-pub reason_alone : (component : ComponentParts) (reason : Reason) → IsUnknownBy component reason → IsReasonAlone component reason
-reason_alone component reasons.CustomExpression h = λ both. h both.0
-reason_alone component reasons.IgnoredCase h = inl h
-reason_alone component reasons.TooMany h = absurd h
 
 -- ---- a full wildcard
 
@@ -64,11 +45,6 @@ covering_known component asked (coverings.NotCovered text) known asked_known apa
     record { known = known; meant = record { known = asked_known; means = is.0; line = is.2 }; not_meant = is.1 }
 covering_known component asked (coverings.Unknown reason) known asked_known apart is = (is, apart)
 
-pub covering_result : (component asked : ComponentParts) (result : Result Covering AllocError) → IsKnown component → IsKnown asked → ¬ AreSame component asked →
-    IfOk result (IsCovering (options_view component.options) (parts_view component.parts.items) (options_view asked.options) (parts_view asked.parts.items)) → IfOk result (IsComponentCovering component asked)
-covering_result component asked (Ok covering) known asked_known apart is = covering_known component asked covering known asked_known apart is
-covering_result component asked (Err error) known asked_known apart is = tt
-
 too_much_flips : (options : OptionsView) (parts : List PartView) (other_options : OptionsView) (others : List PartView) →
     IsTooMuch options parts other_options others → IsTooMuch other_options others options parts
 too_much_flips options parts other_options others (inl (inl states)) = inl (inr states)
@@ -86,11 +62,6 @@ overlap_known component other (overlaps.Unknown reasons.CustomExpression) known 
 overlap_known component other (overlaps.Unknown reasons.IgnoredCase) known other_known (inl e) = inr e
 overlap_known component other (overlaps.Unknown reasons.IgnoredCase) known other_known (inr e) = inl e
 overlap_known component other (overlaps.Unknown reasons.TooMany) known other_known is = too_much_flips (options_view component.options) (parts_view component.parts.items) (options_view other.options) (parts_view other.parts.items) is
-
-pub overlap_result : (component other : ComponentParts) (result : Result Overlap AllocError) → IsKnown component → IsKnown other →
-    IfOk result (IsOverlap (options_view component.options) (parts_view component.parts.items) (options_view other.options) (parts_view other.parts.items)) → IfOk result (IsComponentOverlap component other)
-overlap_result component other (Ok overlap) known other_known is = overlap_known component other overlap known other_known is
-overlap_result component other (Err error) known other_known is = tt
 
 -- what covers a full wildcard takes each line
 pub each_line : (component anything : ComponentParts) → IsKnown component → parts_view anything.parts.items ≡ anything_part ∷ [] →
@@ -114,9 +85,3 @@ example_known component anything (overlaps.Unknown reason) known options are is 
     let parts = parts_view component.parts.items in
     subst (λ (o : OptionsView). IsReason own parts o (anything_part ∷ []) reason) options
     (subst (λ (ps : List PartView). IsReason own parts (options_view anything.options) ps reason) are is)
-
-pub example_result : (component anything : ComponentParts) (result : Result Overlap AllocError) → IsKnown component →
-    options_view anything.options ≡ default_options → parts_view anything.parts.items ≡ anything_part ∷ [] →
-    IfOk result (IsOverlap (options_view component.options) (parts_view component.parts.items) (options_view anything.options) (parts_view anything.parts.items)) → IfOk result (IsExample component)
-example_result component anything (Ok overlap) known options are is = example_known component anything overlap known options are is
-example_result component anything (Err error) known options are is = tt

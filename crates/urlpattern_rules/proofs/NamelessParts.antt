@@ -1,5 +1,5 @@
 -- What parts mean does not depend on their names.
-use Rattle.std.proofs.Common.{◌≡◌, ℕ, zero, suc, List, [], ◌∷◌, ◌++◌, map, ap, refl, subst, sym}
+use Rattle.std.proofs.Common.{◌≡◌, ℕ, zero, suc, List, [], ◌∷◌, map, ap, refl, subst, sym}
 use Rattle.std.proofs.lemmas.List.Elements.{All-cons, All-head, All-map, All-nil, All-tail}
 use Rattle.std.specs.Prelude.{◌≢◌, Option}
 use Rattle.urlpattern_meaning.specs.PartMeaning.{AreCaptures, AreGenerated, Captures, IsCapture, IsCopyOf, PartMeans, PartsMean}
@@ -33,9 +33,7 @@ repeated Is Also follows (suc n) text (first, rest, cut, one, more) = (first, re
 
 copy_named : (options : OptionsView) (name : List ℕ) (kind : PartType) (part : PartView) (text : List ℕ) → IsCopyOf options kind part text → IsCopyOf options kind (with_name name part) text
 copy_named options name FixedText part text is = is
-copy_named options name Regexp part text is = is
-copy_named options name SegmentWildcard part text is = is
-copy_named options name FullWildcard part text is = is
+copy_named options name kind part text is = is
 
 capture_named : (name : List ℕ) (part : PartView) (n : ℕ) (text : List ℕ) (capture : Option (List ℕ)) → IsCapture part n text capture → IsCapture (with_name name part) n text capture
 capture_named name part zero text capture is = is

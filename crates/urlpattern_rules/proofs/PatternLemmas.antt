@@ -1,6 +1,6 @@
 -- What is known of eight components.
-use Rattle.std.proofs.Common.{◌≡◌, ◌∙◌, ℕ, ◌<◌, ◌+◌, List, [], ◌∷◌, ◌++◌, refl, sym, subst, ap, length, take, get_or, Result, Ok, Err, IfOk}
-use Rattle.std.proofs.lemmas.List.Elements.{All-more, All-nil}
+use Rattle.std.proofs.Common.{ℕ, ◌<◌, ◌+◌, List, length, take, get_or}
+use Rattle.std.proofs.lemmas.List.Elements.{All-more}
 use Rattle.std.specs.List.{All}
 use Rattle.urlpattern_covers.specs.declared.parts.Covering.{Covering}
 use Rattle.urlpattern_covers.specs.declared.parts.Covering.TheVariants as coverings
@@ -38,8 +38,3 @@ pub so_far_all : (pattern asked : PatternParts) (first : First) → IsSoFar patt
 so_far_all pattern asked firsts.Nowhere all = of_each (IsCoveredIn pattern asked) all
 so_far_all pattern asked (firsts.At name text) is = is
 so_far_all pattern asked (firsts.Unknown name reason) is = is
-
--- what follows of a value
-pub if_ok : {A E : Type 0} (P Q : A → Type 0) (result : Result A E) → IfOk result P → ((value : A) → P value → Q value) → IfOk result Q
-if_ok P Q (Ok value) is follows = follows value is
-if_ok P Q (Err error) is follows = tt

@@ -1,5 +1,5 @@
 -- Components whose parts are the same but for names.
-use Rattle.std.proofs.Common.{◌≡◌, ◌≢◌, ◌∙◌, ◌↔◌, ◌⊎◌, ℕ, Bool, true, false, List, ap, inl, inr, refl, subst, sym, true≢false, ◌+◌, ◌<◌, get_or, length, map, take, arith}
+use Rattle.std.proofs.Common.{◌≡◌, ◌≢◌, ◌∙◌, ◌↔◌, ◌⊎◌, ℕ, Bool, true, false, List, ap, inl, inr, refl, subst, sym, true≢false, ◌+◌, ◌<◌, get_or, length, take}
 use Rattle.std.proofs.lemmas.List.{get_or-map, length-map, take_more_same}
 use Rattle.std.specs.List.{list_any}
 use Rattle.std.specs.Prelude.{IsTrue, not, String, encode_utf8_all, string_bytes}
@@ -19,32 +19,14 @@ use Rattle.urlpattern_syntax.specs.{Options.OptionsView, Options.options_view, P
 
 -- ---- tests
 
--- two that differ in what a function sees of them are not equal
-pub differ : {V X : Type 0} (field : V → X) (view other : V) → field view ≢ field other → IsTrue false ↔ (view ≡ other)
-differ field view other apart = (λ never. absurd (true≢false (sym never)), λ same. absurd (apart (ap field same)))
-
 pub apart_false : {V : Type 0} (view other : V) → view ≢ other → IsTrue false ↔ (view ≡ other)
 apart_false view other apart = (λ never. absurd (true≢false (sym never)), λ same. absurd (apart same))
 
-pub holds : {V : Type 0} (view other : V) → view ≡ other → IsTrue true ↔ (view ≡ other)
-holds view other same = (λ yes. same, λ is. refl)
-
 -- strings of the same bytes have the same text, and no others
-pub text_same : (string other : String Global) → string_bytes string ≡ string_bytes other → text_of string ≡ text_of other
-text_same string other same = ap chars same
-
-pub text_apart : (string other : String Global) → string_bytes string ≢ string_bytes other → text_of string ≢ text_of other
-text_apart string other apart same = apart (sym (text_bytes string) ∙ ap encode_utf8_all same ∙ text_bytes other)
-
-pub text_by_eq : (string other : String Global) → string_eq string other ≡ true → text_of string ≡ text_of other
-text_by_eq string other is = text_same string other ((bytes_decides (string_bytes string) (string_bytes other)).0 is)
-
-pub text_by_ne : (string other : String Global) → string_eq string other ≡ false → text_of string ≢ text_of other
-text_by_ne string other is = text_apart string other (λ same. true≢false (sym ((bytes_decides (string_bytes string) (string_bytes other)).1 same) ∙ is))
-
-pub eq_by_text : (string other : String Global) → text_of string ≡ text_of other → string_eq string other ≡ true
-eq_by_text string other same =
-    (bytes_decides (string_bytes string) (string_bytes other)).1 (sym (text_bytes string) ∙ ap encode_utf8_all same ∙ text_bytes other)
+pub same_text : (string other : String Global) → IsTrue (string_eq string other) ↔ text_of string ≡ text_of other
+same_text string other =
+    let (same, equal) = bytes_decides (string_bytes string) (string_bytes other) in
+    (λ is. ap chars (same is), λ is. equal (sym (text_bytes string) ∙ ap encode_utf8_all is ∙ text_bytes other))
 
 -- ---- lists of parts
 
@@ -65,9 +47,6 @@ unnamed_apart parts others i part other within within_others at_i at_others apar
     let here : get_or (unnamed parts) i d ≡ unnamed_view part = get_or-map unnamed_view parts i part d within ∙ ap unnamed_view (sym at_i) in
     let there : get_or (unnamed others) i d ≡ unnamed_view other = get_or-map unnamed_view others i other d within_others ∙ ap unnamed_view (sym at_others) in
     apart (sym here ∙ ap (λ (views : List PartView). get_or views i d) same ∙ there)
-
-pub unnamed_length : (parts others : List Part) → unnamed parts ≡ unnamed others → length parts ≡ length others
-unnamed_length parts others same = sym (length-map parts unnamed_view) ∙ ap length same ∙ length-map others unnamed_view
 
 -- ---- components
 

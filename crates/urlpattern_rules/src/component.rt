@@ -6,6 +6,7 @@ ghost use Rattle.urlpattern_covers.specs.Answers.{is_custom_part};
 ghost use Rattle.urlpattern_rules.specs.Comparing.{unnamed, unnamed_view};
 ghost use Rattle.urlpattern_syntax.specs.Options.{default_options, options_view};
 ghost use Rattle.urlpattern_syntax.specs.Parts.{parts_view};
+ghost use Rattle.urlpattern_syntax.specs.Text.{text_of};
 
 use std::alloc::{AllocError, Global};
 use urlpattern_covers::{Covering, Overlap, Reason, covers, overlaps};
@@ -198,16 +199,10 @@ impl ComponentParts {
 fn are_same_options(options: &Options, others: &Options) -> bool
     ensures { IsTrue result ↔ options_view options.now ≡ options_view others.now }
 {
-    if options.delimiter_code_point != others.delimiter_code_point {
-        return false;
-    }
-    if options.prefix_code_point != others.prefix_code_point {
-        return false;
-    }
-    if options.regex_syntax != others.regex_syntax {
-        return false;
-    }
-    options.ignore_case == others.ignore_case
+    options.delimiter_code_point == others.delimiter_code_point
+        && is_same_text(&options.prefix_code_point, &others.prefix_code_point)
+        && options.regex_syntax == others.regex_syntax
+        && options.ignore_case == others.ignore_case
 }
 
 /// Whether the parts are the same but for the names of their groups.
@@ -229,31 +224,25 @@ fn are_same_parts(parts: &[Part], others: &[Part]) -> bool
 fn is_same_part(part: &Part, other: &Part) -> bool
     ensures { IsTrue result ↔ unnamed_view part.now ≡ unnamed_view other.now }
 {
-    if part.kind != other.kind {
-        return false;
-    }
-    if part.modifier != other.modifier {
-        return false;
-    }
-    if part.value != other.value {
-        return false;
-    }
-    if part.prefix != other.prefix {
-        return false;
-    }
-    part.suffix == other.suffix
+    part.kind == other.kind
+        && part.modifier == other.modifier
+        && is_same_text(&part.value, &other.value)
+        && is_same_text(&part.prefix, &other.prefix)
+        && is_same_text(&part.suffix, &other.suffix)
+}
+
+/// Whether both texts are the same.
+fn is_same_text(text: &String, other: &String) -> bool
+    ensures { IsTrue result ↔ text_of text.now ≡ text_of other.now }
+{
+    text == other
 }
 
 /// Whether one of the parts is a custom regular expression.
 fn has_custom(parts: &[Part]) -> bool
     ensures { result ≡ list_any is_custom_part parts.now }
 {
-    parts.iter().any(|part| is_custom(part))
-}
-
-/// Whether the part is a custom regular expression.
-fn is_custom(part: &Part) -> bool
-    ensures { result ≡ is_custom_part part.now }
-{
-    matches!(part.kind, PartType::Regexp)
+    parts
+        .iter()
+        .any(|part| matches!(part.kind, PartType::Regexp))
 }

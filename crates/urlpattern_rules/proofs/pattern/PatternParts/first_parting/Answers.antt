@@ -1,4 +1,4 @@
-use Rattle.std.proofs.Common.{◌≡◌, ◌∙◌, ◌+◌, ◌<◌, ◌≤◌, ap, arith, get_or, length, subst, sym, take, take_all}
+use Rattle.std.proofs.Common.{◌∙◌, ◌+◌, ◌<◌, ◌≤◌, ap, arith, get_or, length, subst, sym, take, take_all}
 use Rattle.urlpattern_rules.proofs.PatternLemmas.{IsSoFar, so_far_all, so_far_more}
 use Rattle.urlpattern_rules.specs.Comparing.{IsComponentCovering}
 use Rattle.urlpattern_eight.specs.Eight.{at}
@@ -15,8 +15,7 @@ loop-name-preserved c =
     let names = c.all-name-items.result in
     let i = c.loop-name.name-index in
     let name = get_or names i Protocol in
-    let eight : length names ≡ 8 = ap length c.all-name-items.ensures in
-    let within : i < length names = omega arith in
+    let within : i < length names = omega (arith, ap length c.all-name-items.ensures) in
     let covering = c.in_ok-covering.covering in
     let one = subst (λ component. IsComponentCovering component c.get.result.now covering) c.get-component.ensures c.in_ok-covering.ensures in
     let both = subst (λ component. IsComponentCovering (at pattern.components name) component covering) c.get.ensures one in
@@ -28,7 +27,6 @@ returns c =
     let pattern = c.args.self.now in
     let asked = c.args.asked.now in
     let names = c.all-name-items.result in
-    let eight : length names ≡ 8 = ap length c.all-name-items.ensures in
-    let all : length names ≤ c.loop-name.name-index = omega arith in
+    let all : length names ≤ c.loop-name.name-index = omega (arith, ap length c.all-name-items.ensures) in
     so_far_all pattern asked c.loop-name.first
     (subst (λ list. IsSoFar pattern asked list c.loop-name.first) (take_all c.loop-name.name-index names all ∙ c.all-name-items.ensures) c.loop-name.invariant)
