@@ -4,7 +4,7 @@ use Rattle.std.proofs.lemmas.Grind.{flat_map-append}
 use Rattle.std.proofs.lemmas.List.{append-nil, map-append, take_more}
 use Rattle.std.proofs.lemmas.List.Elements.{filter_map-append}
 use Rattle.std.specs.List.{flat_map}
-use Rattle.std.specs.Prelude.{Option, None, Some, String, string_bytes}
+use Rattle.std.specs.Prelude.{Option, None, Some, String}
 use Rattle.std.specs.declared.alloc.Global.{Global}
 use Rattle.urlpattern_eight.specs.Eight.{at}
 use Rattle.urlpattern_matches.specs.ResultViews.{results_of}
@@ -12,10 +12,6 @@ use Rattle.urlpattern_syntax.specs.Text.{text_of}
 use Rattle.urlpattern_matches.specs.declared.result.UrlPatternResult.{UrlPatternResult}
 use Rattle.urlpattern_eight.specs.declared.eight.ComponentName.{ComponentName}
 use Rattle.urlpattern_matches.specs.BorrowedMatches.{GroupText, NamedGroup, all_listed_groups, lent_group, listed_entries, listed_groups, named_group_text, named_groups, text_captured, texts_captured}
-
--- a group as it is yielded
-abbrev pub Yielded : Type 0
-Yielded = ComponentName × Bor (List ℕ) × Option (Bor (List ℕ))
 
 abbrev pub Lent : Type 0
 Lent = ComponentName × Bor (List ℕ) × Bor (List ℕ)

@@ -21,7 +21,7 @@ pub(crate) fn add_groups(
     ensures groups { IfOk result (λ _. AreGroups (map (λ name. text_of name) names.now) (map option_text captures.now) groups.new) }
 {
     for (name, capture) in names.iter().zip(captures) {
-        groups.insert(name.clone()?, copied(alloc, *capture)?)?;
+        drop(groups.insert(name.clone()?, copied(alloc, *capture)?)?);
     }
     Ok(())
 }

@@ -25,12 +25,6 @@ impl UrlPatternResult {
         ensures tree { IfOk result (λ tree. IsResultTree (plain_results_view self.now) (view tree)) }
         ensures memory { OnlyOutOfMemory result }
     {
-        Ok(self.tree(alloc)?)
-    }
-
-    fn tree(&self, alloc: Global) -> Result<Value, AllocError>
-        ensures { IfOk result (λ tree. IsResultTree (plain_results_view self.now) (view tree)) }
-    {
         let mut members = Map::new(alloc);
         put_component(&mut members, alloc, "protocol", &self.protocol)?;
         put_component(&mut members, alloc, "username", &self.username)?;
@@ -51,14 +45,11 @@ impl UrlPatternResult {
         ensures read { IfOk result (λ found. option_map plain_results_view found ≡ result_read (view value.now)) }
         ensures memory { OnlyOutOfMemory result }
     {
-        read_or_none(Self::read(alloc, value))
-    }
-
-    fn read(alloc: Global, value: &Value) -> Result<Self, Unread>
-        ensures { ReturnsRead plain_results_view result (result_read (view value.now)) }
-    {
-        let components = Eight::try_from_fn(|name| component_field(alloc, value, name.as_str()))?;
-        Ok(Self::from_eight(components))
+        match Eight::try_from_fn(|name| component_field(alloc, value, name.as_str())) {
+            Ok(components) => Ok(Some(Self::from_eight(components))),
+            Err(Unread::Shape) => Ok(None),
+            Err(Unread::OutOfMemory) => Err(Error::OutOfMemory),
+        }
     }
 }
 
@@ -88,12 +79,6 @@ impl UrlPatternComponentResult {
     pub fn to_json_value(&self, alloc: Global) -> Result<Value, Error>
         ensures tree { IfOk result (λ tree. IsComponentTree (plain_result_view self.now) (view tree)) }
         ensures memory { OnlyOutOfMemory result }
-    {
-        Ok(self.tree(alloc)?)
-    }
-
-    fn tree(&self, alloc: Global) -> Result<Value, AllocError>
-        ensures { IfOk result (λ tree. IsComponentTree (plain_result_view self.now) (view tree)) }
     {
         let groups = groups_tree(alloc, &self.groups)?;
         let mut members = Map::new(alloc);
@@ -129,10 +114,12 @@ fn put_component(
     alloc: Global,
     name: &str,
     component: &UrlPatternComponentResult,
-) -> Result<(), AllocError>
-    ensures { OnOk result (GainsComponent members.old.entries members.new.entries name.now (plain_result_view component.now)) }
+) -> Result<(), Error>
+    ensures put { OnOk result (GainsComponent members.old.entries members.new.entries name.now (plain_result_view component.now)) }
+    ensures memory { OnlyOutOfMemory result }
 {
-    serde_json::put(members, alloc, name, component.tree(alloc)?)
+    let tree = component.to_json_value(alloc)?;
+    Ok(serde_json::put(members, alloc, name, tree)?)
 }
 
 /// The result of a component, of a member.

@@ -1,4 +1,4 @@
-use Rattle.std.proofs.Common.{◌≡◌, ◌∙◌, ◌++◌, ◌<◌, ◌≤◌, ap, arith, get_or, length, map, subst, take, take_all}
+use Rattle.std.proofs.Common.{◌≡◌, ◌∙◌, ◌++◌, ◌≤◌, ap, arith, get_or, length, map, subst, take, take_all}
 use Rattle.std.proofs.lemmas.List.Elements.{All-more}
 use Rattle.std.specs.HashMap.{IsUnique}
 use Rattle.std.specs.List.{All}
@@ -17,13 +17,12 @@ loop-component-preserved c =
     let i = c.loop-component.component-index in
     let component = get_or names i Protocol in
     let eight : length names ≡ 8 = ap length c.all-component-items.ensures in
-    let within : i < length names = omega arith in
     let old = c.loop-component.taken.items in
     let new = c.add_taken.new.taken.items in
     record {
-      added = component-more result names i Protocol old new within c.loop-component.invariant.added
+      added = component-more result names i Protocol old new (omega arith) c.loop-component.invariant.added
           (subst (λ (one : UrlPatternComponentResult). map lent_group new ≡ map lent_group old ++ texts_captured (named_groups component (listed_groups one.groups))) c.component.ensures c.in_ok-add_taken.ensures.added);
-      differ = All-more (HasDistinctGroups result) names i Protocol within c.loop-component.invariant.differ
+      differ = All-more (HasDistinctGroups result) names i Protocol (omega arith) c.loop-component.invariant.differ
           (subst (λ (one : UrlPatternComponentResult). IsUnique string_eq one.groups) c.component.ensures c.in_ok-add_taken.ensures.differ);
     }
 

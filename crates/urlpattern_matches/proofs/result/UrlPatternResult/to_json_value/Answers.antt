@@ -5,18 +5,18 @@ use Rattle.urlpattern_eight.proofs.EightLemmas.{by_name}
 use Rattle.urlpattern_matches.specs.ResultJson.{IsComponentTree, plain_results_view}
 use Rattle.urlpattern_eight.specs.Eight.{at}
 use Rattle.urlpattern_eight.specs.declared.eight.Eight.{Eight}
-use Rattle.urlpattern_matches.proofs.result.UrlPatternResult.tree.Goals as goal
+use Rattle.urlpattern_matches.proofs.result.UrlPatternResult.to_json_value.Goals as goal
 
-pub returns : goal.returns
-returns c =
-    let protocol = c.in_ok-put_component.ensures in
-    let username = c.in_ok-put_component-2.ensures in
-    let password = c.in_ok-put_component-3.ensures in
-    let hostname = c.in_ok-put_component-4.ensures in
-    let port = c.in_ok-put_component-5.ensures in
-    let pathname = c.in_ok-put_component-6.ensures in
-    let search_tree = c.in_ok-put_component-7.ensures in
-    let hash = c.in_ok-put_component-8.ensures in
+pub returns-clause-tree : goal.returns-clause-tree
+returns-clause-tree c =
+    let protocol = c.in_ok-put_component.ensures.put in
+    let username = c.in_ok-put_component-2.ensures.put in
+    let password = c.in_ok-put_component-3.ensures.put in
+    let hostname = c.in_ok-put_component-4.ensures.put in
+    let port = c.in_ok-put_component-5.ensures.put in
+    let pathname = c.in_ok-put_component-6.ensures.put in
+    let search_tree = c.in_ok-put_component-7.ensures.put in
+    let hash = c.in_ok-put_component-8.ensures.put in
     let components : Eight Data = record {
       protocol = protocol.0;
       username = username.0;
