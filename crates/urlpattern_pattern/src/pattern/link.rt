@@ -1,16 +1,17 @@
 //! The URL of a pattern whose groups capture what is given.
-ghost use Rattle.std.specs.Prelude.{IfErr, IfOk, IfSome, true};
-ghost use Rattle.urlpattern_generate.specs.Manners.{given_groups};
+ghost use Rattle.std.specs.Prelude.{◌≡◌, IfErr, IfOk, IfSome, true};
+ghost use Rattle.urlpattern_generate.specs.{Manners.given_groups, Writers.cow_text};
 ghost use Rattle.urlpattern_init.specs.declared.init.UrlPatternMatchInput.TheVariants as inputs;
 ghost use Rattle.urlpattern_pattern.specs.LinkedUrls.{AnswersGroups, AnswersUnder, DraftsText, DraftsTexts, GeneratesTexts, HasPathKind, IsLink, RefusesLink};
 ghost use Rattle.urlpattern_pattern.specs.Match.{HasMatch};
 ghost use Rattle.urlpattern_pattern.specs.Patterns.{pattern_view};
 ghost use Rattle.urlpattern_eight.specs.Eight.{IsFirstError};
 ghost use Rattle.urlpattern_syntax.specs.Text.{text_of};
-ghost use Rattle.urlpattern_url.specs.UrlsOfTexts.{string_texts};
+ghost use Rattle.urlpattern_url.specs.UrlsOfTexts.{cow_texts, string_texts};
 
 use super::UrlPattern;
 use std::alloc::Global;
+use std::borrow::CowStr;
 use url::Url;
 use urlpattern_core::regexp::RegExp;
 use urlpattern_eight::{ComponentName, Eight};
@@ -55,7 +56,7 @@ impl<R: RegExp> UrlPattern<R> {
             Err(GenerateError::OutOfMemory) => return Err(NoLink::OutOfMemory),
             Err(error) => return Err(NoLink::Component(error)),
         };
-        url_of_texts(alloc, &texts)
+        url_of_texts(alloc, &owned(texts))
     }
 
     /// The texts of the components with these groups, where the pathname is hierarchical or not.
@@ -108,13 +109,27 @@ impl<R: RegExp> UrlPattern<R> {
     }
 
     /// Drafts of the texts of the components with these groups, where the pathname is hierarchical.
-    fn draft_each(&self, alloc: Global, groups: &[GivenGroup<'_>]) -> Option<Eight<String>>
+    fn draft_each<'d>(
+        &'d self,
+        alloc: Global,
+        groups: &'d [GivenGroup<'d>],
+    ) -> Option<Eight<CowStr<'d>>>
         requires { HasPathKind R.answer (pattern_view self.now) true }
-        ensures { IfSome result (λ texts. DraftsTexts R.answer (pattern_view self.now) (given_groups groups.now) (string_texts texts)) }
+        ensures { IfSome result (λ texts. DraftsTexts R.answer (pattern_view self.now) (given_groups groups.now) (cow_texts texts)) }
     {
-        let text = |component: ComponentName| -> Result<String, GenerateError>
-            ensures { IfOk result (λ text. DraftsText R.answer (pattern_view self.entry.now) (given_groups groups.entry.now) component (text_of text)) }
+        let text = |component: ComponentName| -> Result<CowStr, GenerateError>
+            ensures { IfOk result (λ text. DraftsText R.answer (pattern_view self.entry.now) (given_groups groups.entry.now) component (cow_text text)) }
         { draft_component(alloc, self.get(component), component, true, groups) };
         Eight::try_from_fn(text).ok()
     }
+}
+
+/// Texts that are owned.
+fn owned(texts: Eight<String>) -> Eight<CowStr<'static>>
+    ensures { cow_texts result ≡ string_texts texts }
+{
+    let text = |text: String| -> CowStr
+        ensures { cow_text result ≡ text_of text }
+    { CowStr::Owned(text) };
+    texts.map(text)
 }
