@@ -1,14 +1,11 @@
 -- The URL of a pattern, by the texts of its components.
-use Rattle.std.proofs.Common.{◌≡◌, ◌∙◌, ℕ, true, false, List, Option, None, Some, Result, Ok, Err, String, ap, refl, subst, sym}
+use Rattle.std.proofs.Common.{◌≡◌, ◌∙◌, ℕ, true, false, List, Option, Result, Ok, Err, String, ap, refl, subst, sym}
 use Rattle.std.proofs.lemmas.List.Elements.{All-weaker}
-use Rattle.std.specs.Prelude.{IfErr, IfOk, IfSome, MatchResult}
-use Rattle.std.specs.Result.{result_ok}
+use Rattle.std.specs.Prelude.{IfErr, IfOk, MatchResult}
 use Rattle.std.specs.declared.alloc.Global.{Global}
-use Rattle.std.specs.declared.borrow.CowStr.{CowStr}
 use Rattle.url.specs.Parts.{Parts}
 use Rattle.urlpattern_create.specs.Compiled.{IsPathKind}
 use Rattle.urlpattern_generate.specs.Manners.{GivenView, begins_ipv6, canonical_for}
-use Rattle.urlpattern_generate.specs.Writers.{cow_text}
 use Rattle.urlpattern_init.specs.Inheritance.{texts_of_url, url_text}
 use Rattle.urlpattern_init.specs.declared.init.UrlPatternMatchInput.TheVariants as inputs
 use Rattle.urlpattern_meaning.specs.PartMeaning.{Captures}
@@ -28,13 +25,7 @@ use Rattle.urlpattern_url.specs.WebUrls.{IsWebUrl}
 use Rattle.urlpattern_url.specs.declared.error.NoLink.{NoLink}
 use Rattle.urlpattern_url.specs.declared.error.NoLink.TheVariants.{Component, OtherText, OutOfMemory, Url}
 
--- what holds of each draft, with something else, holds of the texts
-pub draft_texts : {E : Type 0} (P : ComponentName → List ℕ → Type 0) (result : Result (Eight (CowStr Global)) E) →
-    IfOk result (λ texts. (name : ComponentName) → ComponentName × P name (cow_text (at texts name))) → IfOk result (λ texts. (name : ComponentName) → P name (at (cow_texts texts) name))
-draft_texts P (Ok texts) h = λ name. subst (P name) (sym (at-each (λ other. cow_text (at texts other)) name)) (h name).1
-draft_texts P (Err error) h = tt
-
--- the same of what holds of each text under a premise
+-- what holds of each text under a premise, with something else, holds of the texts
 pub texts_known : {E K : Type 0} (P : ComponentName → List ℕ → Type 0) (result : Result (Eight (String Global)) E) → K →
     IfOk result (λ texts. (name : ComponentName) → ComponentName × (K → P name (text_of (at texts name)))) → IfOk result (λ texts. (name : ComponentName) → P name (at (string_texts texts) name))
 texts_known P (Ok texts) known h = λ name. subst (P name) (sym (at-each (λ other. text_of (at texts other)) name)) ((h name).1 known)
@@ -75,16 +66,6 @@ module _ {E : Type 0} (answer : E → List ℕ → Option Captures) (pattern : P
       IfOk result (IsLink answer pattern groups)
   linked texts (Ok url) generated has = subst (λ (of : Texts). GeneratesTexts answer pattern groups of) (sym has) generated
   linked texts (Err error) generated has = tt
-
-  -- the drafts of the components, where an error is left out
-  pub drafted_texts : {F : Type 0} (result : Result (Eight (CowStr Global)) F) (found : Option (Eight (CowStr Global))) → found ≡ result_ok result →
-      IsPathKind answer (printed_values pattern) (pattern Protocol).matcher true →
-      IfOk result (λ texts. (name : ComponentName) → DraftsText answer pattern groups name (at (cow_texts texts) name)) → IfSome found (λ texts. DraftsTexts answer pattern groups (cow_texts texts))
-  drafted_texts result None same kind drafted = tt
-  drafted_texts (Ok texts) (Some found) same kind drafted =
-      let e : texts ≡ found = (let other = sym same in cc) in
-      (kind, subst (λ of. (name : ComponentName) → DraftsText answer pattern groups name (at (cow_texts of) name)) e drafted)
-  drafted_texts (Err error) (Some found) same kind drafted = absurd cc
 
   -- the texts of a URL of the web, where each is a draft
   web_linked : (url : Parts) → IsWebUrl url → begins_ipv6 (pattern Hostname).pattern_string ≡ false → DraftsTexts answer pattern groups (texts_of_url url) → IsLink answer pattern groups url

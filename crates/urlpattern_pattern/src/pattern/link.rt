@@ -101,7 +101,9 @@ impl<R: RegExp> UrlPattern<R> {
         if begins_ipv6(&self.hostname.pattern_string) {
             return None;
         }
-        let texts = self.draft_each(alloc, groups)?;
+        let Ok(texts) = self.draft_each(alloc, groups) else {
+            return None;
+        };
         let Ok(url) = url_of_texts(alloc, &texts) else {
             return None;
         };
@@ -113,14 +115,32 @@ impl<R: RegExp> UrlPattern<R> {
         &'d self,
         alloc: Global,
         groups: &'d [GivenGroup<'d>],
-    ) -> Option<Eight<CowStr<'d>>>
+    ) -> Result<Eight<CowStr<'d>>, GenerateError>
         requires { HasPathKind R.answer (pattern_view self.now) true }
-        ensures { IfSome result (λ texts. DraftsTexts R.answer (pattern_view self.now) (given_groups groups.now) (cow_texts texts)) }
+        ensures { IfOk result (λ texts. DraftsTexts R.answer (pattern_view self.now) (given_groups groups.now) (cow_texts texts)) }
     {
-        let text = |component: ComponentName| -> Result<CowStr, GenerateError>
-            ensures { IfOk result (λ text. DraftsText R.answer (pattern_view self.entry.now) (given_groups groups.entry.now) component (cow_text text)) }
-        { draft_component(alloc, self.get(component), component, true, groups) };
-        Eight::try_from_fn(text).ok()
+        Ok(Eight {
+            protocol: self.draft(alloc, ComponentName::Protocol, groups)?,
+            username: self.draft(alloc, ComponentName::Username, groups)?,
+            password: self.draft(alloc, ComponentName::Password, groups)?,
+            hostname: self.draft(alloc, ComponentName::Hostname, groups)?,
+            port: self.draft(alloc, ComponentName::Port, groups)?,
+            pathname: self.draft(alloc, ComponentName::Pathname, groups)?,
+            search: self.draft(alloc, ComponentName::Search, groups)?,
+            hash: self.draft(alloc, ComponentName::Hash, groups)?,
+        })
+    }
+
+    /// A draft of the text of a component with these groups, where the pathname is hierarchical.
+    fn draft<'d>(
+        &'d self,
+        alloc: Global,
+        component: ComponentName,
+        groups: &'d [GivenGroup<'d>],
+    ) -> Result<CowStr<'d>, GenerateError>
+        ensures { IfOk result (λ text. DraftsText R.answer (pattern_view self.now) (given_groups groups.now) component (cow_text text)) }
+    {
+        draft_component(alloc, self.get(component), component, true, groups)
     }
 }
 
