@@ -28,6 +28,9 @@ pub(crate) const SIZE_LIMIT: usize = 10 << 20;
 /// state by state.
 const LONG: usize = 1 << 10;
 
+/// How many cells stand on the stack, two for each group. Those of an expression with more groups are allocated.
+const FEW: usize = 8;
+
 /// An expression that matches only at the start of a text, as the automaton that `regex` would make of it.
 #[derive(Drop)]
 pub(crate) struct Automaton {
@@ -87,9 +90,29 @@ impl Automaton {
         if text.len() >= LONG {
             return self.matches_long(alloc, text);
         }
-        let mut cells = vec![in alloc; 0usize; self.nfa.slot_count as usize - 2]?;
-        if self.search(alloc, text.as_bytes(), &mut cells)? {
-            Ok(Some(groups(alloc, text, &cells)?))
+        let count = self.nfa.slot_count as usize - 2;
+        let mut few = [0usize; FEW];
+        if count <= FEW {
+            return self.matches_in(alloc, text, &mut few[..count]);
+        }
+        let mut cells = vec![in alloc; 0usize; count]?;
+        self.matches_in(alloc, text, &mut cells)
+    }
+
+    /// What the groups capture of a text, by a search that writes into these cells, one for the start and the end of each group.
+    ///
+    /// The error is that memory ran out.
+    fn matches_in<'t>(
+        &self,
+        alloc: Global,
+        text: &'t str,
+        cells: &mut [usize],
+    ) -> Result<Option<Vec<Option<&'t str>>>, OutOfMemory>
+        requires { length cells.old ≡ self.now.nfa.slot_count - 2 }
+        ensures { IfOk result (λ found. captures_view found ≡ automaton_answer self.now.nfa (chars text.now)) }
+    {
+        if self.search(alloc, text.as_bytes(), cells)? {
+            Ok(Some(groups(alloc, text, cells)?))
         } else {
             Ok(None)
         }

@@ -1,6 +1,9 @@
 -- The steps in which a component's text is written.
 use Rattle.std.specs.Prelude.{◌≡◌, ◌++◌, ℕ, List, ◌∷◌, Option, Some, None, String}
 use Rattle.std.specs.declared.alloc.Global.{Global}
+use Rattle.std.specs.declared.borrow.CowStr.{CowStr}
+use Rattle.std.specs.Cow.{cow_str_bytes}
+use Rattle.std.specs.Str.{chars}
 use Rattle.urlpattern_core.specs.Components.{component_view}
 use Rattle.urlpattern_core.specs.declared.component.Component.{Component}
 use Rattle.urlpattern_generate.specs.Asked.{AreAsked, RefusesGiven, RefusesSomeGiven}
@@ -28,6 +31,10 @@ manner_of_writer writer = record {
   canonical = canonical_for writer.component writer.hierarchical writer.is_ipv6;
   given = text_given (given_groups writer.groups.now) writer.component;
 }
+
+-- the characters of a text that is borrowed or owned
+abbrev pub cow_text : CowStr Global → List ℕ
+cow_text text = chars (cow_str_bytes text)
 
 -- it writes this text for a component, whose matcher finds in it what is asked for
 abbrev pub Writes : {E : Type 0} → (answer : E → List ℕ → Option Captures) → Component E → Writer → (text : List ℕ) → Type 0

@@ -3,7 +3,7 @@
 ghost use Rattle.std.specs.Prelude.{◌≡◌, IfErr, IfOk, IfSome};
 ghost use Rattle.urlpattern_generate.specs.Generating.{HasDraft, HasText, LacksText};
 ghost use Rattle.urlpattern_generate.specs.Manners.{given_groups, unchanged};
-ghost use Rattle.urlpattern_generate.specs.Writers.{AsksByWriter, CannotWrite, Drafts, Writes, WritesCanonical, manner_of_writer};
+ghost use Rattle.urlpattern_generate.specs.Writers.{AsksByWriter, CannotWrite, Drafts, Writes, WritesCanonical, cow_text, manner_of_writer};
 ghost use Rattle.urlpattern_links.specs.Refused.{given_captures};
 ghost use Rattle.urlpattern_syntax.specs.{Options.options_view, Parts.parts_view, Reading.Reads, Text.text_of};
 
@@ -12,6 +12,7 @@ use crate::groups::GivenGroup;
 use crate::plain::is_plain;
 use crate::writer::Writer;
 use std::alloc::Global;
+use std::borrow::CowStr;
 use urlpattern_core::component::Component;
 use urlpattern_core::regexp::RegExp;
 use urlpattern_eight::ComponentName;
@@ -38,17 +39,17 @@ pub fn generate_component<R: RegExp>(
     writer.canonical_text(component)
 }
 
-/// A draft of that text: it is the text if it is canonical.
+/// A draft of that text: it is the text if it is canonical. Where it is the pattern text, or what is given, it is borrowed.
 ///
 /// Of a URL with eight such texts none has to be looked at again, if they are canonical in any URL of its kind.
-pub fn draft_component<R: RegExp>(
+pub fn draft_component<'d, R: RegExp>(
     alloc: Global,
-    component: &Component<R>,
+    component: &'d Component<R>,
     name: ComponentName,
     hierarchical: bool,
-    groups: &[GivenGroup<'_>],
-) -> Result<String, GenerateError>
-    ensures drafted { IfOk result (λ text. HasDraft R.answer component.now name hierarchical (given_groups groups.now) (text_of text)) }
+    groups: &'d [GivenGroup<'d>],
+) -> Result<CowStr<'d>, GenerateError>
+    ensures drafted { IfOk result (λ text. HasDraft R.answer component.now name hierarchical (given_groups groups.now) (cow_text text)) }
     ensures refused { IfErr result (LacksText R.answer component.now name hierarchical (given_groups groups.now)) }
 {
     let writer = Writer::new(alloc, &component.pattern_string, name, hierarchical, groups);
@@ -91,27 +92,50 @@ impl Writer<'_> {
         let Ok(text) = self.draft(component) else {
             return None;
         };
-        if self.keeps(&text) { Some(text) } else { None }
+        if !self.keeps(&text) {
+            return None;
+        }
+        let Ok(owned) = text.into_owned(self.alloc) else {
+            return None;
+        };
+        Some(owned)
     }
+}
 
+impl<'d> Writer<'d> {
     /// A draft of the text of a component.
-    fn draft<R: RegExp>(&self, component: &Component<R>) -> Result<String, GenerateError>
-        ensures drafted { IfOk result (λ text. Drafts R.answer component.now self.now (text_of text)) }
+    fn draft<R: RegExp>(&self, component: &'d Component<R>) -> Result<CowStr<'d>, GenerateError>
+        ensures drafted { IfOk result (λ text. Drafts R.answer component.now self.now (cow_text text)) }
         ensures refused { IfErr result (CannotWrite R.answer component.now self.now) }
     {
-        if let Some(text) = self.whole_draft(component)? {
-            return Ok(text);
+        if let Some(text) = self.whole_draft(component) {
+            return Ok(CowStr::Borrowed(text));
         }
-        let pattern = component.pattern_string.as_str();
-        if is_plain(pattern) {
-            return self.plain_text(component);
+        if let Some(text) = self.plain_draft(component) {
+            return Ok(CowStr::Borrowed(text));
         }
         match self.passed_draft(component)? {
-            Some(text) => Ok(text),
-            None => self.text(component),
+            Some(text) => Ok(CowStr::Owned(text)),
+            None => self.written_draft(component),
         }
     }
 
+    /// The text of a component, as a draft of it.
+    fn written_draft<R: RegExp>(
+        &self,
+        component: &'d Component<R>,
+    ) -> Result<CowStr<'d>, GenerateError>
+        ensures drafted { IfOk result (λ text. Drafts R.answer component.now self.now (cow_text text)) }
+        ensures refused { IfErr result (CannotWrite R.answer component.now self.now) }
+    {
+        match self.text(component) {
+            Ok(text) => Ok(CowStr::Owned(text)),
+            Err(error) => Err(error),
+        }
+    }
+}
+
+impl Writer<'_> {
     /// The text of a component.
     fn text<R: RegExp>(&self, component: &Component<R>) -> Result<String, GenerateError>
         ensures written { IfOk result (λ text. Writes R.answer component.now self.now (text_of text)) }

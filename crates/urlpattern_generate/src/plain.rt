@@ -11,7 +11,6 @@ use crate::error::GenerateError;
 use crate::groups::{given_text, is_same_text};
 use crate::read_back::{is_captured, is_matched};
 use crate::writer::Writer;
-use std::alloc::AllocError;
 use urlpattern_core::component::Component;
 use urlpattern_core::regexp::RegExp;
 
@@ -35,27 +34,6 @@ impl Writer<'_> {
         } else {
             Err(GenerateError::ReadOtherwise(self.component))
         }
-    }
-
-    /// A draft of the text of a component whose pattern text is an asterisk: what is given for it, as it is.
-    ///
-    /// `None`: the pattern text is another, or the component does not capture the whole of this text. The error is that memory ran
-    /// out.
-    pub(crate) fn whole_draft<R: RegExp>(
-        &self,
-        component: &Component<R>,
-    ) -> Result<Option<String>, AllocError>
-        ensures { IfOk result (λ draft. IfSome draft (λ text. Drafts R.answer component.now self.now (text_of text))) }
-    {
-        if !is_same_text(&component.pattern_string, "*") {
-            return Ok(None);
-        }
-        let given = self.given_alone();
-        if has_line_feed(given) || !is_captured(&component.matcher, given, given) {
-            return Ok(None);
-        }
-        let text = String::from_str(self.alloc, given)?;
-        Ok(Some(text))
     }
 
     /// The text of a component whose pattern text is an asterisk for which no text is given, or an empty one: the empty text.
@@ -82,9 +60,39 @@ impl Writer<'_> {
     {
         is_same_text(pattern, "*") && is_same_text(self.given_alone(), "")
     }
+}
+
+impl<'d> Writer<'d> {
+    /// The pattern text of a component, if it is plain and the component matches it without an engine: a draft of the text then.
+    pub(crate) fn plain_draft<R: RegExp>(&self, component: &'d Component<R>) -> Option<&'d str>
+        ensures { IfSome result (λ text. Drafts R.answer component.now self.now (chars text.now)) }
+    {
+        let pattern = component.pattern_string.as_str();
+        if is_plain(pattern) && is_matched(&component.matcher, pattern) {
+            Some(pattern)
+        } else {
+            None
+        }
+    }
+
+    /// A draft of the text of a component whose pattern text is an asterisk: what is given for it, as it is.
+    ///
+    /// `None`: the pattern text is another, or the component does not capture the whole of this text.
+    pub(crate) fn whole_draft<R: RegExp>(&self, component: &'d Component<R>) -> Option<&'d str>
+        ensures { IfSome result (λ text. Drafts R.answer component.now self.now (chars text.now)) }
+    {
+        if !is_same_text(&component.pattern_string, "*") {
+            return None;
+        }
+        let given = self.given_alone();
+        if has_line_feed(given) || !is_captured(&component.matcher, given, given) {
+            return None;
+        }
+        Some(given)
+    }
 
     /// What is given for an asterisk alone, or the empty text.
-    fn given_alone(&self) -> &str
+    fn given_alone(&self) -> &'d str
         ensures { chars result.now ≡ unwrap_or ((manner_of_writer self.now).given (codes "0")) [] }
     {
         match given_text(self.groups, self.component, "0") {

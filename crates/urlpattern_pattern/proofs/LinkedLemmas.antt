@@ -1,8 +1,7 @@
 -- The URL of a pattern, by the texts of its components.
-use Rattle.std.proofs.Common.{◌≡◌, ◌∙◌, ℕ, true, false, List, Option, None, Some, Result, Ok, Err, String, ap, refl, subst, sym}
+use Rattle.std.proofs.Common.{◌≡◌, ◌∙◌, ℕ, true, false, List, Option, Result, Ok, Err, String, ap, refl, subst, sym}
 use Rattle.std.proofs.lemmas.List.Elements.{All-weaker}
-use Rattle.std.specs.Prelude.{IfErr, IfOk, IfSome, MatchResult}
-use Rattle.std.specs.Result.{result_ok}
+use Rattle.std.specs.Prelude.{IfErr, IfOk, MatchResult}
 use Rattle.std.specs.declared.alloc.Global.{Global}
 use Rattle.url.specs.Parts.{Parts}
 use Rattle.urlpattern_create.specs.Compiled.{IsPathKind}
@@ -21,18 +20,12 @@ use Rattle.urlpattern_eight.specs.declared.eight.Eight.{Eight}
 use Rattle.urlpattern_eight.specs.Eight.{IsFirstError, Texts, at}
 use Rattle.urlpattern_syntax.specs.Text.{text_of}
 use Rattle.urlpattern_url.proofs.CanonicalTexts.{texts_are_canonical}
-use Rattle.urlpattern_url.specs.UrlsOfTexts.{RefusesTexts, string_texts}
+use Rattle.urlpattern_url.specs.UrlsOfTexts.{RefusesTexts, cow_texts, string_texts}
 use Rattle.urlpattern_url.specs.WebUrls.{IsWebUrl}
 use Rattle.urlpattern_url.specs.declared.error.NoLink.{NoLink}
 use Rattle.urlpattern_url.specs.declared.error.NoLink.TheVariants.{Component, OtherText, OutOfMemory, Url}
 
--- what holds of each text, with something else, holds of those that are seen
-pub texts_seen : {E : Type 0} (P : ComponentName → List ℕ → Type 0) (result : Result (Eight (String Global)) E) →
-    IfOk result (λ texts. (name : ComponentName) → ComponentName × P name (text_of (at texts name))) → IfOk result (λ texts. (name : ComponentName) → P name (at (string_texts texts) name))
-texts_seen P (Ok texts) h = λ name. subst (P name) (sym (at-each (λ other. text_of (at texts other)) name)) (h name).1
-texts_seen P (Err error) h = tt
-
--- the same of what holds under a premise
+-- what holds of each text under a premise, with something else, holds of the texts
 pub texts_known : {E K : Type 0} (P : ComponentName → List ℕ → Type 0) (result : Result (Eight (String Global)) E) → K →
     IfOk result (λ texts. (name : ComponentName) → ComponentName × (K → P name (text_of (at texts name)))) → IfOk result (λ texts. (name : ComponentName) → P name (at (string_texts texts) name))
 texts_known P (Ok texts) known h = λ name. subst (P name) (sym (at-each (λ other. text_of (at texts other)) name)) ((h name).1 known)
@@ -69,20 +62,10 @@ canonical_under texts no_address Search text is = is
 canonical_under texts no_address Hash text is = is
 
 module _ {E : Type 0} (answer : E → List ℕ → Option Captures) (pattern : PatternView E) (groups : List GivenView) where
-  pub linked : (texts : Texts) (result : Result Parts NoLink) → GeneratesTexts answer pattern groups texts → IfOk result (λ url. texts_of_url url ≡ texts) →
+  linked : (texts : Texts) (result : Result Parts NoLink) → GeneratesTexts answer pattern groups texts → IfOk result (λ url. texts_of_url url ≡ texts) →
       IfOk result (IsLink answer pattern groups)
   linked texts (Ok url) generated has = subst (λ (of : Texts). GeneratesTexts answer pattern groups of) (sym has) generated
   linked texts (Err error) generated has = tt
-
-  -- the drafts of the components, where an error is left out
-  pub drafted_texts : {F : Type 0} (result : Result (Eight (String Global)) F) (found : Option (Eight (String Global))) → found ≡ result_ok result →
-      IsPathKind answer (printed_values pattern) (pattern Protocol).matcher true →
-      IfOk result (λ texts. (name : ComponentName) → DraftsText answer pattern groups name (at (string_texts texts) name)) → IfSome found (λ texts. DraftsTexts answer pattern groups (string_texts texts))
-  drafted_texts result None same kind drafted = tt
-  drafted_texts (Ok texts) (Some found) same kind drafted =
-      let e : texts ≡ found = (let other = sym same in cc) in
-      (kind, subst (λ of. (name : ComponentName) → DraftsText answer pattern groups name (at (string_texts of) name)) e drafted)
-  drafted_texts (Err error) (Some found) same kind drafted = absurd cc
 
   -- the texts of a URL of the web, where each is a draft
   web_linked : (url : Parts) → IsWebUrl url → begins_ipv6 (pattern Hostname).pattern_string ≡ false → DraftsTexts answer pattern groups (texts_of_url url) → IsLink answer pattern groups url
@@ -111,7 +94,16 @@ module _ {E : Type 0} (answer : E → List ℕ → Option Captures) (pattern : P
   refuses texts (OtherText component) generated h = (texts, generated, h)
   refuses texts OutOfMemory generated h = tt
 
-  pub unlinked : (texts : Texts) (result : Result Parts NoLink) → GeneratesTexts answer pattern groups texts → IfErr result (RefusesTexts texts) →
+  unlinked : (texts : Texts) (result : Result Parts NoLink) → GeneratesTexts answer pattern groups texts → IfErr result (RefusesTexts texts) →
       IfErr result (RefusesLink answer pattern groups)
   unlinked texts (Ok url) generated h = tt
   unlinked texts (Err error) generated h = refuses texts error generated h
+
+  -- the same where the texts are handed on as others that are equal
+  pub owned_linked : (texts owned : Texts) → owned ≡ texts → (result : Result Parts NoLink) → GeneratesTexts answer pattern groups texts → IfOk result (λ url. texts_of_url url ≡ owned) →
+      IfOk result (IsLink answer pattern groups)
+  owned_linked texts owned same result generated has = linked owned result (subst (λ (of : Texts). GeneratesTexts answer pattern groups of) (sym same) generated) has
+
+  pub owned_unlinked : (texts owned : Texts) → owned ≡ texts → (result : Result Parts NoLink) → GeneratesTexts answer pattern groups texts → IfErr result (RefusesTexts owned) →
+      IfErr result (RefusesLink answer pattern groups)
+  owned_unlinked texts owned same result generated h = unlinked owned result (subst (λ (of : Texts). GeneratesTexts answer pattern groups of) (sym same) generated) h

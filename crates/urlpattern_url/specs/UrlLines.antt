@@ -1,15 +1,15 @@
 -- The text of a URL, put together from the texts of its components, after the URL Standard, section "URL serializing". All are
 -- bytes here.
-use Rattle.std.specs.Prelude.{ℕ, Bool, not, ◌&&◌, ◌||◌, ◌==◌, List, ◌++◌, codes, slice_index, String, string_bytes}
-use Rattle.std.specs.declared.alloc.Global.{Global}
+use Rattle.std.specs.Prelude.{ℕ, Bool, not, ◌&&◌, ◌||◌, ◌==◌, List, ◌++◌, codes, slice_index}
+use Rattle.std.specs.Borrow.{Bor}
 use Rattle.url.specs.Ascii.{slash}
 use Rattle.url.specs.Input.{is_empty, when}
 use Rattle.urlpattern_eight.specs.declared.eight.Eight.{Eight}
 use Rattle.urlpattern_eight.specs.Eight.{at, each}
 
 -- the bytes of texts
-abbrev pub bytes_of_each : Eight (String Global) → Eight (List ℕ)
-bytes_of_each texts = each (λ name. string_bytes (at texts name))
+abbrev pub bytes_of_each : Eight (Bor (List ℕ)) → Eight (List ℕ)
+bytes_of_each texts = each (λ name. (at texts name).now)
 
 -- a text after its mark, or nothing where it is empty
 abbrev pub marked : (mark text : List ℕ) → List ℕ

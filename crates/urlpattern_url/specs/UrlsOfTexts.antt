@@ -1,5 +1,7 @@
 -- The URL that has eight texts, and why there is none.
 use Rattle.std.specs.Prelude.{◌≡◌, ◌≢◌, ℕ, List, encode_utf8_all, length, None, Ok, String}
+use Rattle.std.specs.{Borrow.Bor, Cow.cow_str_bytes, Str.IsUtf8, Str.chars}
+use Rattle.std.specs.declared.borrow.CowStr.{CowStr}
 use Rattle.std.specs.declared.alloc.Global.{Global}
 use Rattle.url.specs.Parser.{parse_url}
 use Rattle.url.specs.Parts.{Parts}
@@ -9,6 +11,7 @@ use Rattle.urlpattern_eight.specs.declared.eight.ComponentName.{ComponentName}
 use Rattle.urlpattern_eight.specs.declared.eight.Eight.{Eight}
 use Rattle.urlpattern_eight.specs.Eight.{Texts, at, each}
 use Rattle.urlpattern_syntax.specs.Errors.{ErrorView as views}
+use Rattle.urlpattern_generate.specs.Writers.{cow_text}
 use Rattle.urlpattern_syntax.specs.Text.{text_of}
 use Rattle.urlpattern_url.specs.UrlLines.{url_line}
 use Rattle.urlpattern_url.specs.declared.error.NoLink.{NoLink}
@@ -17,6 +20,22 @@ use Rattle.urlpattern_url.specs.declared.error.NoLink.TheVariants.{OtherText, Ou
 -- the characters of texts
 abbrev pub string_texts : Eight (String Global) → Texts
 string_texts texts = each (λ name. text_of (at texts name))
+
+-- the same of texts that are borrowed or owned
+abbrev pub cow_texts : Eight (CowStr Global) → Texts
+cow_texts texts = each (λ name. cow_text (at texts name))
+
+-- the bytes of a text, which are UTF-8
+abbrev pub IsSeenAs : CowStr Global → Bor (List ℕ) → Type 0
+IsSeenAs text seen = (seen.now ≡ cow_str_bytes text) × IsUtf8 seen.now
+
+-- the bytes of each
+abbrev pub AreSeenAs : Eight (CowStr Global) → Eight (Bor (List ℕ)) → Type 0
+AreSeenAs texts seen = (name : ComponentName) → IsSeenAs (at texts name) (at seen name)
+
+-- the characters of what is seen
+abbrev pub texts_seen : Eight (Bor (List ℕ)) → Texts
+texts_seen seen = each (λ name. chars (at seen name).now)
 
 -- the bytes of the text of a URL with these texts
 abbrev pub line_of : Texts → List ℕ

@@ -12,30 +12,30 @@ const ROOM: usize = 64;
 /// The text of a URL with these texts.
 ///
 /// The error is that memory ran out.
-pub(crate) fn url_line(alloc: Global, texts: &Eight<String>) -> Result<String, AllocError>
+pub(crate) fn url_line(alloc: Global, texts: &Eight<&str>) -> Result<String, AllocError>
     ensures { IfOk result (λ line. string_bytes line ≡ url_line (bytes_of_each texts.now)) }
 {
     let mut line = String::with_capacity(alloc, texts.pathname.len().saturating_add(ROOM))?;
-    line.push_str(&texts.protocol)?;
+    line.push_str(texts.protocol)?;
     line.push_str(":")?;
     push_authority(&mut line, texts)?;
-    line.push_str(&texts.pathname)?;
-    push_marked(&mut line, "?", &texts.search)?;
-    push_marked(&mut line, "#", &texts.hash)?;
+    line.push_str(texts.pathname)?;
+    push_marked(&mut line, "?", texts.search)?;
+    push_marked(&mut line, "#", texts.hash)?;
     Ok(line)
 }
 
 /// Appends the two slashes, the user, the host and the port, if the URL has them.
-fn push_authority(line: &mut String, texts: &Eight<String>) -> Result<(), AllocError>
+fn push_authority(line: &mut String, texts: &Eight<&str>) -> Result<(), AllocError>
     ensures { OnOk result (string_bytes line.new ≡ string_bytes line.old ++ authority_line (bytes_of_each texts.now)) }
 {
-    if !has_authority(&texts.hostname, &texts.pathname) {
+    if !has_authority(texts.hostname, texts.pathname) {
         return Ok(());
     }
     line.push_str("//")?;
-    push_user(line, &texts.username, &texts.password)?;
-    line.push_str(&texts.hostname)?;
-    push_marked(line, ":", &texts.port)
+    push_user(line, texts.username, texts.password)?;
+    line.push_str(texts.hostname)?;
+    push_marked(line, ":", texts.port)
 }
 
 /// Whether a URL has two slashes before its path: it has a host, or the path begins with two slashes itself.

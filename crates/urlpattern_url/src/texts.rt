@@ -4,11 +4,13 @@ ghost use Rattle.std.specs.Prelude.{◌≡◌, ◌↔◌, None, Ok, IfErr, IfNon
 ghost use Rattle.std.specs.Str.{chars};
 ghost use Rattle.url.specs.Parser.{parse_url};
 ghost use Rattle.urlpattern_init.specs.Inheritance.{texts_of_url};
-ghost use Rattle.urlpattern_url.specs.UrlsOfTexts.{HasOtherText, RefusesLine, RefusesTexts, string_texts};
+ghost use Rattle.urlpattern_eight.specs.Eight.{at};
+ghost use Rattle.urlpattern_url.specs.UrlsOfTexts.{AreSeenAs, HasOtherText, IsSeenAs, RefusesLine, RefusesTexts, cow_texts, texts_seen};
 
 use crate::error::NoLink;
 use crate::line::url_line;
 use std::alloc::Global;
+use std::borrow::CowStr;
 use url::Url;
 use urlpattern_canonical::canonicalize_and_process::reported;
 use urlpattern_eight::{ComponentName, Eight};
@@ -18,19 +20,30 @@ use urlpattern_syntax::Error;
 /// The URL that has these texts.
 ///
 /// The error is that `url` refuses them, put together, or reads a URL with other texts, or that memory ran out.
-pub fn url_of_texts(alloc: Global, texts: &Eight<String>) -> Result<Url, NoLink>
-    ensures has { IfOk result (λ url. texts_of_url url ≡ string_texts texts.now) }
-    ensures refused { IfErr result (RefusesTexts (string_texts texts.now)) }
+pub fn url_of_texts(alloc: Global, texts: &Eight<CowStr<'_>>) -> Result<Url, NoLink>
+    ensures has { IfOk result (λ url. texts_of_url url ≡ cow_texts texts.now) }
+    ensures refused { IfErr result (RefusesTexts (cow_texts texts.now)) }
 {
-    let line = url_line(alloc, texts)?;
+    let seen = seen(texts);
+    let line = url_line(alloc, &seen)?;
     let url = match read(alloc, &line) {
         Ok(url) => url,
         Err(error) => return Err(error),
     };
-    match other_text(&url, texts) {
+    match other_text(&url, &seen) {
         None => Ok(url),
         Some(component) => Err(NoLink::OtherText(component)),
     }
+}
+
+/// The texts, borrowed.
+fn seen<'t>(texts: &'t Eight<CowStr<'_>>) -> Eight<&'t str>
+    ensures { AreSeenAs texts.now result }
+{
+    let text = |name: ComponentName| -> &str
+        ensures { IsSeenAs (at texts.entry.now name) result }
+    { texts.get(name).as_str() };
+    Eight::from_fn(text)
 }
 
 /// The URL of a text.
@@ -48,9 +61,9 @@ fn read(alloc: Global, line: &str) -> Result<Url, NoLink>
 }
 
 /// A component for which a URL has another text. `None`: it has these texts.
-fn other_text(url: &Url, texts: &Eight<String>) -> Option<ComponentName>
-    ensures same { IfNone result (texts_of_url url.now ≡ string_texts texts.now) }
-    ensures other { IfSome result (HasOtherText url.now (string_texts texts.now)) }
+fn other_text(url: &Url, texts: &Eight<&str>) -> Option<ComponentName>
+    ensures same { IfNone result (texts_of_url url.now ≡ texts_seen texts.now) }
+    ensures other { IfSome result (HasOtherText url.now (texts_seen texts.now)) }
 {
     for name in ComponentName::all() {
         if !is_same_text(url_text(url, name), texts.get(name)) {

@@ -1,16 +1,17 @@
 //! The URL of a pattern whose groups capture what is given.
-ghost use Rattle.std.specs.Prelude.{IfErr, IfOk, IfSome, true};
-ghost use Rattle.urlpattern_generate.specs.Manners.{given_groups};
+ghost use Rattle.std.specs.Prelude.{◌≡◌, IfErr, IfOk, IfSome, true};
+ghost use Rattle.urlpattern_generate.specs.{Manners.given_groups, Writers.cow_text};
 ghost use Rattle.urlpattern_init.specs.declared.init.UrlPatternMatchInput.TheVariants as inputs;
 ghost use Rattle.urlpattern_pattern.specs.LinkedUrls.{AnswersGroups, AnswersUnder, DraftsText, DraftsTexts, GeneratesTexts, HasPathKind, IsLink, RefusesLink};
 ghost use Rattle.urlpattern_pattern.specs.Match.{HasMatch};
 ghost use Rattle.urlpattern_pattern.specs.Patterns.{pattern_view};
 ghost use Rattle.urlpattern_eight.specs.Eight.{IsFirstError};
 ghost use Rattle.urlpattern_syntax.specs.Text.{text_of};
-ghost use Rattle.urlpattern_url.specs.UrlsOfTexts.{string_texts};
+ghost use Rattle.urlpattern_url.specs.UrlsOfTexts.{cow_texts, string_texts};
 
 use super::UrlPattern;
 use std::alloc::Global;
+use std::borrow::CowStr;
 use url::Url;
 use urlpattern_core::regexp::RegExp;
 use urlpattern_eight::{ComponentName, Eight};
@@ -55,7 +56,7 @@ impl<R: RegExp> UrlPattern<R> {
             Err(GenerateError::OutOfMemory) => return Err(NoLink::OutOfMemory),
             Err(error) => return Err(NoLink::Component(error)),
         };
-        url_of_texts(alloc, &texts)
+        url_of_texts(alloc, &owned(texts))
     }
 
     /// The texts of the components with these groups, where the pathname is hierarchical or not.
@@ -100,7 +101,9 @@ impl<R: RegExp> UrlPattern<R> {
         if begins_ipv6(&self.hostname.pattern_string) {
             return None;
         }
-        let texts = self.draft_each(alloc, groups)?;
+        let Ok(texts) = self.draft_each(alloc, groups) else {
+            return None;
+        };
         let Ok(url) = url_of_texts(alloc, &texts) else {
             return None;
         };
@@ -108,13 +111,45 @@ impl<R: RegExp> UrlPattern<R> {
     }
 
     /// Drafts of the texts of the components with these groups, where the pathname is hierarchical.
-    fn draft_each(&self, alloc: Global, groups: &[GivenGroup<'_>]) -> Option<Eight<String>>
+    fn draft_each<'d>(
+        &'d self,
+        alloc: Global,
+        groups: &'d [GivenGroup<'d>],
+    ) -> Result<Eight<CowStr<'d>>, GenerateError>
         requires { HasPathKind R.answer (pattern_view self.now) true }
-        ensures { IfSome result (λ texts. DraftsTexts R.answer (pattern_view self.now) (given_groups groups.now) (string_texts texts)) }
+        ensures { IfOk result (λ texts. DraftsTexts R.answer (pattern_view self.now) (given_groups groups.now) (cow_texts texts)) }
     {
-        let text = |component: ComponentName| -> Result<String, GenerateError>
-            ensures { IfOk result (λ text. DraftsText R.answer (pattern_view self.entry.now) (given_groups groups.entry.now) component (text_of text)) }
-        { draft_component(alloc, self.get(component), component, true, groups) };
-        Eight::try_from_fn(text).ok()
+        Ok(Eight {
+            protocol: self.draft(alloc, ComponentName::Protocol, groups)?,
+            username: self.draft(alloc, ComponentName::Username, groups)?,
+            password: self.draft(alloc, ComponentName::Password, groups)?,
+            hostname: self.draft(alloc, ComponentName::Hostname, groups)?,
+            port: self.draft(alloc, ComponentName::Port, groups)?,
+            pathname: self.draft(alloc, ComponentName::Pathname, groups)?,
+            search: self.draft(alloc, ComponentName::Search, groups)?,
+            hash: self.draft(alloc, ComponentName::Hash, groups)?,
+        })
     }
+
+    /// A draft of the text of a component with these groups, where the pathname is hierarchical.
+    fn draft<'d>(
+        &'d self,
+        alloc: Global,
+        component: ComponentName,
+        groups: &'d [GivenGroup<'d>],
+    ) -> Result<CowStr<'d>, GenerateError>
+        ensures { IfOk result (λ text. DraftsText R.answer (pattern_view self.now) (given_groups groups.now) component (cow_text text)) }
+    {
+        draft_component(alloc, self.get(component), component, true, groups)
+    }
+}
+
+/// Texts that are owned.
+fn owned(texts: Eight<String>) -> Eight<CowStr<'static>>
+    ensures { cow_texts result ≡ string_texts texts }
+{
+    let text = |text: String| -> CowStr
+        ensures { cow_text result ≡ text_of text }
+    { CowStr::Owned(text) };
+    texts.map(text)
 }

@@ -1,9 +1,10 @@
-use Rattle.std.proofs.Common.{Ok, subst, ◌≡◌}
+use Rattle.std.proofs.Common.{Ok, ap, subst, sym, ◌≡◌}
 use Rattle.std.specs.Str.{chars}
-use Rattle.urlpattern_generate.specs.Writers.{manner_of_writer}
+use Rattle.urlpattern_generate.specs.Writers.{WritesCanonical, manner_of_writer}
 use Rattle.urlpattern_generate.proofs.writer.Writer.kept_text.Goals as goal
 
-pub returns-then-keeps : goal.returns-then-keeps
-returns-then-keeps g c =
+pub returns : goal.returns
+returns g c =
     let canonical = (manner_of_writer c.args.self.now).canonical in
-    c.in-Ok.ensures.drafted (subst (λ bytes. canonical (chars bytes) ≡ Ok (chars bytes)) c.deref.ensures (c.keeps.ensures.canonical c.if-keeps.true))
+    subst (WritesCanonical g.R.RegExp.answer c.args.component.now c.args.self.now) (sym (ap chars c.in-Ok-into_owned.ensures.ok))
+    (c.in-Ok.ensures.drafted (subst (λ bytes. canonical (chars bytes) ≡ Ok (chars bytes)) c.deref.ensures.value (c.keeps.ensures.canonical c.if-not-keeps.false)))
