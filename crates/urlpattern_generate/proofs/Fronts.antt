@@ -9,7 +9,7 @@ use Rattle.std.specs.List.{list_all}
 use Rattle.std.specs.Prelude.{Option, bytes_eq, codes, decimal, if◌then◌else◌, ◌&&◌, ◌||◌}
 use Rattle.std.specs.Str.{IsUtf8, chars}
 use Rattle.urlpattern_eight.specs.declared.eight.ComponentName.{ComponentName}
-use Rattle.urlpattern_eight.specs.declared.eight.ComponentName.TheVariants.{Protocol, Username, Password, Hostname, Port, Pathname, Search, Hash}
+use Rattle.urlpattern_generate.proofs.OptionsLemmas.{by_options}
 use Rattle.urlpattern_generate.proofs.Passes.{name_front, not_fixed, run_alone, run_unskipped}
 use Rattle.urlpattern_generate.specs.Manners.{options_for}
 use Rattle.urlpattern_generate.specs.Passing.{IsApart, IsFirstPart, IsLeftOut, IsNoWildcard, IsOwnExpression, IsPlaceholder, NeedsBraces, Place, is_group_mark, is_run_character, may_go_on}
@@ -242,88 +242,39 @@ pathname_segment = refl
 
 pub no_wildcard : (value : List ℕ) → value ≢ codes ".*" → value ≢ codes ".+?" → value ≢ codes "[^/]+?" → value ≢ codes "[^\\.]+?" → (component : ComponentName) (hierarchical : Bool) →
     IsNoWildcard (options_for component hierarchical) value
-no_wildcard value full default path host Protocol hierarchical = (λ e. default (e ∙ default_segment), full)
-no_wildcard value full default path host Username hierarchical = (λ e. default (e ∙ default_segment), full)
-no_wildcard value full default path host Password hierarchical = (λ e. default (e ∙ default_segment), full)
-no_wildcard value full default path host Hostname hierarchical = (λ e. host (e ∙ hostname_segment), full)
-no_wildcard value full default path host Port hierarchical = (λ e. default (e ∙ default_segment), full)
-no_wildcard value full default path host Pathname true = (λ e. path (e ∙ pathname_segment), full)
-no_wildcard value full default path host Pathname false = (λ e. default (e ∙ default_segment), full)
-no_wildcard value full default path host Search hierarchical = (λ e. default (e ∙ default_segment), full)
-no_wildcard value full default path host Hash hierarchical = (λ e. default (e ∙ default_segment), full)
+no_wildcard value full default path host =
+    by_options (λ options. IsNoWildcard options value) ((λ e. default (e ∙ default_segment)), full) ((λ e. host (e ∙ hostname_segment)), full) ((λ e. path (e ∙ pathname_segment)), full)
 
 -- the texts of these literals
-pub full_is : chars (codes ".*") ≡ codes ".*"
+pub wildcards_are : (chars (codes ".*") ≡ codes ".*") × (chars (codes ".+?") ≡ codes ".+?") × (chars (codes "[^/]+?") ≡ codes "[^/]+?") × (chars (codes "[^\\.]+?") ≡ codes "[^\\.]+?")
 unfolding chars
-full_is = refl
-
-pub default_is : chars (codes ".+?") ≡ codes ".+?"
-unfolding chars
-default_is = refl
-
-pub path_is : chars (codes "[^/]+?") ≡ codes "[^/]+?"
-unfolding chars
-path_is = refl
-
-pub host_is : chars (codes "[^\\.]+?") ≡ codes "[^\\.]+?"
-unfolding chars
-host_is = refl
+wildcards_are = (refl, refl, refl, refl)
 
 -- ---- numbers as names
 
-pub name_0 : chars (codes "0") ≡ decimal 0
+pub names_are : (chars (codes "0") ≡ decimal 0) × (chars (codes "1") ≡ decimal 1) × (chars (codes "2") ≡ decimal 2) × (chars (codes "3") ≡ decimal 3)
 unfolding chars digits
-name_0 = refl
+names_are = (refl, refl, refl, refl)
 
-pub name_1 : chars (codes "1") ≡ decimal 1
-unfolding chars digits
-name_1 = refl
+abbrev IsDigited : List ℕ → Type 0
+IsDigited bytes = begins_with is_ascii_digit (chars bytes) ≡ true
 
-pub name_2 : chars (codes "2") ≡ decimal 2
-unfolding chars digits
-name_2 = refl
-
-pub name_3 : chars (codes "3") ≡ decimal 3
-unfolding chars digits
-name_3 = refl
-
-pub digit_0 : begins_with is_ascii_digit (chars (codes "0")) ≡ true
+pub names_digited : IsDigited (codes "0") × IsDigited (codes "1") × IsDigited (codes "2") × IsDigited (codes "3")
 unfolding chars
-digit_0 = refl
-
-pub digit_1 : begins_with is_ascii_digit (chars (codes "1")) ≡ true
-unfolding chars
-digit_1 = refl
-
-pub digit_2 : begins_with is_ascii_digit (chars (codes "2")) ≡ true
-unfolding chars
-digit_2 = refl
-
-pub digit_3 : begins_with is_ascii_digit (chars (codes "3")) ≡ true
-unfolding chars
-digit_3 = refl
+names_digited = (refl, refl, refl, refl)
 
 -- ---- braces
 
 pub left_out_is : (bytes : List ℕ) (modifier : PartModifier) (text rest : List ℕ) → text ≡ codes "{" ++ (chars bytes ++ (codes "}" ++ (modifier_text modifier ++ rest))) → chars bytes ≢ [] →
     list_all is_run_character (chars bytes) ≡ true → IsUtf8 bytes → length bytes < 2 ^ 63 → (modifier ≡ modifiers.Optional) ⊎ (modifier ≡ modifiers.ZeroOrMore) → IsLeftOut bytes modifier text rest
-left_out_is bytes modifier text rest cut some all utf8 few (inl is) = record {
+left_out_is bytes modifier text rest cut some all utf8 few is = record {
   cut = cut;
   some = some;
   all = all;
   utf8 = utf8;
   few = few;
-  modified = ap is_unmodified is;
-  fewest = ap (λ of. fewest_copies of (chars bytes)) is;
-}
-left_out_is bytes modifier text rest cut some all utf8 few (inr is) = record {
-  cut = cut;
-  some = some;
-  all = all;
-  utf8 = utf8;
-  few = few;
-  modified = ap is_unmodified is;
-  fewest = ap (λ of. fewest_copies of (chars bytes)) is;
+  modified = elim is [ inl e ↦ ap is_unmodified e | inr e ↦ ap is_unmodified e ];
+  fewest = elim is [ inl e ↦ ap (λ of. fewest_copies of (chars bytes)) e | inr e ↦ ap (λ of. fewest_copies of (chars bytes)) e ];
 }
 
 pub suffix_needs : (options : OptionsView) (prefix suffix : List ℕ) → suffix ≢ [] → NeedsBraces options prefix suffix
@@ -347,12 +298,5 @@ no_slash_point c other = by_test (bytes_eq (c ∷ []) (codes "/")) refl
     by_test false e = e
 
 pub other_prefix_point : (component : ComponentName) (hierarchical : Bool) (c : ℕ) → ¬ (c ≡ 47) → bytes_eq (c ∷ []) (options_for component hierarchical).prefix ≡ false
-other_prefix_point Protocol hierarchical c other = refl
-other_prefix_point Username hierarchical c other = refl
-other_prefix_point Password hierarchical c other = refl
-other_prefix_point Hostname hierarchical c other = refl
-other_prefix_point Port hierarchical c other = refl
-other_prefix_point Pathname true c other = no_slash_point c other
-other_prefix_point Pathname false c other = refl
-other_prefix_point Search hierarchical c other = refl
-other_prefix_point Hash hierarchical c other = refl
+other_prefix_point component hierarchical c other =
+    by_options (λ options. bytes_eq (c ∷ []) options.prefix ≡ false) refl refl (no_slash_point c other) component hierarchical

@@ -3,6 +3,7 @@ use Rattle.std.proofs.Common.{◌≡◌, ℕ, Bool, true, false, List, Ok, inl, 
 use Rattle.std.proofs.lemmas.Bool.{false≢true}
 use Rattle.std.specs.Str.{chars}
 use Rattle.url.specs.Parser.{Parsed}
+use Rattle.urlpattern_canonical.proofs.CanonicalLemmas.{out_of_memory}
 use Rattle.urlpattern_generate.specs.Generating.{IsNotCanonical, IsTextWithGroups, IsWrittenText, RefusesGroups, TellsCanonical}
 use Rattle.urlpattern_generate.specs.Manners.{WritingManner, unchanged}
 use Rattle.urlpattern_generate.specs.Writers.{IsPatternError, ReportsPattern}
@@ -13,8 +14,7 @@ use Rattle.urlpattern_meaning.specs.PartMeaning.{Captures}
 use Rattle.urlpattern_eight.specs.declared.eight.ComponentName.{ComponentName}
 use Rattle.urlpattern_syntax.specs.declared.error.Error.{Error}
 use Rattle.urlpattern_syntax.specs.declared.error.Error.TheVariants as errors
-use Rattle.urlpattern_syntax.specs.declared.error.ParserError.TheVariants as parser_errors
-use Rattle.urlpattern_syntax.specs.Errors.{ErrorView, ErrorView as views, MemoryOr, error_view}
+use Rattle.urlpattern_syntax.specs.Errors.{ErrorView, MemoryOr, error_view}
 use Rattle.urlpattern_syntax.specs.Options.{OptionsView}
 use Rattle.urlpattern_meaning.proofs.Encodings.{Weakens, refuses_weaker}
 use Rattle.urlpattern_syntax.specs.Reading.{Encoding, Refuses}
@@ -29,20 +29,9 @@ pattern_refused answer matcher component manner pattern options OutOfMemory e h 
 
 -- ---- what the parser reports
 
--- an error that is seen as out of memory is that
-seen_as_memory : (error : Error) → error_view error ≡ views.OutOfMemory → error ≡ errors.OutOfMemory
-seen_as_memory errors.OutOfMemory e = refl
-seen_as_memory errors.BaseUrlRequired e = absurd cc
-seen_as_memory errors.BaseUrlWithInit e = absurd cc
-seen_as_memory (errors.Tokenizer fault place) e = absurd cc
-seen_as_memory (errors.Parser (parser_errors.ExpectedToken expected found value)) e = absurd cc
-seen_as_memory (errors.Parser (parser_errors.DuplicateName name)) e = absurd cc
-seen_as_memory (errors.Url reason) e = absurd cc
-seen_as_memory (errors.RegExp unit) e = absurd cc
-
 -- an error that is not out of memory is the other
 is_other : (Is : ErrorView → Type 0) (error : Error) → ¬ (error ≡ errors.OutOfMemory) → MemoryOr Is error → Is (error_view error)
-is_other Is error other (inl memory) = absurd (other (seen_as_memory error memory))
+is_other Is error other (inl memory) = absurd (other (out_of_memory error memory))
 is_other Is error other (inr is) = is
 
 pub pattern_reported : (component : ComponentName) (strong : Encoding) → Weakens strong unchanged → (options : OptionsView) (pattern : List ℕ) (error : Error) (reported : GenerateError) →

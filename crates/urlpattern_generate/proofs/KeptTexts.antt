@@ -2,8 +2,8 @@
 use Rattle.std.proofs.Common.{◌≡◌, ◌<◌, ◌^◌, ℕ, arith, lit<, List, [], length, Ok, String, refl}
 use Rattle.std.proofs.lemmas.Grind.{merely}
 use Rattle.std.proofs.lemmas.Str.{IsUtf8-from_ascii, chars-IsAscii}
-use Rattle.std.proofs.lemmas.Str.Ascii.{IsAscii-cons, IsAscii-nil}
-use Rattle.std.specs.Prelude.{IsAscii, codes}
+use Rattle.std.proofs.lemmas.Str.Ascii.{IsAscii-nil}
+use Rattle.std.specs.Prelude.{codes}
 use Rattle.std.specs.Str.{IsUtf8, chars}
 use Rattle.std.specs.declared.alloc.Global.{Global}
 use Rattle.urlpattern_generate.proofs.PlainReadings.{kept}
@@ -14,20 +14,10 @@ use Rattle.urlpattern_syntax.specs.Text.{text_of}
 of_bytes : (string : String Global) (bytes : List ℕ) → IsUtf8 bytes → length bytes < 2 ^ 63 → String Global
 of_bytes string bytes u few = record string { bytes = record string.bytes { items = bytes; len = length bytes; cap = length bytes; ok = (refl, omega arith); small = few }; ok = merely u }
 
-kept_ascii : (string : String Global) (text : List ℕ) → IsAscii text → length text < 2 ^ 63 → unchanged text (Ok text)
-unfolding of_bytes
-kept_ascii string text ascii few = kept text (of_bytes string text (IsUtf8-from_ascii text ascii) few) (chars-IsAscii text ascii)
-
--- the same of any bytes of a text
+-- a text of these bytes is kept
 pub kept_bytes : (string : String Global) (bytes : List ℕ) → IsUtf8 bytes → length bytes < 2 ^ 63 → unchanged (chars bytes) (Ok (chars bytes))
 unfolding of_bytes
 kept_bytes string bytes u few = kept (chars bytes) (of_bytes string bytes u few) refl
-
-pub kept_slash : (string : String Global) → unchanged (codes "/") (Ok (codes "/"))
-kept_slash string = kept_ascii string (codes "/") (IsAscii-cons 47 [] (omega arith) IsAscii-nil) (lit< tt)
-
-pub kept_nothing : (string : String Global) → unchanged [] (Ok [])
-kept_nothing string = kept_ascii string [] IsAscii-nil (lit< tt)
 
 -- there is an empty one
 pub nothing : String Global → String Global

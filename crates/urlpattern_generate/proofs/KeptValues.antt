@@ -269,21 +269,23 @@ pub nothing_line : IsTrue (lacks line_feed (chars []))
 unfolding chars
 nothing_line = refl
 
-pub https_kept : canonical_protocol (chars (codes "https")) ≡ Ok (chars (codes "https"))
-unfolding url_on_literals chars encode_utf8
-https_kept = refl
+-- one of these
+abbrev IsOftenUsed : List ℕ → Type 0
+IsOftenUsed text = text ≡ codes "https" ⊎ (text ≡ codes "http" ⊎ (text ≡ codes "data" ⊎ text ≡ codes "mailto"))
 
-pub http_kept : canonical_protocol (chars (codes "http")) ≡ Ok (chars (codes "http"))
+pub protocol_kept : (text : List ℕ) → IsOftenUsed text → canonical_protocol (chars text) ≡ Ok (chars text)
 unfolding url_on_literals chars encode_utf8
-http_kept = refl
+protocol_kept text (inl e) = subst (λ of. canonical_protocol (chars of) ≡ Ok (chars of)) (sym e) refl
+protocol_kept text (inr (inl e)) = subst (λ of. canonical_protocol (chars of) ≡ Ok (chars of)) (sym e) refl
+protocol_kept text (inr (inr (inl e))) = subst (λ of. canonical_protocol (chars of) ≡ Ok (chars of)) (sym e) refl
+protocol_kept text (inr (inr (inr e))) = subst (λ of. canonical_protocol (chars of) ≡ Ok (chars of)) (sym e) refl
 
-pub data_kept : canonical_protocol (chars (codes "data")) ≡ Ok (chars (codes "data"))
-unfolding url_on_literals chars encode_utf8
-data_kept = refl
-
-pub mailto_kept : canonical_protocol (chars (codes "mailto")) ≡ Ok (chars (codes "mailto"))
-unfolding url_on_literals chars encode_utf8
-mailto_kept = refl
+pub protocol_line : (text : List ℕ) → IsOftenUsed text → IsTrue (lacks line_feed (chars text))
+unfolding chars
+protocol_line text (inl e) = subst (λ of. IsTrue (lacks line_feed (chars of))) (sym e) refl
+protocol_line text (inr (inl e)) = subst (λ of. IsTrue (lacks line_feed (chars of))) (sym e) refl
+protocol_line text (inr (inr (inl e))) = subst (λ of. IsTrue (lacks line_feed (chars of))) (sym e) refl
+protocol_line text (inr (inr (inr e))) = subst (λ of. IsTrue (lacks line_feed (chars of))) (sym e) refl
 
 -- ---- any component
 
@@ -347,11 +349,3 @@ kept_line Pathname true bytes kept = text_lines bytes (path_characters false byt
 kept_line Pathname false bytes kept = text_lines bytes (All_from_list_all is_kept_character bytes (and_parts (not (slice_index bytes 0 == slash)) (list_all is_kept_character bytes) kept).1)
 kept_line Search hierarchical bytes kept = text_lines bytes (All_from_list_all is_kept_character bytes kept)
 kept_line Hash hierarchical bytes kept = text_lines bytes (All_from_list_all is_kept_character bytes kept)
-
--- a protocol that is one of these
-pub protocol_line : (text : List ℕ) → text ≡ codes "https" ⊎ (text ≡ codes "http" ⊎ (text ≡ codes "data" ⊎ text ≡ codes "mailto")) → IsTrue (lacks line_feed (chars text))
-unfolding chars
-protocol_line text (inl e) = subst (λ of. IsTrue (lacks line_feed (chars of))) (sym e) refl
-protocol_line text (inr (inl e)) = subst (λ of. IsTrue (lacks line_feed (chars of))) (sym e) refl
-protocol_line text (inr (inr (inl e))) = subst (λ of. IsTrue (lacks line_feed (chars of))) (sym e) refl
-protocol_line text (inr (inr (inr e))) = subst (λ of. IsTrue (lacks line_feed (chars of))) (sym e) refl

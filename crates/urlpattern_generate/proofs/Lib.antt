@@ -6,6 +6,7 @@ pub mod GivenLemmas
 pub mod HostTexts
 pub mod KeptTexts
 pub mod KeptValues
+pub mod OptionsLemmas
 pub mod Passes
 pub mod PassTexts
 pub mod PlainReadings

@@ -15,6 +15,7 @@ use Rattle.url.proofs.InputLemmas.{All_from_list_all, Passes}
 use Rattle.url.specs.Parser.{Parsed}
 use Rattle.urlpattern_eight.specs.declared.eight.ComponentName.{ComponentName}
 use Rattle.urlpattern_eight.specs.declared.eight.ComponentName.TheVariants.{Protocol, Username, Password, Hostname, Port, Pathname, Search, Hash}
+use Rattle.urlpattern_generate.proofs.OptionsLemmas.{by_options}
 use Rattle.urlpattern_generate.specs.Asked.{IsAskedBy}
 use Rattle.urlpattern_generate.specs.Generating.{AnswersOtherwise, AsksFor, IsAnswered, IsWrittenText, RefusesGroups}
 use Rattle.urlpattern_generate.specs.Manners.{WritingManner, canonical_for, options_for, unchanged}
@@ -185,15 +186,7 @@ asterisk_tokens = tokens_of (token Asterisk 0 (codes "*") ∷ []) (next (mark (r
 -- under the options of a component
 wildcard_kind : (component : ComponentName) (hierarchical : Bool) → kind_of (options_for component hierarchical) full_wildcard ≡ FullWildcard
 unfolding escaped
-wildcard_kind Protocol hierarchical = refl
-wildcard_kind Username hierarchical = refl
-wildcard_kind Password hierarchical = refl
-wildcard_kind Hostname hierarchical = refl
-wildcard_kind Port hierarchical = refl
-wildcard_kind Pathname true = refl
-wildcard_kind Pathname false = refl
-wildcard_kind Search hierarchical = refl
-wildcard_kind Hash hierarchical = refl
+wildcard_kind = by_options (λ options. kind_of options full_wildcard ≡ FullWildcard) refl refl refl
 
 asterisk_part : (options : OptionsView) → kind_of options full_wildcard ≡ FullWildcard → anything ≡ capture_part options [] (codes "0") Anything [] modifiers.None ∷ []
 asterisk_part options e =

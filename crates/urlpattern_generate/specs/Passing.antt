@@ -5,7 +5,7 @@ use Rattle.std.specs.{Borrow.Bor, Str.IsUtf8, Str.chars}
 use Rattle.urlpattern_generate.specs.Asked.{AreAsked, IsAsked}
 use Rattle.urlpattern_eight.specs.declared.eight.ComponentName.{ComponentName}
 use Rattle.urlpattern_generate.specs.Manners.{WritingManner, options_for, unchanged}
-use Rattle.urlpattern_generate.specs.declared.pass.{Group.Group, Pass.Pass}
+use Rattle.urlpattern_generate.specs.declared.{front.Characters.Characters, pass.Group.Group, pass.Pass.Pass}
 use Rattle.urlpattern_links.specs.Links.{MayCapture, MayCaptureAll, fewest_copies, text_of_parts}
 use Rattle.urlpattern_meaning.specs.PartMeaning.{Captures}
 use Rattle.urlpattern_meaning.specs.Printing.{HaveTexts, admits_asterisk, first_part, goes_on, has_custom_name, is_segment, joined, last_of, printed_after, printed_match, printed_name, printed_part, takes_before}
@@ -22,6 +22,11 @@ use Rattle.urlpattern_syntax.specs.Tokens.{IsRegexpBody, is_ignored}
 -- a character that stands for itself wherever it is in a pattern text
 abbrev pub is_run_character : ℕ → Bool
 is_run_character c = not (is_among (codes "+*?:{}()\\") c) && not (is_ignored c)
+
+-- the characters of a kind pass this test
+abbrev pub kind_test : Characters → (ℕ → Bool)
+kind_test Characters.Plain = is_run_character
+kind_test Characters.OfName = is_name_part
 
 -- a name would take what begins with such a character
 abbrev pub may_go_on : ℕ → Bool

@@ -15,7 +15,7 @@ use crate::error::GenerateError;
 use crate::groups::given_text;
 use crate::writer::Writer;
 use std::alloc::{AllocError, Global};
-use urlpattern_links::{LinkError, text_of_parts};
+use urlpattern_links::{LinkError, is_bare, text_of_parts};
 use urlpattern_syntax::Error;
 use urlpattern_syntax::parser::{Options, Part, PartModifier, PartType};
 
@@ -126,13 +126,6 @@ fn no_copies(alloc: Global, part: &Part) -> Option<String>
         return Some(String::new(alloc));
     }
     None
-}
-
-/// Whether a part has neither prefix nor suffix.
-fn is_bare(part: &Part) -> bool
-    ensures { result ≡ is_bare (part_view part.now) }
-{
-    part.prefix.is_empty() && part.suffix.is_empty()
 }
 
 /// The empty text for a wildcard without name, and `None` for any other group.

@@ -3,11 +3,11 @@
 ghost use Rattle.std.specs.Char.{is_ascii_digit};
 ghost use Rattle.std.specs.Prelude.{◌≡◌, ◌&&◌, ◌++◌, ◌<◌, ◌≤◌, IfSome, IsTrue, codes, decimal, false, length, true};
 ghost use Rattle.std.specs.Str.{chars};
-ghost use Rattle.urlpattern_generate.specs.Passing.{BeginsLeftOut, IsBareFront, IsBracedFront, IsFrontGroup, IsFrontOf, IsPlaceholderGroup, NeedsBraces, is_group_mark, is_run_character, may_go_on, place_in_pass};
+ghost use Rattle.urlpattern_generate.specs.Passing.{BeginsLeftOut, IsBareFront, IsBracedFront, IsFrontGroup, IsFrontOf, IsPlaceholderGroup, NeedsBraces, affixed, is_group_mark, is_run_character, kind_test, may_go_on, part_of, place_in_pass};
 ghost use Rattle.urlpattern_generate.specs.Writers.{manner_of_writer};
 ghost use Rattle.urlpattern_syntax.specs.Options.{pathname_options};
 ghost use Rattle.urlpattern_syntax.specs.RegexpText.{is_unmodified, modifier_text};
-ghost use Rattle.urlpattern_syntax.specs.Text.{begins_with, is_name_part};
+ghost use Rattle.urlpattern_syntax.specs.Text.{begins_with};
 ghost use Rattle.urlpattern_syntax.specs.Tokens.{IsName, SkipsBy};
 
 use crate::expression::expression;
@@ -37,17 +37,7 @@ impl Writer<'_> {
         ensures len { IfSome result (λ group. length group.rest.now < length text.now) }
     {
         let own = placeholder(number, text)?;
-        let (modifier, rest) = modifier(own.rest);
-        Some(Group {
-            kind: own.kind,
-            prefix: "",
-            name: own.name,
-            value: own.value,
-            suffix: "",
-            modifier,
-            rest,
-            number: own.number,
-        })
+        Some(modified("", own))
     }
 
     /// The group at the front of a text whose first brace is passed.
@@ -55,10 +45,10 @@ impl Writer<'_> {
         ensures front { IfSome result (IsBracedFront (manner_of_writer self.now).options (chars text.now) number) }
         ensures len { IfSome result (λ group. length group.rest.now ≤ length text.now) }
     {
-        let start = after_plain(text);
+        let start = after_all(Characters::Plain, text);
         let prefix = before(text, start);
         let own = placeholder(number, start)?;
-        let end = after_plain(own.rest);
+        let end = after_all(Characters::Plain, own.rest);
         let suffix = before(own.rest, end);
         let (close, after) = split_first(end)?;
         let (modifier, rest) = modifier(after);
@@ -66,14 +56,11 @@ impl Writer<'_> {
             return None;
         }
         Some(Group {
-            kind: own.kind,
             prefix,
-            name: own.name,
-            value: own.value,
             suffix,
             modifier,
             rest,
-            number: own.number,
+            ..own
         })
     }
 
@@ -94,17 +81,24 @@ fn path_group(number: usize, text: &str) -> Option<Group<'_>>
         return Some(group);
     }
     let own = placeholder(number, text)?;
+    Some(modified("/", own))
+}
+
+/// A group with this prefix, no suffix, and the modifier that follows it.
+fn modified<'d>(prefix: &'d str, own: Group<'d>) -> Group<'d>
+    ensures part { part_of result ≡ affixed own.entry (chars prefix.now) (chars (codes "")) result.modifier }
+    ensures cut { chars own.entry.rest.now ≡ modifier_text result.modifier ++ chars result.rest.now }
+    ensures number { result.number ≡ own.entry.number }
+    ensures len { length result.rest.now ≤ length own.entry.rest.now }
+{
     let (modifier, rest) = modifier(own.rest);
-    Some(Group {
-        kind: own.kind,
-        prefix: "/",
-        name: own.name,
-        value: own.value,
+    Group {
+        prefix,
         suffix: "",
         modifier,
         rest,
-        number: own.number,
-    })
+        ..own
+    }
 }
 
 /// The group of a name alone after a slash.
@@ -149,16 +143,7 @@ fn asterisk(number: usize, rest: &str) -> Option<Group<'_>>
     ensures len { IfSome result (λ group. group.rest.now ≡ rest.now) }
 {
     let name = number_name(number)?;
-    Some(Group {
-        kind: PartType::FullWildcard,
-        prefix: "",
-        name,
-        value: "",
-        suffix: "",
-        modifier: PartModifier::None,
-        rest,
-        number: number + 1,
-    })
+    Some(unaffixed(PartType::FullWildcard, name, "", rest, number + 1))
 }
 
 /// The group of a custom expression without name, whose first bracket is passed.
@@ -168,16 +153,7 @@ fn numbered_expression(number: usize, text: &str) -> Option<Group<'_>>
 {
     let (value, rest) = expression(text)?;
     let name = number_name(number)?;
-    Some(Group {
-        kind: PartType::Regexp,
-        prefix: "",
-        name,
-        value,
-        suffix: "",
-        modifier: PartModifier::None,
-        rest,
-        number: number + 1,
-    })
+    Some(unaffixed(PartType::Regexp, name, value, rest, number + 1))
 }
 
 /// The group of a name and a custom expression.
@@ -191,8 +167,25 @@ fn named_expression(number: usize, text: &str) -> Option<Group<'_>>
         return None;
     }
     let (value, rest) = expression(after)?;
-    Some(Group {
-        kind: PartType::Regexp,
+    Some(unaffixed(PartType::Regexp, name, value, rest, number))
+}
+
+/// A group with neither prefix, suffix nor modifier.
+fn unaffixed<'d>(
+    kind: PartType,
+    name: &'d str,
+    value: &'d str,
+    rest: &'d str,
+    number: usize,
+) -> Group<'d>
+    ensures kind { result.kind ≡ kind }
+    ensures name { result.name.now ≡ name.now }
+    ensures value { result.value.now ≡ value.now }
+    ensures rest { result.rest.now ≡ rest.now }
+    ensures number { result.number ≡ number }
+{
+    Group {
+        kind,
         prefix: "",
         name,
         value,
@@ -200,7 +193,7 @@ fn named_expression(number: usize, text: &str) -> Option<Group<'_>>
         modifier: PartModifier::None,
         rest,
         number,
-    })
+    }
 }
 
 /// The name of a group without name: how many such groups are before it. `None`: more than most pattern texts have.
@@ -229,7 +222,7 @@ fn name_at(text: &str) -> Option<(&str, &str)>
     if colon != ':' || !is_name_start(first) {
         return None;
     }
-    let end = after_name(after);
+    let end = after_all(Characters::OfName, after);
     Some((before(named, end), end))
 }
 
@@ -242,7 +235,7 @@ pub(crate) fn after_left_out(text: &str) -> Option<&str>
     if open != '{' {
         return None;
     }
-    let end = after_plain(value);
+    let end = after_all(Characters::Plain, value);
     let own = before(value, end);
     let (close, after) = split_first(end)?;
     let (modifier, rest) = modifier(after);
@@ -255,14 +248,14 @@ pub(crate) fn after_left_out(text: &str) -> Option<&str>
     }
 }
 
-/// What follows the characters that stand for themselves.
-fn after_plain(text: &str) -> &str
-    ensures skips { SkipsBy is_run_character (chars text.now) (chars result.now) }
+/// What follows the characters of a kind at the front of a text.
+fn after_all(kind: Characters, text: &str) -> &str
+    ensures skips { SkipsBy (kind_test kind) (chars text.now) (chars result.now) }
     ensures len { length result.now ≤ length text.now }
 {
     let mut rest = text;
     while let Some((first, after)) = split_first(rest) {
-        if !is_of_run(first) {
+        if !kind.has(first) {
             break;
         }
         rest = after;
@@ -270,19 +263,25 @@ fn after_plain(text: &str) -> &str
     rest
 }
 
-/// What follows the characters of a name.
-fn after_name(text: &str) -> &str
-    ensures skips { SkipsBy is_name_part (chars text.now) (chars result.now) }
-    ensures len { length result.now ≤ length text.now }
-{
-    let mut rest = text;
-    while let Some((first, after)) = split_first(rest) {
-        if !is_name_part(first) {
-            break;
+/// A kind of characters.
+#[derive(Clone, Copy)]
+enum Characters {
+    /// Those that stand for themselves wherever they are.
+    Plain,
+    /// Those of a name.
+    OfName,
+}
+
+impl Characters {
+    /// Whether a character is of the kind.
+    fn has(self, c: char) -> bool
+        ensures { result ≡ kind_test self c }
+    {
+        match self {
+            Self::Plain => is_of_run(c),
+            Self::OfName => is_name_part(c),
         }
-        rest = after;
     }
-    rest
 }
 
 /// The modifier at the front of a text, and what follows it.

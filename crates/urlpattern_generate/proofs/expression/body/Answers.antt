@@ -1,7 +1,6 @@
-use Rattle.std.proofs.Common.{◌≡◌, ◌<◌, ◌∷◌, length, codes, false, refl, rules, arith}
+use Rattle.std.proofs.Common.{◌≡◌, ◌∷◌, refl, rules, arith}
 use Rattle.std.specs.Str.{chars}
 use Rattle.std.proofs.lemmas.Bool.Decides.{nat_tests}
-use Rattle.urlpattern_syntax.specs.Text.{is_among}
 use Rattle.urlpattern_syntax.proofs.BodyLemmas.{HasRead-plain, HasRead-escaped, body_lexed}
 use Rattle.urlpattern_generate.proofs.expression.body.Goals as goal
 
@@ -13,23 +12,16 @@ returns-in-41-clause-lexed c =
 pub loop-first-preserved-in-92 : goal.loop-first-preserved-in-92
 loop-first-preserved-in-92 c =
     let cut : chars c.loop-first.rest.now ≡ 92 ∷ chars c.in-Some.after.now = search rules in
-    let shorter : length c.in-Some.after.now < length c.loop-first.rest.now = search rules in
-    let e = c.in_ok-rest-in-92.ensures.cut in
-    let l : length c.in_ok-rest-in-92.rest.now < length c.in-Some.after.now = search rules in
+    let escaped = c.in_ok-rest-in-92.ensures in
     record {
       is_text = search rules;
-      has_read = HasRead-escaped _ _ _ _ _ _ c.loop-first.invariant.has_read cut e.1 e.2;
-      few = omega arith;
+      has_read = HasRead-escaped _ _ _ _ _ _ c.loop-first.invariant.has_read cut escaped.cut.1 escaped.cut.2;
+      few = omega (arith, c.in-Some.ensures.len, escaped.len);
     }
 
 pub loop-first-preserved : goal.loop-first-preserved
-loop-first-preserved c =
-    let cut : chars c.loop-first.rest.now ≡ c.in-Some.first ∷ chars c.in-Some.after.now = search rules in
-    let shorter : length c.in-Some.after.now < length c.loop-first.rest.now = search rules in
-    let ascii : c.in-Some.first < 128 = search rules in
-    let plain : is_among (codes "\\()") c.in-Some.first ≡ false = grind (arith, nat_tests) in
-    record {
-      is_text = search rules;
-      has_read = HasRead-plain _ _ _ _ _ c.loop-first.invariant.has_read cut ascii plain;
-      few = omega arith;
-    }
+loop-first-preserved c = record {
+  is_text = search rules;
+  has_read = HasRead-plain _ _ _ _ _ c.loop-first.invariant.has_read c.in-Some.ensures.cut (search rules) (grind (arith, nat_tests));
+  few = omega (arith, c.in-Some.ensures.len);
+}

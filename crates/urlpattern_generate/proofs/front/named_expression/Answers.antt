@@ -17,4 +17,5 @@ returns-clause-own c component hierarchical prefix suffix modifier =
     let begins : end ≡ codes "(" ++ body = search rules in
     let cut : body ≡ value ++ (codes ")" ++ rest) = search rules in
     let own = c.in_ok-value.ensures.own component hierarchical in
-    named_is (options_for component hierarchical) c.args.number name value prefix suffix body rest modifier own cut (chars c.args.text.now) (whole ∙ ap (λ x. codes ":" ++ (name ++ x)) begins) is
+    rw (c.unaffixed.ensures.kind, c.unaffixed.ensures.name, c.unaffixed.ensures.value, c.unaffixed.ensures.rest, c.unaffixed.ensures.number)
+    (named_is (options_for component hierarchical) c.args.number name value prefix suffix body rest modifier own cut (chars c.args.text.now) (whole ∙ ap (λ x. codes ":" ++ (name ++ x)) begins) is)

@@ -10,4 +10,5 @@ returns-clause-own c component hierarchical prefix suffix modifier =
     let rest = chars c.in_ok-value.rest.now in
     let cut : chars c.args.text.now ≡ value ++ (codes ")" ++ rest) = search rules in
     let own = c.in_ok-value.ensures.own component hierarchical in
-    numbered_is (options_for component hierarchical) c.args.number (chars c.in_ok-name.name.now) value prefix suffix (chars c.args.text.now) rest modifier own cut c.in_ok-name.ensures.name c.in_ok-name.ensures.digit
+    rw (c.unaffixed.ensures.kind, c.unaffixed.ensures.name, c.unaffixed.ensures.value, c.unaffixed.ensures.rest, c.unaffixed.ensures.number)
+    (numbered_is (options_for component hierarchical) c.args.number (chars c.in_ok-name.name.now) value prefix suffix (chars c.args.text.now) rest modifier own cut c.in_ok-name.ensures.name c.in_ok-name.ensures.digit)

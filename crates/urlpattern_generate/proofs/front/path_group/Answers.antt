@@ -11,6 +11,7 @@ use Rattle.urlpattern_generate.proofs.front.path_group.Goals as goal
 pub returns-clause-front : goal.returns-clause-front
 returns-clause-front c admits names =
     let own = c.in_ok-own.own in
-    let modifier = c.modifier-modifier.result.0 in
-    slash_placed pathname_options _ (affixed own (chars (codes "/")) (chars (codes "")) modifier) (chars c.args.text.now) (chars own.rest.now) (chars c.modifier-modifier.result.1.now) own.number
-    (c.in_ok-own.ensures.own Pathname true (chars (codes "/")) (chars (codes "")) modifier) chars_nothing slash_is refl refl c.modifier-modifier.ensures.cut
+    let group = c.modified.result in
+    rw (c.modified.ensures.part, c.modified.ensures.number)
+    (slash_placed pathname_options _ (affixed own (chars (codes "/")) (chars (codes "")) group.modifier) (chars c.args.text.now) (chars own.rest.now) (chars group.rest.now) own.number
+    (c.in_ok-own.ensures.own Pathname true (chars (codes "/")) (chars (codes "")) group.modifier) chars_nothing slash_is refl refl c.modified.ensures.cut)

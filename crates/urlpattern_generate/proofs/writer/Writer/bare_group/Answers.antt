@@ -10,6 +10,7 @@ pub returns-clause-front : goal.returns-clause-front
 returns-clause-front c names =
     let self = c.args.self.now in
     let own = c.in_ok-own.own in
-    let modifier = c.modifier-modifier.result.0 in
-    bare_placed (manner_of_writer self).options _ (affixed own (chars (codes "")) (chars (codes "")) modifier) (chars c.args.text.now) (chars own.rest.now) (chars c.modifier-modifier.result.1.now) own.number
-    (c.in_ok-own.ensures.own self.component self.hierarchical (chars (codes "")) (chars (codes "")) modifier) chars_nothing chars_nothing refl refl c.modifier-modifier.ensures.cut
+    let group = c.modified.result in
+    rw (c.modified.ensures.part, c.modified.ensures.number)
+    (bare_placed (manner_of_writer self).options _ (affixed own (chars (codes "")) (chars (codes "")) group.modifier) (chars c.args.text.now) (chars own.rest.now) (chars group.rest.now) own.number
+    (c.in_ok-own.ensures.own self.component self.hierarchical (chars (codes "")) (chars (codes "")) group.modifier) chars_nothing chars_nothing refl refl c.modified.ensures.cut)
