@@ -6,7 +6,7 @@ use Rattle.urlpattern_meaning.proofs.MatchingLaws.{part_of}
 use Rattle.urlpattern_meaning.specs.PartMeaning.{Captures}
 use Rattle.urlpattern_syntax.specs.declared.parser.PartModifier.{PartModifier}
 use Rattle.urlpattern_syntax.specs.declared.parser.PartType.{PartType}
-use Rattle.urlpattern_syntax.specs.declared.parser.PartType.TheVariants.{FixedText, Regexp, SegmentWildcard, FullWildcard}
+use Rattle.urlpattern_syntax.specs.declared.parser.PartType.TheVariants.{FixedText}
 use Rattle.urlpattern_syntax.specs.Parts.{PartView}
 use Rattle.urlpattern_syntax.specs.RegexpText.{group_names}
 
@@ -15,9 +15,7 @@ counted_by : (kind : PartType) (modifier : PartModifier) (value name prefix suff
     AreCapturesOf kind (part_of kind modifier value name prefix suffix) n text own → length others ≡ length (group_names parts) →
     length (own ++ others) ≡ length (group_names (part_of kind modifier value name prefix suffix ∷ parts))
 counted_by FixedText modifier value name prefix suffix parts n text own others none e = ap (λ c. length (c ++ others)) none ∙ e
-counted_by Regexp modifier value name prefix suffix parts n text own others (capture, is, f) e = ap (λ c. length (c ++ others)) f ∙ ap (λ k. suc k) e
-counted_by SegmentWildcard modifier value name prefix suffix parts n text own others (capture, is, f) e = ap (λ c. length (c ++ others)) f ∙ ap (λ k. suc k) e
-counted_by FullWildcard modifier value name prefix suffix parts n text own others (capture, is, f) e = ap (λ c. length (c ++ others)) f ∙ ap (λ k. suc k) e
+counted_by kind modifier value name prefix suffix parts n text own others (capture, is, f) e = ap (λ c. length (c ++ others)) f ∙ ap (λ k. suc k) e
 
 pub captures_are_as_names : CapturesAreAsNames
 captures_are_as_names options [] text captures (e, f) = ap (λ c. length c) f

@@ -20,14 +20,14 @@ use Rattle.urlpattern_custom.proofs.Choices.{Cuts, Tries, pattern_cuts, tries_pa
 use Rattle.urlpattern_custom.proofs.Closing.{Calm, closed}
 use Rattle.urlpattern_custom.proofs.Denoting.{Denotes, denotes_bare}
 use Rattle.urlpattern_custom.proofs.GroupsOf.{IsInside, free_close, one_branch}
-use Rattle.urlpattern_custom.proofs.ItemsOf.{at_text, items_go_on}
+use Rattle.urlpattern_custom.proofs.ItemsOf.{items_go_on}
 use Rattle.urlpattern_custom.proofs.Catching.{groupless_bare}
 use Rattle.urlpattern_custom.proofs.Senses.{Sense, Fulfils, fulfils_quiet, quiet}
 use Rattle.urlpattern_custom.proofs.Takes.{Takes, matches_takes, takes_matches}
 use Rattle.urlpattern_custom.specs.Expressions.{ExpressionTakes, TakesWhole, captures_nothing, is_groupless, stands_alone, takes_characters}
 use Rattle.urlpattern_custom.specs.PartWays.{expression_ways, pattern_ways, ways_of_reading}
 use Rattle.urlpattern_regex.proofs.AtomsRead.{full}
-use Rattle.urlpattern_regex.proofs.ItemsRead.{Free}
+use Rattle.urlpattern_regex.proofs.ItemsRead.{Free, at_text}
 
 -- ---- whole texts
 

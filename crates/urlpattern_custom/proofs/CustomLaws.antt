@@ -12,11 +12,12 @@ use Rattle.urlpattern_core.specs.FirstWays.{KeepsCase, Taking}
 use Rattle.urlpattern_core.specs.Regexes.{regex_engine}
 use Rattle.urlpattern_core.specs.declared.regexp.RegExp.{Ghosts as Engine}
 use Rattle.urlpattern_custom.proofs.CustomGroups.{custom_inside, whole_takes}
-use Rattle.urlpattern_custom.proofs.ItemsOf.{at_text}
+use Rattle.urlpattern_regex.proofs.ItemsRead.{at_text}
+use Rattle.urlpattern_custom.proofs.FirstOfTrees.{first_of_tree}
 use Rattle.urlpattern_custom.proofs.MatchersCapture.{matchers_capture}
 use Rattle.urlpattern_custom.proofs.MatchersFirst.{matchers_first}
 use Rattle.urlpattern_custom.proofs.MatchersTaken.{matchers_taken, shorter_room}
-use Rattle.urlpattern_custom.proofs.ValuesTaken.{pattern_values_capture, pattern_values_first, pattern_values_taken, regex_values_capture, regex_values_first, regex_values_taken}
+use Rattle.urlpattern_custom.proofs.ValuesTaken.{first_captured, pattern_values_capture, pattern_values_first, pattern_values_taken, regex_values_capture, regex_values_first, regex_values_taken}
 use Rattle.urlpattern_custom.specs.Expressions.{ExpressionTakes, TakesWhole}
 use Rattle.urlpattern_custom.specs.LawsOfTexts.{ComponentsCapture, HasNumbers, IsCapturedByParts, IsTakenAlone, MatchersAnswerTaken, MatchersCapture, ReadsInGroups, Room, TookAlone}
 use Rattle.urlpattern_custom.specs.LawsOfWays.{ComponentsAnswerFirstOfParts, MatchersAnswerFirstOfParts}
@@ -43,6 +44,10 @@ reads_in_groups expression rest steps names h = by (branches steps (at_text name
               let same = inside.fulfils.denotes.same text fine in
               (λ takes. same.0 (whole.1 takes), λ takes. whole.0 (same.1 takes)),
         )
+
+-- ---- values
+
+pub ruleset first_ways = (first_captured, first_of_tree, pattern_values_first, regex_values_first)
 
 -- ---- matchers
 

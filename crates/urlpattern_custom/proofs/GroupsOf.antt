@@ -1,6 +1,6 @@
 -- Groups that the grammar of `regex` reads, wherever they stand, as items that take exactly certain texts: of items, or of an
 -- expression that stands alone.
-use Rattle.std.proofs.Common.{◌≡◌, ℕ, zero, suc, ◌+◌, ◌^◌, List, [], ◌∷◌, ◌++◌, length, true, false, Option, Some, None, nat_lt, refl, sym, ap, ◌∙◌, subst, append_assoc, append-nil, arith}
+use Rattle.std.proofs.Common.{◌≡◌, ℕ, zero, suc, ◌+◌, ◌^◌, List, [], ◌∷◌, ◌++◌, length, true, false, Option, Some, None, nat_lt, refl, sym, ap, ◌∙◌, subst, append-nil, arith}
 use Rattle.std.proofs.lemmas.List.{length_push}
 use Rattle.std.proofs.lemmas.Option.{none-some, same_Some}
 use Rattle.regex_hir.proofs.AttemptLemmas.{cond_some, option_and_then_some}
@@ -12,9 +12,9 @@ use Rattle.regex_syntax.specs.Grammar.{Names, Place, Opening, opens, item, items
 use Rattle.regex_syntax.specs.Reading.{Text, first, skip, is_at}
 use Rattle.regex_syntax.specs.Verdict.{default_config}
 use Rattle.urlpattern_custom.proofs.Senses.{Sense, Fulfils, fulfils_alone, fulfils_group, whole}
-use Rattle.urlpattern_custom.proofs.ItemsOf.{at_text, values, AreItemsOf, IsItemOf, ItemFound, items_stop}
+use Rattle.urlpattern_custom.proofs.ItemsOf.{values, AreItemsOf, IsItemOf, ItemFound, items_stop}
 use Rattle.urlpattern_regex.proofs.AtomsRead.{full}
-use Rattle.urlpattern_regex.proofs.ItemsRead.{Free, begins_no, free_lazy, level}
+use Rattle.urlpattern_regex.proofs.ItemsRead.{Free, at_text, brackets, level, opens_as}
 use Rattle.urlpattern_syntax.specs.RegexpText.{captured, grouped}
 
 -- ---- what is inside of a group
@@ -86,17 +86,17 @@ items_inside t s a = record {
   reads = λ rest n names found end e.
       let branch = one_branch n (at_text names (t ++ 41 ∷ rest)) found end e in
       let is = a.reads (41 ∷ rest) (free_close rest) branch.steps names branch.parts branch.after branch.read_items in
-      let stop = items_stop is.steps is.names (41 ∷ rest) is.more branch.after (closes rest) is.goes_on in
-      let all : branch.parts ≡ is.own = is.cut ∙ ap (λ more. is.own ++ more) stop.0 ∙ append-nil is.own in
+      let stop = items_stop is.front.steps is.front.names (41 ∷ rest) is.front.more branch.after (closes rest) is.front.goes_on in
+      let all : branch.parts ≡ is.front.own = is.front.cut ∙ ap (λ more. is.front.own ++ more) stop.0 ∙ append-nil is.front.own in
       let at_mark : is_at "|" branch.after.text ≡ false = ap (λ (p : Place). is_at "|" p.text) stop.1 ∙ close_text rest in
       let goes = branch.goes at_mark in
-      let ends : end ≡ at_text is.names (41 ∷ rest) = goes.1 ∙ stop.1 in
+      let ends : end ≡ at_text is.front.names (41 ∷ rest) = goes.1 ∙ stop.1 in
       record {
         at_close = ap (λ (p : Place). p.text) ends;
         numbers = λ k. ap (λ (p : Place). length p.names) ends ∙ is.numbers k;
         fulfils =
             subst (λ (tree : Nested Re). Fulfils s (length names) tree.value) (sym (goes.0 ∙ ap (λ parts. join alt_all (join cat_all parts ∷ [])) all))
-            (fulfils_alone s (length names) (cat_all (values is.own)) is.fulfils);
+            (fulfils_alone s (length names) (cat_all (values is.front.own)) is.fulfils);
       };
 }
 
@@ -120,9 +120,6 @@ closed_group inner make inside s u rest before found end reads makes known count
       fulfils = makes tree.0.0.value is.fulfils;
     }
 
-brackets : (t rest : Text) → (t ++ 41 ∷ []) ++ rest ≡ t ++ 41 ∷ rest
-brackets t rest = append_assoc t (41 ∷ []) rest
-
 pub grouped_item : (t : Text) (s : Sense) → IsInside t s → IsItemOf (grouped t) s
 unfolding item opening set_flags first skip
 grouped_item t s a = record {
@@ -132,11 +129,6 @@ grouped_item t s a = record {
       closed_group (group_inside n) (λ re. re) (at_text names (t ++ 41 ∷ rest)) s s rest names found end (λ tree after f. a.reads rest n names tree after f) (λ re f. f) (λ k. k) (λ m same. same)
       (ap (λ v. item (group_inside n) (at_text names (40 ∷ 63 ∷ 58 ∷ v))) (sym (brackets t rest)) ∙ e);
 }
-
--- brackets that capture are read as such
-opens_as : (names : Names) (t : Text) → Free t → opening (at_text names (40 ∷ t)) ≡ capture (at_text names (40 ∷ t)) None t
-unfolding opening first skip
-opens_as names t free = rw (opening, begins_no (80 ∷ 60 ∷ []) t free, begins_no (60 ∷ []) t free, free_lazy t free)
 
 one_more : (names : Names) → length (names ++ None ∷ []) ≡ suc (length names)
 one_more names = let none : Option (List ℕ) = None in omega (arith, length_push names none)

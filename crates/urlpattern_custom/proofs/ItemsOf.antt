@@ -3,12 +3,12 @@ use Rattle.std.proofs.Common.{max, ◌≡◌, ℕ, zero, suc, ◌+◌, List, [],
 use Rattle.std.proofs.lemmas.Bool.{and_parts, and_from}
 use Rattle.std.proofs.lemmas.Option.{none-some, same_Some}
 use Rattle.regex_hir.proofs.AttemptLemmas.{option_and_then_some}
-use Rattle.regex_hir.specs.Meaning.{cat_all, repeat}
+use Rattle.regex_hir.specs.Meaning.{cat_all}
 use Rattle.regex_hir.specs.Re.{Re}
-use Rattle.regex_syntax.proofs.BranchLemmas.{ends_branch, group_inside, more_repetitions, repetitions_end, repetitions_go}
+use Rattle.regex_syntax.proofs.BranchLemmas.{ends_branch, group_inside}
 use Rattle.regex_syntax.specs.Brackets.{Nested}
-use Rattle.regex_syntax.specs.Grammar.{group_count, Names, Place, atom, bounds, repetitions, with_repetitions, item, items}
-use Rattle.regex_syntax.specs.Reading.{Text, ◌>>=◌, first, skip, is_at}
+use Rattle.regex_syntax.specs.Grammar.{group_count, Names, Place, atom, with_repetitions, item, items}
+use Rattle.regex_syntax.specs.Reading.{Text, first, skip, is_at}
 use Rattle.regex_syntax.specs.Verdict.{default_config}
 use Rattle.urlpattern_custom.proofs.Denoting.{Texts, Denotes, Joined, Nothing, Quantified, AreSameTexts, joined_same}
 use Rattle.urlpattern_custom.proofs.Takes.{Takes}
@@ -18,11 +18,8 @@ use Rattle.urlpattern_custom.proofs.Choices.{Cuts, Tries, cuts_followed, tries_a
 use Rattle.urlpattern_custom.proofs.Senses.{Sense, SameSense, Fulfils, fulfils_empty, fulfils_last, fulfils_perhaps, fulfils_quantified, fulfils_quiet, fulfils_same, joined, no_text, perhaps, quiet}
 use Rattle.urlpattern_custom.specs.PartWays.{followed_by}
 use Rattle.urlpattern_meaning.specs.Ways.{Choice, quantified_ways}
-use Rattle.urlpattern_meaning.specs.Dialect.{Quantifier, Once, Optional, ZeroOrMore, OneOrMore, LazyOneOrMore, quantifier_text}
-use Rattle.urlpattern_regex.proofs.ItemsRead.{Free, OpensItem, free_lazy, repeated_as}
-
-abbrev pub at_text : Names → Text → Place
-at_text names t = record { config = default_config; names = names; text = t }
+use Rattle.urlpattern_meaning.specs.Dialect.{Quantifier, Once, Optional, quantifier_text}
+use Rattle.urlpattern_regex.proofs.ItemsRead.{Free, OpensItem, at_text, quantified, repeated_as}
 
 abbrev pub values : List (Nested Re) → List Re
 values trees = map (λ tree. tree.value) trees
@@ -90,16 +87,20 @@ fulfils_append s u g h trees others after a b = record {
 
 -- ---- items
 
--- What is found begins with items in this sense, and goes on with what is read in the rest.
-pub record ItemsFound (s : Sense) (rest : Text) (before : Names) (found : List (Nested Re)) (end : Place) : Type 0 where
+-- What is found begins with some items, and goes on with what is read in the rest.
+pub record ItemsCut (rest : Text) (found : List (Nested Re)) (end : Place) : Type 0 where
   pub own : List (Nested Re)
   pub more : List (Nested Re)
   pub steps : ℕ
   pub names : Names
   pub cut : found ≡ own ++ more
   pub goes_on : items steps (at_text names rest) ≡ Some (more, end)
-  pub numbers : s.Known → length names ≡ length before + s.count
-  pub fulfils : Fulfils s (length before) (cat_all (values own))
+
+-- the items are in this sense
+pub record ItemsFound (s : Sense) (rest : Text) (before : Names) (found : List (Nested Re)) (end : Place) : Type 0 where
+  pub front : ItemsCut rest found end
+  pub numbers : s.Known → length front.names ≡ length before + s.count
+  pub fulfils : Fulfils s (length before) (cat_all (values front.own))
 
 -- wherever the text stands, before what is no quantifier, it is read as items in this sense
 pub record AreItemsOf (t : Text) (s : Sense) : Type 0 where
@@ -116,7 +117,11 @@ no_items = record {
   starts = λ rest free. free;
   made = λ k g. ([], fulfils_empty g);
   reads = λ rest free n names found end e.
-      record { own = []; more = found; steps = n; names = names; cut = refl; goes_on = e; numbers = λ k. omega arith; fulfils = fulfils_empty (length names) };
+      record {
+        front = record { own = []; more = found; steps = n; names = names; cut = refl; goes_on = e };
+        numbers = λ k. omega arith;
+        fulfils = fulfils_empty (length names);
+      };
 }
 
 pub append_items : (t v : Text) (s u : Sense) → AreItemsOf t s → AreItemsOf v u → AreItemsOf (t ++ v) (joined s u)
@@ -127,17 +132,19 @@ append_items t v s u a b = record {
       let back = b.made k.1 (g + s.count) in
       (front.0 ++ back.0, fulfils_append s u g (g + s.count) front.0 back.0 (λ known. refl) front.1 back.1);
   reads = λ rest free n names found end e.
-      let front = a.reads (v ++ rest) (b.starts rest free) n names found end (ap (λ s. items n (at_text names s)) (sym (append_assoc t v rest)) ∙ e) in
-      let back = b.reads rest free front.steps front.names front.more end front.goes_on in
+      let one = a.reads (v ++ rest) (b.starts rest free) n names found end (ap (λ s. items n (at_text names s)) (sym (append_assoc t v rest)) ∙ e) in
+      let two = b.reads rest free one.front.steps one.front.names one.front.more end one.front.goes_on in
       record {
-        own = front.own ++ back.own;
-        more = back.more;
-        steps = back.steps;
-        names = back.names;
-        cut = cut_again found front.own front.more back.own back.more front.cut back.cut;
-        goes_on = back.goes_on;
-        numbers = λ k. omega (arith, front.numbers k.0, back.numbers k.1);
-        fulfils = fulfils_append s u (length names) (length front.names) front.own back.own front.numbers front.fulfils back.fulfils;
+        front = record {
+          own = one.front.own ++ two.front.own;
+          more = two.front.more;
+          steps = two.front.steps;
+          names = two.front.names;
+          cut = cut_again found one.front.own one.front.more two.front.own two.front.more one.front.cut two.front.cut;
+          goes_on = two.front.goes_on;
+        };
+        numbers = λ k. omega (arith, one.numbers k.0, two.numbers k.1);
+        fulfils = fulfils_append s u (length names) (length one.front.names) one.front.own two.front.own one.numbers one.fulfils two.fulfils;
       };
 }
 
@@ -147,16 +154,7 @@ same_items t s u p a = record {
   made = λ k g. let is = a.made (p.known k) g in (is.0, fulfils_same s u g (cat_all (values is.0)) p is.1);
   reads = λ rest free n names found end e.
       let is = a.reads rest free n names found end e in
-      record {
-        own = is.own;
-        more = is.more;
-        steps = is.steps;
-        names = is.names;
-        cut = is.cut;
-        goes_on = is.goes_on;
-        numbers = λ k. omega (arith, is.numbers (p.known k), p.count);
-        fulfils = fulfils_same s u (length names) _ p is.fulfils;
-      };
+      record { front = is.front; numbers = λ k. omega (arith, is.numbers (p.known k), p.count); fulfils = fulfils_same s u (length names) _ p is.fulfils };
 }
 
 -- ---- one item
@@ -211,32 +209,6 @@ items_stop (suc n) names t found end h e =
 
 -- ---- quantifiers
 
--- one mark
-marked : (q : Quantifier) (mark : ℕ) (sub : Nested Re) (names : Names) (rest : Text) → Free rest → is_at "?*+{" (mark ∷ rest) ≡ true
-    → (bounds default_config (mark ∷ rest) >>= more_repetitions default_config (length (mark ∷ rest)) sub) ≡ repetitions default_config (length (mark ∷ rest)) (repeated_as q sub) rest
-    → with_repetitions sub (at_text names (mark ∷ rest)) ≡ Some (repeated_as q sub, at_text names rest)
-unfolding with_repetitions first skip
-marked q mark sub names rest free is_mark takes =
-    rw (
-      with_repetitions,
-      repetitions_go default_config (length (mark ∷ rest) + 1) (length (mark ∷ rest)) sub (mark ∷ rest) (mark ∷ rest) (omega arith) refl is_mark,
-      takes,
-      repetitions_end default_config (length (mark ∷ rest)) (length rest) (repeated_as q sub) rest rest (omega arith) refl free,
-    )
-
-pub quantified : (q : Quantifier) (sub : Nested Re) (names : Names) (rest : Text) → Free rest → with_repetitions sub (at_text names (quantifier_text q ++ rest)) ≡ Some (repeated_as q sub, at_text names rest)
-unfolding with_repetitions bounds repeat first skip
-quantified Once sub names rest free = rw (with_repetitions, repetitions_end default_config (length rest + 1) (length rest) sub rest rest (omega arith) refl free)
-quantified Optional sub names rest free = marked Optional 63 sub names rest free refl (rw (free_lazy rest free))
-quantified ZeroOrMore sub names rest free = marked ZeroOrMore 42 sub names rest free refl (rw (free_lazy rest free))
-quantified OneOrMore sub names rest free = marked OneOrMore 43 sub names rest free refl (rw (free_lazy rest free))
-quantified LazyOneOrMore sub names rest free =
-    rw (
-      with_repetitions,
-      repetitions_go default_config (length (43 ∷ 63 ∷ rest) + 1) (length (43 ∷ 63 ∷ rest)) sub (43 ∷ 63 ∷ rest) (43 ∷ 63 ∷ rest) (omega arith) refl refl,
-      repetitions_end default_config (length (43 ∷ 63 ∷ rest)) (length (63 ∷ rest)) (repeated_as LazyOneOrMore sub) rest rest (omega arith) refl free,
-    )
-
 -- what an atom is read as, with its quantifier
 repeated_once : (q : Quantifier) (core : Nested Re) (names : Names) (rest : Text) → Free rest → (part : Nested Re) (after : Place) → with_repetitions core (at_text names (quantifier_text q ++ rest)) ≡ Some (part, after)
     → (part ≡ repeated_as q core) × (at_text names rest ≡ after)
@@ -256,12 +228,7 @@ repeated_items t s u q count known conv a = record {
       let one = a.reads (quantifier_text q ++ rest) is.steps names is.part is.after is.one in
       let same = repeated_once q one.core one.names rest free is.part is.after one.repeats in
       record {
-        own = is.part ∷ [];
-        more = is.parts;
-        steps = is.steps;
-        names = one.names;
-        cut = is.all;
-        goes_on = ap (items is.steps) same.1 ∙ is.more;
+        front = record { own = is.part ∷ []; more = is.parts; steps = is.steps; names = one.names; cut = is.all; goes_on = ap (items is.steps) same.1 ∙ is.more };
         numbers = λ k. omega (arith, one.numbers (known k), count);
         fulfils = fulfils_last u (length names) is.part.value (subst (λ (tree : Nested Re). Fulfils u (length names) tree.value) (sym same.0) (conv (length names) one.core one.fulfils));
       };

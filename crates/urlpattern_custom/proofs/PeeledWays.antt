@@ -1,9 +1,10 @@
 -- The first way of parts is that of the parts between the ends, where plain fixed texts are removed.
-use Rattle.std.proofs.Common.{◌≡◌, ℕ, List, [], ◌∷◌, ◌++◌, map, find, length, Option, Some, None, option_map, Bool, true, false, cond, ◌&&◌, ◌==◌, refl, sym, ap, ap₂, ◌∙◌, subst, append_assoc, append-nil, eq-eqb, eqb-true, ne_eqb, length-append, inl, inr, arith, true≢false}
+use Rattle.std.proofs.Common.{◌≡◌, ℕ, List, [], ◌∷◌, ◌++◌, map, find, length, Option, Some, None, option_map, Bool, true, false, cond, ◌&&◌, ◌==◌, refl, sym, ap, ap₂, ◌∙◌, subst, append_assoc, append-nil, map-id, eq-eqb, eqb-true, ne_eqb, length-append, inl, inr, arith, true≢false}
 use Rattle.std.proofs.Math.Path.{fun_ext}
 use Rattle.std.proofs.lemmas.Bool.{cond-false, cond-true}
-use Rattle.std.proofs.lemmas.List.{nil_from_length}
+use Rattle.std.proofs.lemmas.List.{map-append, nil_from_length}
 use Rattle.std.proofs.lemmas.Option.{none-some, same_Some}
+use Rattle.std.proofs.lemmas.Simd.{map-map}
 use Rattle.std.specs.Prelude.{IsTrue, option_to_list}
 use Rattle.urlpattern_custom.proofs.Catching.{Caps, Then}
 use Rattle.urlpattern_custom.proofs.Choices.{HasCaptures}
@@ -67,18 +68,6 @@ sound_exactly (c ∷ given) text =
 
 -- ---- lists of ways
 
-map_same : {A B : Type 0} (f g : A → B) (xs : List A) → ((x : A) → f x ≡ g x) → map f xs ≡ map g xs
-map_same f g [] e = refl
-map_same f g (x ∷ xs) e = ap₂ ◌∷◌ (e x) (map_same f g xs e)
-
-map_twice : {A B C : Type 0} (f : B → C) (g : A → B) (xs : List A) → map f (map g xs) ≡ map (λ x. f (g x)) xs
-map_twice f g [] = refl
-map_twice f g (x ∷ xs) = ap (λ l. f (g x) ∷ l) (map_twice f g xs)
-
-map_both : {A B : Type 0} (f : A → B) (xs ys : List A) → map f (xs ++ ys) ≡ map f xs ++ map f ys
-map_both f [] ys = refl
-map_both f (x ∷ xs) ys = ap (λ l. f x ∷ l) (map_both f xs ys)
-
 continued_both : (next : Choice) (xs ys : List Way) → continued next (xs ++ ys) ≡ continued next xs ++ continued next ys
 continued_both next [] ys = refl
 continued_both next (way ∷ xs) ys =
@@ -92,10 +81,10 @@ joined_thrice way next more =
 joined_all : (way : Way) (next : Choice) (xs : List Way) → map (joined_way way) (continued next xs) ≡ continued next (map (joined_way way) xs)
 joined_all way next [] = refl
 joined_all way next (other ∷ xs) =
-    map_both (joined_way way) (map (joined_way other) (next other.rest)) (continued next xs)
+    map-append (joined_way way) (map (joined_way other) (next other.rest)) (continued next xs)
     ∙ ap₂ ◌++◌
-    (map_twice (joined_way way) (joined_way other) (next other.rest)
-    ∙ map_same (λ more. joined_way way (joined_way other more)) (joined_way (joined_way way other)) (next other.rest) (joined_thrice way other))
+    (map-map (joined_way way) (joined_way other) (next other.rest)
+    ∙ ap (λ (f : Way → Way). map f (next other.rest)) (fun_ext (joined_thrice way other)))
     (joined_all way next xs)
 
 pub continued_twice : (next last : Choice) (xs : List Way) → continued (λ text. continued last (next text)) xs ≡ continued last (continued next xs)
@@ -103,10 +92,6 @@ continued_twice next last [] = refl
 continued_twice next last (way ∷ xs) =
     ap₂ ◌++◌ (joined_all way last (next way.rest)) (continued_twice next last xs)
     ∙ sym (continued_both last (map (joined_way way) (next way.rest)) (continued next xs))
-
-map_itself : {A : Type 0} (xs : List A) → map (λ x. x) xs ≡ xs
-map_itself [] = refl
-map_itself (x ∷ xs) = ap (λ l. x ∷ l) (map_itself xs)
 
 -- nothing after a way
 pub continued_idle : (xs : List Way) → continued (λ text. idle 0 text ∷ []) xs ≡ xs
@@ -117,7 +102,7 @@ continued_idle (way ∷ xs) =
 
 -- nothing before a choice
 idle_continued : (next : Choice) (text : List ℕ) → next text ≡ continued next (idle 0 text ∷ [])
-idle_continued next text = sym (append-nil (map (joined_way (idle 0 text)) (next text)) ∙ map_itself (next text))
+idle_continued next text = sym (append-nil (map (joined_way (idle 0 text)) (next text)) ∙ map-id (next text))
 
 -- ---- a given text
 

@@ -10,7 +10,7 @@ use Rattle.urlpattern_custom.proofs.Choices.{Cuts, Tries, allows_none, cuts_capt
 use Rattle.urlpattern_custom.proofs.Denoting.{Texts, Denotes, Joined, Nothing, Quantified, AreSameTexts, denotes_same, denotes_empty, denotes_alone, denotes_last, denotes_quantified}
 use Rattle.urlpattern_custom.specs.Expressions.{is_groupless}
 use Rattle.urlpattern_custom.specs.PartWays.{captured_whole, followed_by}
-use Rattle.urlpattern_meaning.specs.Dialect.{Quantifier, Once, Optional, ZeroOrMore, OneOrMore, LazyOneOrMore}
+use Rattle.urlpattern_meaning.specs.Dialect.{Quantifier, Optional, ZeroOrMore}
 use Rattle.urlpattern_meaning.specs.PartMeaning.{Captures}
 use Rattle.urlpattern_meaning.specs.Ways.{Choice, idle, quantified_ways}
 use Rattle.urlpattern_regex.proofs.ItemsRead.{repeated_as}
@@ -132,11 +132,9 @@ fulfils_perhaps s g sub f = record {
 }
 
 groupless_repeated : (q : Quantifier) (sub : Nested Re) → is_groupless sub.value ≡ true → is_groupless (repeated_as q sub).value ≡ true
-groupless_repeated Once sub h = h
 groupless_repeated Optional sub h = and_from _ _ (and_from _ _ h refl) refl
 groupless_repeated ZeroOrMore sub h = and_from _ _ h refl
-groupless_repeated OneOrMore sub h = h
-groupless_repeated LazyOneOrMore sub h = h
+groupless_repeated quantifier sub h = h
 
 pub fulfils_quantified : (K : Type 0) (Is : Texts) (ways : Choice) (q : Quantifier) (g : ℕ) (sub : Nested Re) → Fulfils (quiet K Is ways) g sub.value → Fulfils (quiet K (Quantified q Is) (quantified_ways q 0 ways)) g (repeated_as q sub).value
 fulfils_quantified K Is ways q g sub f =

@@ -1,16 +1,15 @@
 -- What the grammar of `regex` reads from `^` to `$` is found in exactly the texts that the items between them take.
-use Rattle.std.proofs.Common.{max, ap₂, map, option_map, ne_eqb, ◌==◌, ◌≡◌, ◌↔◌, ℕ, zero, suc, ◌+◌, ◌*◌, ◌<◌, ◌≤◌, List, [], ◌∷◌, ◌++◌, length, true, false, Some, None, IsSome, is_some, if◌then◌else◌, refl, sym, ap, ◌∙◌, subst, inl, inr, arith, length-append, append-nil, true≢false}
-use Rattle.std.proofs.lemmas.Bool.{cond-true, cond-false}
-use Rattle.std.proofs.lemmas.Option.{same_Some, slice_get_past, slice_get-get_or}
+use Rattle.std.proofs.Common.{max, ap₂, map, option_map, ◌≡◌, ◌↔◌, ℕ, zero, suc, ◌+◌, ◌*◌, ◌<◌, ◌≤◌, List, [], ◌∷◌, ◌++◌, length, true, false, Some, None, IsSome, is_some, if◌then◌else◌, refl, sym, ap, ◌∙◌, subst, inl, inr, arith, length-append, append-nil, true≢false}
+use Rattle.std.proofs.lemmas.Bool.{cond-true}
+use Rattle.std.proofs.lemmas.Option.{same_Some}
 use Rattle.std.proofs.lemmas.Str.{encodes-append, length-le-encodes, IsCharBoundary-start}
 use lib.Utf8.{scalars, encodes}
 use Rattle.regex.proofs.Utf8Lemmas.{test_of_IsCharBoundary}
 use Rattle.regex_hir.proofs.AttemptLemmas.{attempt_complete, attempt_sound, cond_some, option_and_then_some}
 use Rattle.regex_hir.proofs.FindLemmas.{IsFirst-of_first_between, first_between_here}
-use Rattle.regex_hir.proofs.OptionLemmas.{option_or-None, value_of_IsSome}
-use Rattle.regex_hir.proofs.TextLemmas.{byte_before-zero, byte_before-add-one}
-use Rattle.regex_hir.specs.Find.{Match, find_str, last_write, slot_of}
-use Rattle.regex_hir.specs.Looks.{holds, holds_between}
+use Rattle.regex_hir.proofs.OptionLemmas.{value_of_IsSome}
+use Rattle.regex_hir.specs.Find.{Match, find_str}
+use Rattle.regex_hir.specs.Looks.{holds}
 use Rattle.regex_hir.specs.Matches.{Matches}
 use Rattle.regex_hir.specs.Meaning.{cat_all, alt_all}
 use Rattle.regex_hir.specs.Re.{Re, Rest, Trace, accept, attempt}
@@ -28,18 +27,18 @@ use Rattle.urlpattern_custom.proofs.Denoting.{Denotes}
 use Rattle.urlpattern_custom.proofs.Runs.{Runs, attempt_runs}
 use Rattle.urlpattern_custom.proofs.Senses.{Sense, Fulfils}
 use Rattle.urlpattern_custom.proofs.GroupsOf.{one_branch}
-use Rattle.urlpattern_custom.proofs.ItemsOf.{AreItemsOf, append_count, at_text, items_go_on, items_stop, quantified, values, values_append}
+use Rattle.urlpattern_custom.proofs.ItemsOf.{AreItemsOf, append_count, items_go_on, items_stop, values, values_append}
 use Rattle.urlpattern_custom.proofs.Takes.{Takes, matches_takes, nothing_in, takes_matches}
 use Rattle.urlpattern_meaning.specs.Dialect.{Once}
 use Rattle.urlpattern_regex.proofs.AtomsRead.{full}
-use Rattle.urlpattern_regex.proofs.ItemsRead.{Free}
+use Rattle.urlpattern_regex.proofs.ItemsRead.{Free, at_text, quantified}
+use Rattle.urlpattern_regex.proofs.TreeSearch.{ends, not_end, not_start, starts, texts-shown}
 use Rattle.urlpattern_regex.proofs.TreeTextsRead.{first_line, last_line}
 use Rattle.urlpattern_regex.proofs.GroupSlots.{Shown, Spans, text_at}
 use Rattle.urlpattern_regex.proofs.WayAnswers.{Writes, at}
 use Rattle.urlpattern_meaning.specs.PartMeaning.{Captures}
-use Rattle.regex.specs.Writes.{both, group_of}
+use Rattle.regex.specs.Writes.{group_of}
 use Rattle.std.specs.List.{range_with_len}
-use Rattle.std.specs.Option.{option_or}
 
 -- ---- what is read
 
@@ -91,10 +90,10 @@ module _ (t : Text) (s : Sense) (a : AreItemsOf t s) where
       let is = items_go_on branch.steps names (94 ∷ inside) branch.parts branch.after begins branch.read_items in
       let leaf = leaf_item is.steps names 94 inside first_line is.part is.after refl refl (a.starts (36 ∷ []) refl) is.one in
       let items_found = a.reads (36 ∷ []) refl is.steps names is.parts branch.after (ap (items is.steps) (sym leaf.1) ∙ is.more) in
-      let last = last_read items_found.steps items_found.names items_found.more branch.after items_found.goes_on in
+      let last = last_read items_found.front.steps items_found.front.names items_found.front.more branch.after items_found.front.goes_on in
       record {
-        own = items_found.own;
-        is = whole_is found branch.parts is.part is.parts items_found.own items_found.more (branch.goes last.1).0 is.all leaf.0 items_found.cut last.0;
+        own = items_found.front.own;
+        is = whole_is found branch.parts is.part is.parts items_found.front.own items_found.front.more (branch.goes last.1).0 is.all leaf.0 items_found.front.cut last.0;
         fulfils = items_found.fulfils;
       }
 
@@ -134,28 +133,9 @@ append_matches hay (tree ∷ trees) others i j = (
   λ (l, (k, one, more), last). (k, one, (append_matches hay trees others k j).1 (l, more, last)),
 )
 
-pub not_start : (hay : List ℕ) (i : ℕ) → 0 < i → i ≤ length hay → holds Start hay i ≡ false
-unfolding holds holds_between
-not_start hay (suc i) p le =
-    let next : suc i ≡ i + 1 = omega arith in
-    rw (next, byte_before-add-one hay i, slice_get-get_or hay i 0 (omega arith)) refl
-not_start hay zero p le = absurd (omega arith)
-
 at_zero : (hay : List ℕ) (i : ℕ) → i ≤ length hay → holds Start hay i ≡ true → i ≡ 0
 at_zero hay zero le h = refl
 at_zero hay (suc i) le h = absurd (true≢false (sym h ∙ not_start hay (suc i) (omega arith) le))
-
-pub starts : (hay : List ℕ) → holds Start hay 0 ≡ true
-unfolding holds holds_between
-starts hay = rw (byte_before-zero hay) refl
-
-pub not_end : (hay : List ℕ) (i : ℕ) → i < length hay → holds End hay i ≡ false
-unfolding holds holds_between
-not_end hay i less = rw (slice_get-get_or hay i 0 less) refl
-
-pub ends : (hay : List ℕ) (i : ℕ) → length hay ≤ i → holds End hay i ≡ true
-unfolding holds holds_between
-ends hay i le = rw (slice_get_past hay i le) refl
 
 module _ (own : List (Nested Re)) (Is : List ℕ → Type 0) (d : Denotes (cat_all (values own)) Is) (text : List ℕ) (good : scalars text ≡ true) where
   abbrev hay : List ℕ
@@ -210,21 +190,6 @@ module _ (own : List (Nested Re)) (Is : List ℕ → Type 0) (d : Denotes (cat_a
 
 -- ---- what its groups capture
 
-group_slot : (m : Match) (k : ℕ) → 2 ≤ k → slot_of m k ≡ last_write m.trace.writes k
-unfolding slot_of
-group_slot m k high =
-    ap₂ option_or
-    (ap (option_or (last_write m.trace.writes k)) (cond-false (1 == k) (Some m.trace.end) None (ne_eqb 1 k (omega arith))) ∙ option_or-None _)
-    (cond-false (0 == k) (Some m.start) None (ne_eqb 0 k (omega arith)))
-    ∙ option_or-None _
-
-pub texts_shown : (hay : List ℕ) (m : Match) (g : ℕ) (captures : Captures) → 1 ≤ g → Spans hay g captures m.trace.writes → map (λ k. option_map (text_at hay) (group_of m k)) (range_with_len g (length captures)) ≡ captures
-texts_shown hay m g [] some s = refl
-texts_shown hay m g (c ∷ captures) some s =
-    ap₂ ◌∷◌
-    (ap₂ (λ a b. option_map (text_at hay) (both a b)) (group_slot m (2 * g) (omega arith)) (group_slot m (2 * g + 1) (omega arith)) ∙ s.0)
-    (texts_shown hay m (g + 1) captures (omega arith) (subst (λ n. Spans hay n captures m.trace.writes) (omega arith) s.1))
-
 module _ (own : List (Nested Re)) (s : Sense) (f : Fulfils s 1 (cat_all (values own))) (known : s.Known) (text : List ℕ) (good : scalars text ≡ true) where
   abbrev bytes : List ℕ
   bytes = encodes text
@@ -261,7 +226,7 @@ module _ (own : List (Nested Re)) (s : Sense) (f : Fulfils s 1 (cat_all (values 
       let writes : m.trace.writes ≡ c.own =
       ap (λ (t : Trace). t.writes) c.all ∙ ap (λ (t : Trace). c.own ++ t.writes) (sym (same_Some _ _ c.gave)) ∙ append-nil c.own in
       let caught = run_is m.start c.at c.own first.to c.leads in
-      let texts = texts_shown bytes m 1 caught.0 (omega arith) (subst (Spans bytes 1 caught.0) (sym writes) caught.3.1) in
+      let texts = texts-shown bytes m 1 caught.0 (omega arith) (subst (Spans bytes 1 caught.0) (sym writes) caught.3.1) in
       let all : map (λ k. option_map (text_at bytes) (group_of m k)) (range_with_len 1 s.count) ≡ caught.0 =
       ap (λ n. map (λ k. option_map (text_at bytes) (group_of m k)) (range_with_len 1 n)) (sym caught.2) ∙ texts in
       subst (s.Cap text) (sym all) caught.1

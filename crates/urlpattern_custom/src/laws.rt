@@ -16,11 +16,13 @@ ghost use Rattle.urlpattern_meaning.specs.FirstAnswers.{TookText};
 ///
 /// An expression stands alone if the grammar reads it by itself, without assertions and without classes of bytes, and if it has no `#`,
 /// which begins a comment under the flag `x`.
+#[tactic(auto, using(crate::proofs::CustomLaws::reads_in_groups))]
 pub fn expressions_are_read_in_groups()
     ensures { ReadsInGroups }
 {}
 
 /// Parts of which none is custom take exactly the texts that they mean, and capture what they mean.
+#[tactic(auto, using(crate::proofs::MatchersCapture::parts_capture_meanings, crate::proofs::TakenMeanings::parts_take_meanings))]
 pub fn parts_take_the_texts_that_they_mean()
     ensures takes { PartsTakeMeanings }
     ensures captures { PartsCaptureMeanings }
@@ -31,6 +33,7 @@ pub fn parts_take_the_texts_that_they_mean()
 ///
 /// It is asked of each custom expression that it stands alone. Of `PatternRegexp` it is asked that it was made without the flag `i`, of a
 /// regular expression of no more than 2³² characters.
+#[tactic(auto, using(crate::proofs::ValuesTaken::pattern_values_taken, crate::proofs::ValuesTaken::regex_values_taken))]
 pub fn values_answer_the_texts_that_parts_take()
     ensures own { ValuesAnswerTaken pattern_engine KeepsCase HasNumbers }
     ensures regex { ValuesAnswerTaken regex_engine (λ flags. ⊤) (λ regexp. ⊤) }
@@ -48,6 +51,7 @@ pub fn matchers_answer_the_texts_that_parts_take()
 ///
 /// It is asked of each custom expression that it stands alone and captures nothing itself. Of `PatternRegexp` it is asked that it was made
 /// without the flag `i`, of a regular expression of no more than 2³² characters.
+#[tactic(auto, using(crate::proofs::ValuesTaken::pattern_values_capture, crate::proofs::ValuesTaken::regex_values_capture))]
 pub fn values_answer_what_parts_capture()
     ensures own { ValuesCapture pattern_engine KeepsCase HasNumbers }
     ensures regex { ValuesCapture regex_engine (λ flags. ⊤) (λ regexp. ⊤) }
@@ -73,6 +77,7 @@ pub fn components_answer_what_parts_capture()
 ///
 /// It is asked of each custom expression that it stands alone and captures nothing itself. Of `PatternRegexp` it is asked that it was made
 /// without the flag `i`, of a regular expression of no more than 2³² characters.
+#[tactic(auto, using(crate::proofs::CustomLaws::first_ways))]
 pub fn values_answer_the_first_way_of_parts()
     ensures trees { FirstWaysAreOfTrees }
     ensures captured { FirstWaysAreCaptured }

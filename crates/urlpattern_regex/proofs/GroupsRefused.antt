@@ -24,7 +24,7 @@ uncounted g t large =
     rw (capture, length-replicate g none, le-ltb g (2 ^ 32) large)
 
 opens_refused : (g : ℕ) (t : Text) → Free t → 2 ^ 32 ≤ g → opening (place g (40 ∷ t)) ≡ None
-opens_refused g t free large = opens_as g t free ∙ uncounted g t large
+opens_refused g t free large = opens_as (replicate g None) t free ∙ uncounted g t large
 
 group_refused : (g : ℕ) (t : Text) (m n : ℕ) → m ≡ suc n → join_after cat_all [] (items n (place g t)) ≡ None → group_inside m (place g t) ≡ None
 group_refused g t m n e none =

@@ -15,9 +15,13 @@ use Rattle.urlpattern_meaning.specs.Dialect.{Character, Plain, Escaped, characte
 use Rattle.urlpattern_regex.proofs.TreeAttempts.{re_taken}
 use Rattle.urlpattern_regex.proofs.AtomsRead.{differs, itself, any_character, any_but, read_character, read_dot, read_class, full}
 
--- where the text is left to read, after so many groups that have no names
+-- where the text is left to read, after groups with these names
+abbrev pub at_text : Names → Text → Place
+at_text names t = record { config = default_config; names = names; text = t }
+
+-- after so many groups that have no names
 abbrev pub place : ℕ → Text → Place
-place g t = record { config = default_config; names = replicate g None; text = t }
+place g t = at_text (replicate g None) t
 
 abbrev pub Free : Text → Type 0
 Free t = is_at "?*+{" t ≡ false
@@ -41,11 +45,11 @@ free_lazy [] h = refl
 free_lazy (c ∷ t) h = left_false (c == 63) _ h
 
 -- one mark
-marked : (q : Quantifier) (mark : ℕ) (sub : Nested Re) (g : ℕ) (rest : Text) → Free rest → is_at "?*+{" (mark ∷ rest) ≡ true
+marked : (q : Quantifier) (mark : ℕ) (sub : Nested Re) (names : Names) (rest : Text) → Free rest → is_at "?*+{" (mark ∷ rest) ≡ true
     → (bounds default_config (mark ∷ rest) >>= more_repetitions default_config (length (mark ∷ rest)) sub) ≡ repetitions default_config (length (mark ∷ rest)) (repeated_as q sub) rest
-    → with_repetitions sub (place g (mark ∷ rest)) ≡ Some (repeated_as q sub, place g rest)
+    → with_repetitions sub (at_text names (mark ∷ rest)) ≡ Some (repeated_as q sub, at_text names rest)
 unfolding with_repetitions first skip
-marked q mark sub g rest free is_mark takes =
+marked q mark sub names rest free is_mark takes =
     rw (
       with_repetitions,
       repetitions_go default_config (length (mark ∷ rest) + 1) (length (mark ∷ rest)) sub (mark ∷ rest) (mark ∷ rest) (omega arith) refl is_mark,
@@ -53,15 +57,15 @@ marked q mark sub g rest free is_mark takes =
       repetitions_end default_config (length (mark ∷ rest)) (length rest) (repeated_as q sub) rest rest (omega arith) refl free,
     )
 
-pub quantified : (q : Quantifier) (sub : Nested Re) (g : ℕ) (rest : Text) → Free rest
-    → with_repetitions sub (place g (quantifier_text q ++ rest)) ≡ Some (repeated_as q sub, place g rest)
+pub quantified : (q : Quantifier) (sub : Nested Re) (names : Names) (rest : Text) → Free rest
+    → with_repetitions sub (at_text names (quantifier_text q ++ rest)) ≡ Some (repeated_as q sub, at_text names rest)
 unfolding with_repetitions bounds repeat first skip
-quantified Once sub g rest free =
+quantified Once sub names rest free =
     rw (with_repetitions, repetitions_end default_config (length rest + 1) (length rest) sub rest rest (omega arith) refl free)
-quantified Optional sub g rest free = marked Optional 63 sub g rest free refl (rw (free_lazy rest free))
-quantified ZeroOrMore sub g rest free = marked ZeroOrMore 42 sub g rest free refl (rw (free_lazy rest free))
-quantified OneOrMore sub g rest free = marked OneOrMore 43 sub g rest free refl (rw (free_lazy rest free))
-quantified LazyOneOrMore sub g rest free =
+quantified Optional sub names rest free = marked Optional 63 sub names rest free refl (rw (free_lazy rest free))
+quantified ZeroOrMore sub names rest free = marked ZeroOrMore 42 sub names rest free refl (rw (free_lazy rest free))
+quantified OneOrMore sub names rest free = marked OneOrMore 43 sub names rest free refl (rw (free_lazy rest free))
+quantified LazyOneOrMore sub names rest free =
     rw (
       with_repetitions,
       repetitions_go default_config (length (43 ∷ 63 ∷ rest) + 1) (length (43 ∷ 63 ∷ rest)) sub (43 ∷ 63 ∷ rest) (43 ∷ 63 ∷ rest) (omega arith) refl refl,
@@ -72,7 +76,7 @@ quantified LazyOneOrMore sub g rest free =
 pub item_of_atom : (inner : Place → Read (Nested Re)) (t : Text) (q : Quantifier) (rest : Text) (sub : Nested Re) (g : ℕ) → is_at "(" t ≡ false
     → atom default_config t ≡ Some (sub, quantifier_text q ++ rest) → Free rest → item inner (place g t) ≡ Some (repeated_as q sub, place g rest)
 unfolding item
-item_of_atom inner t q rest sub g no_group reads free = rw (item, no_group, reads) (quantified q sub g rest free)
+item_of_atom inner t q rest sub g no_group reads free = rw (item, no_group, reads) (quantified q sub (replicate g None) rest free)
 
 -- ---- what begins a text
 
@@ -152,9 +156,9 @@ abbrev mutual
   part g (Grouped items) = level (λ re. re) (alone_in (parts g items))
 
 -- brackets that capture are read as such
-pub opens_as : (g : ℕ) (t : Text) → Free t → opening (place g (40 ∷ t)) ≡ capture (place g (40 ∷ t)) None t
+pub opens_as : (names : Names) (t : Text) → Free t → opening (at_text names (40 ∷ t)) ≡ capture (at_text names (40 ∷ t)) None t
 unfolding opening first skip
-opens_as g t free = rw (opening, begins_no (80 ∷ 60 ∷ []) t free, begins_no (60 ∷ []) t free, free_lazy t free)
+opens_as names t free = rw (opening, begins_no (80 ∷ 60 ∷ []) t free, begins_no (60 ∷ []) t free, free_lazy t free)
 
 counted : (g : ℕ) (t : Text) → g < 2 ^ 32 → capture (place g (40 ∷ t)) None t ≡ Some (opens (group g), place (suc g) t)
 unfolding capture
@@ -165,7 +169,7 @@ counted g t small =
     (ap (λ (names : Names). Some (opens (group g), record { config = default_config; names = names; text = t })) (replicate_more g none ∙ ap (λ k. replicate k none) next))
 
 pub opens_captured : (g : ℕ) (t : Text) → Free t → g < 2 ^ 32 → opening (place g (40 ∷ t)) ≡ Some (opens (group g), place (suc g) t)
-opens_captured g t free small = opens_as g t free ∙ counted g t small
+opens_captured g t free small = opens_as (replicate g None) t free ∙ counted g t small
 
 pub opens_grouped : (g : ℕ) (t : Text) → opening (place g (40 ∷ 63 ∷ 58 ∷ t)) ≡ Some (opens (λ re. re), place g t)
 unfolding opening set_flags first skip
@@ -176,7 +180,7 @@ closed : (sub : Nested Re) (make : Re → Re) (g : ℕ) (q : Quantifier) (more :
     → inner inside ≡ Some (sub, place g (41 ∷ (quantifier_text q ++ more)))
     → rest_of_group inner default_config (opens make) inside ≡ Some (repeated_as q (level make sub), place g more)
 unfolding first
-closed sub make g q more inner inside free reads = rw (rest_of_group, reads) (quantified q (level make sub) g more free)
+closed sub make g q more inner inside free reads = rw (rest_of_group, reads) (quantified q (level make sub) (replicate g None) more free)
 
 -- what is in a group
 branch_read : (tree : Items) (g h : ℕ) (rest : Text) (top n m : ℕ) → top ≡ suc n
@@ -202,7 +206,7 @@ unfolding first
 no_group (Plain c) h rest = differs regexp_marks c 40 h refl
 no_group (Escaped c) h rest = refl
 
-brackets : (t tail : Text) → (t ++ 41 ∷ []) ++ tail ≡ t ++ 41 ∷ tail
+pub brackets : (t tail : Text) → (t ++ 41 ∷ []) ++ tail ≡ t ++ 41 ∷ tail
 brackets t tail = append_assoc t (41 ∷ []) tail
 
 abbrev pub AreRead : ℕ → Items → Text → ℕ → List (Nested Re) → Type 0
