@@ -8,7 +8,9 @@ use Rattle.urlpattern_create.specs.FromString.{IsInitOfText, RefusesPatternOfTex
 use Rattle.urlpattern_create.proofs.DiagnosisLemmas.{init_accepted, init_shown, is_other, protocol_shown, shows_all, text-or_nothing}
 use Rattle.urlpattern_syntax.specs.declared.error.Error.{Error}
 use Rattle.urlpattern_syntax.specs.Errors.{error_view}
+use Rattle.urlpattern_create.proofs.diagnose.diagnose_text.Given as given
 use Rattle.urlpattern_create.proofs.diagnose.diagnose_text.Goals as goal
+use Rattle.urlpattern_create.proofs.diagnose.diagnose_text.Goals.{After-init_diagnosis-found}
 
 pub returns-in-Err-parse_constructor_string-clause-refused : goal.returns-in-Err-parse_constructor_string-clause-refused
 returns-in-Err-parse_constructor_string-clause-refused g c =
@@ -24,29 +26,27 @@ returns-in-Err-parse_constructor_string-clause-shows g c =
     let is = c.in_ok-protocol_diagnosis-in-Err-parse_constructor_string.ensures in
     protocol_shown g.R.RegExp c.args.pattern.now (option_copied c.args.base_url) c.args.options made.subject made is.text is.shows
 
-pub returns-clause-accepted : goal.returns-clause-accepted
-returns-clause-accepted g c =
-    let base = option_copied c.args.base_url in
-    let init = c.in-Ok-parse_constructor_string.init in
+-- the init is that of the text
+is_init : (g : given.Over) (c : After-init_diagnosis-found g) → IsInitOfText g.R.RegExp (chars c.args.pattern.now) (option_copied c.args.base_url) c.in-Ok-parse_constructor_string.init
+is_init g c =
     let of = c.in-Ok-parse_constructor_string.ensures in
-    let is : IsInitOfText g.R.RegExp (chars c.args.pattern.now) base init = record {
-      has_base = subst (λ url. parsed_base base ≡ Ok url) (sym of.base) c.in-Ok.ensures.ok;
+    record {
+      has_base = subst (λ url. parsed_base (option_copied c.args.base_url) ≡ Ok url) (sym of.base) c.in-Ok.ensures.ok;
       is_split = of.split;
       is_complete = of.complete;
-    } in
-    init_accepted g.R.RegExp c.args.pattern.now base c.args.options init is c.init_diagnosis-found.result c.init_diagnosis-found.ensures.accepted
+    }
+
+pub returns-clause-accepted : goal.returns-clause-accepted
+returns-clause-accepted g c =
+    let is = is_init g (goal.at.returns-clause-accepted g c).After-init_diagnosis-found in
+    init_accepted g.R.RegExp c.args.pattern.now (option_copied c.args.base_url) c.args.options c.in-Ok-parse_constructor_string.init is
+    c.init_diagnosis-found.result c.init_diagnosis-found.ensures.accepted
 
 pub returns-clause-shows : goal.returns-clause-shows
 returns-clause-shows g c =
-    let base = option_copied c.args.base_url in
-    let init = c.in-Ok-parse_constructor_string.init in
-    let of = c.in-Ok-parse_constructor_string.ensures in
-    let is : IsInitOfText g.R.RegExp (chars c.args.pattern.now) base init = record {
-      has_base = subst (λ url. parsed_base base ≡ Ok url) (sym of.base) c.in-Ok.ensures.ok;
-      is_split = of.split;
-      is_complete = of.complete;
-    } in
-    init_shown g.R.RegExp c.args.pattern.now base c.args.options init is c.init_diagnosis-found.result c.init_diagnosis-found.ensures.shows c.init_diagnosis-found.ensures.text
+    let is = is_init g (goal.at.returns-clause-shows g c).After-init_diagnosis-found in
+    init_shown g.R.RegExp c.args.pattern.now (option_copied c.args.base_url) c.args.options c.in-Ok-parse_constructor_string.init is
+    c.init_diagnosis-found.result c.init_diagnosis-found.ensures.shows c.init_diagnosis-found.ensures.text
 
 pub returns-in-Err-clause-shows : goal.returns-in-Err-clause-shows
 returns-in-Err-clause-shows g c =
