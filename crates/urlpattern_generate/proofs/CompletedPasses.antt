@@ -1,10 +1,10 @@
 -- A pattern text that is completed has parts, which are read in it.
-use Rattle.std.proofs.Common.{◌≡◌, ◌≢◌, ℕ, Bool, true, false, List, [], ◌∷◌, ◌++◌, None, Some, Option, arith, inl, inr, refl, subst, sym}
+use Rattle.std.proofs.Common.{◌≡◌, ◌≢◌, ℕ, Bool, List, [], ◌∷◌, ◌++◌, None, Some, Option, arith, inl, inr, refl, subst, sym}
 use Rattle.std.proofs.lemmas.List.Elements.{All-cons, All-nil, All-weaker, Contains-append_left, Contains-push}
 use Rattle.std.proofs.lemmas.List.Kept.{AllPairs-cons}
 use Rattle.std.specs.Prelude.{All, AllPairs, Contains, if◌then◌else◌}
 use Rattle.urlpattern_eight.specs.declared.eight.ComponentName.{ComponentName}
-use Rattle.urlpattern_eight.specs.declared.eight.ComponentName.TheVariants.{Protocol, Username, Password, Hostname, Port, Pathname, Search, Hash}
+use Rattle.urlpattern_generate.proofs.OptionsLemmas.{by_options}
 use Rattle.urlpattern_generate.specs.Generating.{IsWrittenText}
 use Rattle.urlpattern_generate.specs.Manners.{WritingManner, options_for, unchanged}
 use Rattle.urlpattern_generate.specs.Passing.{AreKept, AreNewAfter, IsCompleted, IsKeptPart, IsKeptText}
@@ -51,35 +51,27 @@ kept_texts [] kept = tt
 kept_texts (part ∷ parts) kept = kept_first part.kind part (encoded_texts parts) kept.0 (kept_texts parts kept.1)
 
 standard : (component : ComponentName) (hierarchical : Bool) → IsStandard (options_for component hierarchical)
-standard Protocol hierarchical = inl (refl, refl)
-standard Username hierarchical = inl (refl, refl)
-standard Password hierarchical = inl (refl, refl)
-standard Hostname hierarchical = inr (inl (refl, refl))
-standard Port hierarchical = inl (refl, refl)
-standard Pathname true = inr (inr (refl, refl))
-standard Pathname false = inl (refl, refl)
-standard Search hierarchical = inl (refl, refl)
-standard Hash hierarchical = inl (refl, refl)
+standard = by_options IsStandard (inl (refl, refl)) (inr (inl (refl, refl))) (inr (inr (refl, refl)))
 
 pub completed_written : {E : Type 0} (answer : E → List ℕ → Option Captures) (matcher : MatcherView E) (manner : WritingManner) (component : ComponentName) (hierarchical : Bool) (pattern : List ℕ) (captures : Captures) (text : List ℕ) →
     manner.options ≡ options_for component hierarchical → IsCompleted manner pattern captures text → Answers answer matcher text (Some captures) → IsWrittenText answer matcher manner pattern text
 completed_written answer matcher manner component hierarchical pattern captures text options (parts, h) answers =
     let printable : IsPrintable manner.options parts = record {
       point = standard_point manner.options (subst IsStandard (sym options) (standard component hierarchical));
-      pattern_parts = record { fields = h.fields; names = h.named; distinct = (distinct_after [] (group_names parts) h.new).distinct };
-      texts = h.filled;
-      unskipped = h.unskipped;
+      pattern_parts = record { fields = h.1.fields; names = h.1.named; distinct = (distinct_after [] (group_names parts) h.1.new).distinct };
+      texts = h.1.filled;
+      unskipped = h.1.unskipped;
     } in
     let back : Reads (printed manner.options parts) manner.options unchanged (joined parts) =
-    reads_back manner.options unchanged IsKeptText parts printable (subst (λ of. EachText IsKeptText (encoded_texts of)) (sym h.apart) (kept_texts parts h.kept)) (λ of kept. kept) in
+    reads_back manner.options unchanged IsKeptText parts printable (subst (λ of. EachText IsKeptText (encoded_texts of)) (sym h.1.apart) (kept_texts parts h.1.kept)) (λ of kept. kept) in
     record {
       parts = parts;
       captures = captures;
       is_asked = record {
-        reads = subst (λ of. Reads of manner.options unchanged parts) (h.printed None refl (λ marked part. refl)) (subst (Reads (printed manner.options parts) manner.options unchanged) h.apart back);
-        are_asked = h.asked;
+        reads = subst (λ of. Reads of manner.options unchanged parts) (h.1.printed None refl (λ marked part. refl)) (subst (Reads (printed manner.options parts) manner.options unchanged) h.1.apart back);
+        are_asked = h.1.asked;
       };
-      may_capture = h.may;
-      is_written = h.written;
+      may_capture = h.1.may;
+      is_written = h.1.written;
       is_matched = answers;
     }

@@ -68,60 +68,49 @@ pub run_completes : (manner : WritingManner) (admits : Bool) (number : ℕ) (nam
     Completes manner true (record { left = run ++ rest; admits = admits; number = number; names = names }) (fixed_text run modifiers.None ∷ parts) captures (run ++ text)
 run_completes manner admits number names [] rest parts captures text some all kept ends h = absurd (some refl)
 run_completes manner admits number names (c ∷ run) rest parts captures text some all kept ends h =
-    let part = fixed_text (c ∷ run) modifiers.None in
-    record {
-      printed = λ before e apart.
-          ap (λ own. own ++ printed_after manner.options (Some part) parts) (plain_printed manner.options before part (first_part parts) refl)
-          ∙ ap (λ after. escaped_pattern (c ∷ run) ++ after) (h.printed (Some part) refl (λ marked other. and_right _ _ (ends marked some))) ∙ run_text (c ∷ run) rest all;
-      apart = apart_cons part parts h.apart (is_false (is_plain_first (first_part parts)) h.begins);
-      begins = λ plain. refl;
-      goes = λ goes. or_left (is_name_part c) (is_among (codes "*({") c) goes;
-      fields = ((refl, refl), h.fields);
-      named = (refl, h.named);
-      new = h.new;
-      filled = (λ fixed. some, h.filled);
-      unskipped = (run_unskipped (c ∷ run) all, h.unskipped);
-      kept = (kept, h.kept);
-      asked = (tt, h.asked);
-      may = (tt, h.may);
-      written = ap (λ more. (c ∷ run) ++ more) h.written;
-    }
+    let part = fixed_text (c ∷ run) modifiers.None in (
+      λ plain. refl,
+      record {
+        printed = λ before e apart.
+            ap (λ own. own ++ printed_after manner.options (Some part) parts) (plain_printed manner.options before part (first_part parts) refl)
+            ∙ ap (λ after. escaped_pattern (c ∷ run) ++ after) (h.1.printed (Some part) refl (λ marked other. and_right _ _ (ends marked some))) ∙ run_text (c ∷ run) rest all;
+        apart = apart_cons part parts h.1.apart (is_false (is_plain_first (first_part parts)) h.0);
+        goes = λ goes. or_left (is_name_part c) (is_among (codes "*({") c) goes;
+        fields = ((refl, refl), h.1.fields);
+        named = (refl, h.1.named);
+        new = h.1.new;
+        filled = (λ fixed. some, h.1.filled);
+        unskipped = (run_unskipped (c ∷ run) all, h.1.unskipped);
+        kept = (kept, h.1.kept);
+        asked = (tt, h.1.asked);
+        may = (tt, h.1.may);
+        written = ap (λ more. (c ∷ run) ++ more) h.1.written;
+      },
+    )
 
 -- no run is there
 pub none_completes : (manner : WritingManner) (place : Place) (parts : List PartView) (captures : Captures) (text : List ℕ) → Completes manner false place parts captures text → Completes manner true place parts captures text
-none_completes manner place parts captures text h = record {
-  printed = h.printed;
-  apart = h.apart;
-  begins = λ plain. refl;
-  goes = h.goes;
-  fields = h.fields;
-  named = h.named;
-  new = h.new;
-  filled = h.filled;
-  unskipped = h.unskipped;
-  kept = h.kept;
-  asked = h.asked;
-  may = h.may;
-  written = h.written;
-}
+none_completes manner place parts captures text h = (λ plain. refl, h.1)
 
 -- nothing is left
 pub end_completes : (manner : WritingManner) (plain : Bool) (place : Place) → place.left ≡ [] → Completes manner plain place [] [] []
-end_completes manner plain place e = record {
-  printed = λ before admits apart. sym e;
-  apart = refl;
-  begins = λ none. absurd (false≢true none);
-  goes = λ none. absurd (false≢true none);
-  fields = tt;
-  named = tt;
-  new = tt;
-  filled = tt;
-  unskipped = tt;
-  kept = tt;
-  asked = refl;
-  may = refl;
-  written = refl;
-}
+end_completes manner plain place e = (
+  λ none. absurd (false≢true none),
+  record {
+    printed = λ before admits apart. sym e;
+    apart = refl;
+    goes = λ none. absurd (false≢true none);
+    fields = tt;
+    named = tt;
+    new = tt;
+    filled = tt;
+    unskipped = tt;
+    kept = tt;
+    asked = refl;
+    may = refl;
+    written = refl;
+  },
+)
 
 -- ---- runs, character by character
 
@@ -228,27 +217,28 @@ pub group_completes : (manner : WritingManner) (place : Place) (part : PartView)
     Completes manner false place (part ∷ parts) (capture ∷ captures) (text_of_group part capture ++ text)
 group_completes manner place part rest number capture parts captures text front kept_prefix kept_suffix takes new h =
     let group = not_fixed part.kind front.is_group in
-    let unplain : is_plain part ≡ false = ap (λ fixed. fixed && is_unmodified part.modifier) group in
-    record {
-      printed = λ before e apart.
-          ap (λ after. printed_part manner.options before part (first_part parts) ++ after)
-          (h.printed (Some part) (ap (λ fixed. fixed || not (is_unmodified part.modifier)) group)
-          (λ marked other. ap (λ fixed. ((is_empty other.prefix && fixed) && not (is_empty part.value)) && bytes_eq (last_of part.value) manner.options.prefix) group
-          ∙ none_taken (is_empty other.prefix) (not (is_empty part.value)) (bytes_eq (last_of part.value) manner.options.prefix)))
-          ∙ front.printed before (first_part parts) e apart h.goes;
-      apart = apart_cons part parts h.apart (ap (λ plain. plain && is_plain_first (first_part parts)) unplain);
-      begins = λ plain. absurd (false≢true (sym unplain ∙ plain));
-      goes = front.goes;
-      fields = (front.fields, h.fields);
-      named = (front.named, subst (λ n. AreNamed n parts) (sym front.numbered) h.named);
-      new = subst (AreNewAfter place.names) (sym (names_more (is_fixed_text part.kind) part parts group)) (new, h.new);
-      filled = (λ fixed. absurd (false≢true (sym group ∙ fixed)), h.filled);
-      unskipped = (unskipped_more part.kind part front.is_group front.unskipped_prefix front.unskipped_suffix, h.unskipped);
-      kept = (kept_more part.kind part front.is_group kept_prefix kept_suffix, h.kept);
-      asked = each_more _ part.kind part capture parts captures front.is_group takes.0 h.asked;
-      may = each_more _ part.kind part capture parts captures front.is_group takes.1 h.may;
-      written = text_more part.kind part capture parts captures text front.is_group h.written;
-    }
+    let unplain : is_plain part ≡ false = ap (λ fixed. fixed && is_unmodified part.modifier) group in (
+      λ plain. absurd (false≢true (sym unplain ∙ plain)),
+      record {
+        printed = λ before e apart.
+            ap (λ after. printed_part manner.options before part (first_part parts) ++ after)
+            (h.1.printed (Some part) (ap (λ fixed. fixed || not (is_unmodified part.modifier)) group)
+            (λ marked other. ap (λ fixed. ((is_empty other.prefix && fixed) && not (is_empty part.value)) && bytes_eq (last_of part.value) manner.options.prefix) group
+            ∙ none_taken (is_empty other.prefix) (not (is_empty part.value)) (bytes_eq (last_of part.value) manner.options.prefix)))
+            ∙ front.printed before (first_part parts) e apart h.1.goes;
+        apart = apart_cons part parts h.1.apart (ap (λ plain. plain && is_plain_first (first_part parts)) unplain);
+        goes = front.goes;
+        fields = (front.fields, h.1.fields);
+        named = (front.named, subst (λ n. AreNamed n parts) (sym front.numbered) h.1.named);
+        new = subst (AreNewAfter place.names) (sym (names_more (is_fixed_text part.kind) part parts group)) (new, h.1.new);
+        filled = (λ fixed. absurd (false≢true (sym group ∙ fixed)), h.1.filled);
+        unskipped = (unskipped_more part.kind part front.is_group front.unskipped_prefix front.unskipped_suffix, h.1.unskipped);
+        kept = (kept_more part.kind part front.is_group kept_prefix kept_suffix, h.1.kept);
+        asked = each_more _ part.kind part capture parts captures front.is_group takes.0 h.1.asked;
+        may = each_more _ part.kind part capture parts captures front.is_group takes.1 h.1.may;
+        written = text_more part.kind part capture parts captures text front.is_group h.1.written;
+      },
+    )
 
 -- of a pass, by what it has after the group
 pub group_passed : (manner : WritingManner) (pattern : List ℕ) (before : Captures) (written : List ℕ) (place : Place) (part : PartView) (rest : List ℕ) (number : ℕ) (capture : Option (List ℕ))
@@ -297,28 +287,29 @@ pub left_completes : (manner : WritingManner) (place : Place) (bytes : List ℕ)
     Completes manner true (record { left = rest; admits = true; number = place.number; names = place.names }) parts captures text →
     Completes manner false place (fixed_text (chars bytes) modifier ∷ parts) captures text
 left_completes manner place bytes modifier rest parts captures text bare is kept h =
-    let part = fixed_text (chars bytes) modifier in
-    record {
-      printed = λ before e apart.
-          ap (λ own. own ++ printed_after manner.options (Some part) parts)
-          (left_printed manner.options before (first_part parts) (chars bytes) modifier
-          ∙ ap (λ plain. in_braces (not plain) (escaped_pattern (chars bytes)) ++ modifier_text modifier) is.modified
-          ∙ ap (λ own. (codes "{" ++ (own ++ codes "}")) ++ modifier_text modifier) (run_alone (chars bytes) is.all))
-          ∙ ap (λ after. ((codes "{" ++ (chars bytes ++ codes "}")) ++ modifier_text modifier) ++ after) (h.printed (Some part) refl (λ marked other. takes_none manner.options (Some part) other bare))
-          ∙ left_shape (chars bytes) (modifier_text modifier) rest ∙ sym is.cut;
-      apart = apart_cons part parts h.apart (ap (λ plain. plain && is_plain_first (first_part parts)) is.modified);
-      begins = λ plain. absurd (false≢true (sym is.modified ∙ plain));
-      goes = λ goes. ap (begins_with may_go_on) is.cut ∙ or_right (is_name_part 123) (is_among (codes "*({") 123) refl;
-      fields = ((refl, refl), h.fields);
-      named = (refl, h.named);
-      new = h.new;
-      filled = (λ fixed. is.some, h.filled);
-      unskipped = (run_unskipped (chars bytes) is.all, h.unskipped);
-      kept = (kept, h.kept);
-      asked = (tt, h.asked);
-      may = (tt, h.may);
-      written = h.written ∙ ap (λ fewest. fewest ++ text_of_parts parts captures) (sym is.fewest);
-    }
+    let part = fixed_text (chars bytes) modifier in (
+      λ plain. absurd (false≢true (sym is.modified ∙ plain)),
+      record {
+        printed = λ before e apart.
+            ap (λ own. own ++ printed_after manner.options (Some part) parts)
+            (left_printed manner.options before (first_part parts) (chars bytes) modifier
+            ∙ ap (λ plain. in_braces (not plain) (escaped_pattern (chars bytes)) ++ modifier_text modifier) is.modified
+            ∙ ap (λ own. (codes "{" ++ (own ++ codes "}")) ++ modifier_text modifier) (run_alone (chars bytes) is.all))
+            ∙ ap (λ after. ((codes "{" ++ (chars bytes ++ codes "}")) ++ modifier_text modifier) ++ after) (h.1.printed (Some part) refl (λ marked other. takes_none manner.options (Some part) other bare))
+            ∙ left_shape (chars bytes) (modifier_text modifier) rest ∙ sym is.cut;
+        apart = apart_cons part parts h.1.apart (ap (λ plain. plain && is_plain_first (first_part parts)) is.modified);
+        goes = λ goes. ap (begins_with may_go_on) is.cut ∙ or_right (is_name_part 123) (is_among (codes "*({") 123) refl;
+        fields = ((refl, refl), h.1.fields);
+        named = (refl, h.1.named);
+        new = h.1.new;
+        filled = (λ fixed. is.some, h.1.filled);
+        unskipped = (run_unskipped (chars bytes) is.all, h.1.unskipped);
+        kept = (kept, h.1.kept);
+        asked = (tt, h.1.asked);
+        may = (tt, h.1.may);
+        written = h.1.written ∙ ap (λ fewest. fewest ++ text_of_parts parts captures) (sym is.fewest);
+      },
+    )
 
 pub left_passed : (manner : WritingManner) (pattern : List ℕ) (before : Captures) (written : List ℕ) (place : Place) (bytes : List ℕ) (modifier : PartModifier) (rest : List ℕ) →
     manner.options.prefix ≡ [] → IsLeftOut bytes modifier place.left rest → IsKeptText (chars bytes) → Leads manner false pattern place before written →

@@ -87,13 +87,11 @@ abbrev pub AreKept : List PartView → Type 0
 AreKept [] = Unit {0}
 AreKept (part ∷ parts) = IsKeptPart part.kind part × AreKept parts
 
--- These parts are what is left of the pattern text, their groups are to capture this, and the text is theirs. `plain`: a plain fixed text
--- may be the first of them.
-pub record Completes (manner : WritingManner) (plain : Bool) (place : Place) (parts : List PartView) (captures : Captures) (text : List ℕ) : Type 0 where
+-- These parts are what is left of the pattern text, their groups are to capture this, and the text is theirs.
+pub record IsCompletedBy (manner : WritingManner) (place : Place) (parts : List PartView) (captures : Captures) (text : List ℕ) : Type 0 where
   pub printed : (before : Option PartView) → admits_asterisk before ≡ place.admits → IsApart manner.options before place.left →
       printed_after manner.options before parts ≡ place.left
   pub apart : joined parts ≡ parts
-  pub begins : is_plain_first (first_part parts) ≡ true → plain ≡ true
   pub goes : goes_on_first (first_part parts) ≡ true → begins_with may_go_on place.left ≡ true
   pub fields : AllHaveFields manner.options parts
   pub named : AreNamed place.number parts
@@ -104,6 +102,11 @@ pub record Completes (manner : WritingManner) (plain : Bool) (place : Place) (pa
   pub asked : AreAsked manner parts captures
   pub may : MayCaptureAll manner.options parts captures
   pub written : text ≡ text_of_parts parts captures
+
+-- the same. `plain`: a plain fixed text may be the first of the parts.
+abbrev pub Completes : WritingManner → (plain : Bool) → Place → List PartView → Captures → (text : List ℕ) → Type 0
+Completes manner plain place parts captures text =
+    (is_plain_first (first_part parts) ≡ true → plain ≡ true) × IsCompletedBy manner place parts captures text
 
 -- the whole pattern text has such parts, with these captures and this text
 abbrev pub IsCompleted : WritingManner → (pattern : List ℕ) → Captures → (text : List ℕ) → Type 0
