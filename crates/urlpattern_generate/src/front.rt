@@ -249,6 +249,7 @@ pub(crate) fn after_left_out(text: &str) -> Option<&str>
 }
 
 /// What follows the characters of a kind at the front of a text.
+#[inline(always)]
 fn after_all(kind: Characters, text: &str) -> &str
     ensures skips { SkipsBy (kind_test kind) (chars text.now) (chars result.now) }
     ensures len { length result.now ≤ length text.now }
