@@ -11,7 +11,6 @@ mod generate;
 mod link;
 mod matching;
 mod mismatch;
-mod once;
 
 pub use matching::captures_of_texts;
 use urlpattern_core::component::Component;
