@@ -1,8 +1,8 @@
 -- Lemmas on the first pattern from an index on that matches.
 use Rattle.std.proofs.Common.{◌≡◌, ◌+◌, ◌-◌, ◌<◌, ◌≤◌, ◌∙◌, ℕ, List, ap, arith, inl, inr, length, refl, subst, sym, take, take_all}
 use Rattle.std.proofs.lemmas.Bool.{cases_lt}
-use Rattle.std.proofs.lemmas.Option.{same_Some, slice_get-map}
-use Rattle.std.specs.Prelude.{All, Option, Some, None, option_map, slice_get}
+use Rattle.std.proofs.lemmas.Option.{IfSome_then, same_Some, slice_get-map}
+use Rattle.std.specs.Prelude.{All, IfSome, Option, Some, None, option_map, slice_get, unwrap_or}
 use Rattle.urlpattern.proofs.FixedLemmas.{All-passed, found_within}
 use Rattle.urlpattern.specs.FirstMatch.{AsksBeforeMatch, FirstView, IsFirstMatchOf, patterns_view}
 use Rattle.urlpattern.specs.NextMatch.{AreRefusedBetween, AsksBeforeMatchFrom, IsFirstMatchFrom}
@@ -10,79 +10,34 @@ use Rattle.urlpattern.specs.PatternKeys.{AreIndexed, address_of}
 use Rattle.urlpattern_index.specs.Keys.{Hashes, hashes_of}
 use Rattle.urlpattern_index.specs.Listed.{Finds, IsLeast, Listing}
 use Rattle.urlpattern_meaning.specs.PartMeaning.{Captures}
-use Rattle.urlpattern_pattern.specs.Match.{AsksAnEngine, IsMatchOf, IsRefused}
-use Rattle.urlpattern_matches.specs.ResultViews.{ResultView}
+use Rattle.urlpattern_pattern.specs.Match.{IsRefused}
 use Rattle.urlpattern_pattern.specs.Patterns.{PatternView, pattern_view}
 use Rattle.urlpattern_pattern.specs.declared.pattern.UrlPattern.{UrlPattern}
-use Rattle.urlpattern_eight.specs.declared.eight.ComponentName.{ComponentName}
 use Rattle.urlpattern_eight.specs.Eight.{Texts}
 
 some-mapped : {X Y : Type 0} (f : X → Y) (found : Option X) (y : Y) → option_map f found ≡ Some y → (x : X) × (found ≡ Some x) × (f x ≡ y)
 some-mapped f None y is = absurd cc
 some-mapped f (Some x) y is = (x, refl, same_Some (f x) y is)
 
+not-found : (Q : ℕ → Type 0) (from index count : ℕ) (found : Option ℕ) → IsLeast (λ number. (from ≤ number) × Q number) found
+    → from ≤ index → index < unwrap_or found count → ¬ Q index
+not-found Q from index count (Some next) least le lt = λ q. let other : next ≤ index = least.1 index (le, q) in let below : index < next = lt in absurd (omega arith)
+not-found Q from index count None none le lt = λ q. none index (le, q)
+
+-- what an index finds is a pattern's number
+pub found-inside : {E : Type 0} (answer : E → List ℕ → Option Captures) (patterns : List (UrlPattern E)) (listing : Listing) → AreIndexed answer patterns listing → (hashes : Hashes) (from : ℕ) (found : Option ℕ)
+    → IsLeast (λ number. (from ≤ number) × Finds listing hashes number) found → IfSome found (λ index. (from ≤ index) × (index < length patterns))
+found-inside answer patterns listing are hashes from (Some next) least = (least.0.0, found_within answer patterns listing are hashes next least.0.1)
+found-inside answer patterns listing are hashes from None none = tt
+
 module _ {E : Type 0} (answer : E → List ℕ → Option Captures) (texts : Texts) where
-  -- the patterns between two indices do not match
-  abbrev pub ArePassed : List (UrlPattern E) → (from end : ℕ) → Type 0
-  ArePassed patterns from end =
-      (index : ℕ) (pattern : UrlPattern E) → from ≤ index → index < end → slice_get patterns index ≡ Some pattern → IsRefused answer (pattern_view pattern) texts
-
-  -- those that the index does not find are passed over
-  pub passed_over : (patterns : List (UrlPattern E)) (listing : Listing) → AreIndexed answer patterns listing
-      → (start from end : ℕ) → ArePassed patterns start from
-      → ((number : ℕ) → from ≤ number → number < end → ¬ Finds listing (hashes_of (address_of texts)) number) → ArePassed patterns start end
-  passed_over patterns listing are start from end before others = λ index pattern le lt is. elim (cases_lt index from) [
-    | inl earlier ↦ before index pattern le earlier is
-    | inr later ↦ are.refuses index pattern is texts (others index later lt)
-  ]
-
-  -- one more pattern that does not match
-  pub passed-more : (patterns : List (UrlPattern E)) (from end : ℕ) (last : UrlPattern E) → slice_get patterns end ≡ Some last
-      → ArePassed patterns from end → IsRefused answer (pattern_view last) texts → ArePassed patterns from (end + 1)
-  passed-more patterns from end last is_last before refused = λ index pattern le lt is. elim (cases_lt index end) [
-    | inl earlier ↦ before index pattern le earlier is
-    | inr later ↦
-        let same : index ≡ end = omega arith in
-        subst (λ (p : UrlPattern E). IsRefused answer (pattern_view p) texts) (same_Some last pattern (sym is_last ∙ ap (slice_get patterns) (sym same) ∙ is)) refused
-  ]
-
-  -- what contracts see of patterns that are passed
-  pub passed-views : (patterns : List (UrlPattern E)) (from end : ℕ) → ArePassed patterns from end → AreRefusedBetween answer (patterns_view patterns) texts from end
-  passed-views patterns from end before = λ index pattern le lt is.
-      let (own, there, same) = some-mapped (λ pattern. pattern_view pattern) (slice_get patterns index) pattern (sym (slice_get-map (λ pattern. pattern_view pattern) patterns index) ∙ is) in
-      subst (λ (view : PatternView E). IsRefused answer view texts) same (before index own le lt there)
-
-  pub there-view : (patterns : List (UrlPattern E)) (index : ℕ) (pattern : UrlPattern E) → slice_get patterns index ≡ Some pattern
-      → slice_get (patterns_view patterns) index ≡ Some (pattern_view pattern)
-  there-view patterns index pattern is_there = slice_get-map (λ pattern. pattern_view pattern) patterns index ∙ ap (option_map (λ pattern. pattern_view pattern)) is_there
-
-  -- the pattern at an index is the first where those before it are passed
-  pub first-views : (patterns : List (UrlPattern E)) (from index : ℕ) (pattern : UrlPattern E) (match : ComponentName → ResultView) → from ≤ index → slice_get patterns index ≡ Some pattern
-      → ArePassed patterns from index → IsMatchOf answer (pattern_view pattern) texts match → IsFirstMatchFrom answer (patterns_view patterns) texts from (Some (index, match))
-  first-views patterns from index pattern match le is_there before is_match =
-      (le, (pattern_view pattern, there-view patterns index pattern is_there, is_match), passed-views patterns from index before)
-
-  -- the pattern at an index asks an engine where those before it are passed
-  pub asks-views : (patterns : List (UrlPattern E)) (from index : ℕ) (pattern : UrlPattern E) → from ≤ index → slice_get patterns index ≡ Some pattern
-      → ArePassed patterns from index → AsksAnEngine answer (pattern_view pattern) texts → AsksBeforeMatchFrom answer (patterns_view patterns) texts from
-  asks-views patterns from index pattern le is_there before asks =
-      (index, pattern_view pattern, le, there-view patterns index pattern is_there, asks, passed-views patterns from index before)
-
-  -- ---- what an index finds
-
-  -- the patterns before the least one that the index finds do not match
-  pub before-found : (patterns : List (UrlPattern E)) (listing : Listing) → AreIndexed answer patterns listing → (hashes : Hashes) → hashes ≡ hashes_of (address_of texts) → (from index : ℕ)
-      → IsLeast (λ number. (from ≤ number) × Finds listing hashes number) (Some index) → AreRefusedBetween answer (patterns_view patterns) texts from index
-  before-found patterns listing are hashes same from index least =
-      passed-views patterns from index (passed_over patterns listing are from from index (λ k pattern le lt is. absurd (omega arith))
-      (λ number le lt finds. let other : index ≤ number = least.1 number (le, subst (λ h. Finds listing h number) (sym same) finds) in absurd (omega arith)))
-
-  -- no pattern matches where the index finds none
-  pub none-found : (patterns : List (UrlPattern E)) (listing : Listing) → AreIndexed answer patterns listing → (hashes : Hashes) → hashes ≡ hashes_of (address_of texts) → (from : ℕ)
-      → IsLeast (λ number. (from ≤ number) × Finds listing hashes number) None → IsFirstMatchFrom answer (patterns_view patterns) texts from None
-  none-found patterns listing are hashes same from none =
-      passed-views patterns from (length (patterns_view patterns)) (passed_over patterns listing are from from (length (patterns_view patterns)) (λ k pattern le lt is. absurd (omega arith))
-      (λ number le lt finds. none number (le, subst (λ h. Finds listing h number) (sym same) finds)))
+  -- the patterns before the one that an index finds do not match
+  pub found-passed : (patterns : List (UrlPattern E)) (listing : Listing) → AreIndexed answer patterns listing → (hashes : Hashes) → hashes ≡ hashes_of (address_of texts) → (from : ℕ) (found : Option ℕ)
+      → IsLeast (λ number. (from ≤ number) × Finds listing hashes number) found → AreRefusedBetween answer (patterns_view patterns) texts from (unwrap_or found (length (patterns_view patterns)))
+  found-passed patterns listing are hashes same from found least = λ index pattern le lt is.
+      let (own, there, view) = some-mapped (λ pattern. pattern_view pattern) (slice_get patterns index) pattern (sym (slice_get-map (λ pattern. pattern_view pattern) patterns index) ∙ is) in
+      let missed = not-found (Finds listing hashes) from index (length (patterns_view patterns)) found least le lt in
+      subst (λ (view : PatternView E). IsRefused answer view texts) view (are.refuses index own there texts (subst (λ h. ¬ Finds listing h index) same missed))
 
   -- ---- from an index on
 
@@ -91,11 +46,14 @@ module _ {E : Type 0} (answer : E → List ℕ → Option Captures) (texts : Tex
   refused-joined patterns from index end before after = λ k pattern le lt is. elim (cases_lt k index) [ inl earlier ↦ before k pattern le earlier is | inr later ↦ after k pattern later lt is ]
 
   -- one more pattern that does not match
-  pub refused-more : (patterns : List (UrlPattern E)) (from index : ℕ) (last : UrlPattern E) → slice_get patterns index ≡ Some last
-      → AreRefusedBetween answer (patterns_view patterns) texts from index → IsRefused answer (pattern_view last) texts → AreRefusedBetween answer (patterns_view patterns) texts from (index + 1)
-  refused-more patterns from index last is_last before refused =
-      refused-joined (patterns_view patterns) from index (index + 1) before
-      (passed-views patterns index (index + 1) (passed-more patterns index index last is_last (λ k pattern le lt is. absurd (omega arith)) refused))
+  refused-more : (patterns : List (PatternView E)) (from index : ℕ) (last : PatternView E) → slice_get patterns index ≡ Some last
+      → AreRefusedBetween answer patterns texts from index → IsRefused answer last texts → AreRefusedBetween answer patterns texts from (index + 1)
+  refused-more patterns from index last is_last before refused = λ k pattern le lt is. elim (cases_lt k index) [
+    | inl earlier ↦ before k pattern le earlier is
+    | inr later ↦
+        let same : k ≡ index = omega arith in
+        subst (λ (p : PatternView E). IsRefused answer p texts) (same_Some last pattern (sym is_last ∙ ap (slice_get patterns) (sym same) ∙ is)) refused
+  ]
 
   -- what is found from an index on is so from an earlier one on, where the patterns between them do not match
   pub first-earlier : (patterns : List (PatternView E)) (from index : ℕ) (found : Option FirstView) → from ≤ index → AreRefusedBetween answer patterns texts from index
@@ -112,23 +70,18 @@ module _ {E : Type 0} (answer : E → List ℕ → Option Captures) (texts : Tex
 
   -- the pattern at an index is asked next, or none
   abbrev pub IsNext : List (UrlPattern E) → (from : ℕ) → Option ℕ → Type 0
-  IsNext patterns from (Some index) = (index < length patterns) × (from ≤ index) × AreRefusedBetween answer (patterns_view patterns) texts from index
-  IsNext patterns from None = AreRefusedBetween answer (patterns_view patterns) texts from (length (patterns_view patterns))
+  IsNext patterns from found =
+      IfSome found (λ index. (from ≤ index) × (index < length patterns))
+      × AreRefusedBetween answer (patterns_view patterns) texts from (unwrap_or found (length (patterns_view patterns)))
 
   -- the next one after a pattern that does not match
-  pub next-found : (patterns : List (UrlPattern E)) (listing : Listing) (are : AreIndexed answer patterns listing) (hashes : Hashes) (same : hashes ≡ hashes_of (address_of texts)) (start index : ℕ) (last : UrlPattern E)
-      → slice_get patterns index ≡ Some last → IsRefused answer (pattern_view last) texts → IsNext patterns start (Some index)
-      → (found : Option ℕ) → IsLeast (λ number. (index + 1 ≤ number) × Finds listing hashes number) found → IsNext patterns start found
-  next-found patterns listing are hashes same start index last is_last refused (within, later, before) (Some next) least =
-      let after = before-found patterns listing are hashes same (index + 1) next least in
-      let is_later : index + 1 ≤ next = least.0.0 in (
-        found_within answer patterns listing are hashes next least.0.1,
-        omega arith,
-        refused-joined (patterns_view patterns) start (index + 1) next (refused-more patterns start index last is_last before refused) after,
-      )
-  next-found patterns listing are hashes same start index last is_last refused (within, later, before) None none =
-      refused-joined (patterns_view patterns) start (index + 1) (length (patterns_view patterns)) (refused-more patterns start index last is_last before refused)
-      (none-found patterns listing are hashes same (index + 1) none)
+  pub next-found : (patterns : List (UrlPattern E)) (start index : ℕ) (last : PatternView E) → start ≤ index → slice_get (patterns_view patterns) index ≡ Some last
+      → AreRefusedBetween answer (patterns_view patterns) texts start index → IsRefused answer last texts → (found : Option ℕ) → IsNext patterns (index + 1) found → IsNext patterns start found
+  next-found patterns start index last le is_last before refused found (inside, after) = (
+    IfSome_then found inside (λ next is. let later : index + 1 ≤ next = is.0 in (omega arith, is.1)),
+    refused-joined (patterns_view patterns) start (index + 1) (unwrap_or found (length (patterns_view patterns)))
+        (refused-more (patterns_view patterns) start index last is_last before refused) after,
+  )
 
   -- ---- from the first pattern on
 
@@ -150,6 +103,6 @@ abbrev pub left : (count : ℕ) → Option ℕ → ℕ
 left count (Some index) = count - index
 left count None = 0
 
-pub less-left : (count index : ℕ) (Q : ℕ → Type 0) (found : Option ℕ) → index < count → IsLeast (λ number. (index + 1 ≤ number) × Q number) found → left count found < left count (Some index)
-less-left count index Q (Some next) within least = let later : index + 1 ≤ next = least.0.0 in omega arith
-less-left count index Q None within none = omega arith
+pub less-left : (count index : ℕ) (found : Option ℕ) → index < count → IfSome found (λ next. (index + 1 ≤ next) × (next < count)) → left count found < left count (Some index)
+less-left count index (Some next) within later = let after : index + 1 ≤ next = later.0 in omega arith
+less-left count index None within none = omega arith

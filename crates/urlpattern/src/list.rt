@@ -244,7 +244,7 @@ impl<R: RegExp> UrlPatternList<R> {
         // Most of a URL's texts are made only where a pattern is asked.
         let mut hashes = AddressHashes::new();
         hashes.fill(url_address(url));
-        match self.index.first_from(&hashes, 0) {
+        match self.next_asked(&hashes, 0) {
             Some(index) => self.listed_captures(alloc, url, &hashes, index),
             None => Ok(None),
         }

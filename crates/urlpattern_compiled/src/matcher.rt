@@ -87,12 +87,6 @@ impl Matcher {
         ensures tree { IfOk result (λ tree. view tree ≡ matcher_tree (plain_matcher_view self.now)) }
         ensures memory { OnlyOutOfMemory result }
     {
-        Ok(self.tree(alloc)?)
-    }
-
-    pub(crate) fn tree(&self, alloc: Global) -> Result<Value, AllocError>
-        ensures { IfOk result (λ tree. view tree ≡ matcher_tree (plain_matcher_view self.now)) }
-    {
         let mut members = Map::new(alloc);
         put_text(&mut members, alloc, "prefix", &self.prefix)?;
         put_text(&mut members, alloc, "suffix", &self.suffix)?;

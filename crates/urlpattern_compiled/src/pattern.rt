@@ -101,12 +101,6 @@ impl UrlPattern {
         ensures tree { IfOk result (λ tree. view tree ≡ pattern_tree (plain_pattern_view self.now)) }
         ensures memory { OnlyOutOfMemory result }
     {
-        Ok(self.tree(alloc)?)
-    }
-
-    fn tree(&self, alloc: Global) -> Result<Value, AllocError>
-        ensures { IfOk result (λ tree. view tree ≡ pattern_tree (plain_pattern_view self.now)) }
-    {
         let mut members = Map::new(alloc);
         for name in ComponentName::all() {
             put_component(&mut members, alloc, name.as_str(), self.get(name))?;
@@ -191,16 +185,11 @@ impl UrlPatternComponent {
         ensures tree { IfOk result (λ tree. view tree ≡ component_tree (plain_component_view self.now)) }
         ensures memory { OnlyOutOfMemory result }
     {
-        Ok(self.tree(alloc)?)
-    }
-
-    fn tree(&self, alloc: Global) -> Result<Value, AllocError>
-        ensures { IfOk result (λ tree. view tree ≡ component_tree (plain_component_view self.now)) }
-    {
         let mut members = Map::new(alloc);
         put_text(&mut members, alloc, "patternString", &self.pattern_string)?;
         put_text(&mut members, alloc, "regexpString", &self.regexp_string)?;
-        serde_json::put(&mut members, alloc, "matcher", self.matcher.tree(alloc)?)?;
+        let matcher = self.matcher.to_json_value(alloc)?;
+        serde_json::put(&mut members, alloc, "matcher", matcher)?;
         let names = texts_value(alloc, &self.group_name_list)?;
         serde_json::put(&mut members, alloc, "groupNameList", names)?;
         Ok(Value::Object(members))
@@ -236,10 +225,12 @@ fn put_component(
     alloc: Global,
     name: &str,
     component: &UrlPatternComponent,
-) -> Result<(), AllocError>
-    ensures { OnOk result (Gain members.old.entries members.new.entries name.now (Some (component_tree (plain_component_view component.now)))) }
+) -> Result<(), Error>
+    ensures put { OnOk result (Gain members.old.entries members.new.entries name.now (Some (component_tree (plain_component_view component.now)))) }
+    ensures memory { OnlyOutOfMemory result }
 {
-    serde_json::put(members, alloc, name, component.tree(alloc)?)
+    let tree = component.to_json_value(alloc)?;
+    Ok(serde_json::put(members, alloc, name, tree)?)
 }
 
 /// The component of a member.

@@ -1,10 +1,11 @@
 //! The first match of eight texts, by the index of a list.
-ghost use Rattle.std.specs.Prelude.{◌≡◌, ◌<◌, length, IfErr, IfOk};
+ghost use Rattle.std.specs.Prelude.{◌≡◌, ◌<◌, ◌≤◌, length, unwrap_or, IfErr, IfOk, IfSome};
+ghost use Rattle.urlpattern_eight.specs.Eight.{Texts};
 ghost use Rattle.urlpattern_matches.specs.GroupTexts.{borrowed_texts};
 ghost use Rattle.urlpattern.specs.FirstMatch.{first_view, patterns_view, AsksBeforeMatch, CopiesFirstMatch, HasGroupsInOrder, IsFirstCaptured, IsFirstMatchOf};
 ghost use Rattle.urlpattern.specs.PatternKeys.{address_of};
 ghost use Rattle.urlpattern_index.specs.Keys.{hashes_of, hashes_view};
-ghost use Rattle.urlpattern.specs.NextMatch.{AsksBeforeMatchFrom, IsFirstCapturedFrom};
+ghost use Rattle.urlpattern.specs.NextMatch.{AreRefusedBetween, AsksBeforeMatchFrom, IsFirstCapturedFrom};
 ghost use Rattle.urlpattern_syntax.specs.Errors.{OnlyOutOfMemory};
 
 use super::UrlPatternList;
@@ -70,7 +71,7 @@ impl<R: RegExp> UrlPatternList<R> {
             hostname: texts.hostname,
             pathname: texts.pathname,
         });
-        match self.index.first_from(&hashes, from) {
+        match self.next_asked(&hashes, from) {
             Some(index) => self.first_listed(alloc, texts, &hashes, index),
             None => Ok(None),
         }
@@ -98,8 +99,19 @@ impl<R: RegExp> UrlPatternList<R> {
             if let Some(captures) = captures_of_texts(alloc, pattern, texts)? {
                 return Ok(Some((index, captures)));
             }
-            found = self.index.first_from(hashes, index + 1);
+            found = self.next_asked(hashes, index + 1);
         }
         Ok(None)
+    }
+
+    /// The first pattern, from an index on, that may match texts with these hashes. `None`: no pattern from there on matches such
+    /// texts.
+    #[inline(always)]
+    pub(super) fn next_asked(&self, hashes: &AddressHashes, from: usize) -> Option<usize>
+        ensures within { IfSome result (λ index. (from ≤ index) × (index < length self.now)) }
+        ensures passed { (texts : Texts) → hashes_view hashes.now ≡ hashes_of (address_of texts)
+            → AreRefusedBetween R.answer (patterns_view self.now) texts from (unwrap_or result (length (patterns_view self.now))) }
+    {
+        self.index.first_from(hashes, from)
     }
 }

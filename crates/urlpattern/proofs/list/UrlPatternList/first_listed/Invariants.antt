@@ -4,7 +4,7 @@ use Rattle.urlpattern.proofs.NextLemmas.{IsNext, left}
 use Rattle.urlpattern.proofs.list.UrlPatternList.first_listed.Given as goal
 
 abbrev pub invariant-loop-found : goal.invariant-loop-found
-invariant-loop-found g l = IsNext g.R.RegExp.answer (borrowed_texts l.texts) l.self-inside.patterns.items l.fn.index l.found
+invariant-loop-found g l = IsNext g.R.RegExp.answer (borrowed_texts l.texts) l.fn.self l.fn.index l.found
 
 abbrev pub decreases-loop-found : goal.decreases-loop-found
-decreases-loop-found g l = left (length l.self-inside.patterns.items) l.found
+decreases-loop-found g l = left (length l.fn.self) l.found
