@@ -29,11 +29,6 @@ copied_memory view bytes (Err error) is same =
 
 -- an error that is seen as this is this
 pub out_of_memory : (error : Error) → error_view error ≡ views.OutOfMemory → error ≡ errors.OutOfMemory
-out_of_memory errors.BaseUrlRequired is = absurd (cc)
-out_of_memory errors.BaseUrlWithInit is = absurd (cc)
-out_of_memory (errors.Tokenizer fault place) is = absurd (cc)
-out_of_memory (errors.Parser (parser_errors.ExpectedToken expected found value)) is = absurd (cc)
-out_of_memory (errors.Parser (parser_errors.DuplicateName name)) is = absurd (cc)
-out_of_memory (errors.Url reason) is = absurd (cc)
-out_of_memory (errors.RegExp unit) is = absurd (cc)
 out_of_memory errors.OutOfMemory is = refl
+out_of_memory (errors.Parser (parser_errors.ExpectedToken expected found value)) is = absurd (cc)
+out_of_memory error is = absurd (cc)

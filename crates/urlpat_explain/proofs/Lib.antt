@@ -1,4 +1,3 @@
-pub mod ExplanationLemmas
 pub mod JsonLemmas
 pub mod NoteLemmas
 pub mod PlaceLemmas

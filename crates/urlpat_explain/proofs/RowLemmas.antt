@@ -1,6 +1,6 @@
 -- Lemmas on the lines for components.
-use Rattle.std.proofs.Common.{◌≡◌, ◌<◌, ◌+◌, ◌⊎◌, ◌∙◌, ℕ, List, [], ◌∷◌, ◌++◌, ap, ap₂, append_assoc, append-nil, arith, codes, encode_utf8_all, get_or, inl, inr, length, map, refl, subst, suc, sym, take, zip}
-use Rattle.std.proofs.Math.Seq.{take-suc}
+use Rattle.std.proofs.Common.{◌≡◌, ◌<◌, ◌+◌, ◌⊎◌, ◌∙◌, ℕ, List, [], ◌∷◌, ◌++◌, ap, ap₂, append_assoc, append-nil, codes, encode_utf8_all, get_or, inl, inr, length, map, refl, subst, sym, take, zip}
+use Rattle.std.proofs.lemmas.List.{take_more}
 use Rattle.std.proofs.lemmas.Str.{encodes-chars}
 use Rattle.std.specs.Borrow.{Bor}
 use Rattle.std.specs.List.{flat_map}
@@ -31,9 +31,7 @@ pub pieces-more : (IsPiece : ComponentName → List ℕ → Type 0) (names : Lis
     → HasPieceForEach IsPiece (take n names) text → next ≡ text ++ piece → IsPiece (get_or names n Protocol) piece → HasPieceForEach IsPiece (take (n + 1) names) next
 pieces-more IsPiece names n text next piece within are goes is =
     let name = get_or names n Protocol in
-    let more : n + 1 ≡ suc n = omega arith in
-    let taken : take (n + 1) names ≡ take n names ++ name ∷ [] = ap (λ count. take count names) more ∙ take-suc names n Protocol within in
-    subst (λ (ns : List ComponentName). HasPieceForEach IsPiece ns next) (sym taken)
+    subst (λ (ns : List ComponentName). HasPieceForEach IsPiece ns next) (sym (take_more names n Protocol within))
     (subst (λ (t : List ℕ). HasPieceForEach IsPiece (take n names ++ name ∷ []) t) (sym goes) (pieces-last IsPiece (take n names) name text piece are is))
 
 joined : (old name pattern text verdict end : List ℕ) → ((((old ++ name) ++ pattern) ++ text) ++ verdict) ++ end ≡ old ++ ((((name ++ pattern) ++ text) ++ verdict) ++ end)

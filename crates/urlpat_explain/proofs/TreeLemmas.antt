@@ -1,6 +1,7 @@
 -- Lemmas on the members of objects.
-use Rattle.std.proofs.Common.{◌≡◌, ◌⊎◌, ◌∙◌, ℕ, List, [], ◌∷◌, ◌++◌, ap, ap₂, inl, inr, map, refl, sym, zip}
+use Rattle.std.proofs.Common.{◌≡◌, ◌<◌, ◌+◌, ◌⊎◌, ◌∙◌, ℕ, List, [], ◌∷◌, ◌++◌, ap, ap₂, get_or, inl, inr, length, map, refl, subst, sym, take, zip}
 use Rattle.std.specs.Borrow.{Bor}
+use Rattle.std.proofs.lemmas.List.{take_more}
 use Rattle.std.proofs.lemmas.Str.{encodes-chars}
 use Rattle.std.specs.Prelude.{Option, Some, String, string_bytes}
 use Rattle.std.specs.Str.{IsUtf8}
@@ -8,7 +9,12 @@ use Rattle.std.specs.declared.alloc.Global.{Global}
 use Rattle.serde_json.specs.Data.{Data, Members, no_members, object, put, string}
 use Rattle.urlpat_explain.specs.Json.{Named, capture_tree, groups_named}
 use Rattle.urlpat_matching.proofs.MatchLemmas.{bytes_of_text}
-use Rattle.urlpattern_inputs.specs.Trees.{all_with, object_of, with}
+use Rattle.urlpattern_eight.proofs.EightLemmas.{by_name}
+use Rattle.urlpattern_eight.specs.Eight.{at, components, name_text}
+use Rattle.urlpattern_eight.specs.declared.eight.ComponentName.{ComponentName}
+use Rattle.urlpattern_eight.specs.declared.eight.ComponentName.TheVariants.{Protocol}
+use Rattle.urlpattern_eight.specs.declared.eight.Eight.{Eight}
+use Rattle.urlpattern_inputs.specs.Trees.{all_with, each_member, object_of, with}
 use Rattle.urlpattern_matches.specs.GroupTexts.{texts_of}
 use Rattle.urlpattern_syntax.specs.Text.{option_text, text_of}
 
@@ -46,3 +52,31 @@ capture-some capture text is utf8 =
 -- members that are put after those of a new object
 pub object-of : (listed : Members) (first second : Named) → listed ≡ all_with (all_with no_members first) second → object listed ≡ object_of (first ++ second)
 object-of listed first second is = ap object (is ∙ sym (all_with-append no_members first second))
+
+-- ---- trees of components
+
+-- members get, at the name of each component, a tree of which this holds
+abbrev pub HasTrees : (Is : ComponentName → Data → Type 0) → List ComponentName → (before after : Members) → Type 0
+HasTrees Is [] before after = after ≡ before
+HasTrees Is (name ∷ names) before after = (tree : Data) × Is name tree × HasTrees Is names (put (name_text name) tree before) after
+
+trees-last : (Is : ComponentName → Data → Type 0) (names : List ComponentName) (name : ComponentName) (tree : Data) (before mid after : Members)
+    → HasTrees Is names before mid → Is name tree → after ≡ put (name_text name) tree mid → HasTrees Is (names ++ name ∷ []) before after
+trees-last Is [] name tree before mid after none is gain = (tree, is, gain ∙ ap (put (name_text name) tree) none)
+trees-last Is (first ∷ names) name tree before mid after (own, is_own, rest) is gain =
+    (own, is_own, trees-last Is names name tree (put (name_text first) own before) mid after rest is gain)
+
+-- the tree of the next component is put after those of the components before it
+pub trees-more : (Is : ComponentName → Data → Type 0) (names : List ComponentName) (n : ℕ) (before mid after : Members) → n < length names
+    → HasTrees Is (take n names) before mid → ((tree : Data) × Is (get_or names n Protocol) tree × (after ≡ put (name_text (get_or names n Protocol)) tree mid))
+    → HasTrees Is (take (n + 1) names) before after
+trees-more Is names n before mid after within are (tree, is, gain) =
+    subst (λ (ns : List ComponentName). HasTrees Is ns before after) (sym (take_more names n Protocol within))
+    (trees-last Is (take n names) (get_or names n Protocol) tree before mid after are is gain)
+
+-- so there is a tree for each component
+pub trees-all : (Is : ComponentName → Data → Type 0) (before after : Members) → HasTrees Is components before after
+    → (trees : Eight Data) × ((name : ComponentName) → Is name (at trees name)) × (after ≡ all_with before (each_member (λ name. Some (at trees name))))
+trees-all Is before after (a, is-a, (b, is-b, (c, is-c, (d, is-d, (e, is-e, (f, is-f, (g, is-g, (h, is-h, gain)))))))) =
+    let trees : Eight Data = record { protocol = a; username = b; password = c; hostname = d; port = e; pathname = f; search = g; hash = h } in
+    (trees, by_name (λ name. Is name (at trees name)) is-a is-b is-c is-d is-e is-f is-g is-h, gain)

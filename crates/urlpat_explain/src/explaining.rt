@@ -3,7 +3,7 @@
 ghost use Rattle.std.specs.Prelude.{◌≡◌, ◌≢◌, ◌⊎◌, length, option_copied, string_bytes, IfNone, IfOk, IfSome};
 ghost use Rattle.urlpat_matching.specs.Status.{status_of};
 ghost use Rattle.urlpat_explain.specs.Explained.{explained_view, lent_texts};
-ghost use Rattle.urlpat_explain.specs.Explanations.{AskToExplain, Explains, IsExplained, IsExplanation, IsExplanationBy, IsExplanationOf, IsShown, IsTable, asked_view};
+ghost use Rattle.urlpat_explain.specs.Explanations.{AskToExplain, Explains, IsExplained, IsExplanation, IsExplanationOf, IsShown, IsTable, asked_view};
 ghost use Rattle.urlpat_words.specs.Words.{words_view};
 ghost use Rattle.urlpattern_pattern.specs.Patterns.{pattern_view};
 
@@ -123,30 +123,13 @@ fn explanation_for(alloc: Global, asked: Asked<'_>, flags: Flags) -> Result<Expl
     ensures status { IfOk result (λ found. (found.status ≡ DONE) ⊎ (found.status ≡ NO_MATCH)) }
 {
     let pattern = compiled(alloc, asked.string, asked.base, flags.ignore_case)?;
-    let found = explanation_by(alloc, asked, flags.json, &pattern);
-    drop(pattern);
-    found
-}
-
-/// The same with the pattern that is compiled.
-///
-/// The error is why the constructor string or its base is refused, or that memory ran out.
-fn explanation_by(
-    alloc: Global,
-    asked: Asked<'_>,
-    json: bool,
-    pattern: &UrlPattern<PatternRegexp>,
-) -> Result<Explanation, Error>
-    ensures text { IfOk result (IsExplanationBy json (pattern_view pattern.now) (asked_view asked.entry)) }
-    ensures status { IfOk result (λ found. (found.status ≡ DONE) ⊎ (found.status ≡ NO_MATCH)) }
-{
     let init = init_of_text::<PatternRegexp>(alloc, asked.string, asked.base)?;
-    let found = explanation_of(alloc, asked, json, pattern, &init);
+    let found = explanation_of(alloc, asked, flags.json, &pattern, &init);
     drop(init);
     found
 }
 
-/// The same with the init of the constructor string.
+/// The same with the pattern that is compiled, and the init of the constructor string.
 ///
 /// The error is that memory ran out.
 fn explanation_of(

@@ -43,44 +43,9 @@ fn explanation_tree(
     ensures { IfOk result (λ tree. IsExplanationTree (explained_view explained.now) (lent_texts texts.entry) (view tree)) }
 {
     let mut members = Map::new(alloc);
-    put_component(
-        &mut members,
-        alloc,
-        explained,
-        texts,
-        ComponentName::Protocol,
-    )?;
-    put_component(
-        &mut members,
-        alloc,
-        explained,
-        texts,
-        ComponentName::Username,
-    )?;
-    put_component(
-        &mut members,
-        alloc,
-        explained,
-        texts,
-        ComponentName::Password,
-    )?;
-    put_component(
-        &mut members,
-        alloc,
-        explained,
-        texts,
-        ComponentName::Hostname,
-    )?;
-    put_component(&mut members, alloc, explained, texts, ComponentName::Port)?;
-    put_component(
-        &mut members,
-        alloc,
-        explained,
-        texts,
-        ComponentName::Pathname,
-    )?;
-    put_component(&mut members, alloc, explained, texts, ComponentName::Search)?;
-    put_component(&mut members, alloc, explained, texts, ComponentName::Hash)?;
+    for name in ComponentName::all() {
+        put_component(&mut members, alloc, explained, texts, name)?;
+    }
     Ok(Value::Object(members))
 }
 

@@ -5,7 +5,7 @@ use Rattle.std.specs.Ordering.{match_ordering, nat_cmp}
 use Rattle.std.specs.Prelude.{◌&&◌, ◌||◌, if◌then◌else◌, IfOk, Result, Ok, Err, String, string_bytes}
 use Rattle.std.specs.declared.alloc.AllocError.{AllocError}
 use Rattle.std.specs.declared.alloc.Global.{Global}
-use Rattle.serde_json.specs.Data.{Data, null, boolean, number, string, array, object, Members, no_members, member, put}
+use Rattle.serde_json.specs.Data.{Data, null, boolean, string, object, Members, no_members, member, put}
 use Rattle.serde_json.specs.Written.{has_float, members_have_float}
 use Rattle.urlpat_matching.specs.MatchJson.{IsMatchTree, json_line}
 use Rattle.urlpattern_eight.specs.Eight.{at, components, name_text}
@@ -47,10 +47,8 @@ each-none trees none (name ∷ names) listed before =
 capture-none : (tree : Data) → is_some (captured_read tree) ≡ true → has_float tree ≡ false
 capture-none null is = refl
 capture-none (boolean b) is = refl
-capture-none (number n) is = absurd cc
 capture-none (string s) is = refl
-capture-none (array items) is = absurd cc
-capture-none (object listed) is = absurd cc
+capture-none tree is = absurd cc
 
 both : (a b : Bool) → (a && b) ≡ true → (a ≡ true) × (b ≡ true)
 both true b are = (refl, are)
@@ -68,12 +66,8 @@ are_read false found group is = absurd cc
 
 groups-none : (tree : Data) (group : GroupsByName) → groups_read tree ≡ Some group → has_float tree ≡ false
 unfolding groups_read
-groups-none null group is = absurd cc
-groups-none (boolean b) group is = absurd cc
-groups-none (number n) group is = absurd cc
-groups-none (string s) group is = absurd cc
-groups-none (array items) group is = absurd cc
 groups-none (object listed) group is = captures-none listed (are_read (are_captures listed) (group_member listed) group is)
+groups-none tree group is = absurd cc
 
 component-none : (result : PlainResultView) (tree : Data) → IsComponentTree result tree → has_float tree ≡ false
 component-none result tree (groups, are, is) =

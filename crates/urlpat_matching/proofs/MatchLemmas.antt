@@ -1,7 +1,6 @@
 -- Lemmas on the texts of words and on matches.
-use Rattle.std.proofs.Common.{◌≡◌, ℕ, ◌<◌, ◌≤◌, get_or, Bool, false, List, [], ◌∷◌, ◌++◌, map, length, drop, take, suc, ◌+◌, refl, ap, ap₂, ◌∙◌, sym, subst, arith, append_assoc, append-nil}
-use Rattle.std.proofs.Math.Seq.{take-suc}
-use Rattle.std.proofs.lemmas.List.{map-append}
+use Rattle.std.proofs.Common.{◌≡◌, ℕ, ◌<◌, ◌≤◌, get_or, Bool, false, List, [], ◌∷◌, ◌++◌, map, length, drop, take, ◌+◌, refl, ap, ap₂, ◌∙◌, sym, subst, arith, append_assoc, append-nil}
+use Rattle.std.proofs.lemmas.List.{map-append, take_more}
 use Rattle.std.proofs.lemmas.Str.{encodes-chars, IsUtf8-string_bytes}
 use Rattle.std.specs.Prelude.{MatchOption, Option, None, Some, String, string_bytes, encode_utf8_all}
 use Rattle.std.specs.declared.alloc.Global.{Global}
@@ -41,10 +40,8 @@ pub lines-next : (found : ComponentName → ResultView) (names : List ComponentN
     → AreLines (named_results found (take (n + 1) names)) (lines ++ more)
 lines-next found names n lines more within are own =
     let name = get_or names n Protocol in
-    let next : n + 1 ≡ suc n = omega arith in
-    let taken : take (n + 1) names ≡ take n names ++ name ∷ [] = ap (λ count. take count names) next ∙ take-suc names n Protocol within in
     subst (λ components. AreLines components (lines ++ more))
-    (sym (ap (named_results found) taken ∙ map-append (λ other. (name_text other, found other)) (take n names) (name ∷ [])))
+    (sym (ap (named_results found) (take_more names n Protocol within) ∙ map-append (λ other. (name_text other, found other)) (take n names) (name ∷ [])))
     (lines-behind (named_results found (take n names)) (name_text name, found name) lines more are own)
 
 -- the bytes of a string are those of its characters

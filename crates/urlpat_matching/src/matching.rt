@@ -159,13 +159,15 @@ fn push_groups(
 ) -> Result<(), AllocError>
     ensures { OnOk result (GetsLines (AreGroupLines (name_text name) (pattern_captures_view found.now name)) text.old text.new) }
 {
-    match only_group(found, name) {
-        Some(group) => {
-            push_group(text, name.as_str(), group, capture_of(found, name, group))?;
-            Ok(())
-        }
-        None => push_sorted_groups(alloc, text, found, name),
+    if let Some(group) = only_group(found, name) {
+        push_group(text, name.as_str(), group, capture_of(found, name, group))?;
+        return Ok(());
     }
+    let groups = sorted_names(alloc, found, name)?;
+    for group in &groups {
+        push_group(text, name.as_str(), group, capture_of(found, name, group))?;
+    }
+    Ok(())
 }
 
 /// The name of the group of a component that has one alone.
@@ -178,22 +180,6 @@ fn only_group<'p>(found: &UrlPatternCaptures<'p, '_>, name: ComponentName) -> Op
         Some(_) => None,
         None => Some(group),
     }
-}
-
-/// Appends a line for each group of a component, in the order of the bytes of their names, which are sorted.
-fn push_sorted_groups(
-    alloc: Global,
-    text: &mut String,
-    found: &UrlPatternCaptures<'_, '_>,
-    name: ComponentName,
-) -> Result<(), AllocError>
-    ensures { OnOk result (GetsLines (AreGroupLines (name_text name) (pattern_captures_view found.now name)) text.old text.new) }
-{
-    let groups = sorted_names(alloc, found, name)?;
-    for group in &groups {
-        push_group(text, name.as_str(), group, capture_of(found, name, group))?;
-    }
-    Ok(())
 }
 
 /// The names of the groups of a component, each once, in the order of their bytes.

@@ -1,5 +1,5 @@
 -- Lemmas on the patterns of a table, and on the rows that are printed of it.
-use Rattle.std.proofs.Common.{◌≡◌, ◌<◌, ◌+◌, ◌∙◌, ℕ, Bool, false, All, List, [], ◌∷◌, ◌++◌, ap, append_assoc, append-nil, arith, codes, decimal, get_or, length, refl, subst, sym, take}
+use Rattle.std.proofs.Common.{◌≡◌, ◌<◌, ◌+◌, ◌∙◌, ℕ, Bool, false, List, [], ◌∷◌, ◌++◌, ap, append_assoc, append-nil, arith, codes, decimal, get_or, length, refl, subst, sym, take}
 use Rattle.std.proofs.lemmas.Grind.{flat_map-append, take_at_read}
 use Rattle.std.proofs.lemmas.List.{map-append}
 use Rattle.std.proofs.lemmas.List.Elements.{All-push}

@@ -29,22 +29,9 @@ pub fn push_route(
 ) -> Result<(), AllocError>
     ensures { OnOk result (GetsPiece (IsRowShown json (entry_view entry.now) (pattern_captures_view found.now)) row.old.items row.new.items) }
 {
-    if json {
-        push_json(alloc, entry, found, row)
-    } else {
-        push_row(alloc, entry, found, row)
+    if !json {
+        return push_row(alloc, entry, found, row);
     }
-}
-
-/// Appends the row of an entry as JSON.
-fn push_json(
-    alloc: Global,
-    entry: &Entry<'_>,
-    found: &UrlPatternCaptures<'_, '_>,
-    row: &mut Vec<u8>,
-) -> Result<(), AllocError>
-    ensures { OnOk result (GetsPiece (IsRouteJson (entry_view entry.now) (pattern_captures_view found.now)) row.old.items row.new.items) }
-{
     let tree = route_tree(alloc, entry, match_tree(alloc, found)?)?;
     let line = json_line(alloc, &tree)?;
     row.extend_from_slice(line.as_bytes())?;

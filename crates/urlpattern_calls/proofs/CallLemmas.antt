@@ -25,24 +25,13 @@ use Rattle.urlpattern_syntax.specs.declared.error.Error.{Error}
 pub added : (old : List (UrlPattern PatternRegexp)) (text base : List ℕ) (ignores : Bool) (pattern : UrlPattern PatternRegexp) (new : List (UrlPattern PatternRegexp)) (status : Status)
     → IsPatternOfText pattern_engine (chars text) (given_base base) (c_options ignores) (pattern_view pattern) → IsPushed old pattern new status → IsAdded old text base ignores new status
 added old text base ignores pattern new statuses.Done is pushed = (pattern, is, pushed)
-added old text base ignores pattern new statuses.NoMatch is pushed = absurd pushed
-added old text base ignores pattern new statuses.NotUtf8 is pushed = absurd pushed
-added old text base ignores pattern new statuses.Refused is pushed = absurd pushed
 added old text base ignores pattern new statuses.OutOfMemory is pushed = pushed
-added old text base ignores pattern new statuses.NoPattern is pushed = absurd pushed
-added old text base ignores pattern new statuses.TooSmall is pushed = absurd pushed
-added old text base ignores pattern new statuses.Unknown is pushed = absurd pushed
+added old text base ignores pattern new status is pushed = absurd pushed
 
 -- an error is reported in one of two ways
 two_statuses : (error : ErrorView) → (error_status error ≡ statuses.OutOfMemory) ⊎ (error_status error ≡ statuses.Refused)
 two_statuses views.OutOfMemory = inl refl
-two_statuses views.BaseUrlRequired = inr refl
-two_statuses views.BaseUrlWithInit = inr refl
-two_statuses (views.Tokenizer fault place) = inr refl
-two_statuses (views.ExpectedToken expected found value) = inr refl
-two_statuses (views.DuplicateName name) = inr refl
-two_statuses (views.Url reason) = inr refl
-two_statuses views.RegExp = inr refl
+two_statuses error = inr refl
 
 -- what holds where memory ran out, and where there is a reason, holds of the status that is reported
 pub reported : (Holds : Status → Type 0) (Reason : ErrorView → Type 0) (error : Error) → Holds statuses.OutOfMemory → (Reason (error_view error) → Holds statuses.Refused)
@@ -64,36 +53,18 @@ refused old text base ignores error why =
 
 pub tested : (patterns : List (UrlPattern PatternRegexp)) (index : ℕ) (pattern : UrlPattern PatternRegexp) (text base : List ℕ) (status : Status)
     → slice_get patterns index ≡ Some pattern → IsUrlTested (pattern_view pattern) text base status → IsTested patterns index text base status
-tested patterns index pattern text base statuses.Done is answer = (pattern, is, answer)
-tested patterns index pattern text base statuses.NoMatch is answer = (pattern, is, answer)
-tested patterns index pattern text base statuses.NotUtf8 is answer = (pattern, is, answer)
-tested patterns index pattern text base statuses.Refused is answer = (pattern, is, answer)
-tested patterns index pattern text base statuses.OutOfMemory is answer = (pattern, is, answer)
 tested patterns index pattern text base statuses.NoPattern is answer = absurd answer
-tested patterns index pattern text base statuses.TooSmall is answer = (pattern, is, answer)
-tested patterns index pattern text base statuses.Unknown is answer = (pattern, is, answer)
+tested patterns index pattern text base status is answer = (pattern, is, answer)
 
 pub mismatched : (patterns : List (UrlPattern PatternRegexp)) (index : ℕ) (pattern : UrlPattern PatternRegexp) (text base : List ℕ) (number : ℕ) (status : Status)
     → slice_get patterns index ≡ Some pattern → IsUrlMismatched (pattern_view pattern) text base number status → IsMismatchReported patterns index text base number status
-mismatched patterns index pattern text base number statuses.Done is answer = (pattern, is, answer)
-mismatched patterns index pattern text base number statuses.NoMatch is answer = (pattern, is, answer)
-mismatched patterns index pattern text base number statuses.NotUtf8 is answer = (pattern, is, answer)
-mismatched patterns index pattern text base number statuses.Refused is answer = (pattern, is, answer)
-mismatched patterns index pattern text base number statuses.OutOfMemory is answer = (pattern, is, answer)
 mismatched patterns index pattern text base number statuses.NoPattern is answer = absurd answer.1
-mismatched patterns index pattern text base number statuses.TooSmall is answer = (pattern, is, answer)
-mismatched patterns index pattern text base number statuses.Unknown is answer = (pattern, is, answer)
+mismatched patterns index pattern text base number status is answer = (pattern, is, answer)
 
 pub executed : (patterns : List (UrlPattern PatternRegexp)) (index : ℕ) (pattern : UrlPattern PatternRegexp) (url base old new : List ℕ) (needed : ℕ) (status : Status)
     → slice_get patterns index ≡ Some pattern → IsUrlExecuted (pattern_view pattern) url base old new needed status → IsExecReported patterns index url base old new needed status
-executed patterns index pattern url base old new needed statuses.Done is answer = (pattern, is, answer)
-executed patterns index pattern url base old new needed statuses.NoMatch is answer = (pattern, is, answer)
-executed patterns index pattern url base old new needed statuses.NotUtf8 is answer = (pattern, is, answer)
-executed patterns index pattern url base old new needed statuses.Refused is answer = (pattern, is, answer)
-executed patterns index pattern url base old new needed statuses.OutOfMemory is answer = (pattern, is, answer)
 executed patterns index pattern url base old new needed statuses.NoPattern is answer = absurd answer.0
-executed patterns index pattern url base old new needed statuses.TooSmall is answer = (pattern, is, answer)
-executed patterns index pattern url base old new needed statuses.Unknown is answer = (pattern, is, answer)
+executed patterns index pattern url base old new needed status is answer = (pattern, is, answer)
 
 -- ---- texts that are written
 
@@ -101,46 +72,26 @@ pub component_written : (patterns : List (UrlPattern PatternRegexp)) (index comp
     → slice_get patterns index ≡ Some pattern → slice_get components component ≡ Some name → chars text ≡ (pattern_view pattern name).pattern_string
     → needed ≡ length text → IsWritten text old new status → IsComponentWritten patterns index component old new needed status
 component_written patterns index component pattern name text old new needed statuses.Done is named same counted written = (text, (pattern, name, is, named, same), counted, written)
-component_written patterns index component pattern name text old new needed statuses.NoMatch is named same counted written = absurd written
-component_written patterns index component pattern name text old new needed statuses.NotUtf8 is named same counted written = absurd written
-component_written patterns index component pattern name text old new needed statuses.Refused is named same counted written = absurd written
-component_written patterns index component pattern name text old new needed statuses.OutOfMemory is named same counted written = absurd written
-component_written patterns index component pattern name text old new needed statuses.NoPattern is named same counted written = absurd written
 component_written patterns index component pattern name text old new needed statuses.TooSmall is named same counted written = (text, (pattern, name, is, named, same), counted, written)
-component_written patterns index component pattern name text old new needed statuses.Unknown is named same counted written = absurd written
+component_written patterns index component pattern name text old new needed status is named same counted written = absurd written
 
 pub diagnosed : (text base : List ℕ) (ignores : Bool) (place : Place) (reason old new : List ℕ) (needed : ℕ) (status : Status)
     → IsDiagnosis (RefusesTextByOptions text base ignores) subject_number place reason → needed ≡ length reason → IsWritten reason old new status
     → IsDiagnosed text base ignores old new needed place status
 diagnosed text base ignores place reason old new needed statuses.Done is counted written = (reason, is, counted, written)
-diagnosed text base ignores place reason old new needed statuses.NoMatch is counted written = absurd written
-diagnosed text base ignores place reason old new needed statuses.NotUtf8 is counted written = absurd written
-diagnosed text base ignores place reason old new needed statuses.Refused is counted written = absurd written
-diagnosed text base ignores place reason old new needed statuses.OutOfMemory is counted written = absurd written
-diagnosed text base ignores place reason old new needed statuses.NoPattern is counted written = absurd written
 diagnosed text base ignores place reason old new needed statuses.TooSmall is counted written = (reason, is, counted, written)
-diagnosed text base ignores place reason old new needed statuses.Unknown is counted written = absurd written
+diagnosed text base ignores place reason old new needed status is counted written = absurd written
 
 pub init_diagnosed : (json : List ℕ) (ignores : Bool) (place : Place) (reason old new : List ℕ) (needed : ℕ) (status : Status)
     → IsDiagnosis (IsInitRefused json ignores) init_subject_number place reason → needed ≡ length reason → IsWritten reason old new status
     → IsInitDiagnosed json ignores old new needed place status
 init_diagnosed json ignores place reason old new needed statuses.Done is counted written = (reason, is, counted, written)
-init_diagnosed json ignores place reason old new needed statuses.NoMatch is counted written = absurd written
-init_diagnosed json ignores place reason old new needed statuses.NotUtf8 is counted written = absurd written
-init_diagnosed json ignores place reason old new needed statuses.Refused is counted written = absurd written
-init_diagnosed json ignores place reason old new needed statuses.OutOfMemory is counted written = absurd written
-init_diagnosed json ignores place reason old new needed statuses.NoPattern is counted written = absurd written
 init_diagnosed json ignores place reason old new needed statuses.TooSmall is counted written = (reason, is, counted, written)
-init_diagnosed json ignores place reason old new needed statuses.Unknown is counted written = absurd written
+init_diagnosed json ignores place reason old new needed status is counted written = absurd written
 
 pub group_named : (patterns : List (UrlPattern PatternRegexp)) (index component group : ℕ) (text old new : List ℕ) (needed : ℕ) (status : Status)
     → Some (chars text) ≡ group_name_at patterns index component group → needed ≡ length text → IsWritten text old new status
     → IsGroupNameWritten patterns index component group old new needed status
 group_named patterns index component group text old new needed statuses.Done is counted written = (text, is, counted, written)
-group_named patterns index component group text old new needed statuses.NoMatch is counted written = absurd written
-group_named patterns index component group text old new needed statuses.NotUtf8 is counted written = absurd written
-group_named patterns index component group text old new needed statuses.Refused is counted written = absurd written
-group_named patterns index component group text old new needed statuses.OutOfMemory is counted written = absurd written
-group_named patterns index component group text old new needed statuses.NoPattern is counted written = absurd written
 group_named patterns index component group text old new needed statuses.TooSmall is counted written = (text, is, counted, written)
-group_named patterns index component group text old new needed statuses.Unknown is counted written = absurd written
+group_named patterns index component group text old new needed status is counted written = absurd written

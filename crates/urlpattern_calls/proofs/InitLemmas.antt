@@ -1,11 +1,10 @@
 -- Lemmas on inits.
-use Rattle.std.proofs.Common.{◌≡◌, ℕ, Bool, List, refl, inl, inr}
-use Rattle.std.specs.Prelude.{None, Some}
+use Rattle.std.proofs.Common.{ℕ, Bool, List, refl, inl, inr}
 use Rattle.urlpattern.specs.Errors.{MemoryOr, error_view}
 use Rattle.urlpattern.specs.Patterns.{pattern_view}
 use Rattle.urlpattern_calls.proofs.CallLemmas.{reported}
 use Rattle.urlpattern_calls.specs.Calls.{c_options, error_status, IsPushed}
-use Rattle.urlpattern_calls.specs.Inits.{plain_init_of, IsInitAdded, IsInitOfJson, IsNoInit}
+use Rattle.urlpattern_calls.specs.Inits.{IsInitAdded, IsInitOfJson, IsNoInit}
 use Rattle.urlpattern_calls.specs.Kept.{PatternList}
 use Rattle.urlpattern_calls.specs.declared.status.Status.{Status}
 use Rattle.urlpattern_calls.specs.declared.status.Status.TheVariants as statuses
@@ -13,41 +12,23 @@ use Rattle.urlpattern_create.specs.Compiled.{IsPatternOfInit, RefusesInit}
 use Rattle.urlpattern_engine.specs.PatternRegexps.{pattern_engine}
 use Rattle.urlpattern_engine.specs.declared.pattern_regexp.PatternRegexp.{PatternRegexp}
 use Rattle.urlpattern_init.specs.declared.init.UrlPatternInit.{UrlPatternInit}
-use Rattle.urlpattern_inputs.specs.InputValues.{init_view}
-use Rattle.urlpattern_inputs.specs.declared.init.UrlPatternInit.{UrlPatternInit as PlainInit}
-use Rattle.urlpattern_inputs.specs.declared.input.StringOrInit.TheVariants as inputs
 use Rattle.urlpattern_pattern.specs.declared.pattern.UrlPattern.{UrlPattern}
-use Rattle.urlpattern_quirks.specs.Inputs.{RefusesInput}
 use Rattle.urlpattern_syntax.specs.declared.error.Error.{Error}
 
 pub init_added : (old : PatternList) (json : List ℕ) (ignores : Bool) (init : UrlPatternInit) (pattern : UrlPattern PatternRegexp) (new : PatternList) (status : Status)
     → IsInitOfJson json init → IsPatternOfInit pattern_engine init (c_options ignores) (pattern_view pattern) → IsPushed old pattern new status → IsInitAdded old json ignores new status
 init_added old json ignores init pattern new statuses.Done is compiled pushed = (init, pattern, is, compiled, pushed)
-init_added old json ignores init pattern new statuses.NoMatch is compiled pushed = absurd pushed
-init_added old json ignores init pattern new statuses.NotUtf8 is compiled pushed = absurd pushed
-init_added old json ignores init pattern new statuses.Refused is compiled pushed = absurd pushed
 init_added old json ignores init pattern new statuses.OutOfMemory is compiled pushed = pushed
-init_added old json ignores init pattern new statuses.NoPattern is compiled pushed = absurd pushed
-init_added old json ignores init pattern new statuses.TooSmall is compiled pushed = absurd pushed
-init_added old json ignores init pattern new statuses.Unknown is compiled pushed = absurd pushed
+init_added old json ignores init pattern new status is compiled pushed = absurd pushed
 
 -- where there is no init, the patterns are as they were
 pub no_init : (old : PatternList) (json : List ℕ) (ignores : Bool) (status : Status) → IsNoInit json status → IsInitAdded old json ignores old status
-no_init old json ignores statuses.Done none = absurd none
-no_init old json ignores statuses.NoMatch none = absurd none
 no_init old json ignores statuses.NotUtf8 none = (none, refl)
 no_init old json ignores statuses.Refused none = (inl none, refl)
 no_init old json ignores statuses.OutOfMemory none = refl
-no_init old json ignores statuses.NoPattern none = absurd none
-no_init old json ignores statuses.TooSmall none = absurd none
-no_init old json ignores statuses.Unknown none = absurd none
+no_init old json ignores status none = absurd none
 
 pub init_refused : (old : PatternList) (json : List ℕ) (ignores : Bool) (init : UrlPatternInit) (error : Error)
     → IsInitOfJson json init → MemoryOr (RefusesInit pattern_engine init (c_options ignores)) error → IsInitAdded old json ignores old (error_status (error_view error))
 init_refused old json ignores init error is why =
     reported (IsInitAdded old json ignores old) (RefusesInit pattern_engine init (c_options ignores)) error refl (λ reason. (inr (error_view error, (init, is, reason)), refl)) why
-
-pub base_refused : (json : List ℕ) (plain : PlainInit) (error : Error)
-    → plain_init_of json ≡ Some (init_view plain) → MemoryOr (RefusesInput (inputs.Init plain) None) error → IsNoInit json (error_status (error_view error))
-base_refused json plain error is why =
-    reported (IsNoInit json) (RefusesInput (inputs.Init plain) None) error tt (λ reason. inr (error_view error, (plain, is, reason))) why

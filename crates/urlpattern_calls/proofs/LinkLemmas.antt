@@ -19,30 +19,15 @@ module _ (pattern : PatternView PatternRegexp) (text : List ℕ) (given : List G
       → IsUrlLinked pattern text given old new needed status
   link_written url bytes statuses.Done is same counted written = (bytes, (url, is, same), counted, written)
   link_written url bytes statuses.TooSmall is same counted written = (bytes, inl (url, is, same), counted, written)
-  link_written url bytes statuses.Unknown is same counted written = absurd written
-  link_written url bytes statuses.NoMatch is same counted written = absurd written
-  link_written url bytes statuses.NotUtf8 is same counted written = absurd written
-  link_written url bytes statuses.Refused is same counted written = absurd written
-  link_written url bytes statuses.OutOfMemory is same counted written = absurd written
-  link_written url bytes statuses.NoPattern is same counted written = absurd written
+  link_written url bytes status is same counted written = absurd written
 
   pub reason_written : (reason : NoLink) (status : Status) → RefusesLinkOf pattern text given reason → IsReasonWritten reason old new needed status → IsUrlLinked pattern text given old new needed status
-  reason_written reason statuses.Done refused written = absurd written
   reason_written reason statuses.TooSmall refused (bytes, says, counted, written) = (bytes, inr (reason, refused, says), counted, written)
-  reason_written reason statuses.Unknown refused written = absurd written
-  reason_written reason statuses.NoMatch refused written = absurd written
-  reason_written reason statuses.NotUtf8 refused written = absurd written
   reason_written reason statuses.Refused refused (bytes, says, counted, written) = (bytes, (reason, refused, says), counted, written)
   reason_written reason statuses.OutOfMemory refused written = written
-  reason_written reason statuses.NoPattern refused written = absurd written
+  reason_written reason status refused written = absurd written
 
 pub linked : (patterns : PatternList) (index : ℕ) (pattern : UrlPattern PatternRegexp) (text : List ℕ) (given : List Given) (old new : List ℕ) (needed : ℕ) (status : Status)
     → slice_get patterns index ≡ Some pattern → IsUrlLinked (pattern_view pattern) text given old new needed status → IsLinkReported patterns index text given old new needed status
-linked patterns index pattern text given old new needed statuses.Done is answer = (pattern, is, answer)
-linked patterns index pattern text given old new needed statuses.NoMatch is answer = (pattern, is, answer)
-linked patterns index pattern text given old new needed statuses.NotUtf8 is answer = (pattern, is, answer)
-linked patterns index pattern text given old new needed statuses.Refused is answer = (pattern, is, answer)
-linked patterns index pattern text given old new needed statuses.OutOfMemory is answer = (pattern, is, answer)
 linked patterns index pattern text given old new needed statuses.NoPattern is answer = (inr answer.0, answer.1)
-linked patterns index pattern text given old new needed statuses.TooSmall is answer = (pattern, is, answer)
-linked patterns index pattern text given old new needed statuses.Unknown is answer = (pattern, is, answer)
+linked patterns index pattern text given old new needed status is answer = (pattern, is, answer)

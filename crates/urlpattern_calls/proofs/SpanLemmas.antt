@@ -89,34 +89,20 @@ component_more groups names i d within =
 pub url_captured : (pattern : PatternView PatternRegexp) (url base : List ℕ) (groups : List NumberedGroup) (old new : List ℕ) (old_spans new_spans : List Span) (needed : Sizes) (status : Status)
     → AreGroupsOf pattern url base groups → AreWritten groups old new old_spans new_spans needed status → AreUrlCaptures pattern url base old new old_spans new_spans needed status
 url_captured pattern url base groups old new old_spans new_spans needed statuses.Done are written = (groups, are, written)
-url_captured pattern url base groups old new old_spans new_spans needed statuses.NoMatch are written = absurd written
-url_captured pattern url base groups old new old_spans new_spans needed statuses.NotUtf8 are written = absurd written
-url_captured pattern url base groups old new old_spans new_spans needed statuses.Refused are written = absurd written
 url_captured pattern url base groups old new old_spans new_spans needed statuses.OutOfMemory are written = tt
-url_captured pattern url base groups old new old_spans new_spans needed statuses.NoPattern are written = absurd written
 url_captured pattern url base groups old new old_spans new_spans needed statuses.TooSmall are written = (groups, are, written)
-url_captured pattern url base groups old new old_spans new_spans needed statuses.Unknown are written = absurd written
+url_captured pattern url base groups old new old_spans new_spans needed status are written = absurd written
 
 pub captured : (patterns : PatternList) (index : ℕ) (pattern : UrlPattern PatternRegexp) (url base old new : List ℕ) (old_spans new_spans : List Span) (needed : Sizes) (status : Status)
     → slice_get patterns index ≡ Some pattern → AreUrlCaptures (pattern_view pattern) url base old new old_spans new_spans needed status
     → AreCapturesReported patterns index url base old new old_spans new_spans needed status
-captured patterns index pattern url base old new old_spans new_spans needed statuses.Done is answer = (pattern, is, answer)
-captured patterns index pattern url base old new old_spans new_spans needed statuses.NoMatch is answer = (pattern, is, answer)
-captured patterns index pattern url base old new old_spans new_spans needed statuses.NotUtf8 is answer = (pattern, is, answer)
-captured patterns index pattern url base old new old_spans new_spans needed statuses.Refused is answer = (pattern, is, answer)
-captured patterns index pattern url base old new old_spans new_spans needed statuses.OutOfMemory is answer = (pattern, is, answer)
 captured patterns index pattern url base old new old_spans new_spans needed statuses.NoPattern is answer = absurd answer.0
-captured patterns index pattern url base old new old_spans new_spans needed statuses.TooSmall is answer = (pattern, is, answer)
-captured patterns index pattern url base old new old_spans new_spans needed statuses.Unknown is answer = (pattern, is, answer)
+captured patterns index pattern url base old new old_spans new_spans needed status is answer = (pattern, is, answer)
 
 pub first_captured : (patterns : PatternList) (url base : List ℕ) (old_index index : ℕ) (groups : List NumberedGroup) (old new : List ℕ) (old_spans new_spans : List Span) (needed : Sizes) (status : Status)
     → AreFirstGroupsOf patterns url base index groups → AreWritten groups old new old_spans new_spans needed status
     → AreFirstCaptures patterns url base old_index index old new old_spans new_spans needed status
 first_captured patterns url base old_index index groups old new old_spans new_spans needed statuses.Done are written = (groups, are, written)
-first_captured patterns url base old_index index groups old new old_spans new_spans needed statuses.NoMatch are written = absurd written
-first_captured patterns url base old_index index groups old new old_spans new_spans needed statuses.NotUtf8 are written = absurd written
-first_captured patterns url base old_index index groups old new old_spans new_spans needed statuses.Refused are written = absurd written
 first_captured patterns url base old_index index groups old new old_spans new_spans needed statuses.OutOfMemory are written = tt
-first_captured patterns url base old_index index groups old new old_spans new_spans needed statuses.NoPattern are written = absurd written
 first_captured patterns url base old_index index groups old new old_spans new_spans needed statuses.TooSmall are written = (groups, are, written)
-first_captured patterns url base old_index index groups old new old_spans new_spans needed statuses.Unknown are written = absurd written
+first_captured patterns url base old_index index groups old new old_spans new_spans needed status are written = absurd written

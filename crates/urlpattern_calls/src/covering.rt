@@ -27,15 +27,9 @@ pub fn covers(
     };
     let asked_parts = match parts_of_text(alloc, asked, asked_base, ignore_case) {
         Ok(asked_parts) => asked_parts,
-        Err(status) => {
-            drop(parts);
-            return status;
-        }
+        Err(status) => return status,
     };
-    let status = compare(alloc, &parts, &asked_parts, component);
-    drop(parts);
-    drop(asked_parts);
-    status
+    compare(alloc, &parts, &asked_parts, component)
 }
 
 /// The same of inits that JSON gives.
@@ -55,15 +49,9 @@ pub fn covers_init(
     };
     let asked_parts = match parts_of_json(alloc, asked, ignore_case) {
         Ok(asked_parts) => asked_parts,
-        Err(status) => {
-            drop(parts);
-            return status;
-        }
+        Err(status) => return status,
     };
-    let status = compare(alloc, &parts, &asked_parts, component);
-    drop(parts);
-    drop(asked_parts);
-    status
+    compare(alloc, &parts, &asked_parts, component)
 }
 
 /// Whether a pattern with these parts covers one with the asked ones.

@@ -1,2 +1,3 @@
 pub mod SameMatchers
 pub mod MatchingLemmas
+pub mod Copies

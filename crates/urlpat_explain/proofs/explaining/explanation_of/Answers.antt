@@ -1,4 +1,4 @@
-use Rattle.urlpat_explain.proofs.ExplanationLemmas.{if_ok}
+use Rattle.std.proofs.lemmas.Result.{IfOk-weaker}
 use Rattle.urlpat_explain.specs.Explanations.{IsExplained, IsExplanationOf, asked_view}
 use Rattle.urlpattern_init.specs.Inheritance.{values_view}
 use Rattle.urlpattern_pattern.specs.Patterns.{pattern_view}
@@ -10,7 +10,7 @@ returns-clause-text c =
     let pattern = pattern_view c.args.pattern.now in
     let init = c.args.init.now in
     let values = values_view c.in_ok-values.values in
-    if_ok c.answer-found.result
+    IfOk-weaker c.answer-found.result
     (IsExplained c.args.json (record { string = asked.string; pattern = pattern; given = values_view init; values = values }) asked.base asked.input)
     (IsExplanationOf c.args.json pattern init asked)
     (λ found is. (values, c.in_ok-values.ensures.ok, is)) c.answer-found.ensures.text

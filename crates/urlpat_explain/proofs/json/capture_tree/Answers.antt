@@ -2,7 +2,7 @@ use Rattle.std.proofs.Common.{rules, ◌≡◌, ◌∙◌}
 use Rattle.std.specs.Str.{IsUtf8}
 use Rattle.serde_json.specs.Data.{string}
 use Rattle.serde_json.specs.View.{view}
-use Rattle.urlpat_explain.proofs.ExplanationLemmas.{if_ok}
+use Rattle.std.proofs.lemmas.Result.{IfOk-weaker}
 use Rattle.urlpat_explain.proofs.TreeLemmas.{capture-some}
 use Rattle.urlpat_explain.specs.Json.{capture_tree}
 use Rattle.urlpattern_syntax.specs.Text.{option_text}
@@ -12,5 +12,5 @@ pub returns-in-Some : goal.returns-in-Some
 returns-in-Some c =
     let text = c.in-Some.text in
     let utf8 : IsUtf8 text.now = search rules in
-    if_ok c.try_from_str.result (λ tree. view tree ≡ string text.now) (λ tree. view tree ≡ capture_tree (option_text c.args.capture))
+    IfOk-weaker c.try_from_str.result (λ tree. view tree ≡ string text.now) (λ tree. view tree ≡ capture_tree (option_text c.args.capture))
     (λ tree is. is ∙ capture-some c.args.capture text c.in-Some.is utf8) c.try_from_str.ensures

@@ -12,8 +12,7 @@ use Rattle.urlpat_explain.proofs.notes.places_of.Goals as goal
 pub loop-name-preserved : goal.loop-name-preserved
 loop-name-preserved c =
     let names = c.all-name-items.result in
-    let eight : length names ≡ 8 = ap length c.all-name-items.ensures in
-    let within : c.loop-name.name-index < length names = omega arith in
+    let within : c.loop-name.name-index < length names = omega (arith, ap length c.all-name-items.ensures) in
     let explained = explained_view c.args.explained.now in
     let place = c.place.result in
     let name = get_or names c.loop-name.name-index Protocol in
@@ -24,6 +23,5 @@ pub returns : goal.returns
 returns c =
     let names = c.all-name-items.result in
     let explained = explained_view c.args.explained.now in
-    let eight : length names ≡ 8 = ap length c.all-name-items.ensures in
-    let all : take c.loop-name.name-index names ≡ components = take_all c.loop-name.name-index names (omega arith) ∙ c.all-name-items.ensures in
+    let all : take c.loop-name.name-index names ≡ components = take_all c.loop-name.name-index names (omega (arith, ap length c.all-name-items.ensures)) ∙ c.all-name-items.ensures in
     subst (λ (them : List ComponentName). HasPieceForEach (IsPlaceCell explained.string explained.given) them (string_bytes c.loop-name.cells)) all c.loop-name.invariant

@@ -19,8 +19,7 @@ use Rattle.urlpat_explain.proofs.table.match_table.Goals as goal
 pub loop-name-preserved : goal.loop-name-preserved
 loop-name-preserved c =
     let names = c.all-name-items.result in
-    let eight : length names ≡ 8 = ap length c.all-name-items.ensures in
-    let within : c.loop-name.name-index < length names = omega arith in
+    let within : c.loop-name.name-index < length names = omega (arith, ap length c.all-name-items.ensures) in
     let name = get_or names c.loop-name.name-index Protocol in
     let pattern = pattern_view c.args.pattern.now in
     let lent = c.args.texts.now in
@@ -42,6 +41,5 @@ loop-name-preserved c =
 pub returns : goal.returns
 returns c =
     let names = c.all-name-items.result in
-    let eight : length names ≡ 8 = ap length c.all-name-items.ensures in
-    let all : take c.loop-name.name-index names ≡ components = take_all c.loop-name.name-index names (omega arith) ∙ c.all-name-items.ensures in
+    let all : take c.loop-name.name-index names ≡ components = take_all c.loop-name.name-index names (omega (arith, ap length c.all-name-items.ensures)) ∙ c.all-name-items.ensures in
     subst (λ (them : List ComponentName). HasPieceForEach (IsMatchRow (pattern_view c.args.pattern.now) (borrowed_texts c.args.texts.now)) them (string_bytes c.loop-name.table)) all c.loop-name.invariant

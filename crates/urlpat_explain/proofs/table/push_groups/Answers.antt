@@ -11,13 +11,8 @@ use Rattle.urlpat_explain.proofs.table.push_groups.Goals as goal
 
 pub loop-name-preserved : goal.loop-name-preserved
 loop-name-preserved c =
-    let before = c.loop-name.name-iterator in
-    let behind = c.next.new.self in
-    let name = c.in-Some.name.now in
-    let capture = c.in-Some.capture.now in
-    let first = Zip-more before behind c.next.result (c.in-Some.name, c.in-Some.capture) c.in-Some.is c.next.ensures.steps in
-    groups-more (iter_rest (zip_first before)) (iter_rest (zip_first behind)) (iter_rest (zip_second before)) (iter_rest (zip_second behind)) name capture
-    (string_bytes c.loop-name.row) _ _ first.0 first.1
+    let (first, second) = Zip-more c.loop-name.name-iterator c.next.new.self c.next.result (c.in-Some.name, c.in-Some.capture) c.in-Some.is c.next.ensures.steps in
+    groups-more _ _ _ _ c.in-Some.name.now c.in-Some.capture.now (string_bytes c.loop-name.row) _ _ first second
     (c.in_ok-push_group.ensures ∙ ap (λ (bytes : List ℕ). string_bytes c.loop-name.row ++ group_cell (chars bytes, option_text capture)) c.deref.ensures)
     c.loop-name.invariant
 

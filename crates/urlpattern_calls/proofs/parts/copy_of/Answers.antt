@@ -1,5 +1,5 @@
 use Rattle.std.proofs.Common.{rules}
-use Rattle.urlpattern_calls.proofs.CoveringLemmas.{same_values}
+use Rattle.urlpattern_readings.proofs.Copies.{same_values}
 use Rattle.urlpattern_calls.proofs.parts.copy_of.Goals as goal
 
 pub returns : goal.returns

@@ -4,7 +4,7 @@ use Rattle.std.specs.Str.{chars}
 use Rattle.urlpat_matching.specs.GroupLines.{group_bytes, group_line}
 use Rattle.urlpattern_matches.specs.BorrowedMatches.{pattern_captures_view}
 use Rattle.urlpattern_eight.specs.Eight.{name_text}
-use Rattle.urlpat_matching.proofs.matching.push_sorted_groups.Given as goal
+use Rattle.urlpat_matching.proofs.matching.push_groups.Given as goal
 
 abbrev pub invariant-loop-group : goal.invariant-loop-group
 invariant-loop-group l =
