@@ -16,7 +16,6 @@ use urlpattern_eight::ComponentName;
 use urlpattern_parser::parser::parse_pattern_string;
 use urlpattern_syntax::Error;
 use urlpattern_syntax::parser::{Options, Part};
-use urlpattern_syntax::tokenizer::split_first;
 
 /// What stays the same while the text of a component is written.
 #[derive(Drop)]
@@ -130,8 +129,5 @@ fn pattern_error(component: ComponentName, error: &Error) -> GenerateError
 pub fn begins_ipv6(pattern: &str) -> bool
     ensures { result ≡ begins_ipv6 (chars pattern.now) }
 {
-    match split_first(pattern) {
-        Some((first, _)) => first == '[',
-        None => false,
-    }
+    matches!(pattern.as_bytes(), [b'[', ..])
 }
