@@ -13,7 +13,7 @@ pub loop-name-preserved : goal.loop-name-preserved
 loop-name-preserved c =
     let (first, second) = Zip-more c.loop-name.name-iterator c.next.new.self c.next.result (c.in-Some.name, c.in-Some.capture) c.in-Some.is c.next.ensures.steps in
     groups-more _ _ _ _ c.in-Some.name.now c.in-Some.capture.now (string_bytes c.loop-name.row) _ _ first second
-    (c.in_ok-push_group.ensures ∙ ap (λ (bytes : List ℕ). string_bytes c.loop-name.row ++ group_cell (chars bytes, option_text capture)) c.deref.ensures)
+    (c.in_ok-push_group.ensures ∙ ap (λ (bytes : List ℕ). string_bytes c.loop-name.row ++ group_cell (chars bytes, option_text c.in-Some.capture.now)) c.deref.ensures)
     c.loop-name.invariant
 
 pub returns : goal.returns
