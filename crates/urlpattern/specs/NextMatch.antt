@@ -1,7 +1,9 @@
 -- The matches of a list after the first one.
-use Rattle.std.specs.Prelude.{◌≡◌, ◌+◌, ◌<◌, ◌≤◌, ℕ, List, length, Option, Some, None, Result, Ok, Err, slice_get}
+use Rattle.std.specs.Prelude.{◌≡◌, ◌+◌, ◌<◌, ◌≤◌, ℕ, List, length, Option, Some, None, Result, Ok, Err, slice_get, unwrap_or}
 use Rattle.urlpattern.specs.FirstMatch.{FirstView, first_captures_view, patterns_view}
+use Rattle.urlpattern.specs.PatternKeys.{address_of}
 use Rattle.urlpattern.specs.declared.list.matches.UrlPatternMatches.{UrlPatternMatches}
+use Rattle.urlpattern_index.specs.Keys.{Hashes, hashes_of}
 use Rattle.urlpattern_meaning.specs.PartMeaning.{Captures}
 use Rattle.urlpattern_matches.specs.declared.captures.UrlPatternCaptures.{UrlPatternCaptures}
 use Rattle.urlpattern_matches.specs.BorrowedMatches.{pattern_captures_view}
@@ -16,6 +18,11 @@ use Rattle.urlpattern_eight.specs.Eight.{Texts}
 abbrev pub AreRefusedBetween : {E : Type 0} → (answer : E → List ℕ → Option Captures) → List (PatternView E) → Texts → (from end : ℕ) → Type 0
 AreRefusedBetween {E} answer patterns texts from end =
     (index : ℕ) (pattern : PatternView E) → from ≤ index → index < end → slice_get patterns index ≡ Some pattern → IsRefused answer pattern texts
+
+-- the patterns from one index on, up to what is found or to the end, do not match eight texts with these hashes
+abbrev pub PassesRefused : {E : Type 0} → (answer : E → List ℕ → Option Captures) → List (PatternView E) → Hashes → (from : ℕ) → (found : Option ℕ) → Type 0
+PassesRefused answer patterns hashes from found =
+    (texts : Texts) → hashes ≡ hashes_of (address_of texts) → AreRefusedBetween answer patterns texts from (unwrap_or found (length patterns))
 
 -- the least index, not below another, whose pattern matches eight texts, with that match, and none where there is no such pattern
 abbrev pub IsFirstMatchFrom : {E : Type 0} → (answer : E → List ℕ → Option Captures) → List (PatternView E) → Texts → (from : ℕ) → Option FirstView → Type 0

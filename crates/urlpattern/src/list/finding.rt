@@ -1,11 +1,10 @@
 //! The first match of eight texts, by the index of a list.
-ghost use Rattle.std.specs.Prelude.{◌≡◌, ◌<◌, ◌≤◌, length, unwrap_or, IfErr, IfOk, IfSome};
-ghost use Rattle.urlpattern_eight.specs.Eight.{Texts};
+ghost use Rattle.std.specs.Prelude.{◌≡◌, ◌<◌, ◌≤◌, length, IfErr, IfOk, IfSome};
 ghost use Rattle.urlpattern_matches.specs.GroupTexts.{borrowed_texts};
 ghost use Rattle.urlpattern.specs.FirstMatch.{first_view, patterns_view, AsksBeforeMatch, CopiesFirstMatch, HasGroupsInOrder, IsFirstCaptured, IsFirstMatchOf};
 ghost use Rattle.urlpattern.specs.PatternKeys.{address_of};
 ghost use Rattle.urlpattern_index.specs.Keys.{hashes_of, hashes_view};
-ghost use Rattle.urlpattern.specs.NextMatch.{AreRefusedBetween, AsksBeforeMatchFrom, IsFirstCapturedFrom};
+ghost use Rattle.urlpattern.specs.NextMatch.{AsksBeforeMatchFrom, IsFirstCapturedFrom, PassesRefused};
 ghost use Rattle.urlpattern_syntax.specs.Errors.{OnlyOutOfMemory};
 
 use super::UrlPatternList;
@@ -109,8 +108,7 @@ impl<R: RegExp> UrlPatternList<R> {
     #[inline(always)]
     pub(super) fn next_asked(&self, hashes: &AddressHashes, from: usize) -> Option<usize>
         ensures within { IfSome result (λ index. (from ≤ index) × (index < length self.now)) }
-        ensures passed { (texts : Texts) → hashes_view hashes.now ≡ hashes_of (address_of texts)
-            → AreRefusedBetween R.answer (patterns_view self.now) texts from (unwrap_or result (length (patterns_view self.now))) }
+        ensures passed { PassesRefused R.answer (patterns_view self.now) (hashes_view hashes.now) from result }
     {
         self.index.first_from(hashes, from)
     }
