@@ -13,3 +13,4 @@ pub mod PlainReadings
 pub mod SameCaptures
 pub mod SetTexts
 pub mod TextLemmas
+pub mod WholeTexts

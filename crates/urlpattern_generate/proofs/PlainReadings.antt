@@ -1,5 +1,5 @@
 -- What plain pattern texts and an asterisk mean, and what is written for them.
-use Rattle.std.proofs.Common.{◌≡◌, ◌↔◌, ◌<◌, ℕ, Bool, arith, true, false, List, [], ◌∷◌, ◌++◌, None, Some, Ok, String, ap, inl, inr, refl, subst, sym, ◌∙◌}
+use Rattle.std.proofs.Common.{◌≡◌, ◌↔◌, ◌<◌, ℕ, Bool, arith, get_or, length, true, false, List, [], ◌∷◌, ◌++◌, None, Some, Ok, String, ap, inl, inr, refl, subst, sym, ◌∙◌}
 use Rattle.std.proofs.lemmas.Bool.{false≢true}
 use Rattle.std.proofs.lemmas.Bool.Decides.{nat_tests}
 use Rattle.std.proofs.lemmas.List.Elements.{All-weaker}
@@ -148,9 +148,11 @@ zero : chars (codes "0") ≡ codes "0"
 unfolding chars
 zero = refl
 
--- it is one by the test
-pub is_asterisk : (pattern : List ℕ) (same : Bool) → IsTrue same ↔ (chars pattern ≡ chars (codes "*")) → same ≡ true → chars pattern ≡ codes "*"
-is_asterisk pattern same test e = test.0 e ∙ star
+-- it is one byte
+pub one_byte : (pattern : List ℕ) → length pattern ≡ 1 → get_or pattern 0 0 ≡ 42 → chars pattern ≡ codes "*"
+one_byte [] one is = absurd (omega (arith, one))
+one_byte (b ∷ []) one is = ap (λ c. chars (c ∷ [])) is ∙ star
+one_byte (b ∷ c ∷ bytes) one is = absurd (omega (arith, one))
 
 -- what is given for it, or the empty text
 pub given_some : (given : (name : List ℕ) → Option (List ℕ)) (text : List ℕ) → Some text ≡ given (chars (codes "0")) → text ≡ unwrap_or (given (codes "0")) []

@@ -39,18 +39,19 @@ pub fn generate_component<R: RegExp>(
     writer.canonical_text(component)
 }
 
-/// A draft of that text: it is the text if it is canonical. Where it is the pattern text, or what is given, it is borrowed.
+/// A draft of that text: it is the text if it is canonical. Where it is the pattern text, or what is given, it is borrowed. `None`: there
+/// is no such text, or memory ran out.
 ///
 /// Of a URL with eight such texts none has to be looked at again, if they are canonical in any URL of its kind.
+#[inline(never)]
 pub fn draft_component<'d, R: RegExp>(
     alloc: Global,
     component: &'d Component<R>,
     name: ComponentName,
     hierarchical: bool,
     groups: &'d [GivenGroup<'d>],
-) -> Result<CowStr<'d>, GenerateError>
-    ensures drafted { IfOk result (λ text. HasDraft R.answer component.now name hierarchical (given_groups groups.now) (cow_text text)) }
-    ensures refused { IfErr result (LacksText R.answer component.now name hierarchical (given_groups groups.now)) }
+) -> Option<CowStr<'d>>
+    ensures { IfSome result (λ text. HasDraft R.answer component.now name hierarchical (given_groups groups.now) (cow_text text)) }
 {
     let writer = Writer::new(alloc, &component.pattern_string, name, hierarchical, groups);
     writer.draft(component)
@@ -89,9 +90,7 @@ impl Writer<'_> {
     fn kept_text<R: RegExp>(&self, component: &Component<R>) -> Option<String>
         ensures { IfSome result (λ text. WritesCanonical R.answer component.now self.now (text_of text)) }
     {
-        let Ok(text) = self.draft(component) else {
-            return None;
-        };
+        let text = self.draft(component)?;
         if !self.keeps(&text) {
             return None;
         }
@@ -104,38 +103,38 @@ impl Writer<'_> {
 
 impl<'d> Writer<'d> {
     /// A draft of the text of a component.
-    fn draft<R: RegExp>(&self, component: &'d Component<R>) -> Result<CowStr<'d>, GenerateError>
-        ensures drafted { IfOk result (λ text. Drafts R.answer component.now self.now (cow_text text)) }
-        ensures refused { IfErr result (CannotWrite R.answer component.now self.now) }
+    #[inline(always)]
+    fn draft<R: RegExp>(&self, component: &'d Component<R>) -> Option<CowStr<'d>>
+        ensures { IfSome result (λ text. Drafts R.answer component.now self.now (cow_text text)) }
     {
         if let Some(text) = self.whole_draft(component) {
-            return Ok(CowStr::Borrowed(text));
+            return Some(CowStr::Borrowed(text));
         }
         if let Some(text) = self.plain_draft(component) {
-            return Ok(CowStr::Borrowed(text));
+            return Some(CowStr::Borrowed(text));
         }
-        match self.passed_draft(component)? {
-            Some(text) => Ok(CowStr::Owned(text)),
-            None => self.written_draft(component),
-        }
-    }
-
-    /// The text of a component, as a draft of it.
-    fn written_draft<R: RegExp>(
-        &self,
-        component: &'d Component<R>,
-    ) -> Result<CowStr<'d>, GenerateError>
-        ensures drafted { IfOk result (λ text. Drafts R.answer component.now self.now (cow_text text)) }
-        ensures refused { IfErr result (CannotWrite R.answer component.now self.now) }
-    {
-        match self.text(component) {
-            Ok(text) => Ok(CowStr::Owned(text)),
-            Err(error) => Err(error),
-        }
+        Some(CowStr::Owned(self.own_draft(component)?))
     }
 }
 
 impl Writer<'_> {
+    /// A draft of the text of a component whose pattern text is neither plain nor an asterisk.
+    #[inline(never)]
+    fn own_draft<R: RegExp>(&self, component: &Component<R>) -> Option<String>
+        ensures { IfSome result (λ text. Drafts R.answer component.now self.now (text_of text)) }
+    {
+        let Ok(draft) = self.passed_draft(component) else {
+            return None;
+        };
+        if let Some(text) = draft {
+            return Some(text);
+        }
+        let Ok(text) = self.text(component) else {
+            return None;
+        };
+        Some(text)
+    }
+
     /// The text of a component.
     fn text<R: RegExp>(&self, component: &Component<R>) -> Result<String, GenerateError>
         ensures written { IfOk result (λ text. Writes R.answer component.now self.now (text_of text)) }

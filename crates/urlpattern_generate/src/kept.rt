@@ -4,6 +4,7 @@ ghost use Rattle.std.specs.List.{list_all};
 ghost use Rattle.std.specs.Prelude.{◌≡◌, ◌&&◌, IsTrue, Ok, false, not};
 ghost use Rattle.std.specs.Str.{chars};
 ghost use Rattle.urlpattern_canonical.specs.Canonical.{canonical_protocol};
+ghost use Rattle.urlpattern_generate.specs.Manners.{canonical_for};
 ghost use Rattle.urlpattern_generate.specs.Kept.{is_dot_mark, is_kept_character, is_kept_opaque, is_kept_path, is_kept_value, is_label_character};
 ghost use Rattle.urlpattern_generate.specs.Writers.{manner_of_writer};
 ghost use Rattle.urlpattern_syntax.specs.Text.{lacks, line_feed};
@@ -17,13 +18,22 @@ impl Writer<'_> {
         ensures canonical { IsTrue result → (manner_of_writer self.now).canonical (chars text.now) ≡ Ok (chars text.now) }
         ensures line { IsTrue result → IsTrue (lacks line_feed (chars text.now)) }
     {
-        if self.is_ipv6 {
-            return false;
-        }
-        match self.component {
-            ComponentName::Protocol => is_kept_protocol(text),
-            component => is_kept_value(component, self.hierarchical, text.as_bytes()),
-        }
+        keeps(self.component, self.hierarchical, self.is_ipv6, text)
+    }
+}
+
+/// Whether a text is of those that a component is known to take as they are, where a pathname is hierarchical or not and a hostname is an
+/// IPv6 address or not.
+pub fn keeps(component: ComponentName, hierarchical: bool, is_ipv6: bool, text: &str) -> bool
+    ensures canonical { IsTrue result → canonical_for component hierarchical is_ipv6 (chars text.now) ≡ Ok (chars text.now) }
+    ensures line { IsTrue result → IsTrue (lacks line_feed (chars text.now)) }
+{
+    if is_ipv6 {
+        return false;
+    }
+    match component {
+        ComponentName::Protocol => is_kept_protocol(text),
+        component => is_kept_value(component, hierarchical, text.as_bytes()),
     }
 }
 
@@ -97,7 +107,8 @@ fn is_kept_text(value: &[u8]) -> bool
 fn is_kept_byte(b: u8) -> bool
     ensures { result ≡ is_kept_character b }
 {
-    b.is_ascii_alphanumeric()
+    b.is_ascii_lowercase()
+        || b.is_ascii_alphanumeric()
         || matches!(
             b,
             b'-' | b'.'

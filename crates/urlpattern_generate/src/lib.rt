@@ -16,4 +16,5 @@ mod writer;
 pub use component::{draft_component, generate_component};
 pub use error::GenerateError;
 pub use groups::GivenGroup;
+pub use kept::keeps;
 pub use writer::begins_ipv6;

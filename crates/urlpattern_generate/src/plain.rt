@@ -9,7 +9,7 @@ ghost use Rattle.urlpattern_syntax.specs.Text.{lacks, line_feed, text_of};
 
 use crate::error::GenerateError;
 use crate::groups::{given_text, is_same_text};
-use crate::read_back::{is_captured, is_matched};
+use crate::read_back::{captures_all, is_matched};
 use crate::writer::Writer;
 use urlpattern_core::component::Component;
 use urlpattern_core::regexp::RegExp;
@@ -81,11 +81,11 @@ impl<'d> Writer<'d> {
     pub(crate) fn whole_draft<R: RegExp>(&self, component: &'d Component<R>) -> Option<&'d str>
         ensures { IfSome result (λ text. Drafts R.answer component.now self.now (chars text.now)) }
     {
-        if !is_same_text(&component.pattern_string, "*") {
+        if !is_asterisk(&component.pattern_string) || !captures_all(&component.matcher) {
             return None;
         }
         let given = self.given_alone();
-        if has_line_feed(given) || !is_captured(&component.matcher, given, given) {
+        if has_line_feed(given) {
             return None;
         }
         Some(given)
@@ -100,6 +100,13 @@ impl<'d> Writer<'d> {
             None => "",
         }
     }
+}
+
+/// Whether a pattern text is an asterisk.
+fn is_asterisk(pattern: &str) -> bool
+    ensures { IsTrue result → chars pattern.now ≡ codes "*" }
+{
+    matches!(pattern.as_bytes(), [b'*'])
 }
 
 /// Whether a text has a line feed.

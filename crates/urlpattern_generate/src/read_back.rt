@@ -1,6 +1,6 @@
 //! Whether a text is read back as it was meant.
 
-ghost use Rattle.std.specs.Prelude.{◌≡◌, ◌↔◌, ◌∷◌, [], Some, IfOk, IsTrue, map};
+ghost use Rattle.std.specs.Prelude.{◌≡◌, ◌↔◌, ◌∷◌, [], ℕ, List, Some, IfOk, IsTrue, map};
 ghost use Rattle.std.specs.Str.{chars};
 ghost use Rattle.urlpattern_core.specs.Matchers.{matcher_view};
 ghost use Rattle.urlpattern_meaning.specs.{CaptureTexts.captures_view, Matching.Answers};
@@ -12,7 +12,7 @@ ghost use Rattle.urlpattern_syntax.specs.Text.{option_text};
 use crate::groups::is_same_text;
 use crate::writer::Writer;
 use std::alloc::AllocError;
-use urlpattern_core::matcher::{Look, Matcher};
+use urlpattern_core::matcher::{InnerMatcher, Look, Matcher};
 use urlpattern_core::regexp::RegExp;
 use urlpattern_syntax::Error;
 
@@ -84,12 +84,15 @@ pub(crate) fn is_matched<R: RegExp>(matcher: &Matcher<R>, text: &str) -> bool
     matches!(matcher.look(text), Some(Look::Matched))
 }
 
-/// Whether a matcher takes a text, and its one group captures this.
-pub(crate) fn is_captured<R: RegExp>(matcher: &Matcher<R>, text: &str, value: &str) -> bool
-    ensures { IsTrue result → Answers R.answer (matcher_view matcher.now) (chars text.now) (Some (Some (chars value.now) ∷ [])) }
+/// Whether a matcher captures each text whole.
+pub(crate) fn captures_all<R: RegExp>(matcher: &Matcher<R>) -> bool
+    ensures { IsTrue result → (text : List ℕ) → Answers R.answer (matcher_view matcher.now) text (Some (Some text ∷ [])) }
 {
-    match matcher.look(text) {
-        Some(Look::Captured(captured)) => is_same_text(captured, value),
+    match &matcher.inner {
+        InnerMatcher::SingleCapture {
+            filter: None,
+            allow_empty: true,
+        } => matcher.prefix.is_empty() && matcher.suffix.is_empty(),
         _ => false,
     }
 }

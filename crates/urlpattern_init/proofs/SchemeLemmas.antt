@@ -1,13 +1,16 @@
 -- Lemmas on the texts that a matcher is asked for, one after another.
-use Rattle.std.proofs.Common.{◌≡◌, ℕ, zero, suc, ◌+◌, ◌<◌, ◌≤◌, Bool, true, false, Option, Some, Result, Ok, Err, List, [], ◌∷◌, length, map, get_or, codes, Bor, sym, ap, ◌∙◌, subst, inl, inr, arith, refl}
+use Rattle.std.proofs.Common.{◌≡◌, ℕ, zero, suc, ◌+◌, ◌<◌, ◌≤◌, ◌⊎◌, ◌||◌, ◌++◌, Bool, true, false, Option, Some, Result, Ok, Err, List, [], ◌∷◌, append-nil, bytes_eq, length, map, get_or, codes, Bor, sym, ap, ◌∙◌, subst, inl, inr, arith, refl, ⊎_elim}
 use Rattle.std.proofs.lemmas.Bool.{cases_eq, false≢true}
 use Rattle.std.proofs.lemmas.Option.{slice_get-get_or, slice_get_read}
+use Rattle.std.proofs.lemmas.Slice.Eq.{bytes_eq-Decides}
 use Rattle.std.specs.List.{Any}
 use Rattle.std.specs.Prelude.{◌↔◌, IfOk, IsTrue, MatchBool}
 use Rattle.std.specs.Str.{chars}
-use Rattle.urlpattern_canonical.specs.Canonical.{special_schemes}
-use Rattle.urlpattern_init.specs.SpecialProtocol.{AcceptsSpecialScheme, IsSpecialTo, protocol_encoding}
-use Rattle.urlpattern_meaning.specs.Matching.{IsMadeOf, MatcherView}
+use Rattle.urlpattern_canonical.specs.Canonical.{scheme_among, special_schemes}
+use Rattle.urlpattern_init.specs.SpecialProtocol.{AcceptsOnly, AcceptsSpecialScheme, IsSpecialTo, protocol_encoding}
+use Rattle.urlpattern_meaning.proofs.MatchingLaws.{middle_kept}
+use Rattle.urlpattern_meaning.specs.Matching.{Accepts, HasMiddle, InnerView, IsMadeOf, IsSame, Literal, MatcherView}
+use Rattle.urlpattern_meaning.specs.PartMeaning.{Captures}
 use Rattle.urlpattern_core.specs.Components.{IsEngineOf}
 use Rattle.urlpattern_core.specs.declared.regexp.RegExp.{Ghosts as Engine}
 use Rattle.urlpattern_syntax.specs.declared.error.Error.{Error}
@@ -76,6 +79,54 @@ schemes_answer P texts (Ok false) e h = (
   (λ accepted. absurd (false≢true accepted)),
   (λ any. absurd (h (any_hidden (λ (t : Bor (List ℕ)). chars t.now) P texts (subst (Any P) (sym e) (any_shown (λ (s : List ℕ × Option (List ℕ)). s.0) P special_schemes any))))),
 )
+
+-- ---- a matcher that accepts one text alone
+
+abbrev Scheme : Type 0
+Scheme = List ℕ × Option (List ℕ)
+
+module _ (P : List ℕ → Type 0) (scheme : Scheme) (schemes : List Scheme) where
+  abbrev IsSo : Scheme → Type 0
+  IsSo other = P other.0
+
+  here : P scheme.0 → Any IsSo (scheme ∷ schemes)
+  here p = (zero, scheme, omega arith, refl, p)
+
+  there : Any IsSo schemes → Any IsSo (scheme ∷ schemes)
+  there (k, other, within, is, p) = (suc k, other, omega arith, is, p)
+
+  here_or_there : Any IsSo (scheme ∷ schemes) → P scheme.0 ⊎ Any IsSo schemes
+  here_or_there (zero, other, within, is, p) = inl (subst IsSo (sym is) p)
+  here_or_there (suc k, other, within, is, p) = inr (k, other, omega arith, is, p)
+
+-- of such a text it is tested whether it is one of these schemes
+pub only_among : (P : List ℕ → Type 0) (only : List ℕ) → ((text : List ℕ) → P text ↔ (text ≡ only)) → (schemes : List Scheme) → IsTrue (scheme_among schemes only) ↔ Any (λ (s : Scheme). P s.0) schemes
+only_among P only is [] = ((λ t. absurd (false≢true t)), (λ any. absurd (omega (arith, any.2))))
+only_among P only is (scheme ∷ schemes) = by_test (bytes_eq only scheme.0) refl (only_among P only is schemes)
+  where
+    by_test : (same : Bool) → bytes_eq only scheme.0 ≡ same → IsTrue (scheme_among schemes only) ↔ Any (λ (s : Scheme). P s.0) schemes →
+        IsTrue (same || scheme_among schemes only) ↔ Any (λ (s : Scheme). P s.0) (scheme ∷ schemes)
+    by_test true e rest = ((λ t. here P scheme schemes ((is scheme.0).1 (sym ((bytes_eq-Decides only scheme.0).0 e)))), (λ any. refl))
+    by_test false e rest = (
+      (λ t. there P scheme schemes (rest.0 t)),
+      (λ any. ⊎_elim (λ p. absurd (false≢true (sym e ∙ (bytes_eq-Decides only scheme.0).1 (sym ((is scheme.0).0 p))))) (λ later. rest.1 later) (here_or_there P scheme schemes any)),
+    )
+
+-- a literal alone is such a text
+pub literal_only : {E : Type 0} (answer : E → List ℕ → Option Captures) (matcher : MatcherView E) (literal : List ℕ) → matcher.ignore_case ≡ false → matcher.prefix ≡ [] → matcher.suffix ≡ [] →
+    matcher.inner ≡ Literal literal → AcceptsOnly answer matcher literal
+literal_only {E} answer matcher literal kept prefix suffix inner text = (
+  (λ (captures, (middle, cut, accepted)).
+      let same = subst (λ (of : InnerView E). Accepts answer matcher.ignore_case of middle captures) inner accepted in
+      whole middle cut ∙ subst (λ (of : Bool). IsSame of middle literal) kept same.0),
+  (λ e. ([], (literal, (middle_kept matcher text literal kept).1 (e ∙ sym (apart literal)), subst (λ (of : InnerView E). Accepts answer matcher.ignore_case of literal []) (sym inner) (refl, refl)))),
+)
+  where
+    apart : (middle : List ℕ) → matcher.prefix ++ middle ++ matcher.suffix ≡ middle
+    apart middle = (λ i. prefix i ++ middle ++ suffix i) ∙ append-nil middle
+
+    whole : (middle : List ℕ) → HasMiddle matcher text middle → text ≡ middle
+    whole middle cut = (middle_kept matcher text middle kept).0 cut ∙ apart middle
 
 -- the answer on special schemes, for the parts that a protocol reads as and the matcher that is made of them
 pub special_from : {E : Type 0} → (engine : Engine E) (protocol flags : List ℕ) (options : OptionsView) (parts these : List PartView) (matcher : MatcherView E) (found : Result Bool Error) → options ≡ default_options → flags ≡ codes "u" → these ≡ parts → Reads protocol options protocol_encoding parts → IsMadeOf (IsEngineOf engine false flags) options these matcher → IfOk found (λ special. IsTrue special ↔ AcceptsSpecialScheme engine.answer matcher) → IfOk found (IsSpecialTo engine protocol)

@@ -1,6 +1,6 @@
 -- Whether the protocol of a constructor string is special, after the URLPattern Standard, section "Compute protocol
 -- matches a special scheme flag".
-use Rattle.std.specs.Prelude.{ℕ, ◌↔◌, Bool, false, List, Any, IsTrue, Option, Result, String, codes, length}
+use Rattle.std.specs.Prelude.{◌≡◌, ℕ, ◌↔◌, Bool, false, List, Any, IsTrue, Option, Result, String, codes, length}
 use Rattle.std.specs.{Borrow.Bor, Str.chars}
 use Rattle.std.specs.declared.alloc.Global.{Global}
 use Rattle.urlpattern_canonical.specs.Canonical.{IsAnswer, canonical_protocol, special_schemes}
@@ -27,6 +27,10 @@ AcceptsAny answer matcher texts = Any (λ text. IsMatched answer (matcher_view m
 -- the matcher accepts one of the special schemes, where engines' values answer in this way
 abbrev pub AcceptsSpecialScheme : {E : Type 0} → (answer : E → List ℕ → Option Captures) → MatcherView E → Type 0
 AcceptsSpecialScheme answer matcher = Any (λ scheme. IsMatched answer matcher scheme.0) special_schemes
+
+-- the matcher accepts this text and no other
+abbrev pub AcceptsOnly : {E : Type 0} → (answer : E → List ℕ → Option Captures) → MatcherView E → (only : List ℕ) → Type 0
+AcceptsOnly answer matcher only = (text : List ℕ) → IsMatched answer matcher text ↔ (text ≡ only)
 
 -- The engine compiles the pattern of a protocol under the default options, and the matcher decides whether it is special.
 pub record IsSpecialTo {E : Type 0} (engine : Engine E) (protocol : List ℕ) (special : Bool) : Type 0 where

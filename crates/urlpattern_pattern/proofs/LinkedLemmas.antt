@@ -1,23 +1,27 @@
 -- The URL of a pattern, by the texts of its components.
-use Rattle.std.proofs.Common.{◌≡◌, ◌∙◌, ℕ, true, false, List, Option, Result, Ok, Err, String, ap, refl, subst, sym}
+use Rattle.std.proofs.Common.{◌≡◌, ◌∙◌, ℕ, All, Bool, true, false, List, Option, Result, Ok, Err, String, ap, refl, subst, sym}
+use Rattle.std.proofs.lemmas.Bool.{false≢true}
 use Rattle.std.proofs.lemmas.List.Elements.{All-weaker}
 use Rattle.std.specs.Prelude.{IfErr, IfOk, MatchResult}
 use Rattle.std.specs.declared.alloc.Global.{Global}
+use Rattle.std.specs.declared.borrow.CowStr.{CowStr}
+use Rattle.std.specs.Str.{chars}
 use Rattle.url.specs.Parts.{Parts}
 use Rattle.urlpattern_create.specs.Compiled.{IsPathKind}
 use Rattle.urlpattern_generate.specs.Manners.{GivenView, begins_ipv6, canonical_for}
+use Rattle.urlpattern_generate.specs.Writers.{cow_text}
 use Rattle.urlpattern_init.specs.Inheritance.{texts_of_url, url_text}
 use Rattle.urlpattern_init.specs.declared.init.UrlPatternMatchInput.TheVariants as inputs
 use Rattle.urlpattern_meaning.specs.PartMeaning.{Captures}
 use Rattle.urlpattern_pattern.specs.GeneratedTexts.{printed_values}
-use Rattle.urlpattern_pattern.specs.LinkedUrls.{DraftsText, DraftsTexts, GeneratesTexts, IsLink, RefusesLink}
+use Rattle.urlpattern_pattern.specs.LinkedUrls.{DraftsTexts, GeneratesTexts, IsLink, KeepsText, KeepsTexts, RefusesLink}
 use Rattle.urlpattern_pattern.specs.Match.{HasMatch}
 use Rattle.urlpattern_pattern.specs.Patterns.{PatternView}
-use Rattle.urlpattern_eight.proofs.EightLemmas.{at-each}
+use Rattle.urlpattern_eight.proofs.EightLemmas.{at-each, of_each}
 use Rattle.urlpattern_eight.specs.declared.eight.ComponentName.{ComponentName}
 use Rattle.urlpattern_eight.specs.declared.eight.ComponentName.TheVariants.{Protocol, Username, Password, Hostname, Port, Pathname, Search, Hash}
 use Rattle.urlpattern_eight.specs.declared.eight.Eight.{Eight}
-use Rattle.urlpattern_eight.specs.Eight.{IsFirstError, Texts, at}
+use Rattle.urlpattern_eight.specs.Eight.{IsFirstError, Texts, at, components}
 use Rattle.urlpattern_syntax.specs.Text.{text_of}
 use Rattle.urlpattern_url.proofs.CanonicalTexts.{texts_are_canonical}
 use Rattle.urlpattern_url.specs.UrlsOfTexts.{RefusesTexts, cow_texts, string_texts}
@@ -61,24 +65,37 @@ canonical_under texts no_address Pathname text is = is
 canonical_under texts no_address Search text is = is
 canonical_under texts no_address Hash text is = is
 
+-- the texts of a URL of the web are canonical
+pub web_kept : {E : Type 0} (pattern : PatternView E) (hierarchical : Bool) (url : Parts) → hierarchical ≡ true → IsWebUrl url → begins_ipv6 (pattern Hostname).pattern_string ≡ false →
+    KeepsTexts pattern hierarchical (texts_of_url url)
+web_kept pattern true url kind web no_address component =
+    canonical_under (λ name. (pattern name).pattern_string) no_address component (at (texts_of_url url) component)
+    (subst (λ text. canonical_for component true false text ≡ Ok text) (sym (at-each (λ name. url_text name url) component)) (texts_are_canonical url web component))
+web_kept pattern false url kind web no_address component = absurd (false≢true kind)
+
+module _ {E : Type 0} (pattern : PatternView E) (hierarchical : Bool) (texts : Eight (CowStr Global)) where
+  -- a text that is canonical by the test of its bytes
+  pub text_kept : (name : ComponentName) (is_ipv6 : Bool) (bytes : List ℕ) → canonical_for name hierarchical is_ipv6 (chars bytes) ≡ Ok (chars bytes) → is_ipv6 ≡ begins_ipv6 (pattern name).pattern_string →
+      chars bytes ≡ cow_text (at texts name) → KeepsText pattern hierarchical name (cow_text (at texts name))
+  text_kept name is_ipv6 bytes canonical is same =
+      subst (KeepsText pattern hierarchical name) same (subst (λ of. canonical_for name hierarchical of (chars bytes) ≡ Ok (chars bytes)) is canonical)
+
+  -- those of all components
+  pub all_kept : All (λ name. KeepsText pattern hierarchical name (cow_text (at texts name))) components → KeepsTexts pattern hierarchical (cow_texts texts)
+  all_kept all component =
+      subst (KeepsText pattern hierarchical component) (sym (at-each (λ name. cow_text (at texts name)) component)) (of_each (λ name. KeepsText pattern hierarchical name (cow_text (at texts name))) all component)
+
 module _ {E : Type 0} (answer : E → List ℕ → Option Captures) (pattern : PatternView E) (groups : List GivenView) where
   linked : (texts : Texts) (result : Result Parts NoLink) → GeneratesTexts answer pattern groups texts → IfOk result (λ url. texts_of_url url ≡ texts) →
       IfOk result (IsLink answer pattern groups)
   linked texts (Ok url) generated has = subst (λ (of : Texts). GeneratesTexts answer pattern groups of) (sym has) generated
   linked texts (Err error) generated has = tt
 
-  -- the texts of a URL of the web, where each is a draft
-  web_linked : (url : Parts) → IsWebUrl url → begins_ipv6 (pattern Hostname).pattern_string ≡ false → DraftsTexts answer pattern groups (texts_of_url url) → IsLink answer pattern groups url
-  web_linked url web no_address drafted component = (
-    true,
-    drafted.0,
-    drafted.1 component
-        (canonical_under (λ name. (pattern name).pattern_string) no_address component (at (texts_of_url url) component)
-        (subst (λ text. canonical_for component true false text ≡ Ok text) (sym (at-each (λ name. url_text name url) component)) (texts_are_canonical url web component))),
-  )
-
-  pub web_link : (url : Parts) (texts : Texts) → IsWebUrl url → begins_ipv6 (pattern Hostname).pattern_string ≡ false → DraftsTexts answer pattern groups texts → texts_of_url url ≡ texts → IsLink answer pattern groups url
-  web_link url texts web no_address drafted has = web_linked url web no_address (subst (λ (of : Texts). DraftsTexts answer pattern groups of) (sym has) drafted)
+  -- the URL has texts of which each is a draft and canonical
+  pub drafts_linked : (hierarchical : Bool) (url : Parts) (texts : Texts) → KeepsTexts pattern hierarchical texts → DraftsTexts answer pattern hierarchical groups texts → texts_of_url url ≡ texts →
+      IsLink answer pattern groups url
+  drafts_linked hierarchical url texts keeps drafted has =
+      subst (λ (of : Texts). GeneratesTexts answer pattern groups of) (sym has) (λ component. (hierarchical, drafted.0, drafted.1 component (keeps component)))
 
   -- what is linked is matched
   matched : (url : Parts) → IsLink answer pattern groups url → HasMatch answer pattern (inputs.Url url)

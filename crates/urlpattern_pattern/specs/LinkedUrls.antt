@@ -1,10 +1,10 @@
 -- The URL of a pattern whose groups capture what is given, and why there is none.
-use Rattle.std.specs.Prelude.{◌≢◌, ℕ, Bool, true, List, MatchResult, Option, Result, String}
+use Rattle.std.specs.Prelude.{◌≡◌, ◌≢◌, ℕ, Bool, List, MatchResult, Ok, Option, Result, String}
 use Rattle.std.specs.declared.alloc.Global.{Global}
 use Rattle.url.specs.Parts.{Parts}
 use Rattle.urlpattern_create.specs.Compiled.{IsPathKind}
 use Rattle.urlpattern_generate.specs.Generating.{IsDraft}
-use Rattle.urlpattern_generate.specs.Manners.{GivenView, manner_for}
+use Rattle.urlpattern_generate.specs.Manners.{GivenView, begins_ipv6, canonical_for, manner_for}
 use Rattle.urlpattern_generate.specs.declared.error.GenerateError.{GenerateError}
 use Rattle.urlpattern_generate.specs.declared.error.GenerateError.TheVariants as generating
 use Rattle.urlpattern_init.specs.Inheritance.{texts_of_url}
@@ -27,25 +27,32 @@ GeneratesTexts answer pattern groups texts = (component : ComponentName) → Gen
 abbrev pub IsLink : {E : Type 0} → (answer : E → List ℕ → Option Captures) → PatternView E → List GivenView → Parts → Type 0
 IsLink answer pattern groups url = GeneratesTexts answer pattern groups (texts_of_url url)
 
--- the text is that of its component with these groups if it is canonical, where the pathname is hierarchical
-abbrev pub DraftsText : {E : Type 0} → (answer : E → List ℕ → Option Captures) → PatternView E → List GivenView → ComponentName → (text : List ℕ) → Type 0
-DraftsText answer pattern groups component text =
-    let view = pattern component in IsDraft answer view.matcher (manner_for component true view.pattern_string groups) view.pattern_string text
+-- the text is that of its component with these groups if it is canonical, where the pathname is hierarchical or not
+abbrev pub DraftsText : {E : Type 0} → (answer : E → List ℕ → Option Captures) → PatternView E → (hierarchical : Bool) → List GivenView → ComponentName → (text : List ℕ) → Type 0
+DraftsText answer pattern hierarchical groups component text =
+    let view = pattern component in IsDraft answer view.matcher (manner_for component hierarchical view.pattern_string groups) view.pattern_string text
 
--- the pathname is hierarchical, and each text is such a draft
-abbrev pub DraftsTexts : {E : Type 0} → (answer : E → List ℕ → Option Captures) → PatternView E → List GivenView → Texts → Type 0
-DraftsTexts answer pattern groups texts =
-    IsPathKind answer (printed_values pattern) (pattern Protocol).matcher true
-    × ((component : ComponentName) → DraftsText answer pattern groups component (at texts component))
+-- the pathname of the pattern is hierarchical or not
+abbrev pub HasPathKind : {E : Type 0} → (answer : E → List ℕ → Option Captures) → PatternView E → (hierarchical : Bool) → Type 0
+HasPathKind answer pattern hierarchical = IsPathKind answer (printed_values pattern) (pattern Protocol).matcher hierarchical
+
+-- so it is, and each text is such a draft
+abbrev pub DraftsTexts : {E : Type 0} → (answer : E → List ℕ → Option Captures) → PatternView E → (hierarchical : Bool) → List GivenView → Texts → Type 0
+DraftsTexts answer pattern hierarchical groups texts =
+    HasPathKind answer pattern hierarchical × ((component : ComponentName) → DraftsText answer pattern hierarchical groups component (at texts component))
+
+-- the text is canonical in its component, where the pathname is hierarchical or not
+abbrev pub KeepsText : {E : Type 0} → PatternView E → (hierarchical : Bool) → ComponentName → (text : List ℕ) → Type 0
+KeepsText pattern hierarchical component text = canonical_for component hierarchical (begins_ipv6 (pattern component).pattern_string) text ≡ Ok text
+
+-- each text is
+abbrev pub KeepsTexts : {E : Type 0} → PatternView E → (hierarchical : Bool) → Texts → Type 0
+KeepsTexts pattern hierarchical texts = (component : ComponentName) → KeepsText pattern hierarchical component (at texts component)
 
 -- a component is answered by its text, or by why it has none
 abbrev pub AnswersGroups : {E : Type 0} → (answer : E → List ℕ → Option Captures) → PatternView E → List GivenView → ComponentName → Result (String Global) GenerateError → Type 0
 AnswersGroups answer pattern groups component result =
     MatchResult result (λ text. GeneratesText answer pattern component groups (text_of text)) (MayRefuseGroups answer pattern component groups)
-
--- the pathname of the pattern is hierarchical or not
-abbrev pub HasPathKind : {E : Type 0} → (answer : E → List ℕ → Option Captures) → PatternView E → (hierarchical : Bool) → Type 0
-HasPathKind answer pattern hierarchical = IsPathKind answer (printed_values pattern) (pattern Protocol).matcher hierarchical
 
 -- a component is so answered where the pathname is hierarchical or not
 abbrev pub AnswersUnder : {E : Type 0} → (answer : E → List ℕ → Option Captures) → PatternView E → List GivenView → (hierarchical : Bool) → ComponentName → Result (String Global) GenerateError → Type 0

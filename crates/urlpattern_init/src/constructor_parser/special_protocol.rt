@@ -1,15 +1,15 @@
 //! Whether a protocol is special.
-ghost use Rattle.std.specs.Prelude.{◌↔◌, IfErr, IfOk, MatchBool, IsTrue};
+ghost use Rattle.std.specs.Prelude.{◌↔◌, IfErr, IfOk, IfSome, MatchBool, IsTrue};
 ghost use Rattle.std.specs.Str.{chars};
-ghost use Rattle.urlpattern_init.specs.SpecialProtocol.{AcceptsAny, AcceptsSpecialScheme, CanonicalizesProtocol, IsSpecialTo, RefusesProtocol};
+ghost use Rattle.urlpattern_init.specs.SpecialProtocol.{AcceptsAny, AcceptsOnly, AcceptsSpecialScheme, CanonicalizesProtocol, IsSpecialTo, RefusesProtocol};
 ghost use Rattle.urlpattern_core.specs.Matchers.{matcher_view};
 ghost use Rattle.urlpattern_syntax.specs.Errors.{MemoryOr, OnlyOutOfMemory};
 
 use std::alloc::Global;
-use urlpattern_canonical::canonicalize_and_process::canonicalize_protocol;
+use urlpattern_canonical::canonicalize_and_process::{canonicalize_protocol, is_special_scheme};
 use urlpattern_core::Error;
 use urlpattern_core::component::generate_matcher;
-use urlpattern_core::matcher::Matcher;
+use urlpattern_core::matcher::{InnerMatcher, Matcher};
 use urlpattern_core::parser::{Options, parse_pattern_string};
 use urlpattern_core::regexp::RegExp;
 
@@ -38,11 +38,27 @@ pub fn accepts_special_scheme<R: RegExp>(alloc: Global, matcher: &Matcher<R>) ->
     ensures answer { IfOk result (λ accepted. IsTrue accepted ↔ AcceptsSpecialScheme R.answer (matcher_view matcher.now)) }
     ensures memory { OnlyOutOfMemory result }
 {
+    if let Some(text) = only_text(matcher) {
+        return Ok(is_special_scheme(text));
+    }
     accepts_any(
         alloc,
         matcher,
         &["http", "https", "ws", "wss", "ftp", "file"],
     )
+}
+
+/// The one text that a matcher accepts, if it is known to be one.
+fn only_text<R: RegExp>(matcher: &Matcher<R>) -> Option<&str>
+    ensures { IfSome result (λ only. AcceptsOnly R.answer (matcher_view matcher.now) (chars only.now)) }
+{
+    if matcher.ignore_case || !matcher.prefix.is_empty() || !matcher.suffix.is_empty() {
+        return None;
+    }
+    match &matcher.inner {
+        InnerMatcher::Literal { literal } => Some(literal.as_str()),
+        _ => None,
+    }
 }
 
 /// Whether a matcher accepts one of some texts.

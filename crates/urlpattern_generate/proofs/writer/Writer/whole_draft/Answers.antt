@@ -3,7 +3,7 @@ use Rattle.std.specs.Str.{chars}
 use Rattle.urlpattern_core.specs.Matchers.{matcher_view}
 use Rattle.urlpattern_generate.proofs.GeneratingLemmas.{canonical_written}
 use Rattle.urlpattern_generate.proofs.KeptTexts.{nothing, nothing_is}
-use Rattle.urlpattern_generate.proofs.PlainReadings.{is_asterisk, whole_written}
+use Rattle.urlpattern_generate.proofs.PlainReadings.{whole_written}
 use Rattle.urlpattern_generate.specs.Writers.{manner_of_writer}
 use Rattle.urlpattern_syntax.specs.Text.{text_of}
 use Rattle.urlpattern_generate.proofs.writer.Writer.whole_draft.Goals as goal
@@ -18,8 +18,8 @@ returns g c canonical =
     let pattern = text_of own in
     let text = chars c.given_alone-given.result.now in
     let line = c.has_line_feed.ensures c.if-has_line_feed.false in
-    let is = ap chars (sym c.deref.ensures) ∙ is_asterisk c.deref.result.now c.is_same_text.result c.is_same_text.ensures.same c.if-not-is_same_text.false in
+    let is = ap chars (sym c.deref.ensures) ∙ c.is_asterisk.ensures c.if-not-is_asterisk.false in
     canonical_written answer matcher manner pattern text
     (whole_written answer matcher self.component self.hierarchical manner pattern refl is text c.given_alone-given.ensures canonical (nothing own) (nothing_is own) line
-    (c.is_captured.ensures c.if-not-is_captured.false))
+    (c.captures_all.ensures c.if-not-captures_all.false text))
     canonical

@@ -22,7 +22,7 @@ returns g c =
       search = c.in_ok-draft-7.field-0;
       hash = c.in_ok-draft-8.field-0;
     } in
-    let drafts : ComponentName → Type 0 = λ name. DraftsText g.R.RegExp.answer (pattern_view c.args.self.now) (given_groups c.args.groups.now) name (at (cow_texts texts) name) in (
+    let drafts : ComponentName → Type 0 = λ name. DraftsText g.R.RegExp.answer (pattern_view c.args.self.now) c.args.hierarchical (given_groups c.args.groups.now) name (at (cow_texts texts) name) in (
       c.requires,
       by_name drafts c.in_ok-draft.ensures c.in_ok-draft-2.ensures c.in_ok-draft-3.ensures c.in_ok-draft-4.ensures c.in_ok-draft-5.ensures c.in_ok-draft-6.ensures c.in_ok-draft-7.ensures
           c.in_ok-draft-8.ensures,
