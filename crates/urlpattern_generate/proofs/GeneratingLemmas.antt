@@ -58,7 +58,7 @@ canonical_written answer matcher manner pattern text written canonical = record 
 pub not_canonical : {E : Type 0} (answer : E → List ℕ → Option Captures) (matcher : MatcherView E) (component : ComponentName) (manner : WritingManner) (pattern bytes : List ℕ) →
     IsWrittenText answer matcher manner pattern (chars bytes) → IsNotCanonical manner.canonical bytes → RefusesGroups answer matcher component manner pattern (ReadOtherwise component)
 not_canonical answer matcher component manner pattern bytes written other =
-    (refl, inr (written.parts, written.captures, bytes, written.is_asked, written.is_written, inr other))
+    (refl, inr (written.parts, written.captures, bytes, written.is_asked, written.may_capture, written.is_written, inr other))
 
 -- by the test of these bytes
 pub told_canonical : (canonical : List ℕ → Parsed (List ℕ)) (is : Bool) (bytes text : List ℕ) → is ≡ true → chars bytes ≡ text → TellsCanonical is canonical bytes → canonical text ≡ Ok text

@@ -135,7 +135,7 @@ module _ {E : Type 0} (answer : E → List ℕ → Option Captures) (matcher : M
       RefusesGroups answer matcher component manner (text_of pattern) (ReadOtherwise component)
   plain_refused component bytes e otherwise = (
     refl,
-    inr (plain_parts (text_of pattern), [], bytes, plain_asks manner (text_of pattern) pattern plain refl, e ∙ plain_text (text_of pattern), inl otherwise),
+    inr (plain_parts (text_of pattern), [], bytes, plain_asks manner (text_of pattern) pattern plain refl, no_groups _ (text_of pattern), e ∙ plain_text (text_of pattern), inl otherwise),
   )
 
 -- ---- an asterisk alone
@@ -248,6 +248,6 @@ module _ {E : Type 0} (answer : E → List ℕ → Option Captures) (matcher : M
     is_matched = answers;
   }
 
-  pub whole_refused : (bytes : List ℕ) → chars bytes ≡ text → AnswersOtherwise answer matcher (chars bytes) (Some text ∷ []) → RefusesGroups answer matcher component manner pattern (ReadOtherwise component)
-  whole_refused bytes same otherwise =
-      (refl, inr (anything, Some text ∷ [], bytes, asterisk_asks, same ∙ sym (append-nil text) ∙ sym (append-nil (text ++ [])), inl otherwise))
+  pub whole_refused : IsTrue (lacks line_feed text) → (bytes : List ℕ) → chars bytes ≡ text → AnswersOtherwise answer matcher (chars bytes) (Some text ∷ []) → RefusesGroups answer matcher component manner pattern (ReadOtherwise component)
+  whole_refused line bytes same otherwise =
+      (refl, inr (anything, Some text ∷ [], bytes, asterisk_asks, (inr (0, refl, line), refl), same ∙ sym (append-nil text) ∙ sym (append-nil (text ++ [])), inl otherwise))

@@ -3,8 +3,7 @@ use Rattle.std.specs.Prelude.{◌≡◌, ◌≢◌, ◌⊎◌, ◌≤◌, ℕ, B
 use Rattle.std.specs.Str.{chars}
 use Rattle.url.specs.Parser.{Parsed}
 use Rattle.urlpattern_canonical.specs.Canonical.{long_text}
-use Rattle.urlpattern_core.specs.Components.{component_view}
-use Rattle.urlpattern_core.specs.declared.component.Component.{Component}
+use Rattle.urlpattern_core.specs.Components.{ComponentView}
 use Rattle.urlpattern_generate.specs.Asked.{AreAsked, RefusesSomeGiven}
 use Rattle.urlpattern_generate.specs.Manners.{GivenView, WritingManner, manner_for, unchanged}
 use Rattle.urlpattern_generate.specs.declared.error.GenerateError.{GenerateError}
@@ -23,14 +22,18 @@ pub record AsksFor (manner : WritingManner) (pattern : List ℕ) (parts : List P
   pub reads : Reads pattern manner.options unchanged parts
   pub are_asked : AreAsked manner parts captures
 
--- The matcher takes the text, and its groups capture this; and the text is canonical, as that of a URL is.
+-- the text is its own canonical form
+abbrev pub IsCanonical : (List ℕ → Parsed (List ℕ)) → (text : List ℕ) → Type 0
+IsCanonical canonical text = canonical text ≡ Ok text
+
+-- The matcher matches the text, and its groups capture this; and the text is canonical, as that of a URL is.
 pub record IsReadWith {E : Type 0} (answer : E → List ℕ → Option Captures) (matcher : MatcherView E) (canonical : List ℕ → Parsed (List ℕ)) (text : List ℕ) (captures : Captures) : Type 0 where
   pub is_matched : Answers answer matcher text (Some captures)
-  pub is_canonical : canonical text ≡ Ok text
+  pub is_canonical : IsCanonical canonical text
 
 -- the text of these bytes is not canonical, or too long to tell
 abbrev pub IsNotCanonical : (List ℕ → Parsed (List ℕ)) → (bytes : List ℕ) → Type 0
-IsNotCanonical canonical bytes = (canonical (chars bytes) ≢ Ok (chars bytes)) ⊎ (long_text ≤ length bytes)
+IsNotCanonical canonical bytes = (¬ IsCanonical canonical (chars bytes)) ⊎ (long_text ≤ length bytes)
 
 -- the matcher answers the text otherwise
 abbrev pub AnswersOtherwise : {E : Type 0} → (answer : E → List ℕ → Option Captures) → MatcherView E → (text : List ℕ) → Captures → Type 0
@@ -51,7 +54,7 @@ IsConfirmed is answer matcher text captures = IsTrue is → Answers answer match
 
 -- whether the text of these bytes is canonical
 abbrev pub TellsCanonical : Bool → (List ℕ → Parsed (List ℕ)) → (bytes : List ℕ) → Type 0
-TellsCanonical is canonical bytes = MatchBool is (canonical (chars bytes) ≡ Ok (chars bytes)) (IsNotCanonical canonical bytes)
+TellsCanonical is canonical bytes = MatchBool is (IsCanonical canonical (chars bytes)) (IsNotCanonical canonical bytes)
 
 -- The text is that of the parts of the pattern text, and is read back with what is asked for.
 pub record IsTextWithGroups {E : Type 0} (answer : E → List ℕ → Option Captures) (matcher : MatcherView E) (manner : WritingManner) (pattern text : List ℕ) : Type 0 where
@@ -62,9 +65,9 @@ pub record IsTextWithGroups {E : Type 0} (answer : E → List ℕ → Option Cap
   pub is_written : text ≡ text_of_parts parts captures
   pub is_read_back : IsReadWith answer matcher manner.canonical text captures
 
--- the text is such a one if it is canonical
+-- if the text is canonical, it is that of the parts and is read back with what is asked for
 abbrev pub IsDraft : {E : Type 0} → (answer : E → List ℕ → Option Captures) → MatcherView E → WritingManner → (pattern text : List ℕ) → Type 0
-IsDraft answer matcher manner pattern text = manner.canonical text ≡ Ok text → IsTextWithGroups answer matcher manner pattern text
+IsDraft answer matcher manner pattern text = IsCanonical manner.canonical text → IsTextWithGroups answer matcher manner pattern text
 
 -- The text is that of the parts, and is matched with what is asked for. It need not be canonical.
 pub record IsWrittenText {E : Type 0} (answer : E → List ℕ → Option Captures) (matcher : MatcherView E) (manner : WritingManner) (pattern text : List ℕ) : Type 0 where
@@ -86,12 +89,13 @@ RefusesAsked manner pattern name refused =
 abbrev pub GivesRefused : WritingManner → (pattern : List ℕ) → (name : List ℕ) → Type 0
 GivesRefused manner pattern name = (parts : List PartView) × Reads pattern manner.options unchanged parts × RefusesSomeGiven manner parts name
 
--- the text that is written is read otherwise, or the pattern text means no parts
+-- the groups may capture what they are to, and the text that is written is read otherwise; or the pattern text means no parts
 abbrev pub HasNoText : {E : Type 0} → (answer : E → List ℕ → Option Captures) → MatcherView E → WritingManner → (pattern : List ℕ) → Type 0
 HasNoText answer matcher manner pattern =
     ((error : ErrorView) × Refuses pattern manner.options unchanged error)
     ⊎ ((parts : List PartView) × (captures : Captures) × (bytes : List ℕ) × AsksFor manner pattern parts captures
-    × (chars bytes ≡ text_of_parts parts captures) × IsReadOtherwise answer matcher manner.canonical bytes captures)
+    × MayCaptureAll manner.options parts captures × (chars bytes ≡ text_of_parts parts captures)
+    × IsReadOtherwise answer matcher manner.canonical bytes captures)
 
 -- why the component has no text: the error
 abbrev pub RefusesGroups : {E : Type 0} → (answer : E → List ℕ → Option Captures) → MatcherView E → ComponentName → WritingManner → (pattern : List ℕ) → GenerateError → Type 0
@@ -104,19 +108,16 @@ RefusesGroups answer matcher component manner pattern OutOfMemory = Unit {0}
 -- ---- components by their names
 
 -- the text is that of a component with these groups
-abbrev pub HasText : {E : Type 0} → (answer : E → List ℕ → Option Captures) → Component E → ComponentName → (hierarchical : Bool) → List GivenView → (text : List ℕ) → Type 0
+abbrev pub HasText : {E : Type 0} → (answer : E → List ℕ → Option Captures) → ComponentView E → ComponentName → (hierarchical : Bool) → List GivenView → (text : List ℕ) → Type 0
 HasText answer component name hierarchical groups text =
-    let view = component_view component in
-    IsTextWithGroups answer view.matcher (manner_for name hierarchical view.pattern_string groups) view.pattern_string text
+    IsTextWithGroups answer component.matcher (manner_for name hierarchical component.pattern_string groups) component.pattern_string text
 
--- it is if it is canonical
-abbrev pub HasDraft : {E : Type 0} → (answer : E → List ℕ → Option Captures) → Component E → ComponentName → (hierarchical : Bool) → List GivenView → (text : List ℕ) → Type 0
+-- the text is that of the component with these groups if it is canonical
+abbrev pub HasDraft : {E : Type 0} → (answer : E → List ℕ → Option Captures) → ComponentView E → ComponentName → (hierarchical : Bool) → List GivenView → (text : List ℕ) → Type 0
 HasDraft answer component name hierarchical groups text =
-    let view = component_view component in
-    IsDraft answer view.matcher (manner_for name hierarchical view.pattern_string groups) view.pattern_string text
+    IsDraft answer component.matcher (manner_for name hierarchical component.pattern_string groups) component.pattern_string text
 
 -- why it has none: the error
-abbrev pub LacksText : {E : Type 0} → (answer : E → List ℕ → Option Captures) → Component E → ComponentName → (hierarchical : Bool) → List GivenView → GenerateError → Type 0
+abbrev pub LacksText : {E : Type 0} → (answer : E → List ℕ → Option Captures) → ComponentView E → ComponentName → (hierarchical : Bool) → List GivenView → GenerateError → Type 0
 LacksText answer component name hierarchical groups error =
-    let view = component_view component in
-    RefusesGroups answer view.matcher name (manner_for name hierarchical view.pattern_string groups) view.pattern_string error
+    RefusesGroups answer component.matcher name (manner_for name hierarchical component.pattern_string groups) component.pattern_string error

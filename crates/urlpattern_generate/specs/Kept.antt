@@ -7,7 +7,7 @@ use Rattle.urlpattern_eight.specs.declared.eight.ComponentName.{ComponentName}
 use Rattle.urlpattern_eight.specs.declared.eight.ComponentName.TheVariants.{Hostname, Pathname, Search, Hash}
 use Rattle.urlpattern_syntax.specs.Text.{is_among}
 
--- neither a path nor a search or a hash escapes the character
+-- no path, search or hash escapes the character
 abbrev pub is_kept_character : ℕ → Bool
 is_kept_character c = is_ascii_alphanumeric c || is_among (codes "-._~/!$%&()*+,:;=@") c
 
@@ -28,7 +28,7 @@ is_label_character c = is_ascii_lowercase c || is_among (codes "-") c
 abbrev pub is_kept_opaque : List ℕ → Bool
 is_kept_opaque value = not (slice_index value 0 == slash) && list_all is_kept_character value
 
--- the value is canonical in the component, where a pathname is a path of segments or opaque and a hostname is no IPv6 address
+-- the value is known to be canonical in the component, where a pathname is a path of segments or opaque and a hostname is no IPv6 address
 abbrev pub is_kept_value : ComponentName → (hierarchical : Bool) → List ℕ → Bool
 is_kept_value Hostname hierarchical value = list_all is_label_character value
 is_kept_value Pathname true value = is_kept_path false value

@@ -12,6 +12,7 @@ use Rattle.urlpattern_meaning.specs.Printing.{HaveTexts, admits_asterisk, first_
 use Rattle.urlpattern_meaning.specs.RoundTrip.{AllHaveFields, AreNamed, AreUnskipped, HasFields, IsNamed, IsUnskipped, following_number}
 use Rattle.urlpattern_syntax.specs.Options.{OptionsView}
 use Rattle.urlpattern_syntax.specs.Parts.{PartView}
+use Rattle.urlpattern_syntax.specs.PatternText.{pattern_marks}
 use Rattle.urlpattern_syntax.specs.declared.parser.{PartModifier.PartModifier, PartType.PartType}
 use Rattle.urlpattern_syntax.specs.RegexpText.{full_wildcard, group_names, is_empty, is_plain, is_unmodified, modifier_text, segment_wildcard}
 use Rattle.urlpattern_syntax.specs.Text.{begins_with, is_among, is_name_part, option_text, text_of}
@@ -21,11 +22,11 @@ use Rattle.urlpattern_syntax.specs.Tokens.{IsRegexpBody, is_ignored}
 
 -- a character that stands for itself wherever it is in a pattern text
 abbrev pub is_run_character : ℕ → Bool
-is_run_character c = not (is_among (codes "+*?:{}()\\") c) && not (is_ignored c)
+is_run_character c = not (is_among pattern_marks c) && not (is_ignored c)
 
 -- the characters of a kind pass this test
 abbrev pub kind_test : Characters → (ℕ → Bool)
-kind_test Characters.Plain = is_run_character
+kind_test Characters.OfRun = is_run_character
 kind_test Characters.OfName = is_name_part
 
 -- a name would take what begins with such a character
@@ -143,11 +144,11 @@ IsPassed manner plain pattern pass =
     (parts : List PartView) (captures : Captures) (text : List ℕ) → Completes manner plain (place_in_pass pass) parts captures text →
     IsCompleted manner pattern (captures_in_pass pass.groups.items ++ captures) (text_of pass.text ++ text)
 
--- what is passed of a pattern text stays so
+-- A pass of a pattern text stays one. `plain` and `plain_after` say whether a plain fixed text may be the next part.
 abbrev pub KeepsPassed : WritingManner → (plain plain_after : Bool) → (before after : Pass) → Type 0
 KeepsPassed manner plain plain_after before after = (pattern : List ℕ) → IsPassed manner plain pattern before → IsPassed manner plain_after pattern after
 
--- so that the whole is completed
+-- where `before` is a pass of a pattern text, `after` has the captures and the text of the whole of it
 abbrev pub CompletesPassed : WritingManner → (before after : Pass) → Type 0
 CompletesPassed manner before after =
     (pattern : List ℕ) → IsPassed manner true pattern before → IsCompleted manner pattern (captures_in_pass after.groups.items) (text_of after.text)
@@ -184,7 +185,7 @@ affixed group prefix suffix modifier = record {
 abbrev pub part_of : Group → PartView
 part_of group = affixed group (chars group.prefix.now) (chars group.suffix.now) group.modifier
 
--- The part is the first of what is left at a place, and this follows it, after so many groups without a name of their own.
+-- The part is the first of what is left at a place, and `rest` follows it. Up to there are `number` groups without a name of their own.
 pub record IsFirstPart (options : OptionsView) (place : Place) (part : PartView) (rest : List ℕ) (number : ℕ) : Type 0 where
   pub printed : (before next : Option PartView) → admits_asterisk before ≡ place.admits → IsApart options before place.left →
       (goes_on_first next ≡ true → begins_with may_go_on rest ≡ true) → printed_part options before part next ++ rest ≡ place.left
@@ -200,7 +201,7 @@ pub record IsFirstPart (options : OptionsView) (place : Place) (part : PartView)
 abbrev pub IsFrontGroup : OptionsView → Place → Group → Type 0
 IsFrontGroup options place group = IsFirstPart options place (part_of group) (chars group.rest.now) group.number
 
--- it stands at each place with this left, after so many groups without a name of their own
+-- it is at the front of each place with this left, before which are `number` groups without a name of their own
 abbrev pub IsFrontOf : OptionsView → (left : List ℕ) → (number : ℕ) → Group → Type 0
 IsFrontOf options left number group =
     (admits : Bool) (names : List (List ℕ)) →
@@ -256,12 +257,12 @@ NeedsBraces options prefix suffix = not (is_empty suffix) || (not (is_empty pref
 abbrev pub IsToCapture : WritingManner → PartView → Option (List ℕ) → Type 0
 IsToCapture manner part capture = IsAsked manner part capture × MayCapture manner.options part capture
 
--- the pass goes on after the group
+-- if the group is at the front, may capture this and has a new name, the pass goes on after it
 abbrev pub PassesGroup : (before : Pass) → Group → Option (List ℕ) → (after : Pass) → Type 0
 PassesGroup before group capture after =
     (manner : WritingManner) (pattern : List ℕ) → IsFrontGroup manner.options (place_in_pass before) group → IsToCapture manner (part_of group) capture →
     ¬ Contains (names_in_pass before.groups.items) (chars group.name.now) → IsPassed manner false pattern before → IsPassed manner true pattern after
 
--- nothing is passed of this pattern text
+-- what completes the pass completes the pattern text, in each manner
 abbrev pub IsBegun : (pattern : List ℕ) → Pass → Type 0
 IsBegun pattern pass = (manner : WritingManner) → IsPassed manner true pattern pass

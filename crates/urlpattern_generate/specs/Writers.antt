@@ -24,17 +24,17 @@ use Rattle.urlpattern_syntax.specs.Parts.{PartView}
 use Rattle.urlpattern_syntax.specs.Reading.{Refuses}
 use Rattle.urlpattern_syntax.specs.Text.{text_of}
 
--- the manner in which it writes
+-- the characters of a text that is borrowed or owned
+abbrev pub cow_text : CowStr Global → List ℕ
+cow_text text = chars (cow_str_bytes text)
+
+-- the manner in which a writer writes
 abbrev pub manner_of_writer : Writer → WritingManner
 manner_of_writer writer = record {
   options = options_for writer.component writer.hierarchical;
   canonical = canonical_for writer.component writer.hierarchical writer.is_ipv6;
   given = text_given (given_groups writer.groups.now) writer.component;
 }
-
--- the characters of a text that is borrowed or owned
-abbrev pub cow_text : CowStr Global → List ℕ
-cow_text text = chars (cow_str_bytes text)
 
 -- it writes this text for a component, whose matcher finds in it what is asked for
 abbrev pub Writes : {E : Type 0} → (answer : E → List ℕ → Option Captures) → Component E → Writer → (text : List ℕ) → Type 0
@@ -46,7 +46,7 @@ abbrev pub WritesCanonical : {E : Type 0} → (answer : E → List ℕ → Optio
 WritesCanonical answer component writer text =
     let view = component_view component in IsTextWithGroups answer view.matcher (manner_of_writer writer) view.pattern_string text
 
--- the text is such a one if it is canonical
+-- it does if the text is canonical
 abbrev pub Drafts : {E : Type 0} → (answer : E → List ℕ → Option Captures) → Component E → Writer → (text : List ℕ) → Type 0
 Drafts answer component writer text =
     let view = component_view component in IsDraft answer view.matcher (manner_of_writer writer) view.pattern_string text

@@ -1,6 +1,7 @@
 //! The text of a component.
 
 ghost use Rattle.std.specs.Prelude.{◌≡◌, IfErr, IfOk, IfSome};
+ghost use Rattle.urlpattern_core.specs.Components.{component_view};
 ghost use Rattle.urlpattern_generate.specs.Generating.{HasDraft, HasText, LacksText};
 ghost use Rattle.urlpattern_generate.specs.Manners.{given_groups, unchanged};
 ghost use Rattle.urlpattern_generate.specs.Writers.{AsksByWriter, CannotWrite, Drafts, Writes, WritesCanonical, cow_text, manner_of_writer};
@@ -21,7 +22,7 @@ use urlpattern_syntax::parser::{Options, Part};
 /// The text of a component whose groups capture the canonical forms of what they are given. `hierarchical` says whether a
 /// pathname is a path of segments.
 ///
-/// A group that is not given takes no part if it may, and a wildcard without name is empty then. Texts for other components, and
+/// A group that is not given takes no part if it may; otherwise a wildcard without name is empty. Texts for other components, and
 /// for groups that the component does not have, are ignored.
 ///
 /// The error says why there is no such text, or that memory ran out.
@@ -32,8 +33,8 @@ pub fn generate_component<R: RegExp>(
     hierarchical: bool,
     groups: &[GivenGroup<'_>],
 ) -> Result<String, GenerateError>
-    ensures generated { IfOk result (λ text. HasText R.answer component.now name hierarchical (given_groups groups.now) (text_of text)) }
-    ensures refused { IfErr result (LacksText R.answer component.now name hierarchical (given_groups groups.now)) }
+    ensures generated { IfOk result (λ text. HasText R.answer (component_view component.now) name hierarchical (given_groups groups.now) (text_of text)) }
+    ensures refused { IfErr result (LacksText R.answer (component_view component.now) name hierarchical (given_groups groups.now)) }
 {
     let writer = Writer::new(alloc, &component.pattern_string, name, hierarchical, groups);
     writer.canonical_text(component)
@@ -42,7 +43,7 @@ pub fn generate_component<R: RegExp>(
 /// A draft of that text: it is the text if it is canonical. Where it is the pattern text, or what is given, it is borrowed. `None`: there
 /// is no such text, or memory ran out.
 ///
-/// Of a URL with eight such texts none has to be looked at again, if they are canonical in any URL of its kind.
+/// If eight drafts are the texts of a URL, and each text is canonical, none has to be tested again.
 #[inline(never)]
 pub fn draft_component<'d, R: RegExp>(
     alloc: Global,
@@ -51,7 +52,7 @@ pub fn draft_component<'d, R: RegExp>(
     hierarchical: bool,
     groups: &'d [GivenGroup<'d>],
 ) -> Option<CowStr<'d>>
-    ensures { IfSome result (λ text. HasDraft R.answer component.now name hierarchical (given_groups groups.now) (cow_text text)) }
+    ensures { IfSome result (λ text. HasDraft R.answer (component_view component.now) name hierarchical (given_groups groups.now) (cow_text text)) }
 {
     let writer = Writer::new(alloc, &component.pattern_string, name, hierarchical, groups);
     writer.draft(component)
@@ -69,7 +70,7 @@ impl Writer<'_> {
         self.tested_text(component)
     }
 
-    /// The text of a component, which is tested whether it is canonical.
+    /// The text of a component, after a test that it is canonical.
     #[inline(never)]
     fn tested_text<R: RegExp>(&self, component: &Component<R>) -> Result<String, GenerateError>
         ensures generated { IfOk result (λ text. WritesCanonical R.answer component.now self.now (text_of text)) }
@@ -118,7 +119,7 @@ impl<'d> Writer<'d> {
 }
 
 impl Writer<'_> {
-    /// A draft of the text of a component whose pattern text is neither plain nor an asterisk.
+    /// A draft of the text of a component that has to be written.
     #[inline(never)]
     fn own_draft<R: RegExp>(&self, component: &Component<R>) -> Option<String>
         ensures { IfSome result (λ text. Drafts R.answer component.now self.now (text_of text)) }

@@ -45,10 +45,10 @@ impl Writer<'_> {
         ensures front { IfSome result (IsBracedFront (manner_of_writer self.now).options (chars text.now) number) }
         ensures len { IfSome result (λ group. length group.rest.now ≤ length text.now) }
     {
-        let start = after_all(Characters::Plain, text);
+        let start = after_all(Characters::OfRun, text);
         let prefix = before(text, start);
         let own = placeholder(number, start)?;
-        let end = after_all(Characters::Plain, own.rest);
+        let end = after_all(Characters::OfRun, own.rest);
         let suffix = before(own.rest, end);
         let (close, after) = split_first(end)?;
         let (modifier, rest) = modifier(after);
@@ -235,7 +235,7 @@ pub(crate) fn after_left_out(text: &str) -> Option<&str>
     if open != '{' {
         return None;
     }
-    let end = after_all(Characters::Plain, value);
+    let end = after_all(Characters::OfRun, value);
     let own = before(value, end);
     let (close, after) = split_first(end)?;
     let (modifier, rest) = modifier(after);
@@ -268,7 +268,7 @@ fn after_all(kind: Characters, text: &str) -> &str
 #[derive(Clone, Copy)]
 enum Characters {
     /// Those that stand for themselves wherever they are.
-    Plain,
+    OfRun,
     /// Those of a name.
     OfName,
 }
@@ -279,7 +279,7 @@ impl Characters {
         ensures { result ≡ kind_test self c }
     {
         match self {
-            Self::Plain => is_of_run(c),
+            Self::OfRun => is_of_run(c),
             Self::OfName => is_name_part(c),
         }
     }

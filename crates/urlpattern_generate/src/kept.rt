@@ -13,7 +13,7 @@ use crate::writer::Writer;
 use urlpattern_eight::ComponentName;
 
 impl Writer<'_> {
-    /// Whether a value is of those that the component is known to take as they are.
+    /// Whether a value is known to be canonical in the component.
     pub(crate) fn keeps(&self, text: &str) -> bool
         ensures canonical { IsTrue result → (manner_of_writer self.now).canonical (chars text.now) ≡ Ok (chars text.now) }
         ensures line { IsTrue result → IsTrue (lacks line_feed (chars text.now)) }
@@ -22,8 +22,8 @@ impl Writer<'_> {
     }
 }
 
-/// Whether a text is of those that a component is known to take as they are, where a pathname is hierarchical or not and a hostname is an
-/// IPv6 address or not.
+/// Whether a text is known to be canonical in a component, where a pathname is hierarchical or not and a hostname is an IPv6 address or
+/// not.
 pub fn keeps(component: ComponentName, hierarchical: bool, is_ipv6: bool, text: &str) -> bool
     ensures canonical { IsTrue result → canonical_for component hierarchical is_ipv6 (chars text.now) ≡ Ok (chars text.now) }
     ensures line { IsTrue result → IsTrue (lacks line_feed (chars text.now)) }
@@ -37,7 +37,7 @@ pub fn keeps(component: ComponentName, hierarchical: bool, is_ipv6: bool, text: 
     }
 }
 
-/// Whether a protocol is of those that are often used.
+/// Whether a protocol is empty or one of those that are often used.
 fn is_kept_protocol(text: &str) -> bool
     ensures canonical { IsTrue result → canonical_protocol (chars text.now) ≡ Ok (chars text.now) }
     ensures line { IsTrue result → IsTrue (lacks line_feed (chars text.now)) }
@@ -52,7 +52,7 @@ fn is_kept_protocol(text: &str) -> bool
     }
 }
 
-/// Whether a value is canonical in a component, where a pathname is a path of segments or opaque and a hostname is no IPv6 address.
+/// Whether a value is known to be canonical in a component, where a pathname is a path of segments or opaque and a hostname is no IPv6 address.
 fn is_kept_value(component: ComponentName, hierarchical: bool, value: &[u8]) -> bool
     ensures { result ≡ is_kept_value component hierarchical value.now }
 {
@@ -68,7 +68,7 @@ fn is_kept_value(component: ComponentName, hierarchical: bool, value: &[u8]) -> 
     }
 }
 
-/// Whether an opaque path escapes no character of a value, which is not begun by a slash.
+/// Whether an opaque path escapes no character of a value, and the value does not begin with a slash.
 fn is_kept_opaque(value: &[u8]) -> bool
     ensures { result ≡ is_kept_opaque value.now }
 {
@@ -103,7 +103,7 @@ fn is_kept_text(value: &[u8]) -> bool
     value.iter().all(|&b| is_kept_byte(b))
 }
 
-/// Whether neither a path nor a search or a hash escapes a character.
+/// Whether no path, search or hash escapes a character.
 fn is_kept_byte(b: u8) -> bool
     ensures { result ≡ is_kept_character b }
 {

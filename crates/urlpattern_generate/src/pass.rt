@@ -1,6 +1,6 @@
 //! Drafts in one pass over a pattern text. Nothing is parsed into parts.
 
-ghost use Rattle.std.specs.Prelude.{◌≡◌, ◌++◌, ◌<◌, ◌≤◌, [], ℕ, IfOk, IfSome, IsTrue, List, Ok, OnOk, Some, bytes_eq, codes, false, length, not, true};
+ghost use Rattle.std.specs.Prelude.{◌≡◌, ◌++◌, ◌<◌, ◌≤◌, [], IfOk, IfSome, IsTrue, Ok, OnOk, Some, codes, false, length, true};
 ghost use Rattle.std.specs.{Char.is_ascii_digit, List.list_all, Str.chars};
 ghost use Rattle.url.specs.Ascii.{slash};
 ghost use Rattle.urlpattern_generate.specs.{Asked.capture_not_given, Writers.Drafts, Writers.manner_of_writer};
@@ -22,7 +22,7 @@ use urlpattern_eight::ComponentName;
 use urlpattern_syntax::parser::{PartModifier, PartType};
 use urlpattern_syntax::tokenizer::{before, split_first};
 
-/// The bytes beside those of the pattern text for which room is made at first.
+/// The bytes besides those of the pattern text for which room is made at first.
 const ROOM: usize = 32;
 
 /// What is left of a pattern text, and the draft up to there.
@@ -161,7 +161,7 @@ impl Writer<'_> {
         self.hierarchical && matches!(self.component, ComponentName::Pathname)
     }
 
-    /// What a group is to capture, of which nothing has to be made canonical. `None`: something has, or it may not capture that.
+    /// What a group is to capture. `None`: what is given may not be canonical, the group may not capture it, or it has to be given.
     fn capture_of<'d>(&'d self, group: &Group<'d>) -> Option<Option<&'d str>>
         ensures { IfSome result (λ capture. IsToCapture (manner_of_writer self.now) (part_of group.now) (option_text capture)) }
     {
@@ -174,7 +174,7 @@ impl Writer<'_> {
         Some(Some(value))
     }
 
-    /// Whether a group may capture a value, which is canonical as it is.
+    /// Whether a value is known to be canonical and a group may capture it.
     fn may_take(&self, group: &Group<'_>, value: &str) -> bool
         ensures canonical { IsTrue result → (manner_of_writer self.now).canonical (chars value.now) ≡ Ok (chars value.now) }
         ensures may { IsTrue result → MayCapture (manner_of_writer self.now).options (part_of group.now) (Some (chars value.now)) }

@@ -77,7 +77,7 @@ impl<'d> Writer<'d> {
 
     /// A draft of the text of a component whose pattern text is an asterisk: what is given for it, as it is.
     ///
-    /// `None`: the pattern text is another, or the component does not capture the whole of this text.
+    /// `None`: the pattern text is another, the component does not capture each text whole, or what is given has a line feed.
     pub(crate) fn whole_draft<R: RegExp>(&self, component: &'d Component<R>) -> Option<&'d str>
         ensures { IfSome result (λ text. Drafts R.answer component.now self.now (chars text.now)) }
     {

@@ -17,7 +17,7 @@ use urlpattern_core::regexp::RegExp;
 use urlpattern_syntax::Error;
 
 impl Writer<'_> {
-    /// Whether a matcher takes a text with these captures.
+    /// Whether a matcher matches a text with these captures.
     pub(crate) fn is_read_back<R: RegExp>(
         &self,
         matcher: &Matcher<R>,
@@ -45,12 +45,12 @@ impl Writer<'_> {
             None => Ok(false),
             Some(Look::Matched) => Ok(are_equal(&[], groups)),
             Some(Look::Captured(captured)) => Ok(are_equal(&[Some(captured)], groups)),
-            Some(Look::Asks { engine, middle }) => self.is_answered(engine, middle, groups),
+            Some(Look::Asks { engine, middle }) => self.is_found_by_engine(engine, middle, groups),
         }
     }
 
     /// Whether an engine finds in a text what groups capture.
-    fn is_answered<R: RegExp>(
+    fn is_found_by_engine<R: RegExp>(
         &self,
         engine: &R,
         text: &str,
@@ -77,7 +77,7 @@ impl Writer<'_> {
     }
 }
 
-/// Whether a matcher takes a text by itself, and has no groups.
+/// Whether a matcher matches a text without an engine, and has no groups.
 pub(crate) fn is_matched<R: RegExp>(matcher: &Matcher<R>, text: &str) -> bool
     ensures { IsTrue result → Answers R.answer (matcher_view matcher.now) (chars text.now) (Some []) }
 {

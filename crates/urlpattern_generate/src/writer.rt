@@ -1,11 +1,11 @@
 //! How the text of a component is written.
 
-ghost use Rattle.std.specs.Prelude.{◌≡◌, IfErr, IfOk, length, codes};
+ghost use Rattle.std.specs.Prelude.{◌≡◌, IfErr, IfOk, length};
 ghost use Rattle.std.specs.Str.{chars};
 ghost use Rattle.urlpattern_canonical.specs.Canonical.{IsAnswer};
 ghost use Rattle.urlpattern_generate.specs.Manners.{IsUnchanged, begins_ipv6, given_groups, manner_for, unchanged};
 ghost use Rattle.urlpattern_generate.specs.Writers.{IsPatternError, ReportsPattern, manner_of_writer};
-ghost use Rattle.urlpattern_syntax.specs.{Errors.OnlyOutOfMemory, Options.options_view, Parts.parts_view};
+ghost use Rattle.urlpattern_syntax.specs.{Errors.OnlyOutOfMemory, Options.options_view};
 ghost use Rattle.urlpattern_syntax.specs.Reading.{IsReadAs};
 
 use crate::error::GenerateError;

@@ -1,5 +1,5 @@
 //! The numbers of patterns, by key.
-ghost use Rattle.std.specs.Prelude.{◌≡◌, ◌++◌, ◌∷◌, [], ℕ, OnErr, OnOk};
+ghost use Rattle.std.specs.Prelude.{◌≡◌, [], ℕ, OnErr, OnOk};
 ghost use Rattle.urlpattern_index.specs.Listed.{AreMarked, HaveSameNumbers, GainsNumber, LosesNumber, lowered, numbers_at, without};
 
 use std::alloc::{AllocError, Global};

@@ -1,7 +1,9 @@
 -- Links of one pattern, by what their groups are to capture.
-use Rattle.std.proofs.Common.{◌≡◌, ℕ, Bool, true, false, List, ap, refl, sym, subst, ◌∙◌, ◌↔◌, Option, Some, Ok, Err}
+use Rattle.std.proofs.Common.{◌≡◌, ℕ, Bool, true, false, List, ap, refl, sym, subst, ◌∙◌, ◌↔◌, Option, Some, None, Ok, Err}
 use Rattle.std.specs.Prelude.{IsTrue}
 use Rattle.std.specs.Str.{chars}
+use Rattle.url.specs.Parser.{Parsed, parse_url}
+use Rattle.url.specs.Parts.{Parts}
 use Rattle.urlpattern_core.proofs.MatcherAnswers.{matches-accepts}
 use Rattle.urlpattern_create.specs.Compiled.{IsPathKind}
 use Rattle.urlpattern_generate.specs.Asked.{AreAsked}
@@ -20,8 +22,9 @@ use Rattle.urlpattern_pattern.specs.Patterns.{PatternView}
 use Rattle.urlpattern_eight.proofs.EightLemmas.{same_values}
 use Rattle.urlpattern_eight.specs.declared.eight.ComponentName.{ComponentName}
 use Rattle.urlpattern_eight.specs.declared.eight.ComponentName.TheVariants.{Protocol}
-use Rattle.urlpattern_eight.specs.Eight.{at}
+use Rattle.urlpattern_eight.specs.Eight.{Texts, at}
 use Rattle.urlpattern_syntax.specs.{Parts.PartView, Reading.Reads, Text.text_of}
+use Rattle.urlpattern_url.specs.UrlsOfTexts.{line_of}
 
 -- ---- one list of parts
 
@@ -105,8 +108,8 @@ module _ {E : Type 0} (answer : E → List ℕ → Option Captures) (pattern : P
 
 pub links_differ : {E : Type 0} (answer : E → List ℕ → Option Captures) → LinksDiffer answer
 links_differ answer pattern groups others url other component captures different link linked ask asks differ = λ same.
-    let one = link component in
-    let two = linked component in
+    let one = link.0 component in
+    let two = linked.0 component in
     let matched = answered_once answer (pattern component).matcher (at (texts_of_url url) component) one.2.captures two.2.captures one.2.is_read_back.is_matched
     (subst (λ t. Answers answer (pattern component).matcher t (Some two.2.captures)) (sym same) two.2.is_read_back.is_matched) in
     differ (ask_once answer pattern groups component captures one.2.captures ask (generated_asks answer pattern groups component (at (texts_of_url url) component) one)
@@ -115,10 +118,14 @@ links_differ answer pattern groups others url other component captures different
 
 pub links_one : {E : Type 0} (answer : E → List ℕ → Option Captures) → LinksAreOne answer
 links_one answer pattern groups url other link linked =
+    let same =
     same_values (texts_of_url url) (texts_of_url other)
-    (λ component. text_once answer pattern groups component (at (texts_of_url url) component) (at (texts_of_url other) component) (link component) (linked component))
+    (λ component. text_once answer pattern groups component (at (texts_of_url url) component) (at (texts_of_url other) component) (link.0 component) (linked.0 component)) in
+    let read : Parsed Parts = Ok url in
+    let both : read ≡ Ok other = sym link.1 ∙ ap (λ (texts : Texts). parse_url None (line_of texts)) same ∙ linked.1 in
+    cc both
 
 pub links_of_captures : {E : Type 0} (answer : E → List ℕ → Option Captures) → LinksOfCapturesAreTheTexts answer
 links_of_captures answer pattern groups url texts captures link answered back =
     same_values (texts_of_url url) texts
-    (λ component. text_again answer pattern groups component (at (texts_of_url url) component) (at texts component) (captures component) (link component) (answered component) (back component))
+    (λ component. text_again answer pattern groups component (at (texts_of_url url) component) (at texts component) (captures component) (link.0 component) (answered component) (back component))

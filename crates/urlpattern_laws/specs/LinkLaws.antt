@@ -1,9 +1,9 @@
 -- The sentences of the laws of links.
-use Rattle.std.specs.Prelude.{◌≡◌, ◌≢◌, ℕ, All, Bool, IfSome, List, Ok, Option, Some, map}
+use Rattle.std.specs.Prelude.{◌≡◌, ◌≢◌, ℕ, All, Bool, IfSome, List, Option, Some, map}
 use Rattle.url.specs.Parser.{Parsed}
 use Rattle.url.specs.Parts.{Parts}
 use Rattle.urlpattern_create.specs.Compiled.{IsPathKind}
-use Rattle.urlpattern_generate.specs.Generating.{AsksFor}
+use Rattle.urlpattern_generate.specs.Generating.{AsksFor, IsCanonical}
 use Rattle.urlpattern_generate.specs.Manners.{GivenView, WritingManner, manner_for, unchanged}
 use Rattle.urlpattern_init.specs.Inheritance.{texts_of_url}
 use Rattle.urlpattern_links.specs.LawsOfLinks.{HavePlainTexts}
@@ -42,13 +42,13 @@ LinksDiffer {E} answer = (pattern : PatternView E) (groups others : List GivenVi
 -- There is one link with given groups.
 abbrev pub LinksAreOne : {E : Type 0} → (answer : E → List ℕ → Option Captures) → Type 0
 LinksAreOne {E} answer = (pattern : PatternView E) (groups : List GivenView) (url other : Parts) →
-    IsLink answer pattern groups url → IsLink answer pattern groups other → texts_of_url url ≡ texts_of_url other
+    IsLink answer pattern groups url → IsLink answer pattern groups other → url ≡ other
 
 -- ---- links with what was captured
 
 -- a text that was captured is its own canonical form
 abbrev pub IsCanonicalCapture : (canonical : List ℕ → Parsed (List ℕ)) → Option (List ℕ) → Type 0
-IsCanonicalCapture canonical capture = IfSome capture (λ text. canonical text ≡ Ok text)
+IsCanonicalCapture canonical capture = IfSome capture (IsCanonical canonical)
 
 abbrev pub AreCanonical : (canonical : List ℕ → Parsed (List ℕ)) → Captures → Type 0
 AreCanonical canonical captures = All (IsCanonicalCapture canonical) captures

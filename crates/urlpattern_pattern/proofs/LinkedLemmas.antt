@@ -1,5 +1,5 @@
 -- The URL of a pattern, by the texts of its components.
-use Rattle.std.proofs.Common.{◌≡◌, ◌∙◌, ℕ, All, Bool, true, false, List, Option, Result, Ok, Err, String, ap, refl, subst, sym}
+use Rattle.std.proofs.Common.{◌≡◌, ◌∙◌, ℕ, All, Bool, true, false, List, Option, Result, Ok, Err, String, ap, inl, inr, refl, subst, sym}
 use Rattle.std.proofs.lemmas.Bool.{false≢true}
 use Rattle.std.proofs.lemmas.List.Elements.{All-weaker}
 use Rattle.std.specs.Prelude.{IfErr, IfOk, MatchResult}
@@ -14,7 +14,7 @@ use Rattle.urlpattern_init.specs.Inheritance.{texts_of_url, url_text}
 use Rattle.urlpattern_init.specs.declared.init.UrlPatternMatchInput.TheVariants as inputs
 use Rattle.urlpattern_meaning.specs.PartMeaning.{Captures}
 use Rattle.urlpattern_pattern.specs.GeneratedTexts.{printed_values}
-use Rattle.urlpattern_pattern.specs.LinkedUrls.{DraftsTexts, GeneratesTexts, IsLink, KeepsText, KeepsTexts, RefusesLink}
+use Rattle.urlpattern_pattern.specs.LinkedUrls.{AreCanonicalIn, DraftsTexts, GeneratesTexts, HasPathKind, IsCanonicalIn, IsLink, MakesCanonical, RefusesLink}
 use Rattle.urlpattern_pattern.specs.Match.{HasMatch}
 use Rattle.urlpattern_pattern.specs.Patterns.{PatternView}
 use Rattle.urlpattern_eight.proofs.EightLemmas.{at-each, of_each}
@@ -24,7 +24,7 @@ use Rattle.urlpattern_eight.specs.declared.eight.Eight.{Eight}
 use Rattle.urlpattern_eight.specs.Eight.{IsFirstError, Texts, at, components}
 use Rattle.urlpattern_syntax.specs.Text.{text_of}
 use Rattle.urlpattern_url.proofs.CanonicalTexts.{texts_are_canonical}
-use Rattle.urlpattern_url.specs.UrlsOfTexts.{RefusesTexts, cow_texts, string_texts}
+use Rattle.urlpattern_url.specs.UrlsOfTexts.{IsReadOfTexts, RefusesTexts, cow_texts, string_texts}
 use Rattle.urlpattern_url.specs.WebUrls.{IsWebUrl}
 use Rattle.urlpattern_url.specs.declared.error.NoLink.{NoLink}
 use Rattle.urlpattern_url.specs.declared.error.NoLink.TheVariants.{Component, OtherText, OutOfMemory, Url}
@@ -66,40 +66,56 @@ canonical_under texts no_address Search text is = is
 canonical_under texts no_address Hash text is = is
 
 -- the texts of a URL of the web are canonical
-pub web_kept : {E : Type 0} (pattern : PatternView E) (hierarchical : Bool) (url : Parts) → hierarchical ≡ true → IsWebUrl url → begins_ipv6 (pattern Hostname).pattern_string ≡ false →
-    KeepsTexts pattern hierarchical (texts_of_url url)
-web_kept pattern true url kind web no_address component =
+pub web_canonical : {E : Type 0} (pattern : PatternView E) (hierarchical : Bool) (url : Parts) → hierarchical ≡ true → IsWebUrl url → begins_ipv6 (pattern Hostname).pattern_string ≡ false →
+    AreCanonicalIn pattern hierarchical (texts_of_url url)
+web_canonical pattern true url kind web no_address component =
     canonical_under (λ name. (pattern name).pattern_string) no_address component (at (texts_of_url url) component)
     (subst (λ text. canonical_for component true false text ≡ Ok text) (sym (at-each (λ name. url_text name url) component)) (texts_are_canonical url web component))
-web_kept pattern false url kind web no_address component = absurd (false≢true kind)
+web_canonical pattern false url kind web no_address component = absurd (false≢true kind)
 
 module _ {E : Type 0} (pattern : PatternView E) (hierarchical : Bool) (texts : Eight (CowStr Global)) where
   -- a text that is canonical by the test of its bytes
-  pub text_kept : (name : ComponentName) (is_ipv6 : Bool) (bytes : List ℕ) → canonical_for name hierarchical is_ipv6 (chars bytes) ≡ Ok (chars bytes) → is_ipv6 ≡ begins_ipv6 (pattern name).pattern_string →
-      chars bytes ≡ cow_text (at texts name) → KeepsText pattern hierarchical name (cow_text (at texts name))
-  text_kept name is_ipv6 bytes canonical is same =
-      subst (KeepsText pattern hierarchical name) same (subst (λ of. canonical_for name hierarchical of (chars bytes) ≡ Ok (chars bytes)) is canonical)
+  pub text_canonical : (name : ComponentName) (is_ipv6 : Bool) (bytes : List ℕ) → canonical_for name hierarchical is_ipv6 (chars bytes) ≡ Ok (chars bytes) → is_ipv6 ≡ begins_ipv6 (pattern name).pattern_string →
+      chars bytes ≡ cow_text (at texts name) → IsCanonicalIn pattern hierarchical name (cow_text (at texts name))
+  text_canonical name is_ipv6 bytes canonical is same =
+      subst (IsCanonicalIn pattern hierarchical name) same (subst (λ of. canonical_for name hierarchical of (chars bytes) ≡ Ok (chars bytes)) is canonical)
 
   -- those of all components
-  pub all_kept : All (λ name. KeepsText pattern hierarchical name (cow_text (at texts name))) components → KeepsTexts pattern hierarchical (cow_texts texts)
-  all_kept all component =
-      subst (KeepsText pattern hierarchical component) (sym (at-each (λ name. cow_text (at texts name)) component)) (of_each (λ name. KeepsText pattern hierarchical name (cow_text (at texts name))) all component)
+  pub all_canonical : All (λ name. IsCanonicalIn pattern hierarchical name (cow_text (at texts name))) components → AreCanonicalIn pattern hierarchical (cow_texts texts)
+  all_canonical all component =
+      subst (IsCanonicalIn pattern hierarchical component) (sym (at-each (λ name. cow_text (at texts name)) component)) (of_each (λ name. IsCanonicalIn pattern hierarchical name (cow_text (at texts name))) all component)
+
+-- what was made of canonical texts is a URL
+pub canonical_made : {E : Type 0} (pattern : PatternView E) (hierarchical : Bool) (texts : Texts) (made : Result Parts NoLink) (P : NoLink → Type 0) → MakesCanonical pattern hierarchical texts made → IfErr made P
+canonical_made pattern hierarchical texts (Ok url) P is = tt
+canonical_made pattern hierarchical texts (Err error) P is = absurd is
 
 module _ {E : Type 0} (answer : E → List ℕ → Option Captures) (pattern : PatternView E) (groups : List GivenView) where
-  linked : (texts : Texts) (result : Result Parts NoLink) → GeneratesTexts answer pattern groups texts → IfOk result (λ url. texts_of_url url ≡ texts) →
-      IfOk result (IsLink answer pattern groups)
-  linked texts (Ok url) generated has = subst (λ (of : Texts). GeneratesTexts answer pattern groups of) (sym has) generated
-  linked texts (Err error) generated has = tt
+  -- a URL that has texts with these groups, and is read of them
+  with_texts : (texts : Texts) (url : Parts) → GeneratesTexts answer pattern groups texts → texts_of_url url ≡ texts → IsReadOfTexts texts url → IsLink answer pattern groups url
+  with_texts texts url generated has read =
+      (subst (λ (of : Texts). GeneratesTexts answer pattern groups of) (sym has) generated, subst (λ (of : Texts). IsReadOfTexts of url) (sym has) read)
 
-  -- the URL has texts of which each is a draft and canonical
-  pub drafts_linked : (hierarchical : Bool) (url : Parts) (texts : Texts) → KeepsTexts pattern hierarchical texts → DraftsTexts answer pattern hierarchical groups texts → texts_of_url url ≡ texts →
-      IsLink answer pattern groups url
-  drafts_linked hierarchical url texts keeps drafted has =
-      subst (λ (of : Texts). GeneratesTexts answer pattern groups of) (sym has) (λ component. (hierarchical, drafted.0, drafted.1 component (keeps component)))
+  linked : (texts : Texts) (result : Result Parts NoLink) → GeneratesTexts answer pattern groups texts → IfOk result (λ url. texts_of_url url ≡ texts) → IfOk result (IsReadOfTexts texts) →
+      IfOk result (IsLink answer pattern groups)
+  linked texts (Ok url) generated has read = with_texts texts url generated has read
+  linked texts (Err error) generated has read = tt
+
+  -- a URL that has texts of which each is a draft and canonical
+  drafted : (hierarchical : Bool) → HasPathKind answer pattern hierarchical → (texts : Texts) (url : Parts) → DraftsTexts answer pattern hierarchical groups texts → AreCanonicalIn pattern hierarchical texts →
+      texts_of_url url ≡ texts → IsReadOfTexts texts url → IsLink answer pattern groups url
+  drafted hierarchical kind texts url drafts canonical = with_texts texts url (λ component. (hierarchical, kind, drafts component (canonical component)))
+
+  pub drafts_linked : (hierarchical : Bool) → HasPathKind answer pattern hierarchical → (texts : Texts) → DraftsTexts answer pattern hierarchical groups texts → (made : Result Parts NoLink) →
+      MakesCanonical pattern hierarchical texts made → IfOk made (λ url. texts_of_url url ≡ texts) → IfOk made (IsReadOfTexts texts) → IfOk made (IsLink answer pattern groups)
+  drafts_linked hierarchical kind texts drafts (Ok url) (inl canonical) has read = drafted hierarchical kind texts url drafts canonical has read
+  drafts_linked hierarchical kind texts drafts (Ok url) (inr canonical) has read =
+      drafted hierarchical kind texts url drafts (subst (λ (of : Texts). AreCanonicalIn pattern hierarchical of) has canonical) has read
+  drafts_linked hierarchical kind texts drafts (Err error) made has read = absurd made
 
   -- what is linked is matched
   matched : (url : Parts) → IsLink answer pattern groups url → HasMatch answer pattern (inputs.Url url)
-  matched url is = (texts_of_url url, refl, λ component. let text = (is component).2 in (text.captures, text.is_read_back.is_matched))
+  matched url is = (texts_of_url url, refl, λ component. let text = (is.0 component).2 in (text.captures, text.is_read_back.is_matched))
 
   pub links_matched : (result : Result Parts NoLink) → IfOk result (IsLink answer pattern groups) → IfOk result (λ url. HasMatch answer pattern (inputs.Url url))
   links_matched (Ok url) is = matched url is
@@ -118,8 +134,8 @@ module _ {E : Type 0} (answer : E → List ℕ → Option Captures) (pattern : P
 
   -- the same where the texts are handed on as others that are equal
   pub owned_linked : (texts owned : Texts) → owned ≡ texts → (result : Result Parts NoLink) → GeneratesTexts answer pattern groups texts → IfOk result (λ url. texts_of_url url ≡ owned) →
-      IfOk result (IsLink answer pattern groups)
-  owned_linked texts owned same result generated has = linked owned result (subst (λ (of : Texts). GeneratesTexts answer pattern groups of) (sym same) generated) has
+      IfOk result (IsReadOfTexts owned) → IfOk result (IsLink answer pattern groups)
+  owned_linked texts owned same result generated has read = linked owned result (subst (λ (of : Texts). GeneratesTexts answer pattern groups of) (sym same) generated) has read
 
   pub owned_unlinked : (texts owned : Texts) → owned ≡ texts → (result : Result Parts NoLink) → GeneratesTexts answer pattern groups texts → IfErr result (RefusesTexts owned) →
       IfErr result (RefusesLink answer pattern groups)

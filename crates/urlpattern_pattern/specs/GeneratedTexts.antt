@@ -1,7 +1,7 @@
 -- The text of a component of a pattern whose groups capture what is given.
 use Rattle.std.specs.Prelude.{◌≡◌, ◌⊎◌, ℕ, Bool, List, Option, Some}
-use Rattle.urlpattern_generate.specs.Generating.{IsTextWithGroups, RefusesGroups}
-use Rattle.urlpattern_generate.specs.Manners.{GivenView, manner_for}
+use Rattle.urlpattern_generate.specs.Generating.{HasText, LacksText}
+use Rattle.urlpattern_generate.specs.Manners.{GivenView}
 use Rattle.urlpattern_generate.specs.declared.error.GenerateError.{GenerateError}
 use Rattle.urlpattern_generate.specs.declared.error.GenerateError.TheVariants.{OutOfMemory}
 use Rattle.urlpattern_meaning.specs.PartMeaning.{Captures}
@@ -19,11 +19,11 @@ printed_values pattern = each (λ component. Some (pattern component).pattern_st
 abbrev pub GeneratesText : {E : Type 0} → (answer : E → List ℕ → Option Captures) → PatternView E → ComponentName → List GivenView → (text : List ℕ) → Type 0
 GeneratesText answer pattern component groups text =
     (hierarchical : Bool) × IsPathKind answer (printed_values pattern) (pattern Protocol).matcher hierarchical
-    × IsTextWithGroups answer (pattern component).matcher (manner_for component hierarchical (pattern component).pattern_string groups) (pattern component).pattern_string text
+    × HasText answer (pattern component) component hierarchical groups text
 
 -- memory ran out, or the component has no such text, for this reason
 abbrev pub MayRefuseGroups : {E : Type 0} → (answer : E → List ℕ → Option Captures) → PatternView E → ComponentName → List GivenView → GenerateError → Type 0
 MayRefuseGroups answer pattern component groups error =
     (error ≡ OutOfMemory)
     ⊎ ((hierarchical : Bool) × IsPathKind answer (printed_values pattern) (pattern Protocol).matcher hierarchical
-    × RefusesGroups answer (pattern component).matcher component (manner_for component hierarchical (pattern component).pattern_string groups) (pattern component).pattern_string error)
+    × LacksText answer (pattern component) component hierarchical groups error)

@@ -1,5 +1,5 @@
--- The text of a URL, put together from the texts of its components, after the URL Standard, section "URL serializing". All are
--- bytes here.
+-- A text that is read as a URL with given texts, put together as in the URL Standard, section "URL serializing", but that an empty host
+-- has no slashes. All are bytes here.
 use Rattle.std.specs.Prelude.{ℕ, Bool, not, ◌&&◌, ◌||◌, ◌==◌, List, ◌++◌, codes, slice_index}
 use Rattle.std.specs.Borrow.{Bor}
 use Rattle.url.specs.Ascii.{slash}

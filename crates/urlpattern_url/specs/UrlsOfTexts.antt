@@ -41,17 +41,21 @@ texts_seen seen = each (λ name. chars (at seen name).now)
 abbrev pub line_of : Texts → List ℕ
 line_of texts = url_line (each (λ name. encode_utf8_all (at texts name)))
 
+-- the URL is what the text of a URL with these texts is read as
+abbrev pub IsReadOfTexts : Texts → Parts → Type 0
+IsReadOfTexts texts url = parse_url None (line_of texts) ≡ Ok url
+
 -- the URL has another text for this component
 abbrev pub HasOtherText : Parts → Texts → ComponentName → Type 0
 HasOtherText url texts component = url_text component url ≢ at texts component
 
--- `url` refuses the text of a URL, for this reason
+-- `url` refuses the text of a URL, for this reason, or memory ran out
 abbrev pub RefusesLine : (bytes : List ℕ) → NoLink → Type 0
 RefusesLine bytes (Url reason) = Reports (parse_url None bytes) (length bytes) (views.Url reason)
 RefusesLine bytes OutOfMemory = Unit {0}
 RefusesLine bytes error = ⊥
 
--- there is no URL of these texts, for this reason: `url` refuses the text of it, or reads it as a URL with other texts
+-- there is no URL of these texts, for this reason: `url` refuses the text of it, or reads it as a URL with other texts; or memory ran out
 abbrev pub RefusesTexts : Texts → NoLink → Type 0
-RefusesTexts texts (OtherText component) = (url : Parts) × (parse_url None (line_of texts) ≡ Ok url) × HasOtherText url texts component
+RefusesTexts texts (OtherText component) = (url : Parts) × IsReadOfTexts texts url × HasOtherText url texts component
 RefusesTexts texts error = RefusesLine (line_of texts) error

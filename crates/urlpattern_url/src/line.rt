@@ -6,7 +6,7 @@ ghost use Rattle.urlpattern_url.specs.UrlLines.{authority_line, bytes_of_each, h
 use std::alloc::{AllocError, Global};
 use urlpattern_eight::Eight;
 
-/// The bytes beside the path for which room is made at first, as many as most URLs have at most.
+/// The bytes besides those of the path for which room is made at first, as many as most URLs need.
 const ROOM: usize = 64;
 
 /// The text of a URL with these texts.

@@ -5,7 +5,7 @@ ghost use Rattle.std.specs.Str.{chars};
 ghost use Rattle.url.specs.Parser.{parse_url};
 ghost use Rattle.urlpattern_init.specs.Inheritance.{texts_of_url};
 ghost use Rattle.urlpattern_eight.specs.Eight.{at};
-ghost use Rattle.urlpattern_url.specs.UrlsOfTexts.{AreSeenAs, HasOtherText, IsSeenAs, RefusesLine, RefusesTexts, cow_texts, texts_seen};
+ghost use Rattle.urlpattern_url.specs.UrlsOfTexts.{AreSeenAs, HasOtherText, IsReadOfTexts, IsSeenAs, RefusesLine, RefusesTexts, cow_texts, texts_seen};
 
 use crate::error::NoLink;
 use crate::line::url_line;
@@ -17,11 +17,12 @@ use urlpattern_eight::{ComponentName, Eight};
 use urlpattern_init::url_text;
 use urlpattern_syntax::Error;
 
-/// The URL that has these texts.
+/// The URL that has these texts: what they are read as, put together.
 ///
 /// The error is that `url` refuses them, put together, or reads a URL with other texts, or that memory ran out.
 pub fn url_of_texts(alloc: Global, texts: &Eight<CowStr<'_>>) -> Result<Url, NoLink>
     ensures has { IfOk result (λ url. texts_of_url url ≡ cow_texts texts.now) }
+    ensures read { IfOk result (IsReadOfTexts (cow_texts texts.now)) }
     ensures refused { IfErr result (RefusesTexts (cow_texts texts.now)) }
 {
     let seen = seen(texts);

@@ -12,7 +12,7 @@ pub fn is_web_url(url: &Url) -> bool
     url.is_special() && url.scheme() != "file"
 }
 
-/// Each text of such a URL is canonical. This function does nothing; what it promises is a theorem.
+/// Each text of a URL of the web is canonical. This function does nothing; what it promises is a theorem.
 pub fn texts_of_web_urls_are_canonical()
     ensures { WebTextsAreCanonical }
 {}

@@ -21,8 +21,8 @@ impl<R: RegExp> UrlPattern<R> {
     /// is given, and of several texts for one group the first counts. Texts for other components, and for groups that the component
     /// does not have, are ignored.
     ///
-    /// A group that is not given takes no part if it may, and else a wildcard without name is empty. A fixed text stands as often as
-    /// it has to at least.
+    /// A group that is not given takes no part if it may, and else a wildcard without name is empty. A fixed text with a modifier
+    /// occurs as few times as that allows.
     ///
     /// The error is that a group is missing, that one may not capture what it is given, that the text would be read with other groups
     /// or is not canonical, or that memory ran out.

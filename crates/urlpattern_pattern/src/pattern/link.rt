@@ -1,9 +1,9 @@
 //! The URL of a pattern whose groups capture what is given.
 ghost use Rattle.std.specs.Prelude.{◌≡◌, IfErr, IfOk, IfSome, IsTrue};
-ghost use Rattle.urlpattern_generate.specs.{Manners.given_groups, Writers.cow_text};
+ghost use Rattle.urlpattern_generate.specs.{Generating.HasDraft, Manners.given_groups, Writers.cow_text};
 ghost use Rattle.urlpattern_init.specs.Inheritance.{texts_of_url};
 ghost use Rattle.urlpattern_init.specs.declared.init.UrlPatternMatchInput.TheVariants as inputs;
-ghost use Rattle.urlpattern_pattern.specs.LinkedUrls.{AnswersGroups, AnswersUnder, DraftsText, DraftsTexts, GeneratesTexts, HasPathKind, IsLink, KeepsTexts, RefusesLink};
+ghost use Rattle.urlpattern_pattern.specs.LinkedUrls.{AnswersGroups, AnswersUnder, AreCanonicalIn, DraftsTexts, GeneratesTexts, HasPathKind, IsLink, MakesCanonical, RefusesLink};
 ghost use Rattle.urlpattern_pattern.specs.Match.{HasMatch};
 ghost use Rattle.urlpattern_pattern.specs.Patterns.{pattern_view};
 ghost use Rattle.urlpattern_eight.specs.Eight.{IsFirstError};
@@ -22,8 +22,9 @@ use urlpattern_generate::{
 use urlpattern_url::{NoLink, is_web_url, url_of_texts};
 
 impl<R: RegExp> UrlPattern<R> {
-    /// The URL that the pattern matches, with these groups: each of its texts is what `generate` returns for the component. So a
-    /// component that the pattern leaves open is empty, unless its wildcard is given by its number.
+    /// The URL that the pattern matches, with these groups: each of its texts is what `generate` returns for the component, and it is what
+    /// `url` reads in these texts, put together. So a component that the pattern leaves open is empty, unless its wildcard is given by its
+    /// number.
     ///
     /// The error is that of the first component that has no text with its groups, that no URL has the texts of the components, or
     /// that memory ran out.
@@ -47,13 +48,16 @@ impl<R: RegExp> UrlPattern<R> {
         let Ok(hierarchical) = self.has_hierarchical_path(alloc) else {
             return Err(NoLink::OutOfMemory);
         };
-        if let Some(url) = self.drafted_link(alloc, hierarchical, groups) {
-            return Ok(url);
+        if let Some(texts) = self.draft_each(alloc, hierarchical, groups) {
+            let made = url_of_texts(alloc, &texts);
+            if self.makes_canonical(hierarchical, &texts, &made) {
+                return made;
+            }
         }
         self.generated_link(alloc, hierarchical, groups)
     }
 
-    /// The URL with these groups, whose texts are tested one by one, where the pathname is hierarchical or not.
+    /// The URL with these groups, whose texts are tested one by one. `hierarchical` says whether the pathname is a path of segments.
     ///
     /// The error is that of the first component that has no text with its groups, that no URL has the texts of the components, or
     /// that memory ran out.
@@ -76,7 +80,7 @@ impl<R: RegExp> UrlPattern<R> {
         url_of_texts(alloc, &owned(texts))
     }
 
-    /// The texts of the components with these groups, where the pathname is hierarchical or not.
+    /// The texts of the components with these groups. `hierarchical` says whether the pathname is a path of segments.
     ///
     /// The error is that of the first component that has none.
     fn generate_each(
@@ -95,7 +99,7 @@ impl<R: RegExp> UrlPattern<R> {
         Eight::try_from_fn(text)
     }
 
-    /// The text of a component with these groups, where the pathname is hierarchical or not.
+    /// The text of a component with these groups. `hierarchical` says whether the pathname is a path of segments.
     fn generate_under(
         &self,
         alloc: Global,
@@ -108,35 +112,30 @@ impl<R: RegExp> UrlPattern<R> {
         generate_component(alloc, self.get(component), component, hierarchical, groups)
     }
 
-    /// The URL with these groups, of drafts of the texts of the components, where the pathname is hierarchical or not.
-    ///
-    /// `None`: there is none, a text or a group is not known to be canonical, or memory ran out.
-    fn drafted_link(
+    /// Whether a URL was made of texts that are known to be canonical.
+    fn makes_canonical(
         &self,
-        alloc: Global,
         hierarchical: bool,
-        groups: &[GivenGroup<'_>],
-    ) -> Option<Url>
-        requires { HasPathKind R.answer (pattern_view self.now) hierarchical }
-        ensures { IfSome result (IsLink R.answer (pattern_view self.now) (given_groups groups.now)) }
+        texts: &Eight<CowStr<'_>>,
+        made: &Result<Url, NoLink>,
+    ) -> bool
+        ensures { IsTrue result → MakesCanonical (pattern_view self.now) hierarchical (cow_texts texts.now) made.now }
     {
-        let texts = self.draft_each(alloc, hierarchical, groups)?;
-        let Ok(url) = url_of_texts(alloc, &texts) else {
-            return None;
-        };
-        if self.takes_texts(hierarchical, &url) {
-            return Some(url);
-        }
-        if self.keeps_texts(hierarchical, &texts) {
-            Some(url)
-        } else {
-            None
+        match made {
+            Ok(url) => {
+                if self.has_canonical_texts(hierarchical, url) {
+                    return true;
+                }
+                self.are_canonical(hierarchical, texts)
+            }
+            Err(_) => false,
         }
     }
 
-    /// Whether each text of a URL is canonical, as it is a URL of the web, the pathname is hierarchical and the hostname no IPv6 address.
-    fn takes_texts(&self, hierarchical: bool, url: &Url) -> bool
-        ensures { IsTrue result → KeepsTexts (pattern_view self.now) hierarchical (texts_of_url url.now) }
+    /// Whether the texts of a URL are known to be canonical, as it is a URL of the web, the pathname is hierarchical, and the pattern text of
+    /// the hostname does not begin like an IPv6 address.
+    fn has_canonical_texts(&self, hierarchical: bool, url: &Url) -> bool
+        ensures { IsTrue result → AreCanonicalIn (pattern_view self.now) hierarchical (texts_of_url url.now) }
     {
         if !hierarchical {
             return false;
@@ -144,10 +143,10 @@ impl<R: RegExp> UrlPattern<R> {
         is_web_url(url) && !begins_ipv6(&self.hostname.pattern_string)
     }
 
-    /// Whether each text is of those that its component is known to take as they are.
+    /// Whether each text is known to be canonical by its characters.
     #[inline(never)]
-    fn keeps_texts(&self, hierarchical: bool, texts: &Eight<CowStr<'_>>) -> bool
-        ensures { IsTrue result → KeepsTexts (pattern_view self.now) hierarchical (cow_texts texts.now) }
+    fn are_canonical(&self, hierarchical: bool, texts: &Eight<CowStr<'_>>) -> bool
+        ensures { IsTrue result → AreCanonicalIn (pattern_view self.now) hierarchical (cow_texts texts.now) }
     {
         for name in ComponentName::all() {
             let is_ipv6 = begins_ipv6(&self.get(name).pattern_string);
@@ -158,14 +157,13 @@ impl<R: RegExp> UrlPattern<R> {
         true
     }
 
-    /// Drafts of the texts of the components with these groups, where the pathname is hierarchical or not.
+    /// Drafts of the texts of the components with these groups. `hierarchical` says whether the pathname is a path of segments.
     fn draft_each<'d>(
         &'d self,
         alloc: Global,
         hierarchical: bool,
         groups: &'d [GivenGroup<'d>],
     ) -> Option<Eight<CowStr<'d>>>
-        requires { HasPathKind R.answer (pattern_view self.now) hierarchical }
         ensures { IfSome result (λ texts. DraftsTexts R.answer (pattern_view self.now) hierarchical (given_groups groups.now) (cow_texts texts)) }
     {
         Some(Eight {
@@ -180,7 +178,7 @@ impl<R: RegExp> UrlPattern<R> {
         })
     }
 
-    /// A draft of the text of a component with these groups, where the pathname is hierarchical or not.
+    /// A draft of the text of a component with these groups. `hierarchical` says whether the pathname is a path of segments.
     fn draft<'d>(
         &'d self,
         alloc: Global,
@@ -188,7 +186,7 @@ impl<R: RegExp> UrlPattern<R> {
         component: ComponentName,
         groups: &'d [GivenGroup<'d>],
     ) -> Option<CowStr<'d>>
-        ensures { IfSome result (λ text. DraftsText R.answer (pattern_view self.now) hierarchical (given_groups groups.now) component (cow_text text)) }
+        ensures { IfSome result (λ text. HasDraft R.answer (pattern_view self.now component) component hierarchical (given_groups groups.now) (cow_text text)) }
     {
         draft_component(alloc, self.get(component), component, hierarchical, groups)
     }

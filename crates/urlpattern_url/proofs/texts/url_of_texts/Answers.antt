@@ -12,6 +12,10 @@ returns-in-Err-clause-refused c =
 pub returns-in-None-clause-has : goal.returns-in-None-clause-has
 returns-in-None-clause-has c = c.in-None.ensures.same ∙ seen_texts c.args.texts.now c.seen-seen.result c.seen-seen.ensures
 
+pub returns-in-None-clause-read : goal.returns-in-None-clause-read
+returns-in-None-clause-read c =
+    subst (λ bytes. parse_url None bytes ≡ Ok c.in-Ok.url) (c.deref.ensures ∙ c.in_ok-line.ensures ∙ line_encoded c.args.texts.now c.seen-seen.result c.seen-seen.ensures) c.in-Ok.ensures.read
+
 pub returns-clause-refused : goal.returns-clause-refused
 returns-clause-refused c = (
   c.in-Ok.url,

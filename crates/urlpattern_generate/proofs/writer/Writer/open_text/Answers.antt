@@ -33,5 +33,5 @@ returns-else-branch-clause-refused g c =
     let one = ap (λ text. Some text ∷ []) (text-nil c.new.result c.new.ensures.bytes) in
     let canonical = empty_canonical self.component self.hierarchical self.is_ipv6 in
     whole_refused answer matcher self.component self.hierarchical (manner_of_writer self) (text_of c.args.component.now.pattern_string) refl c.requires.0 [] (sym c.requires.1) canonical
-    c.new-text.result nothing c.deref.result.now (ap chars c.deref.ensures ∙ nothing)
+    c.new-text.result nothing refl c.deref.result.now (ap chars c.deref.ensures ∙ nothing)
     (not_found answer matcher c.deref.result.now (given_captures (Some c.new.result ∷ [])) (Some [] ∷ []) one c.in_ok-is_read_back.field-0 c.if-branch.false c.in_ok-is_read_back.ensures)
