@@ -6,7 +6,7 @@ use Rattle.urlpat_matching.specs.Status.{status_of}
 use Rattle.urlpat_rules.specs.Coverings.{ArePartsOf}
 use Rattle.urlpat_rules.specs.TableWords.{NameTable}
 use Rattle.urlpat_tables.specs.Tables.{EntryView, table_entries}
-use Rattle.urlpattern_rules.specs.Comparing.{IsListed, IsShadowed}
+use Rattle.urlpattern_rules.specs.Comparing.{AreInOrder, IsListed, IsShadowed}
 use Rattle.urlpattern_rules.specs.declared.list.Shadowed.{Shadowed}
 use Rattle.urlpattern_rules.specs.declared.pattern.PatternParts.{PatternParts}
 
@@ -23,10 +23,10 @@ abbrev pub unreached_line : List EntryView → Shadowed → List ℕ
 unreached_line entries shadowed =
     decimal (number_at entries shadowed.pattern) ++ codes "\t" ++ decimal (number_at entries shadowed.by) ++ codes "\n"
 
--- a line for each pattern that one before it is known to cover, by the first such one, and for no other
+-- a line for each pattern that one before it is known to cover, in their order, by the first such one, and for no other
 abbrev pub AreUnreached : List PatternParts → List EntryView → (text : List ℕ) → Type 0
 AreUnreached patterns entries text =
-    (found : List Shadowed) × All (IsShadowed patterns) found
+    (found : List Shadowed) × All (IsShadowed patterns) found × AreInOrder found
     × ((index : ℕ) (asked : PatternParts) → slice_get patterns index ≡ Some asked → IsListed patterns found index asked)
     × (text ≡ flat_map (unreached_line entries) found)
 

@@ -1,5 +1,5 @@
 -- A table of patterns. Texts are bytes.
-use Rattle.std.specs.Prelude.{◌≡◌, ◌+◌, ◌==◌, ℕ, Bool, true, List, [], ◌∷◌, ◌++◌, codes, map, slice_get, slice_index, Some, if◌then◌else◌}
+use Rattle.std.specs.Prelude.{◌≡◌, ◌+◌, ◌==◌, ℕ, Bool, true, List, [], ◌∷◌, ◌++◌, codes, map, slice_get, slice_index, take, All, Some, if◌then◌else◌}
 use Rattle.std.specs.List.{before_first, after_first}
 use Rattle.std.specs.Str.{IsUtf8}
 use Rattle.bstr.specs.Text.{lines_of, without_terminator}
@@ -47,8 +47,9 @@ entries_from number (line ∷ lines) = line_entries number line ++ entries_from 
 abbrev pub table_entries : (table : List ℕ) → List EntryView
 table_entries table = entries_from 1 (table_lines table)
 
--- why a table has none: the line of this number is not UTF-8, or memory ran out
+-- why a table has none: the line of this number is the first that is not UTF-8, or memory ran out
 abbrev pub HasNoEntries : (table : List ℕ) → NoTable → Type 0
 HasNoEntries table (NotUtf8 number) =
-    (index : ℕ) × (line : List ℕ) × (number ≡ index + 1) × (slice_get (table_lines table) index ≡ Some line) × ¬ IsUtf8 line
+    (index : ℕ) × (line : List ℕ) × (number ≡ index + 1) × (slice_get (table_lines table) index ≡ Some line) × (¬ IsUtf8 line)
+    × All IsUtf8 (take index (table_lines table))
 HasNoEntries table OutOfMemory = Unit {0}

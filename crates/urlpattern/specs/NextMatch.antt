@@ -1,6 +1,6 @@
 -- The matches of a list after the first one.
 use Rattle.std.specs.Prelude.{◌≡◌, ◌+◌, ◌<◌, ◌≤◌, ℕ, List, length, Option, Some, None, Result, Ok, Err, slice_get, unwrap_or}
-use Rattle.urlpattern.specs.FirstMatch.{FirstView, first_captures_view, patterns_view}
+use Rattle.urlpattern.specs.FirstMatch.{FirstView, HasGroupsInOrder, first_captures_view, patterns_view}
 use Rattle.urlpattern.specs.PatternKeys.{address_of}
 use Rattle.urlpattern.specs.declared.list.matches.UrlPatternMatches.{UrlPatternMatches}
 use Rattle.urlpattern_index.specs.Keys.{Hashes, hashes_of}
@@ -56,7 +56,8 @@ matches_left matches = record { patterns = patterns_view matches.list.now; texts
 -- memory ran out, and then nothing is left
 abbrev pub TakesMatch : {E : Type 0} → (answer : E → List ℕ → Option Captures) → MatchesLeft E → Option (Result (ℕ × UrlPatternCaptures) Error) → MatchesLeft E → Type 0
 TakesMatch answer old (Some (Ok first)) new =
-    IsFirstMatchFrom answer old.patterns old.texts old.from (Some (first.0, pattern_captures_view first.1)) × (new ≡ record old { from = first.0 + 1 })
+    IsFirstMatchFrom answer old.patterns old.texts old.from (Some (first.0, pattern_captures_view first.1))
+    × HasGroupsInOrder answer old.patterns old.texts (Some first) × (new ≡ record old { from = first.0 + 1 })
 TakesMatch answer old (Some (Err error)) new =
     (error ≡ errors.OutOfMemory) × AsksBeforeMatchFrom answer old.patterns old.texts old.from × (new ≡ record old { from = length old.patterns })
 TakesMatch answer old None new = IsFirstMatchFrom answer old.patterns old.texts old.from None × (new ≡ old)

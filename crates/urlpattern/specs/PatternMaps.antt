@@ -13,6 +13,10 @@ abbrev pub entry_patterns : {E T : Type 0} → List (UrlPattern E × T) → List
 entry_patterns entries = patterns_view (keys_of entries)
 
 -- an index with the match, without the value
+abbrev pub without_value : {T : Type 0} → Option (ℕ × Bor T × UrlPatternCaptures) → Option (ℕ × UrlPatternCaptures)
+without_value found = option_map (λ first. (first.0, first.2)) found
+
+-- the same, as a clause sees the match
 abbrev pub first_entry_view : {T : Type 0} → Option (ℕ × Bor T × UrlPatternCaptures) → Option FirstView
 first_entry_view found = option_map (λ first. (first.0, pattern_captures_view first.2)) found
 

@@ -6,8 +6,8 @@ ghost use Rattle.std.specs.Map.Iter.{deref_pair, ShowsInOrder};
 ghost use Rattle.std.specs.Prelude.{◌≡◌, ◌==◌, ◌++◌, [], ◌∷◌, ℕ, length, option_map, slice_get, take, IfErr, IfOk, OnErr, OnOk};
 ghost use Rattle.urlpattern_init.specs.Inheritance.{texts_of_url};
 ghost use Rattle.urlpattern_init.specs.declared.init.UrlPatternMatchInput.TheVariants as inputs;
-ghost use Rattle.urlpattern.specs.FirstMatch.{AsksBeforeMatch, IsFirstMatch};
-ghost use Rattle.urlpattern.specs.PatternMaps.{entry_patterns, first_entry_view, HasValueAt};
+ghost use Rattle.urlpattern.specs.FirstMatch.{AsksBeforeMatch, HasGroupsInOrder, IsFirstMatch};
+ghost use Rattle.urlpattern.specs.PatternMaps.{entry_patterns, first_entry_view, HasValueAt, without_value};
 ghost use Rattle.urlpattern_pattern.specs.declared.pattern.UrlPattern.{UrlPattern};
 ghost use Rattle.urlpattern_syntax.specs.Errors.{OnlyOutOfMemory};
 
@@ -167,6 +167,7 @@ impl<T, R: RegExp> UrlPatternMap<T, R> {
         url: &'u Url,
     ) -> Result<Option<(usize, &'m T, UrlPatternCaptures<'m, 'u>)>, Error>
         ensures first { IfOk result (λ found. IsFirstMatch R.answer (entry_patterns self.now) (inputs.Url url.now) (first_entry_view found)) }
+        ensures groups { IfOk result (λ found. HasGroupsInOrder R.answer (entry_patterns self.now) (texts_of_url url.now) (without_value found)) }
         ensures value { IfOk result (HasValueAt self.now) }
         ensures memory { OnlyOutOfMemory result }
         ensures asked { IfErr result (λ _. AsksBeforeMatch R.answer (entry_patterns self.now) (texts_of_url url.now)) }

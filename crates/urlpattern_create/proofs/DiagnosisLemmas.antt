@@ -15,7 +15,7 @@ use Rattle.urlpattern_faults.specs.declared.fault.Fault.{Fault}
 use Rattle.urlpattern_inputs.specs.declared.options.UrlPatternOptions.{UrlPatternOptions}
 use Rattle.urlpattern_create.specs.Compiled.{FirstRefused, IsComponentCompiled, IsComponentRefused, IsPathKind, IsPatternOfInit, Manner, RefusesValues, after_protocol, manner_of}
 use Rattle.urlpattern_create.specs.Diagnoses.{IsOf, IsPartOfRefused, IsRefusalOf, RefusesComponent, ShowsAll, ShowsColon, ShowsFault, ShowsInit, ShowsPattern, ShowsProtocol, ShowsRefusal, ShowsText, error_of}
-use Rattle.urlpattern_create.specs.FromString.{IsInitOfText, IsPatternOfText}
+use Rattle.urlpattern_create.specs.FromString.{IsInitOfText, IsPatternOfText, RefusesSplit}
 use Rattle.urlpattern_create.specs.PatternViews.{PatternView}
 use Rattle.urlpattern_split.specs.Split.{HasProtocol}
 use Rattle.urlpattern_init.specs.declared.init.UrlPatternInit.{UrlPatternInit}
@@ -121,10 +121,11 @@ IsCompiledBy {E} engine manner component = (compiled : ComponentView E) × IsCom
 
 module _ {E : Type 0} (engine : Engine E) (bytes : List ℕ) (base : Option (List ℕ)) (asked : UrlPatternOptions) where
   -- the pattern of its protocol is shown
-  pub protocol_shown : (what : Subject) (diagnosis : Diagnosis) → string_bytes diagnosis.text ≡ bytes → ShowsProtocol (chars bytes) what diagnosis → ShowsText engine bytes base asked what diagnosis
-  protocol_shown subjects.Base diagnosis text shows = absurd shows
-  protocol_shown subjects.Whole diagnosis text shows = (text, inl shows)
-  protocol_shown (subjects.Component component) diagnosis text shows = (text, inl shows)
+  pub protocol_shown : (what : Subject) (diagnosis : Diagnosis) → string_bytes diagnosis.text ≡ bytes → RefusesSplit (chars bytes) base (error_view diagnosis.error) → ShowsProtocol (chars bytes) what diagnosis →
+      ShowsText engine bytes base asked what diagnosis
+  protocol_shown subjects.Base diagnosis text refused shows = absurd shows
+  protocol_shown subjects.Whole diagnosis text refused shows = (text, inl (refused, shows))
+  protocol_shown (subjects.Component component) diagnosis text refused shows = (text, inl (refused, shows))
 
   module _ (init : UrlPatternInit) (is : IsInitOfText engine (chars bytes) base init) where
     by_subject : (what : Subject) (diagnosis : Diagnosis) → diagnosis.subject ≡ what → string_bytes diagnosis.text ≡ bytes → ShowsInit engine init asked diagnosis → ShowsText engine bytes base asked what diagnosis

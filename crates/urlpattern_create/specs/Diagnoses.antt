@@ -1,6 +1,7 @@
 -- What the diagnosis of a refused pattern says: the error, and where a text is at fault. Texts are their bytes.
 use Rattle.std.specs.Prelude.{◌≡◌, ◌⊎◌, ℕ, Bool, IfNone, IfOk, IfSome, List, [], Option, None, Result, Some, Ok, unwrap_or, string_bytes}
 use Rattle.std.specs.Str.{chars}
+use Rattle.urlpattern_canonical.specs.Canonical.{Reports}
 use Rattle.urlpattern_core.specs.Components.{ComponentView}
 use Rattle.urlpattern_core.specs.declared.regexp.RegExp.{Ghosts as Engine}
 use Rattle.urlpattern_faults.specs.Faults.{IsColonFault, IsFaultIn, IsFaultOf, IsUrlFault}
@@ -12,7 +13,7 @@ use Rattle.urlpattern_split.specs.Split.{HasProtocol}
 use Rattle.urlpattern_init.specs.declared.init.UrlPatternInit.{UrlPatternInit}
 use Rattle.urlpattern_inputs.specs.declared.options.UrlPatternOptions.{UrlPatternOptions}
 use Rattle.urlpattern_create.specs.Compiled.{AreCompiled, FirstRefused, IsComponentCompiled, IsComponentRefused, IsPatternOfInit, Manner, RefusesValues, manner_of, pattern_values}
-use Rattle.urlpattern_create.specs.FromString.{IsInitOfText, IsPatternOfText}
+use Rattle.urlpattern_create.specs.FromString.{IsInitOfText, IsPatternOfText, RefusesSplit, parsed_base, text_bytes}
 use Rattle.urlpattern_create.specs.PatternViews.{PatternView}
 use Rattle.urlpattern_create.specs.declared.refusal.Refusal.{Refusal}
 use Rattle.urlpattern_eight.specs.declared.eight.ComponentName.{ComponentName}
@@ -124,7 +125,7 @@ ShowsColon text diagnosis =
 -- what is shown of a constructor string that is refused when it is split: the pattern of its protocol, the colon after it, or all
 abbrev pub ShowsProtocol : (text : List ℕ) → Subject → Diagnosis → Type 0
 ShowsProtocol text (subjects.Component component) diagnosis =
-    (pattern : List ℕ) × HasProtocol text (λ protocol. protocol ≡ chars pattern) × ShowsFault Protocol pattern [] diagnosis
+    (component ≡ Protocol) × (pattern : List ℕ) × HasProtocol text (λ protocol. protocol ≡ chars pattern) × ShowsFault Protocol pattern [] diagnosis
 ShowsProtocol text subjects.Whole diagnosis = ShowsAll diagnosis ⊎ ShowsColon text diagnosis
 ShowsProtocol text subjects.Base diagnosis = ⊥
 
@@ -133,12 +134,13 @@ abbrev pub IsOf : Option (List ℕ) → Diagnosis → Type 0
 IsOf None diagnosis = Unit {0}
 IsOf (Some bytes) diagnosis = string_bytes diagnosis.text ≡ bytes
 
--- what is shown of a constructor string or its base URL
+-- what is shown of the base URL, if that is refused; of a constructor string, if that is refused when it is split; or else of its init
 abbrev pub ShowsText : {E : Type 0} → Engine E → (bytes : List ℕ) → (base : Option (List ℕ)) → UrlPatternOptions → Subject → Diagnosis → Type 0
-ShowsText engine bytes base asked subjects.Base diagnosis = (string_bytes diagnosis.text ≡ unwrap_or base []) × ShowsAll diagnosis
+ShowsText engine bytes base asked subjects.Base diagnosis =
+    (string_bytes diagnosis.text ≡ unwrap_or base []) × Reports (parsed_base base) (text_bytes base) (error_view diagnosis.error) × ShowsAll diagnosis
 ShowsText engine bytes base asked subject diagnosis =
     (string_bytes diagnosis.text ≡ bytes)
-    × (ShowsProtocol (chars bytes) subject diagnosis
+    × ((RefusesSplit (chars bytes) base (error_view diagnosis.error) × ShowsProtocol (chars bytes) subject diagnosis)
     ⊎ ((init : UrlPatternInit) × IsInitOfText engine (chars bytes) base init × ShowsInit engine init asked diagnosis))
 
 -- the same, of the subject that the diagnosis has

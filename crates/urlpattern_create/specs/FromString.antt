@@ -31,11 +31,14 @@ pub record IsInitOfText {E : Type 0} (engine : Engine E) (text : List ℕ) (base
   pub is_split : SplitsInto (IsSpecialTo engine) text (values_view init)
   pub is_complete : HasProtocolOrBase init
 
+-- a constructor string whose base URL is parsed is refused with this error
+abbrev pub RefusesSplit : (text : List ℕ) → (base : Option (List ℕ)) → ErrorView → Type 0
+RefusesSplit text base error = (url : Option Parts) × (parsed_base base ≡ Ok url) × RefusesString text url error
+
 -- a constructor string is refused with this error, that of its base URL or its own
 abbrev pub RefusesText : (text : List ℕ) → (base : Option (List ℕ)) → ErrorView → Type 0
 RefusesText text base error =
-    Reports (parsed_base base) (text_bytes base) error
-    ⊎ ((url : Option Parts) × (parsed_base base ≡ Ok url) × RefusesString text url error)
+    Reports (parsed_base base) (text_bytes base) error ⊎ RefusesSplit text base error
 
 -- ---- patterns
 

@@ -1,9 +1,9 @@
 -- Which patterns of a list are covered by one before them.
 use Rattle.std.proofs.Common.{◌≡◌, ◌∙◌, ◌<◌, ◌+◌, ◌⊎◌, ℕ, zero, suc, List, [], ◌∷◌, ◌++◌, inl, inr, sym, subst, ap, take, arith, Option, Some, None}
-use Rattle.std.proofs.lemmas.List.Elements.{All-push, Contains-append_left, Contains-push}
+use Rattle.std.proofs.lemmas.List.Elements.{All-head, All-nil, All-push, All-tail, All-weaker, Contains-append_left, Contains-push}
 use Rattle.std.specs.List.{All, Contains, slice_get}
 use Rattle.std.specs.Prelude.{MatchOption}
-use Rattle.urlpattern_rules.specs.Comparing.{CoversAt, IsListed, IsNotKnownToCover, IsShadowed, with_found}
+use Rattle.urlpattern_rules.specs.Comparing.{AreInOrder, CoversAt, IsListed, IsNotKnownToCover, IsShadowed, with_found}
 use Rattle.urlpattern_rules.specs.declared.list.Shadowed.{Shadowed}
 use Rattle.urlpattern_rules.specs.declared.pattern.PatternParts.{PatternParts}
 use borrow.Author.Count
@@ -11,6 +11,8 @@ use borrow.Author.Count
 -- what is found of the patterns below an index
 pub record AreListedBelow (patterns : List PatternParts) (found : List Shadowed) (index : ℕ) : Type 0 where
   pub covered : All (IsShadowed patterns) found
+  pub ordered : AreInOrder found
+  pub below : All (λ one. one.pattern < index) found
   pub others : (k : ℕ) → k < index → (asked : PatternParts) → slice_get patterns k ≡ Some asked → IsListed patterns found k asked
 
 -- the first of these patterns that is known to cover the asked one
@@ -43,8 +45,27 @@ shadowed_more : (patterns : List PatternParts) (found : List Shadowed) (i : ℕ)
 shadowed_more patterns found i None asked there is before = before
 shadowed_more patterns found i (Some k) asked there is before =
     let (pattern, at_k, covered) = is.0 in
-    let two = get_take patterns i k pattern at_k in
-    All-push (IsShadowed patterns) found (record { pattern = i; by = k }) before (two.0, (asked, there, (pattern, two.1, covered)))
+    All-push (IsShadowed patterns) found (record { pattern = i; by = k }) before ((get_take patterns i k pattern at_k).0, (asked, there, is))
+
+-- ---- their order
+
+pushed : (found : List Shadowed) (last : Shadowed) → AreInOrder found → All (λ (one : Shadowed). one.pattern < last.pattern) found → AreInOrder (found ++ last ∷ [])
+pushed [] last order below = (All-nil (λ (other : Shadowed). last.pattern < other.pattern), tt)
+pushed (one ∷ found) last order below = (
+  All-push (λ (other : Shadowed). one.pattern < other.pattern) found last order.0 (All-head (λ (other : Shadowed). other.pattern < last.pattern) one found below),
+  pushed found last order.1 (All-tail (λ (other : Shadowed). other.pattern < last.pattern) one found below),
+)
+
+ordered_more : (found : List Shadowed) (i : ℕ) (by : Option ℕ) → AreInOrder found → All (λ (one : Shadowed). one.pattern < i) found → AreInOrder (with_found found i by)
+ordered_more found i None order below = order
+ordered_more found i (Some k) order below = pushed found (record { pattern = i; by = k }) order below
+
+later : (found : List Shadowed) (i : ℕ) → All (λ (one : Shadowed). one.pattern < i) found → All (λ (one : Shadowed). one.pattern < i + 1) found
+later found i below = All-weaker (λ (one : Shadowed). one.pattern < i) (λ (one : Shadowed). one.pattern < i + 1) (λ one lt. omega (arith, lt)) found below
+
+still_below : (found : List Shadowed) (i : ℕ) (by : Option ℕ) → All (λ (one : Shadowed). one.pattern < i) found → All (λ (one : Shadowed). one.pattern < i + 1) (with_found found i by)
+still_below found i None below = later found i below
+still_below found i (Some k) below = All-push (λ (one : Shadowed). one.pattern < i + 1) found (record { pattern = i; by = k }) (later found i below) (omega arith)
 
 pub below_more : (patterns : List PatternParts) (found : List Shadowed) (i : ℕ) (asked : PatternParts) (by : Option ℕ) → slice_get patterns i ≡ Some asked →
     IsFirstBefore (take i patterns) asked by → AreListedBelow patterns found i → AreListedBelow patterns (with_found found i by) (i + 1)
@@ -53,6 +74,8 @@ below_more patterns found i asked by there is before =
     let P : ℕ → Type 0 = λ k. (other : PatternParts) → slice_get patterns k ≡ Some other → IsListed patterns new k other in
     record {
       covered = shadowed_more patterns found i by asked there is before.covered;
+      ordered = ordered_more found i by before.ordered before.below;
+      below = still_below found i by before.below;
       others = Count.below_more P i (λ k lt other at_k. listed_more patterns found i by k other (before.others k lt other at_k))
           (λ other at_i.
           let same : asked ≡ other = (let both : Some asked ≡ Some other = sym there ∙ at_i in cc) in

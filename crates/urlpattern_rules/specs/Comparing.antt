@@ -246,10 +246,16 @@ abbrev pub IsFirstCovering : List PatternParts → (asked : PatternParts) → Op
 IsFirstCovering patterns asked found =
     MatchOption found (All (IsNotKnownToCover asked) patterns) (λ index. CoversAt patterns asked index × All (IsNotKnownToCover asked) (take index patterns))
 
--- the pattern of an index is covered by one before it
+-- of the patterns before one, the first that is known to cover it has this index
 abbrev pub IsShadowed : List PatternParts → Shadowed → Type 0
 IsShadowed patterns found =
-    (found.by < found.pattern) × ((asked : PatternParts) × (slice_get patterns found.pattern ≡ Some asked) × CoversAt patterns asked found.by)
+    (found.by < found.pattern)
+    × ((asked : PatternParts) × (slice_get patterns found.pattern ≡ Some asked) × IsFirstCovering (take found.pattern patterns) asked (Some found.by))
+
+-- each index is less than those after it
+abbrev pub AreInOrder : List Shadowed → Type 0
+AreInOrder [] = Unit {0}
+AreInOrder (one ∷ others) = All (λ other. one.pattern < other.pattern) others × AreInOrder others
 
 -- the pattern of an index is listed as unreachable, or of none before it is known that it covers it
 abbrev pub IsListed : List PatternParts → List Shadowed → (index : ℕ) → PatternParts → Type 0

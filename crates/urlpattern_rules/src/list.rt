@@ -1,7 +1,7 @@
 //! Lists of patterns: which cover which.
 
 ghost use Rattle.std.specs.Prelude.{◌≡◌, All, IfOk, OnOk};
-ghost use Rattle.urlpattern_rules.specs.Comparing.{ListsEachShadowed, IsFirstCovering, IsShadowed, Tells, with_found};
+ghost use Rattle.urlpattern_rules.specs.Comparing.{AreInOrder, ListsEachShadowed, IsFirstCovering, IsShadowed, Tells, with_found};
 
 use crate::pattern::{PatternCovering, PatternParts};
 use std::alloc::{AllocError, Global};
@@ -53,11 +53,12 @@ fn is_known_to_cover(
     }
 }
 
-/// Lists each pattern that one before it is known to cover, with the index of the first such one.
+/// Lists each pattern that one before it is known to cover, in their order, with the index of the first such one.
 ///
 /// In a list whose first match counts these are never found. A pattern that several others cover only together is not listed.
 pub fn unreachable(alloc: Global, patterns: &[PatternParts]) -> Result<Vec<Shadowed>, AllocError>
     ensures covered { IfOk result (λ found. All (IsShadowed patterns.now) found.items) }
+    ensures ordered { IfOk result (λ found. AreInOrder found.items) }
     ensures others { IfOk result (λ found. ListsEachShadowed patterns.now found.items) }
 {
     let mut found = Vec::new(alloc);

@@ -9,4 +9,4 @@ returns c =
     let items = c.in_ok-found.found.items in
     let all : take c.loop-shadowed.shadowed-index c.deref-shadowed-items.result.now ≡ items =
     take_all c.loop-shadowed.shadowed-index c.deref-shadowed-items.result.now c.loop-shadowed-test.false ∙ c.deref-shadowed-items.ensures.value in
-    (items, c.in_ok-found.ensures.covered, c.in_ok-found.ensures.others, c.loop-shadowed.invariant ∙ ap (flat_map (unreached_line (entries_view c.args.entries.now))) all)
+    (items, c.in_ok-found.ensures.covered, c.in_ok-found.ensures.ordered, c.in_ok-found.ensures.others, c.loop-shadowed.invariant ∙ ap (flat_map (unreached_line (entries_view c.args.entries.now))) all)

@@ -1,4 +1,5 @@
-use Rattle.std.proofs.Common.{◌+◌, ◌≡◌, [], ◌++◌, ◌∷◌, All, length, length-append, append_assoc, append-nil, sym, ap, subst, refl, ◌∙◌, arith}
+use Rattle.std.proofs.Common.{◌+◌, ◌≡◌, [], ◌++◌, ◌∷◌, All, length, length-append, append_assoc, append-nil, sym, ap, subst, refl, take, ◌∙◌, arith}
+use Rattle.std.proofs.lemmas.List.{take_at}
 use Rattle.std.proofs.lemmas.List.Elements.{All-append}
 use Rattle.std.specs.Str.{IsUtf8}
 use Rattle.urlpat_tables.proofs.TableLemmas.{All-one, entries-more, line-there}
@@ -18,12 +19,15 @@ overflow_add-number c =
 
 pub returns-in_default-clause-refused : goal.returns-in_default-clause-refused
 returns-in_default-clause-refused c =
-    let (before, are, counted, entries, text) = c.loop-line.invariant in (
+    let (before, are, counted, entries, text) = c.loop-line.invariant in
+    let lines = c.in-Some.line.now ∷ c.next.new.self in
+    let whole : table_lines c.args.table.now ≡ before ++ lines = are ∙ ap (λ rest. before ++ rest) c.in-Some.ensures.steps in (
       length before,
       c.in-Some.line.now,
       ap (λ n. n + 1) counted,
-      line-there before c.in-Some.line.now c.next.new.self _ (are ∙ ap (λ rest. before ++ rest) c.in-Some.ensures.steps),
+      line-there before c.in-Some.line.now c.next.new.self _ whole,
       c.in_default.ensures.cases.0,
+      subst (λ list. All IsUtf8 (take (length before) list)) (sym whole) (subst (All IsUtf8) (sym (take_at before lines (length before) refl)) text),
     )
 
 pub loop-line-preserved : goal.loop-line-preserved

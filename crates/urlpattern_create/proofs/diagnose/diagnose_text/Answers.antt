@@ -1,10 +1,11 @@
 use Rattle.std.proofs.Common.{◌≡◌, [], Ok, sym, ◌∙◌, refl, subst, inl, inr}
 use Rattle.std.specs.Prelude.{option_copied, string_bytes, unwrap_or}
 use Rattle.std.specs.Str.{chars}
+use Rattle.urlpattern_canonical.specs.Canonical.{Reports}
 use Rattle.urlpattern_init.specs.ConstructorString.{RefusesString}
 use Rattle.urlpattern_create.specs.Diagnoses.{ShowsText}
 use Rattle.urlpattern_diagnosis.specs.declared.diagnosis.Subject.{Subject}
-use Rattle.urlpattern_create.specs.FromString.{IsInitOfText, RefusesPatternOfText, parsed_base}
+use Rattle.urlpattern_create.specs.FromString.{IsInitOfText, RefusesPatternOfText, RefusesSplit, parsed_base, text_bytes}
 use Rattle.urlpattern_create.proofs.DiagnosisLemmas.{init_accepted, init_shown, is_other, protocol_shown, shows_all, text-or_nothing}
 use Rattle.urlpattern_syntax.specs.declared.error.Error.{Error}
 use Rattle.urlpattern_syntax.specs.Errors.{error_view}
@@ -24,7 +25,12 @@ pub returns-in-Err-parse_constructor_string-clause-shows : goal.returns-in-Err-p
 returns-in-Err-parse_constructor_string-clause-shows g c =
     let made = c.in_ok-protocol_diagnosis-in-Err-parse_constructor_string.field-0 in
     let is = c.in_ok-protocol_diagnosis-in-Err-parse_constructor_string.ensures in
-    protocol_shown g.R.RegExp c.args.pattern.now (option_copied c.args.base_url) c.args.options made.subject made is.text is.shows
+    let text = chars c.args.pattern.now in
+    let base = option_copied c.args.base_url in
+    let refused = is_other (RefusesString text c.in-Ok.base) c.in-Err-parse_constructor_string.error c.in_ok-error-in-Err-parse_constructor_string.error
+    c.in-Err-parse_constructor_string.ensures.refused c.in_ok-error-in-Err-parse_constructor_string.ensures in
+    protocol_shown g.R.RegExp c.args.pattern.now base c.args.options made.subject made is.text
+    (subst (λ (error : Error). RefusesSplit text base (error_view error)) (sym is.error) (c.in-Ok.base, c.in-Ok.ensures.ok, refused)) is.shows
 
 -- the init is that of the text
 is_init : (g : given.Over) (c : After-init_diagnosis-found g) → IsInitOfText g.R.RegExp (chars c.args.pattern.now) (option_copied c.args.base_url) c.in-Ok-parse_constructor_string.init
@@ -54,5 +60,7 @@ returns-in-Err-clause-shows g c =
     let made = c.in_ok-whole-in-Err.field-0 in
     let is = c.in_ok-whole-in-Err.ensures in
     let text : string_bytes made.text ≡ unwrap_or base [] = is.text ∙ text-or_nothing c.args.base_url c.unwrap_or-text.result _ c.unwrap_or-text.ensures refl in
+    let refused = is_other (Reports (parsed_base base) (text_bytes base)) c.in-Err.error c.in_ok-error-in-Err.error c.in-Err.ensures.err c.in_ok-error-in-Err.ensures in
+    let reports = subst (λ (error : Error). Reports (parsed_base base) (text_bytes base) (error_view error)) (sym is.error) refused in
     subst (λ (what : Subject). ShowsText g.R.RegExp c.args.pattern.now base c.args.options what made) (sym is.subject)
-    (text, shows_all c.unwrap_or-text.result.now made is.text is.fault)
+    (text, reports, shows_all c.unwrap_or-text.result.now made is.text is.fault)

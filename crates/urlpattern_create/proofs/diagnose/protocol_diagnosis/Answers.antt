@@ -1,4 +1,4 @@
-use Rattle.std.proofs.Common.{Bor, List, [], ℕ, ◌≡◌, sym, subst, inl, inr}
+use Rattle.std.proofs.Common.{Bor, List, [], ℕ, ◌≡◌, refl, sym, subst, inl, inr}
 use Rattle.std.proofs.lemmas.Str.{chars-nil}
 use Rattle.std.specs.Prelude.{IfSome}
 use Rattle.std.specs.Str.{chars}
@@ -30,7 +30,7 @@ returns-in_ok-of_part-in-None-clause-shows c =
     let has : HasProtocol (chars text) (λ (other : List ℕ). other ≡ chars protocol.now) =
     subst (λ found. IfSome found (λ (part : Bor (List ℕ)). HasProtocol (chars text) (λ (other : List ℕ). other ≡ chars part.now))) c.in-Some.is c.in-Ok.ensures.protocol in
     subst (λ (what : Subject). ShowsProtocol (chars text) what made) (sym is.subject)
-    (protocol.now, has, shows_fault Protocol text protocol.now (chars []) [] c.args.error made fault is.error is.text chars-nil (inl c.in_ok-fault-in-None.ensures.fault) is.fault)
+    (refl, protocol.now, has, shows_fault Protocol text protocol.now (chars []) [] c.args.error made fault is.error is.text chars-nil (inl c.in_ok-fault-in-None.ensures.fault) is.fault)
 
 pub returns-in_ok-whole-in_default-found-clause-shows : goal.returns-in_ok-whole-in_default-found-clause-shows
 returns-in_ok-whole-in_default-found-clause-shows c =

@@ -3,12 +3,18 @@ use Rattle.std.proofs.lemmas.List.Elements.{All-nil}
 use Rattle.std.proofs.lemmas.Option.{slice_get_read, slice_get_within}
 use Rattle.urlpattern_rules.proofs.ListLemmas.{AreListedBelow, IsFirstBefore, below_more}
 use Rattle.urlpattern_rules.specs.Comparing.{IsShadowed}
+use Rattle.urlpattern_rules.specs.declared.list.Shadowed.{Shadowed}
 use Rattle.urlpattern_rules.proofs.list.unreachable.Goals as goal
 
 pub loop-index-init : goal.loop-index-init
 loop-index-init c =
     subst (λ found. AreListedBelow c.args.patterns.now found 0) (sym c.new-found.ensures.items)
-    (record { covered = All-nil (IsShadowed c.args.patterns.now); others = λ k lt. absurd (omega arith) })
+    (record {
+      covered = All-nil (IsShadowed c.args.patterns.now);
+      ordered = tt;
+      below = All-nil (λ (one : Shadowed). one.pattern < 0);
+      others = λ k lt. absurd (omega arith);
+    })
 
 pub loop-index-preserved : goal.loop-index-preserved
 loop-index-preserved c =

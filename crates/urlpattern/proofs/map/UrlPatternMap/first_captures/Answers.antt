@@ -12,7 +12,7 @@ use Rattle.urlpattern_matches.specs.BorrowedMatches.{pattern_captures_view}
 use Rattle.urlpattern_pattern.specs.Match.{HasNoMatch}
 use Rattle.urlpattern_pattern.specs.Patterns.{pattern_view}
 use Rattle.urlpattern_pattern.specs.declared.pattern.UrlPattern.{UrlPattern}
-use Rattle.urlpattern.specs.FirstMatch.{AsksBeforeMatch, IsFirstMatch, patterns_view}
+use Rattle.urlpattern.specs.FirstMatch.{AsksBeforeMatch, HasGroupsInOrder, IsFirstMatch, patterns_view}
 use Rattle.urlpattern.proofs.map.UrlPatternMap.first_captures.Goals as goal
 
 pub index-requires : goal.index-requires
@@ -28,6 +28,13 @@ returns-in-Some-clause-first g c =
     let are_patterns : patterns ≡ keys_of c.args.self.now = sym (keys_of-zip patterns c.self.inside.values.items c.self.invariant) ∙ ap keys_of c.self.view_is in
     subst (λ (patterns : List (UrlPattern g.row.R.Denot)). IsFirstMatch g.R.RegExp.answer (patterns_view patterns) (Url c.args.url.now) (Some (c.in-Some.index, pattern_captures_view c.in-Some.captures)))
     are_patterns (rw c.in-Some.is at c.in_ok-index.ensures.first)
+
+pub returns-in-Some-clause-groups : goal.returns-in-Some-clause-groups
+returns-in-Some-clause-groups g c =
+    let patterns = c.self.inside.patterns in
+    let are_patterns : patterns ≡ keys_of c.args.self.now = sym (keys_of-zip patterns c.self.inside.values.items c.self.invariant) ∙ ap keys_of c.self.view_is in
+    subst (λ (patterns : List (UrlPattern g.row.R.Denot)). HasGroupsInOrder g.R.RegExp.answer (patterns_view patterns) (texts_of_url c.args.url.now) (Some (c.in-Some.index, c.in-Some.captures)))
+    are_patterns (rw c.in-Some.is at c.in_ok-index.ensures.groups)
 
 pub returns-in-Some-clause-value : goal.returns-in-Some-clause-value
 returns-in-Some-clause-value g c =
