@@ -8,8 +8,7 @@ use Rattle.urlpattern.specs.Patterns.{pattern_view}
 use Rattle.std.specs.Prelude.{slice_get, Some}
 use Rattle.urlpattern.specs.Eight.{components}
 use Rattle.urlpattern_calls.specs.Calls.{given_base, c_options, error_status, IsAdded, IsPushed, IsTested, IsUrlTested}
-use Rattle.urlpattern_calls.specs.Diagnoses.{init_subject_number, subject_number, IsDiagnosed, IsDiagnosis, IsInitDiagnosed, RefusesTextByOptions}
-use Rattle.urlpattern_calls.specs.Inits.{IsInitRefused}
+use Rattle.urlpattern_calls.specs.Diagnoses.{IsDiagnosed, IsDiagnosisOfInit, IsDiagnosisOfText, IsInitDiagnosed}
 use Rattle.urlpattern_calls.specs.Mismatches.{IsMismatchReported, IsUrlMismatched}
 use Rattle.urlpattern_calls.specs.Texts.{group_name_at, IsComponentWritten, IsExecReported, IsGroupNameWritten, IsUrlExecuted, IsWritten}
 use Rattle.urlpattern_calls.specs.declared.diagnosing.Place.{Place}
@@ -76,14 +75,14 @@ component_written patterns index component pattern name text old new needed stat
 component_written patterns index component pattern name text old new needed status is named same counted written = absurd written
 
 pub diagnosed : (text base : List ℕ) (ignores : Bool) (place : Place) (reason old new : List ℕ) (needed : ℕ) (status : Status)
-    → IsDiagnosis (RefusesTextByOptions text base ignores) subject_number place reason → needed ≡ length reason → IsWritten reason old new status
+    → IsDiagnosisOfText text base ignores place reason → needed ≡ length reason → IsWritten reason old new status
     → IsDiagnosed text base ignores old new needed place status
 diagnosed text base ignores place reason old new needed statuses.Done is counted written = (reason, is, counted, written)
 diagnosed text base ignores place reason old new needed statuses.TooSmall is counted written = (reason, is, counted, written)
 diagnosed text base ignores place reason old new needed status is counted written = absurd written
 
 pub init_diagnosed : (json : List ℕ) (ignores : Bool) (place : Place) (reason old new : List ℕ) (needed : ℕ) (status : Status)
-    → IsDiagnosis (IsInitRefused json ignores) init_subject_number place reason → needed ≡ length reason → IsWritten reason old new status
+    → IsDiagnosisOfInit json ignores place reason → needed ≡ length reason → IsWritten reason old new status
     → IsInitDiagnosed json ignores old new needed place status
 init_diagnosed json ignores place reason old new needed statuses.Done is counted written = (reason, is, counted, written)
 init_diagnosed json ignores place reason old new needed statuses.TooSmall is counted written = (reason, is, counted, written)

@@ -12,6 +12,7 @@ use Rattle.urlpattern_calls.specs.declared.diagnosing.Place.{Place}
 use Rattle.urlpattern_calls.specs.declared.status.Status.{Status}
 use Rattle.urlpattern_calls.specs.declared.status.Status.TheVariants as statuses
 use Rattle.urlpattern_create.specs.Compiled.{IsPatternOfInit}
+use Rattle.urlpattern_create.specs.Diagnoses.{IsWithinText, ShowsGiven, ShowsInit}
 use Rattle.urlpattern_diagnosis.specs.declared.diagnosis.{Diagnosis.Diagnosis, Subject.Subject}
 use Rattle.urlpattern_diagnosis.specs.declared.diagnosis.Subject.TheVariants as subjects
 use Rattle.urlpattern_engine.specs.PatternRegexps.{pattern_engine}
@@ -33,10 +34,13 @@ init_subject_number (subjects.Component name) = 2 + component_number name
 abbrev pub place_of_diagnosis : (subject : ℕ) → Diagnosis → Place
 place_of_diagnosis subject diagnosis = record { subject = subject; start = diagnosis.fault.span.start; end = diagnosis.fault.span.end }
 
--- the reason and the place are those of a diagnosis, whose error is one with which the pattern is refused
-pub record IsDiagnosis (Refuses : ErrorView → Type 0) (number : Subject → ℕ) (place : Place) (reason : List ℕ) : Type 0 where
+-- The reason and the place are those of a diagnosis, whose error is one with which the pattern is refused, which shows where that is at
+-- fault, and whose place lies in its text.
+pub record IsDiagnosis (Refuses : ErrorView → Type 0) (Shows : Diagnosis → Type 0) (number : Subject → ℕ) (place : Place) (reason : List ℕ) : Type 0 where
   pub diagnosis : Diagnosis
   pub is_refused : Refuses (error_view diagnosis.error)
+  pub shows : Shows diagnosis
+  pub is_within : IsWithinText diagnosis
   pub is_reason : reason ≡ string_bytes diagnosis.reason
   pub is_place : place ≡ place_of_diagnosis (number diagnosis.subject) diagnosis
 
@@ -44,12 +48,25 @@ pub record IsDiagnosis (Refuses : ErrorView → Type 0) (number : Subject → �
 abbrev pub RefusesTextByOptions : (text base : List ℕ) → (ignore_case : Bool) → ErrorView → Type 0
 RefusesTextByOptions text base ignores error = RefusesToCompile text (given_base base) ignores error
 
+-- the reason and the place are those of a diagnosis of the constructor string
+abbrev pub IsDiagnosisOfText : (text base : List ℕ) → (ignore_case : Bool) → Place → (reason : List ℕ) → Type 0
+IsDiagnosisOfText text base ignores =
+    IsDiagnosis (RefusesTextByOptions text base ignores) (ShowsGiven pattern_engine text (given_base base) (c_options ignores)) subject_number
+
+-- what is shown of an init of JSON
+abbrev pub ShowsInitOfJson : (json : List ℕ) → (ignore_case : Bool) → Diagnosis → Type 0
+ShowsInitOfJson json ignores diagnosis = (init : UrlPatternInit) × IsInitOfJson json init × ShowsInit pattern_engine init (c_options ignores) diagnosis
+
+-- the same of such an init
+abbrev pub IsDiagnosisOfInit : (json : List ℕ) → (ignore_case : Bool) → Place → (reason : List ℕ) → Type 0
+IsDiagnosisOfInit json ignores = IsDiagnosis (IsInitRefused json ignores) (ShowsInitOfJson json ignores) init_subject_number
+
 -- Why the pattern is refused is written; NoMatch: it is not refused.
 abbrev pub IsDiagnosed : (text base : List ℕ) → (ignore_case : Bool) → (old new : List ℕ) → (needed : ℕ) → Place → Status → Type 0
 IsDiagnosed text base ignores old new needed place statuses.Done =
-    WritesToBuffer (IsDiagnosis (RefusesTextByOptions text base ignores) subject_number place) old new needed statuses.Done
+    WritesToBuffer (IsDiagnosisOfText text base ignores place) old new needed statuses.Done
 IsDiagnosed text base ignores old new needed place statuses.TooSmall =
-    WritesToBuffer (IsDiagnosis (RefusesTextByOptions text base ignores) subject_number place) old new needed statuses.TooSmall
+    WritesToBuffer (IsDiagnosisOfText text base ignores place) old new needed statuses.TooSmall
 IsDiagnosed text base ignores old new needed place statuses.NoMatch =
     ((pattern : PatternView PatternRegexp) × IsPatternOfText pattern_engine (chars text) (given_base base) (c_options ignores) pattern) × (new ≡ old)
 IsDiagnosed text base ignores old new needed place status = IsNoUrl text base status × (new ≡ old)
@@ -57,9 +74,9 @@ IsDiagnosed text base ignores old new needed place status = IsNoUrl text base st
 -- the same of an init
 abbrev pub IsInitDiagnosed : (json : List ℕ) → (ignore_case : Bool) → (old new : List ℕ) → (needed : ℕ) → Place → Status → Type 0
 IsInitDiagnosed json ignores old new needed place statuses.Done =
-    WritesToBuffer (IsDiagnosis (IsInitRefused json ignores) init_subject_number place) old new needed statuses.Done
+    WritesToBuffer (IsDiagnosisOfInit json ignores place) old new needed statuses.Done
 IsInitDiagnosed json ignores old new needed place statuses.TooSmall =
-    WritesToBuffer (IsDiagnosis (IsInitRefused json ignores) init_subject_number place) old new needed statuses.TooSmall
+    WritesToBuffer (IsDiagnosisOfInit json ignores place) old new needed statuses.TooSmall
 IsInitDiagnosed json ignores old new needed place statuses.NoMatch =
     ((init : UrlPatternInit) × (pattern : PatternView PatternRegexp) × IsInitOfJson json init
     × IsPatternOfInit pattern_engine init (c_options ignores) pattern)
