@@ -1,5 +1,6 @@
 pub mod TwoReadings
 pub mod TextParts
 pub mod AutomatonLemmas
+pub mod TrialLemmas
 pub mod EngineLaws
 pub mod AlikeLaws

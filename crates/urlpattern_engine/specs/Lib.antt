@@ -1,4 +1,5 @@
 pub mod Readings
 pub mod Automatons
+pub mod Trials
 pub mod PatternRegexps
 pub mod EcmaRegexps

@@ -10,6 +10,7 @@ ghost use Rattle.urlpattern_meaning.specs.CaptureTexts.{captures_view};
 ghost use Rattle.urlpattern_engine.specs.Automatons.{IsNfaOf, IsRegexReadAs, config_for, automaton_answer, cell_texts, match_at_start, place_of, text_cut};
 ghost use Rattle.urlpattern_syntax.specs.Text.{option_text};
 
+use crate::trial::{FEW, GivenUp, Trial};
 use regex::{Regex, RegexBuilder};
 use regex_compile::compile;
 use regex_extract::is_anchored_start;
@@ -27,9 +28,6 @@ pub(crate) const SIZE_LIMIT: usize = 10 << 20;
 /// From how many bytes on a text is matched by a `regex::Regex` that is made for it. The making then takes less time than a search
 /// state by state.
 const LONG: usize = 1 << 10;
-
-/// How many cells stand on the stack, two for each group. Those of an expression with more groups are allocated.
-const FEW: usize = 8;
 
 /// An expression that matches only at the start of a text, as the automaton that `regex` would make of it.
 #[derive(Drop)]
@@ -91,10 +89,49 @@ impl Automaton {
             return self.matches_long(alloc, text);
         }
         let count = self.nfa.slot_count as usize - 2;
-        let mut few = [0usize; FEW];
         if count <= FEW {
-            return self.matches_in(alloc, text, &mut few[..count]);
+            self.matches_few(alloc, text, count)
+        } else {
+            self.matches_each(alloc, text, count)
         }
+    }
+
+    /// What the groups capture of a text, by a search that goes back, or by another one if that is given up.
+    ///
+    /// The error is that memory ran out.
+    fn matches_few<'t>(
+        &self,
+        alloc: Global,
+        text: &'t str,
+        count: usize,
+    ) -> Result<Option<Vec<Option<&'t str>>>, OutOfMemory>
+        requires { (count ≡ self.now.nfa.slot_count - 2) × (count ≤ 8) }
+        ensures { IfOk result (λ found. captures_view found ≡ automaton_answer self.now.nfa (chars text.now)) }
+    {
+        let trial = Trial {
+            nfa: &self.nfa,
+            bytes: text.as_bytes(),
+        };
+        match trial.find() {
+            Ok(Some(cells)) => Ok(Some(groups(alloc, text, &cells[..count])?)),
+            Ok(None) => Ok(None),
+            Err(GivenUp) => self.matches_each(alloc, text, count),
+        }
+    }
+
+    /// The same, by a search that visits each state at most once at each place.
+    ///
+    /// The error is that memory ran out.
+    #[inline(never)]
+    fn matches_each<'t>(
+        &self,
+        alloc: Global,
+        text: &'t str,
+        count: usize,
+    ) -> Result<Option<Vec<Option<&'t str>>>, OutOfMemory>
+        requires { count ≡ self.now.nfa.slot_count - 2 }
+        ensures { IfOk result (λ found. captures_view found ≡ automaton_answer self.now.nfa (chars text.now)) }
+    {
         let mut cells = vec![in alloc; 0usize; count]?;
         self.matches_in(alloc, text, &mut cells)
     }

@@ -7,12 +7,14 @@
 //! [`EcmaRegexp`] holds an expression in ECMAScript's syntax for a browser.
 #![tactic(auto)]
 
+mod ahead;
 mod automaton;
 mod cost;
 mod ecma_regexp;
 mod kept;
 pub mod laws;
 mod pattern_regexp;
+mod trial;
 
 pub use ecma_regexp::EcmaRegexp;
 pub use pattern_regexp::PatternRegexp;

@@ -1,0 +1,23 @@
+use Rattle.std.proofs.Common.{◌≡◌, ◌+◌, ◌*◌, ◌≤◌}
+use Rattle.urlpattern_engine.specs.Trials.{IsPlace, IsState, found_in}
+use Rattle.urlpattern_engine.proofs.trial.Trial.+search.Given as goal
+
+abbrev pub decreases-end : goal.decreases-end
+decreases-end l = 3 * l.depth + 2
+
+abbrev pub decreases-visit : goal.decreases-visit
+decreases-visit l = 3 * l.depth + 1
+
+abbrev pub decreases-choose : goal.decreases-choose
+decreases-choose l = 3 * l.depth
+
+abbrev pub invariant-end-states : goal.invariant-end-states
+invariant-end-states l = record {
+  is_state : IsState l.self l.id;
+  is_place : IsPlace l.self l.place;
+  same : found_in l.self l.cells l.id l.place ≡ found_in l.self l.fn.cells l.fn.state l.fn.at;
+  fewer : l.budget ≤ l.fn.budget;
+}
+
+abbrev pub decreases-end-states : goal.decreases-end-states
+decreases-end-states l = l.budget

@@ -1,0 +1,265 @@
+//! What the next byte says of a choice.
+
+ghost use Rattle.std.specs.Prelude.{◌≡◌, ◌⊎◌, ◌+◌, ◌<◌, ◌≤◌, ◌↔◌, ℕ, Some, None, length, slice_range, IfSome, IsTrue};
+ghost use Rattle.regex_hir.specs.Looks as looks;
+ghost use Rattle.regex_nfa.specs.States.{IsSparseRange, target_in};
+ghost use Rattle.regex_nfa.specs.declared.state.State.TheVariants as states;
+ghost use Rattle.urlpattern_engine.specs.Trials.{IsInSpan, IsPlace, IsReadableIn, IsState, NeedsByte, next_in, run_in, state_in};
+
+use crate::trial::Trial;
+use regex_hir::Look;
+use regex_nfa::{State, StateId, holds};
+
+/// How many writes of cells are looked past at most.
+const AHEAD: usize = 4;
+
+/// The bytes from one to another. There are none if the first is greater.
+#[derive(Clone, Copy)]
+struct Span {
+    low: u8,
+    high: u8,
+}
+
+impl Trial<'_> {
+    /// How far a choice is come back to byte by byte, as long as nothing else goes on with the next byte.
+    #[inline(always)]
+    pub(crate) fn pass(&self, id: StateId, first: StateId, second: StateId, at: usize) -> usize
+        requires states { IsState self.now first × IsState self.now second }
+        requires choice { state_in self.now id ≡ states.Split first second }
+        requires place { IsPlace self.now at }
+        ensures same { run_in self.now id at ≡ run_in self.now id result }
+        ensures after { at ≤ result }
+        ensures within { IsPlace self.now result }
+    {
+        if self.reads(first) {
+            self.loop_end(id, first, second, at)
+        } else {
+            self.loop_end(id, second, first, at)
+        }
+    }
+
+    /// The same, where one state of the choice may be the body of a loop, and the other one leaves it.
+    #[inline(always)]
+    fn loop_end(&self, id: StateId, body: StateId, exit: StateId, at: usize) -> usize
+        requires states { IsState self.now body × IsState self.now exit }
+        requires choice { (state_in self.now id ≡ states.Split body exit) ⊎ (state_in self.now id ≡ states.Split exit body) }
+        requires place { IsPlace self.now at }
+        ensures same { run_in self.now id at ≡ run_in self.now id result }
+        ensures after { at ≤ result }
+        ensures within { IsPlace self.now result }
+    {
+        let Some(inside) = self.loop_bytes(body, at, id) else {
+            return at;
+        };
+        let Some(leaving) = self.first_bytes(exit) else {
+            return at;
+        };
+        let mut place = at;
+        'bytes: while place < self.bytes.len() {
+            let byte = self.bytes[place];
+            if !inside.contains(byte) {
+                return place;
+            }
+            if leaving.contains(byte) {
+                return place;
+            }
+            place += 1;
+        }
+        place
+    }
+
+    /// Whether a state reads a byte.
+    #[inline(always)]
+    fn reads(&self, id: StateId) -> bool
+        requires { IsState self.now id }
+    {
+        matches!(
+            self.nfa.state(id),
+            State::ByteRange(_) | State::Sparse { .. }
+        )
+    }
+
+    /// Bytes that lead from a state to another one, among them the byte at a place, if that does.
+    #[inline(always)]
+    fn loop_bytes(&self, id: StateId, at: usize, other: StateId) -> Option<Span>
+        requires { IsState self.now id }
+        ensures { IfSome result (λ span. (i : ℕ) → IsInSpan self.now span i → run_in self.now id i ≡ run_in self.now other (i + 1)) }
+    {
+        if at >= self.bytes.len() {
+            return None;
+        }
+        match self.nfa.state(id) {
+            State::ByteRange(t) => {
+                if t.next == other {
+                    Some(Span {
+                        low: t.start,
+                        high: t.end,
+                    })
+                } else {
+                    None
+                }
+            }
+            State::Sparse { from, to } => {
+                self.sparse_bytes(from as usize, to as usize, self.bytes[at], other)
+            }
+            _ => None,
+        }
+    }
+
+    /// The bytes of the first of these transitions that does not end before a byte, if it leads to a state.
+    #[inline(always)]
+    fn sparse_bytes(&self, from: usize, to: usize, byte: u8, other: StateId) -> Option<Span>
+        requires { IsSparseRange self.now.nfa.now.transitions.items from to }
+        ensures { IfSome result (λ span. (b : ℕ) → span.low ≤ b → b ≤ span.high → target_in (slice_range self.now.nfa.now.transitions.items from to) b ≡ Some other) }
+    {
+        'transitions: for k in from..to {
+            let t = self.nfa.transitions[k];
+            if byte <= t.end {
+                if t.next != other {
+                    return None;
+                }
+                return Some(Span {
+                    low: t.start,
+                    high: t.end,
+                });
+            }
+        }
+        None
+    }
+
+    /// The bytes with which a match may go on with a state. `None`: they are not known.
+    #[inline(always)]
+    fn first_bytes(&self, id: StateId) -> Option<Span>
+        requires { IsState self.now id }
+        ensures { IfSome result (NeedsByte self.now id) }
+    {
+        let seen = self.after_writes(id);
+        match self.nfa.state(seen) {
+            State::Split { first, second } => {
+                let one = self.own_bytes(first)?;
+                let other = self.own_bytes(second)?;
+                Some(either(one, other))
+            }
+            _ => self.own_bytes(seen),
+        }
+    }
+
+    /// The same, where those of a choice are not known.
+    #[inline(always)]
+    fn own_bytes(&self, id: StateId) -> Option<Span>
+        requires { IsState self.now id }
+        ensures { IfSome result (NeedsByte self.now id) }
+    {
+        let seen = self.after_writes(id);
+        match self.nfa.state(seen) {
+            State::ByteRange(t) => Some(Span {
+                low: t.start,
+                high: t.end,
+            }),
+            State::Look {
+                look: Look::End,
+                ..
+            } => Some(Span { low: 1, high: 0 }),
+            _ => None,
+        }
+    }
+
+    /// Whether no match goes on with a state at a place, as far as the next byte says.
+    #[inline(never)]
+    pub(crate) fn fails(&self, id: StateId, at: usize) -> bool
+        requires { IsState self.now id }
+        ensures { IsTrue result → run_in self.now id at ≡ None }
+    {
+        let seen = self.after_writes(id);
+        match self.nfa.state(seen) {
+            State::Split { first, second } => {
+                if !self.stops(first, at) {
+                    return false;
+                }
+                self.stops(second, at)
+            }
+            _ => self.stops(seen, at),
+        }
+    }
+
+    /// The same, where a choice is not looked into.
+    #[inline(always)]
+    fn stops(&self, id: StateId, at: usize) -> bool
+        requires { IsState self.now id }
+        ensures { IsTrue result → run_in self.now id at ≡ None }
+    {
+        let seen = self.after_writes(id);
+        let state = self.nfa.state(seen);
+        match state {
+            State::Look { look, .. } => !self.holds(look, at),
+            State::Split { .. } => false,
+            State::Save { .. } => false,
+            State::Match => false,
+            _ => self.next(state, at).is_none(),
+        }
+    }
+
+    /// The state that follows the writes of cells at a state, as far as they are looked past.
+    #[inline(always)]
+    fn after_writes(&self, id: StateId) -> StateId
+        requires { IsState self.now id }
+        ensures within { IsState self.now result }
+        ensures none { (at : ℕ) → run_in self.now result at ≡ None → run_in self.now id at ≡ None }
+    {
+        let mut seen = id;
+        'writes: for _ in 0..AHEAD {
+            match self.nfa.state(seen) {
+                State::Save { next, .. } => seen = next,
+                _ => return seen,
+            }
+        }
+        seen
+    }
+
+    /// Whether an assertion holds at a place.
+    #[inline(always)]
+    pub(crate) fn holds(&self, look: Look, at: usize) -> bool
+        ensures { result ≡ looks.holds look self.now.bytes.now at }
+    {
+        match look {
+            Look::End => self.bytes.get(at).is_none(),
+            _ => holds(look, self.bytes, at),
+        }
+    }
+
+    /// Where a state goes on the byte at a place.
+    #[inline(always)]
+    pub(crate) fn next(&self, state: State, at: usize) -> Option<StateId>
+        requires { IsReadableIn self.now state }
+        ensures is { result ≡ next_in self.now state at }
+        ensures within { IfSome result (λ q. IsState self.now q × (at < length self.now.bytes.now)) }
+    {
+        if at < self.bytes.len() {
+            self.nfa.next_on(state, self.bytes[at])
+        } else {
+            None
+        }
+    }
+}
+
+/// The bytes from the least to the greatest of both.
+#[inline(always)]
+fn either(one: Span, other: Span) -> Span
+    ensures low { (result.low ≤ one.low) × (result.low ≤ other.low) }
+    ensures high { (one.high ≤ result.high) × (other.high ≤ result.high) }
+{
+    Span {
+        low: one.low.min(other.low),
+        high: one.high.max(other.high),
+    }
+}
+
+impl Span {
+    /// Whether a byte is one of them.
+    #[inline(always)]
+    fn contains(self, byte: u8) -> bool
+        ensures { IsTrue result ↔ ((self.low ≤ byte) × (byte ≤ self.high)) }
+    {
+        self.low <= byte && byte <= self.high
+    }
+}

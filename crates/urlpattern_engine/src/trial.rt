@@ -1,0 +1,199 @@
+//! Searches an automaton state by state, and goes back where a way ends.
+
+ghost use Rattle.std.specs.Prelude.{◌≡◌, ◌^◌, ◌<◌, ◌≤◌, option_map, IfOk};
+ghost use Rattle.regex_nfa.specs.declared.state.State.TheVariants as states;
+ghost use Rattle.regex_vm.specs.Found.{group_cells, put};
+ghost use Rattle.urlpattern_engine.specs.Automatons.{match_at_start};
+ghost use Rattle.urlpattern_engine.specs.Trials.{Follows, IsFound, IsPlace, IsState, found_in, state_in};
+
+use regex_nfa::{Nfa, State, StateId};
+
+/// How many states are visited at most, and how many more for each byte. An automaton that leaves more choices is searched otherwise.
+const STATES: usize = 128;
+
+const STATES_PER_BYTE: usize = 16;
+
+/// How many choices are left open at most.
+const DEPTH: usize = 64;
+
+/// How many cells there are, two for each group.
+pub(crate) const FEW: usize = 8;
+
+/// A search that would visit too many states, or leave too many choices open.
+#[derive(Clone, Copy)]
+pub(crate) struct GivenUp;
+
+/// What follows a state at a place.
+#[derive(Clone, Copy)]
+enum Next {
+    /// Go on with this state at this place.
+    On(StateId, usize),
+    /// A match ends here.
+    Ends(usize),
+    /// There is no match.
+    Fails,
+}
+
+/// An automaton and the bytes that are searched, at their start.
+///
+/// A choice is left open only where the next byte leaves it open. No state is marked as visited, so that a search may take long, and is
+/// given up then.
+#[derive(Clone, Copy)]
+pub(crate) struct Trial<'a> {
+    pub(crate) nfa: &'a Nfa,
+    pub(crate) bytes: &'a [u8],
+}
+
+impl Trial<'_> {
+    /// The cells of the first groups, if the automaton matches at the start of the bytes.
+    ///
+    /// The error is that the search was given up.
+    pub(crate) fn find(&self) -> Result<Option<[usize; FEW]>, GivenUp>
+        ensures { IfOk result (λ cells. cells ≡ option_map (λ found. group_cells found 8) (match_at_start self.now.nfa.now self.now.bytes.now)) }
+    {
+        let mut cells = [0usize; FEW];
+        let mut budget = self
+            .bytes
+            .len()
+            .saturating_mul(STATES_PER_BYTE)
+            .saturating_add(STATES);
+        match self.end(self.nfa.start, 0, DEPTH, &mut budget, &mut cells)? {
+            Some(_) => Ok(Some(cells)),
+            None => Ok(None),
+        }
+    }
+
+    /// Where the match ends that is preferred from a state on, at a place. The cells are those of its groups. `None`: there is none.
+    ///
+    /// The error is that the search was given up.
+    #[inline(never)]
+    #[cycle(search)]
+    fn end(
+        &self,
+        state: StateId,
+        at: usize,
+        depth: usize,
+        budget: &mut usize,
+        cells: &mut [usize; FEW],
+    ) -> Result<Option<usize>, GivenUp>
+        requires state { IsState self.now state }
+        requires place { IsPlace self.now at }
+        ensures found { IfOk result (IsFound (found_in self.now cells.old state at) cells.new) }
+        ensures fewer { budget.new ≤ budget.old }
+    {
+        let mut id = state;
+        let mut place = at;
+        'states: while *budget > 0 {
+            *budget -= 1;
+            match self.visit(id, place, depth, budget, cells)? {
+                Next::On(next, after) => {
+                    id = next;
+                    place = after;
+                }
+                Next::Ends(end) => return Ok(Some(end)),
+                Next::Fails => return Ok(None),
+            }
+        }
+        Err(GivenUp)
+    }
+
+    /// What follows a state at a place.
+    ///
+    /// The error is that the search was given up.
+    #[inline(always)]
+    #[cycle(search)]
+    fn visit(
+        &self,
+        id: StateId,
+        at: usize,
+        depth: usize,
+        budget: &mut usize,
+        cells: &mut [usize; FEW],
+    ) -> Result<Next, GivenUp>
+        requires state { IsState self.now id }
+        requires place { IsPlace self.now at }
+        ensures follows { IfOk result (Follows self.now (found_in self.now cells.old id at) cells.new) }
+        ensures fewer { budget.new ≤ budget.old }
+    {
+        let state = self.nfa.state(id);
+        match state {
+            State::Split { first, second } => {
+                let place = self.pass(id, first, second, at);
+                *budget = budget.saturating_sub(place - at);
+                if self.fails(second, place) {
+                    return Ok(Next::On(first, place));
+                }
+                if self.fails(first, place) {
+                    return Ok(Next::On(second, place));
+                }
+                self.choose(id, first, second, place, depth, budget, cells)
+            }
+            State::Save { slot, next } => {
+                write(slot, at, cells);
+                Ok(Next::On(next, at))
+            }
+            State::Look { look, next } => {
+                if self.holds(look, at) {
+                    Ok(Next::On(next, at))
+                } else {
+                    Ok(Next::Fails)
+                }
+            }
+            State::Match => Ok(Next::Ends(at)),
+            _ => match self.next(state, at) {
+                Some(next) => Ok(Next::On(next, at + 1)),
+                None => Ok(Next::Fails),
+            },
+        }
+    }
+
+    /// What follows a choice of two states at a place.
+    ///
+    /// The error is that the search was given up.
+    #[inline(never)]
+    #[cycle(search)]
+    fn choose(
+        &self,
+        id: StateId,
+        first: StateId,
+        second: StateId,
+        at: usize,
+        depth: usize,
+        budget: &mut usize,
+        cells: &mut [usize; FEW],
+    ) -> Result<Next, GivenUp>
+        requires choice { state_in self.now id ≡ states.Split first second }
+        requires states { IsState self.now first × IsState self.now second }
+        requires place { IsPlace self.now at }
+        ensures follows { IfOk result (Follows self.now (found_in self.now cells.old id at) cells.new) }
+        ensures fewer { budget.new ≤ budget.old }
+    {
+        if depth == 0 {
+            return Err(GivenUp);
+        }
+        let mut tried = *cells;
+        match self.end(first, at, depth - 1, budget, &mut tried)? {
+            Some(end) => {
+                *cells = tried;
+                Ok(Next::Ends(end))
+            }
+            None => Ok(Next::On(second, at)),
+        }
+    }
+}
+
+/// Writes a place to the cell of a slot, if it has one.
+#[inline(always)]
+fn write(slot: u32, at: usize, cells: &mut [usize; FEW])
+    requires { at < 2 ^ 63 }
+    ensures { cells.new ≡ put cells.old slot at }
+{
+    let slot = slot as usize;
+    if slot < 2 {
+        return;
+    }
+    let index = slot - 2;
+    if index < FEW {
+        cells[index] = at + 1;
+    }
+}
