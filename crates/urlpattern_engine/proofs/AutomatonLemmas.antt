@@ -1,5 +1,5 @@
 -- What an automaton answers is what its tree does.
-use Rattle.std.proofs.Common.{◌≡◌, ℕ, zero, suc, ◌+◌, ◌-◌, ◌*◌, ◌/◌, ◌<◌, ◌≤◌, Bool, true, cond, nat_le, ◌&&◌, ◌==◌, inl, inr, List, ◌∷◌, map, length, Option, Some, None, option_map, is_some, false, true≢false, IsUtf8, IsCharBoundary, slice_index, slice_range, take, ext_get_or, get_or-take, length-take-le, refl, sym, ap, ap₂, ◌∙◌, subst, ⊎_elim, arith, ne_eqb, le-leb}
+use Rattle.std.proofs.Common.{◌≡◌, ℕ, zero, suc, ◌+◌, ◌-◌, ◌*◌, ◌/◌, ◌<◌, ◌≤◌, Bool, true, cond, nat_le, ◌&&◌, ◌==◌, inl, inr, List, ◌∷◌, map, length, Option, Some, None, option_map, is_some, false, true≢false, IsUtf8, IsCharBoundary, slice_index, take, ext_get_or, get_or-take, length-take-le, refl, sym, ap, ap₂, ◌∙◌, subst, ⊎_elim, arith, ne_eqb, le-leb}
 use Rattle.std.proofs.lemmas.Bool.{and_from, and_parts, cases_Bool, cond-true, cond-false, leb-true}
 use Rattle.std.proofs.lemmas.List.FromFn.{get_or-map-range_with_len, length-map-range_with_len}
 use Rattle.std.proofs.lemmas.Option.{none-some, same_Some}
@@ -236,16 +236,14 @@ answer_of_nothing nfa bytes utf8 is =
 
 -- ---- the first cells of a match
 
-few_cells : (m : Match) (count width : ℕ) → count ≤ width → slice_range (group_cells m width) 0 count ≡ group_cells m count
+few_cells : (m : Match) (count width : ℕ) → count ≤ width → take count (group_cells m width) ≡ group_cells m count
 unfolding group_cells
 few_cells m count width fits =
     let at : ℕ → ℕ = λ k. cell (last_write m.trace.writes (k + 2)) in
     let all = map at (range_with_len 0 width) in
     let wide : length all ≡ width = length-map-range_with_len at 0 width in
     let long : length (take count all) ≡ count = length-take-le count all (omega (arith, wide)) in
-    let whole : count - 0 ≡ count = omega arith in
-    ap (λ n. take n all) whole
-    ∙ ext_get_or 0 (take count all) (map at (range_with_len 0 count)) (long ∙ sym (length-map-range_with_len at 0 count))
+    ext_get_or 0 (take count all) (map at (range_with_len 0 count)) (long ∙ sym (length-map-range_with_len at 0 count))
     (λ k h.
     let below : k < count = omega (arith, long) in
     get_or-take count all k 0 below
@@ -254,11 +252,11 @@ few_cells m count width fits =
 
 -- the cells that a search finds, if it finds any
 pub cells_of_some : (o : Option Match) (cells : List ℕ) (count width : ℕ) → count ≤ width → Some cells ≡ option_map (λ m. group_cells m width) o
-    → (true ≡ is_some o) × IfSome o (λ m. slice_range cells 0 count ≡ group_cells m count) × (length (slice_range cells 0 count) ≡ count)
+    → (true ≡ is_some o) × IfSome o (λ m. take count cells ≡ group_cells m count) × (length (take count cells) ≡ count)
 unfolding group_cells
 cells_of_some None cells count width fits e = absurd (none-some cells (sym e))
 cells_of_some (Some m) cells count width fits e =
-    let few = ap (λ (c : List ℕ). slice_range c 0 count) (same_Some _ _ e) ∙ few_cells m count width fits in
+    let few = ap (take count) (same_Some _ _ e) ∙ few_cells m count width fits in
     (refl, few, ap length few ∙ length-map-range_with_len (λ k. cell (last_write m.trace.writes (k + 2))) 0 count)
 
 pub none_of_no_cells : (o : Option Match) (width : ℕ) → None ≡ option_map (λ m. group_cells m width) o → false ≡ is_some o

@@ -13,7 +13,7 @@ use Rattle.regex_hir.proofs.OptionLemmas.{option_or-None}
 use Rattle.regex_hir.specs.Find as find
 use Rattle.regex_nfa.specs.Run.{run}
 use Rattle.regex_nfa.specs.declared.nfa.Nfa.{Nfa}
-use Rattle.regex_nfa.specs.States.{byte_below, covers, next_on, target_in}
+use Rattle.regex_nfa.specs.States.{covers, next_on, target_in}
 use Rattle.regex_nfa.specs.declared.state.State.{State}
 use Rattle.regex_nfa.specs.declared.state.State.TheVariants.{ByteRange, Fail, Look, Match, Save, Sparse, Split}
 use Rattle.regex_nfa.specs.declared.state.Transition.{Transition}

@@ -1,4 +1,4 @@
-use Rattle.std.proofs.Common.{sym, arith}
+use Rattle.std.proofs.Common.{sym}
 use Rattle.regex_vm.proofs.NfaLemmas.{below_within}
 use Rattle.urlpattern_engine.proofs.TrialLemmas.{none_by_write}
 use Rattle.urlpattern_engine.proofs.trial.Trial.after_writes.Goals as goal

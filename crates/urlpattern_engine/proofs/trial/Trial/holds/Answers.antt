@@ -1,4 +1,4 @@
-use Rattle.std.proofs.Common.{◌≡◌, ◌∙◌, sym, subst}
+use Rattle.std.proofs.Common.{◌≡◌, sym, subst}
 use Rattle.regex_hir.specs.Looks.{holds}
 use Rattle.urlpattern_engine.proofs.TrialLemmas.{end_holds}
 use Rattle.urlpattern_engine.proofs.trial.Trial.holds.Goals as goal
