@@ -29,7 +29,7 @@ use Rattle.urlpattern_engine.specs.declared.trial.Trial.{Trial}
 
 -- ---- of one trace
 
-found_first : (a b : Option Trace) (cells : List ℕ) (f : Found) → Some f ≡ found_from_trace 0 cells a → Some f ≡ found_from_trace 0 cells (option_or a b)
+pub found_first : (a b : Option Trace) (cells : List ℕ) (f : Found) → Some f ≡ found_from_trace 0 cells a → Some f ≡ found_from_trace 0 cells (option_or a b)
 found_first None b cells f e = absurd (none-some f (sym e))
 found_first (Some t) b cells f e = e
 
@@ -38,13 +38,16 @@ unfolding apply
 found_written slot i None cells = refl
 found_written slot i (Some t) cells = refl
 
+pub found_second : (a b : Option Trace) (cells : List ℕ) → None ≡ found_from_trace 0 cells a → found_from_trace 0 cells b ≡ found_from_trace 0 cells (option_or a b)
+found_second a b cells e = ap (λ o. found_from_trace 0 cells (option_or o b)) (sym (none_of_found_from_trace 0 cells a e))
+
 -- ---- of a state
 
 module _ (trial : Trial) (q i : ℕ) where
   -- a choice
 
   module _ (first second : ℕ) (is : state_in trial q ≡ Split first second) where
-    chosen : run_in trial q i ≡ option_or (run_in trial first i) (run_in trial second i)
+    pub chosen : run_in trial q i ≡ option_or (run_in trial first i) (run_in trial second i)
     chosen = run_at trial.nfa.now trial.bytes.now (length trial.bytes.now) q i (Split first second) is
 
     pub run_by_first : run_in trial second i ≡ None → run_in trial q i ≡ run_in trial first i
@@ -55,14 +58,6 @@ module _ (trial : Trial) (q i : ℕ) where
 
     pub none_of_both : run_in trial first i ≡ None → run_in trial second i ≡ None → run_in trial q i ≡ None
     none_of_both one other = run_by_second one ∙ other
-
-    pub found_in_first : (cells : List ℕ) (f : Found) → Some f ≡ found_in trial cells first i → Some f ≡ found_in trial cells q i
-    found_in_first cells f e =
-        found_first (run_in trial first i) (run_in trial second i) cells f e ∙ ap (found_from_trace 0 cells) (sym chosen)
-
-    pub found_after_first : (cells : List ℕ) → None ≡ found_in trial cells first i → found_in trial cells second i ≡ found_in trial cells q i
-    found_after_first cells e =
-        ap (found_from_trace 0 cells) (sym (run_by_second (none_of_found_from_trace 0 cells (run_in trial first i) e)))
 
   -- a write
 

@@ -1,12 +1,13 @@
 -- What a search that goes back finds.
 use Rattle.std.specs.Prelude.{◌≡◌, ℕ, ◌<◌, ◌≤◌, List, length, Option, Some, None, option_and_then, option_map, slice_index, vec_len}
+use Rattle.std.specs.Option.{option_or}
 use Rattle.regex_hir.specs.Re.{Trace}
 use Rattle.regex_nfa.specs.Run.{run, state_of}
 use Rattle.regex_nfa.specs.States.{IsReadable, byte_below, next_on}
 use Rattle.regex_nfa.specs.declared.state.State.{State}
 use Rattle.regex_vm.specs.Found.{Found, found_from_span, found_from_trace}
 use Rattle.urlpattern_engine.specs.declared.trial.Next.{Next}
-use Rattle.urlpattern_engine.specs.declared.trial.Next.TheVariants.{Ends, Fails, On}
+use Rattle.urlpattern_engine.specs.declared.trial.Next.TheVariants.{Choice, Ends, Fails, On}
 use Rattle.urlpattern_engine.specs.declared.ahead.Span.{Span}
 use Rattle.urlpattern_engine.specs.declared.trial.Trial.{Trial}
 
@@ -42,16 +43,26 @@ abbrev pub IsFound : Option Found → (cells : List ℕ) → (end : Option ℕ) 
 IsFound found cells end = found_from_span (option_map (λ e. (0, e)) end) cells ≡ found
 
 -- the same is found from this state on, at this place, with these cells
-pub record GoesOn (trial : Trial) (found : Option Found) (cells : List ℕ) (next place : ℕ) : Type 0 where
+pub record GoesOn (trial : Trial) (at : ℕ) (found : Option Found) (cells : List ℕ) (next place : ℕ) : Type 0 where
   pub is_state : IsState trial next
   pub is_place : IsPlace trial place
+  pub is_after : at ≤ place
   pub same : found_in trial cells next place ≡ found
 
+-- the same is found from the first state on, or, where nothing is, from the second one
+pub record Chooses (trial : Trial) (at : ℕ) (found : Option Found) (cells : List ℕ) (first second place : ℕ) : Type 0 where
+  pub is_first : IsState trial first
+  pub is_second : IsState trial second
+  pub is_place : IsPlace trial place
+  pub is_after : at ≤ place
+  pub same : found_from_trace 0 cells (option_or (run_in trial first place) (run_in trial second place)) ≡ found
+
 -- what is to be found follows so
-abbrev pub Follows : Trial → Option Found → (cells : List ℕ) → Next → Type 0
-Follows trial found cells (On next place) = GoesOn trial found cells next place
-Follows trial found cells (Ends end) = IsFound found cells (Some end)
-Follows trial found cells Fails = IsFound found cells None
+abbrev pub Follows : Trial → (at : ℕ) → Option Found → (cells : List ℕ) → Next → Type 0
+Follows trial at found cells (On next place) = GoesOn trial at found cells next place
+Follows trial at found cells (Choice first second place) = Chooses trial at found cells first second place
+Follows trial at found cells (Ends end) = IsFound found cells (Some end)
+Follows trial at found cells Fails = IsFound found cells None
 
 -- ---- the bytes of a span
 

@@ -20,16 +20,24 @@ struct Span {
     high: u8,
 }
 
+/// How far a choice was come back to.
+#[derive(Clone, Copy)]
+pub(crate) struct Passed {
+    pub(crate) place: usize,
+    /// Whether the next byte is one with which a match may go on with either state.
+    pub(crate) is_open: bool,
+}
+
 impl Trial<'_> {
     /// How far a choice is come back to byte by byte, as long as nothing else goes on with the next byte.
     #[inline(always)]
-    pub(crate) fn pass(&self, id: StateId, first: StateId, second: StateId, at: usize) -> usize
+    pub(crate) fn pass(&self, id: StateId, first: StateId, second: StateId, at: usize) -> Passed
         requires states { IsState self.now first × IsState self.now second }
         requires choice { state_in self.now id ≡ states.Split first second }
         requires place { IsPlace self.now at }
-        ensures same { run_in self.now id at ≡ run_in self.now id result }
-        ensures after { at ≤ result }
-        ensures within { IsPlace self.now result }
+        ensures same { run_in self.now id at ≡ run_in self.now id result.place }
+        ensures after { at ≤ result.place }
+        ensures within { IsPlace self.now result.place }
     {
         if self.reads(first) {
             self.loop_end(id, first, second, at)
@@ -40,32 +48,35 @@ impl Trial<'_> {
 
     /// The same, where one state of the choice may be the body of a loop, and the other one leaves it.
     #[inline(always)]
-    fn loop_end(&self, id: StateId, body: StateId, exit: StateId, at: usize) -> usize
+    fn loop_end(&self, id: StateId, body: StateId, exit: StateId, at: usize) -> Passed
         requires states { IsState self.now body × IsState self.now exit }
         requires choice { (state_in self.now id ≡ states.Split body exit) ⊎ (state_in self.now id ≡ states.Split exit body) }
         requires place { IsPlace self.now at }
-        ensures same { run_in self.now id at ≡ run_in self.now id result }
-        ensures after { at ≤ result }
-        ensures within { IsPlace self.now result }
+        ensures same { run_in self.now id at ≡ run_in self.now id result.place }
+        ensures after { at ≤ result.place }
+        ensures within { IsPlace self.now result.place }
     {
         let Some(inside) = self.loop_bytes(body, at, id) else {
-            return at;
+            return closed(at);
         };
         let Some(leaving) = self.first_bytes(exit) else {
-            return at;
+            return closed(at);
         };
         let mut place = at;
         'bytes: while place < self.bytes.len() {
             let byte = self.bytes[place];
             if !inside.contains(byte) {
-                return place;
+                return closed(place);
             }
             if leaving.contains(byte) {
-                return place;
+                return Passed {
+                    place,
+                    is_open: true,
+                };
             }
             place += 1;
         }
-        place
+        closed(place)
     }
 
     /// Whether a state reads a byte.
@@ -239,6 +250,17 @@ impl Trial<'_> {
         } else {
             None
         }
+    }
+}
+
+/// A place where the next byte, if there is one, may leave no choice.
+#[inline(always)]
+fn closed(place: usize) -> Passed
+    ensures { result.place ≡ place }
+{
+    Passed {
+        place,
+        is_open: false,
     }
 }
 

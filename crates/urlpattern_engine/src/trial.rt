@@ -1,11 +1,12 @@
 //! Searches an automaton state by state, and goes back where a way ends.
 
-ghost use Rattle.std.specs.Prelude.{◌≡◌, ◌^◌, ◌<◌, ◌≤◌, option_map, IfOk};
+ghost use Rattle.std.specs.Prelude.{◌≡◌, ◌^◌, ◌<◌, ◌≤◌, ℕ, List, option_map, IfNone, IfOk};
 ghost use Rattle.regex_nfa.specs.declared.state.State.TheVariants as states;
 ghost use Rattle.regex_vm.specs.Found.{group_cells, put};
 ghost use Rattle.urlpattern_engine.specs.Automatons.{match_at_start};
 ghost use Rattle.urlpattern_engine.specs.Trials.{Follows, IsFound, IsPlace, IsState, found_in, state_in};
 
+use crate::ahead::Passed;
 use regex_nfa::{Nfa, State, StateId};
 
 /// How many states are visited at most, and how many more for each byte. An automaton that leaves more choices is searched otherwise.
@@ -28,6 +29,8 @@ pub(crate) struct GivenUp;
 enum Next {
     /// Go on with this state at this place.
     On(StateId, usize),
+    /// Try the first of these states at this place, and go on with the second one if no match goes on with the first.
+    Choice(StateId, StateId, usize),
     /// A match ends here.
     Ends(usize),
     /// There is no match.
@@ -84,11 +87,21 @@ impl Trial<'_> {
         let mut id = state;
         let mut place = at;
         'states: while *budget > 0 {
-            *budget -= 1;
-            match self.visit(id, place, depth, budget, cells)? {
+            match self.step(id, place, cells) {
                 Next::On(next, after) => {
+                    *budget = budget.saturating_sub(after - place + 1);
                     id = next;
                     place = after;
+                }
+                Next::Choice(first, second, after) => {
+                    *budget = budget.saturating_sub(after - place + 1);
+                    match self.tried(first, after, depth, budget, cells)? {
+                        Some(end) => return Ok(Some(end)),
+                        None => {
+                            id = second;
+                            place = after;
+                        }
+                    }
                 }
                 Next::Ends(end) => return Ok(Some(end)),
                 Next::Fails => return Ok(None),
@@ -97,88 +110,86 @@ impl Trial<'_> {
         Err(GivenUp)
     }
 
-    /// What follows a state at a place.
-    ///
-    /// The error is that the search was given up.
-    #[inline(always)]
-    #[cycle(search)]
-    fn visit(
-        &self,
-        id: StateId,
-        at: usize,
-        depth: usize,
-        budget: &mut usize,
-        cells: &mut [usize; FEW],
-    ) -> Result<Next, GivenUp>
-        requires state { IsState self.now id }
-        requires place { IsPlace self.now at }
-        ensures follows { IfOk result (Follows self.now (found_in self.now cells.old id at) cells.new) }
-        ensures fewer { budget.new ≤ budget.old }
-    {
-        let state = self.nfa.state(id);
-        match state {
-            State::Split { first, second } => {
-                let place = self.pass(id, first, second, at);
-                *budget = budget.saturating_sub(place - at);
-                if self.fails(second, place) {
-                    return Ok(Next::On(first, place));
-                }
-                if self.fails(first, place) {
-                    return Ok(Next::On(second, place));
-                }
-                self.choose(id, first, second, place, depth, budget, cells)
-            }
-            State::Save { slot, next } => {
-                write(slot, at, cells);
-                Ok(Next::On(next, at))
-            }
-            State::Look { look, next } => {
-                if self.holds(look, at) {
-                    Ok(Next::On(next, at))
-                } else {
-                    Ok(Next::Fails)
-                }
-            }
-            State::Match => Ok(Next::Ends(at)),
-            _ => match self.next(state, at) {
-                Some(next) => Ok(Next::On(next, at + 1)),
-                None => Ok(Next::Fails),
-            },
-        }
-    }
-
-    /// What follows a choice of two states at a place.
+    /// The same, where the cells are kept if there is no match.
     ///
     /// The error is that the search was given up.
     #[inline(never)]
     #[cycle(search)]
-    fn choose(
+    fn tried(
         &self,
-        id: StateId,
-        first: StateId,
-        second: StateId,
+        state: StateId,
         at: usize,
         depth: usize,
         budget: &mut usize,
         cells: &mut [usize; FEW],
-    ) -> Result<Next, GivenUp>
-        requires choice { state_in self.now id ≡ states.Split first second }
-        requires states { IsState self.now first × IsState self.now second }
+    ) -> Result<Option<usize>, GivenUp>
+        requires state { IsState self.now state }
         requires place { IsPlace self.now at }
-        ensures follows { IfOk result (Follows self.now (found_in self.now cells.old id at) cells.new) }
+        ensures found { IfOk result (IsFound (found_in self.now cells.old state at) cells.new) }
+        ensures kept { IfOk result (λ end. IfNone end (cells.new ≡ cells.old)) }
         ensures fewer { budget.new ≤ budget.old }
     {
         if depth == 0 {
             return Err(GivenUp);
         }
-        let mut tried = *cells;
-        match self.end(first, at, depth - 1, budget, &mut tried)? {
+        let mut copy = *cells;
+        match self.end(state, at, depth - 1, budget, &mut copy)? {
             Some(end) => {
-                *cells = tried;
-                Ok(Next::Ends(end))
+                *cells = copy;
+                Ok(Some(end))
             }
-            None => Ok(Next::On(second, at)),
+            None => Ok(None),
         }
+    }
+
+    /// What follows a state at a place.
+    #[inline(always)]
+    fn step(&self, id: StateId, at: usize, cells: &mut [usize; FEW]) -> Next
+        requires state { IsState self.now id }
+        requires place { IsPlace self.now at }
+        ensures { Follows self.now at (found_in self.now cells.old id at) cells.new result }
+    {
+        let state = self.nfa.state(id);
+        match state {
+            State::Split { first, second } => self.choice(id, first, second, at),
+            State::Save { slot, next } => {
+                write(slot, at, cells);
+                Next::On(next, at)
+            }
+            State::Look { look, next } => {
+                if self.holds(look, at) {
+                    Next::On(next, at)
+                } else {
+                    Next::Fails
+                }
+            }
+            State::Match => Next::Ends(at),
+            _ => match self.next(state, at) {
+                Some(next) => Next::On(next, at + 1),
+                None => Next::Fails,
+            },
+        }
+    }
+
+    /// What follows a choice of two states at a place.
+    #[inline(always)]
+    fn choice(&self, id: StateId, first: StateId, second: StateId, at: usize) -> Next
+        requires choice { state_in self.now id ≡ states.Split first second }
+        requires states { IsState self.now first × IsState self.now second }
+        requires place { IsPlace self.now at }
+        ensures { (cells : List ℕ) → Follows self.now at (found_in self.now cells id at) cells result }
+    {
+        let Passed { place, is_open } = self.pass(id, first, second, at);
+        if is_open {
+            return Next::Choice(first, second, place);
+        }
+        if self.fails(second, place) {
+            return Next::On(first, place);
+        }
+        if self.fails(first, place) {
+            return Next::On(second, place);
+        }
+        Next::Choice(first, second, place)
     }
 }
 

@@ -3,13 +3,10 @@ use Rattle.urlpattern_engine.specs.Trials.{IsPlace, IsState, found_in}
 use Rattle.urlpattern_engine.proofs.trial.Trial.+search.Given as goal
 
 abbrev pub decreases-end : goal.decreases-end
-decreases-end l = 3 * l.depth + 2
+decreases-end l = 2 * l.depth + 1
 
-abbrev pub decreases-visit : goal.decreases-visit
-decreases-visit l = 3 * l.depth + 1
-
-abbrev pub decreases-choose : goal.decreases-choose
-decreases-choose l = 3 * l.depth
+abbrev pub decreases-tried : goal.decreases-tried
+decreases-tried l = 2 * l.depth
 
 abbrev pub invariant-end-states : goal.invariant-end-states
 invariant-end-states l = record {
