@@ -23,7 +23,7 @@ use Rattle.regex_vm.specs.Pike.{IsResting}
 use Rattle.urlpattern_engine.specs.Automatons.{match_at_start}
 use Rattle.regex_vm.proofs.FoundLemmas.{apply_zeros, none_of_found_from_trace}
 use Rattle.regex_vm.proofs.NfaLemmas.{run_reads}
-use Rattle.urlpattern_engine.specs.Trials.{IsInSpan, NeedsByte, found_in, next_in, run_in, state_in}
+use Rattle.urlpattern_engine.specs.Trials.{Chooses, GoesOn, IsInSpan, IsPlace, IsState, NeedsByte, found_in, next_in, run_in, state_in}
 use Rattle.urlpattern_engine.specs.declared.ahead.Span.{Span}
 use Rattle.urlpattern_engine.specs.declared.trial.Trial.{Trial}
 
@@ -105,18 +105,49 @@ module _ (trial : Trial) (q i : ℕ) where
     pub none_by_byte : next ≡ None → run_in trial q i ≡ None
     none_by_byte e = reads ∙ ap (option_and_then (λ r. run_in trial r (i + 1))) e
 
--- what is preferred from another place is found there
-pub same_found : (trial : Trial) (cells : List ℕ) (q i r j : ℕ) → run_in trial q i ≡ run_in trial r j → found_in trial cells r j ≡ found_in trial cells q i
-same_found trial cells q i r j e = ap (found_from_trace 0 cells) (sym e)
-
--- no match is nothing found
-pub nothing_found : (trial : Trial) (cells : List ℕ) (q i : ℕ) → run_in trial q i ≡ None → None ≡ found_in trial cells q i
-nothing_found trial cells q i none = ap (found_from_trace 0 cells) (sym none)
-
 -- what is tested to be none is none
 pub none_by_test : {A : Type 0} (o : Option A) (none : Bool) → none ≡ true → is_some o ≡ not none → o ≡ None
 none_by_test None none is test = refl
 none_by_test (Some x) none is test = absurd (true≢false (test ∙ ap not is))
+
+-- a state that reads, and goes on nowhere
+pub none_by_no_byte : (trial : Trial) (q i : ℕ) (state : State) → state ≡ state_in trial q → IsResting state → (state ≡ Match → ⊥) → (next : Option ℕ)
+    → next ≡ next_in trial state i → (none : Bool) → none ≡ true → is_some next ≡ not none → run_in trial q i ≡ None
+none_by_no_byte trial q i state is resting other next read none tested test =
+    none_by_byte trial q i state is resting other next read (none_by_test next none tested test)
+
+-- what is preferred from another place is found there
+pub same_found : (trial : Trial) (cells : List ℕ) (q i r j : ℕ) → run_in trial q i ≡ run_in trial r j → found_in trial cells r j ≡ found_in trial cells q i
+same_found trial cells q i r j e = ap (found_from_trace 0 cells) (sym e)
+
+-- a choice that was come back to up to a place
+module _ (trial : Trial) (id first second at place : ℕ) (choice : state_in trial id ≡ Split first second) (states : IsState trial first × IsState trial second)
+    (within : IsPlace trial place) (same : run_in trial id at ≡ run_in trial id place) (cells : List ℕ) where
+  pub goes_on_first : run_in trial second place ≡ None → GoesOn trial (found_in trial cells id at) cells first place
+  goes_on_first none = record {
+    is_state = states.0;
+    is_place = within;
+    same = same_found trial cells id at first place (same ∙ run_by_first trial id place first second choice none);
+  }
+
+  pub goes_on_second : run_in trial first place ≡ None → GoesOn trial (found_in trial cells id at) cells second place
+  goes_on_second none = record {
+    is_state = states.1;
+    is_place = within;
+    same = same_found trial cells id at second place (same ∙ run_by_second trial id place first second choice none);
+  }
+
+  pub stays_open : Chooses trial (found_in trial cells id at) cells first second place
+  stays_open = record {
+    is_first = states.0;
+    is_second = states.1;
+    is_place = within;
+    same = ap (found_from_trace 0 cells) (sym (same ∙ chosen trial id place first second choice));
+  }
+
+-- no match is nothing found
+pub nothing_found : (trial : Trial) (cells : List ℕ) (q i : ℕ) → run_in trial q i ≡ None → None ≡ found_in trial cells q i
+nothing_found trial cells q i none = ap (found_from_trace 0 cells) (sym none)
 
 -- ---- the next byte
 
@@ -177,10 +208,10 @@ target_in_span ts to k b t below within is low high (suc n) from e before =
     ∙ target_in_span ts to k b t below within is low high n (from + 1) (omega (arith, e)) (λ j above under. before j (omega arith) under)
 
 module _ (trial : Trial) (q i : ℕ) where
-  range_is_no_match : (t : Transition) → ByteRange t ≡ Match → ⊥
+  pub range_is_no_match : (t : Transition) → ByteRange t ≡ Match → ⊥
   range_is_no_match t e = subst IsOther e tt
 
-  sparse_is_no_match : (from to : ℕ) → Sparse from to ≡ Match → ⊥
+  pub sparse_is_no_match : (from to : ℕ) → Sparse from to ≡ Match → ⊥
   sparse_is_no_match from to e = subst IsOther e tt
 
   pub run_in_range : (t : Transition) (other : ℕ) → ByteRange t ≡ state_in trial q → t.next ≡ other

@@ -43,26 +43,24 @@ abbrev pub IsFound : Option Found → (cells : List ℕ) → (end : Option ℕ) 
 IsFound found cells end = found_from_span (option_map (λ e. (0, e)) end) cells ≡ found
 
 -- the same is found from this state on, at this place, with these cells
-pub record GoesOn (trial : Trial) (at : ℕ) (found : Option Found) (cells : List ℕ) (next place : ℕ) : Type 0 where
+pub record GoesOn (trial : Trial) (found : Option Found) (cells : List ℕ) (next place : ℕ) : Type 0 where
   pub is_state : IsState trial next
   pub is_place : IsPlace trial place
-  pub is_after : at ≤ place
   pub same : found_in trial cells next place ≡ found
 
 -- the same is found from the first state on, or, where nothing is, from the second one
-pub record Chooses (trial : Trial) (at : ℕ) (found : Option Found) (cells : List ℕ) (first second place : ℕ) : Type 0 where
+pub record Chooses (trial : Trial) (found : Option Found) (cells : List ℕ) (first second place : ℕ) : Type 0 where
   pub is_first : IsState trial first
   pub is_second : IsState trial second
   pub is_place : IsPlace trial place
-  pub is_after : at ≤ place
   pub same : found_from_trace 0 cells (option_or (run_in trial first place) (run_in trial second place)) ≡ found
 
 -- what is to be found follows so
-abbrev pub Follows : Trial → (at : ℕ) → Option Found → (cells : List ℕ) → Next → Type 0
-Follows trial at found cells (On next place) = GoesOn trial at found cells next place
-Follows trial at found cells (Choice first second place) = Chooses trial at found cells first second place
-Follows trial at found cells (Ends end) = IsFound found cells (Some end)
-Follows trial at found cells Fails = IsFound found cells None
+abbrev pub Follows : Trial → Option Found → (cells : List ℕ) → Next → Type 0
+Follows trial found cells (On next place) = GoesOn trial found cells next place
+Follows trial found cells (Choice first second place) = Chooses trial found cells first second place
+Follows trial found cells (Ends end) = IsFound found cells (Some end)
+Follows trial found cells Fails = IsFound found cells None
 
 -- ---- the bytes of a span
 

@@ -90,6 +90,20 @@ impl Trial<'_> {
         )
     }
 
+    /// Whether a state reads a byte, but not the one at a place.
+    #[inline(always)]
+    pub(crate) fn reads_not(&self, id: StateId, at: usize) -> bool
+        requires { IsState self.now id }
+        ensures { IsTrue result → run_in self.now id at ≡ None }
+    {
+        let state = self.nfa.state(id);
+        match state {
+            State::ByteRange(_) => self.next(state, at).is_none(),
+            State::Sparse { .. } => self.next(state, at).is_none(),
+            _ => false,
+        }
+    }
+
     /// Bytes that lead from a state to another one, among them the byte at a place, if that does.
     #[inline(always)]
     fn loop_bytes(&self, id: StateId, at: usize, other: StateId) -> Option<Span>

@@ -9,7 +9,7 @@ ghost use Rattle.urlpattern_engine.specs.Trials.{Follows, IsFound, IsPlace, IsSt
 use crate::ahead::Passed;
 use regex_nfa::{Nfa, State, StateId};
 
-/// How many states are visited at most, and how many more for each byte. An automaton that leaves more choices is searched otherwise.
+/// How many states are visited at most, and how many more for each byte. A choice that stays open counts as many as bytes are left.
 const STATES: usize = 128;
 
 const STATES_PER_BYTE: usize = 16;
@@ -87,14 +87,14 @@ impl Trial<'_> {
         let mut id = state;
         let mut place = at;
         'states: while *budget > 0 {
+            *budget -= 1;
             match self.step(id, place, cells) {
                 Next::On(next, after) => {
-                    *budget = budget.saturating_sub(after - place + 1);
                     id = next;
                     place = after;
                 }
                 Next::Choice(first, second, after) => {
-                    *budget = budget.saturating_sub(after - place + 1);
+                    *budget = budget.saturating_sub(self.bytes.len() - after);
                     match self.tried(first, after, depth, budget, cells)? {
                         Some(end) => return Ok(Some(end)),
                         None => {
@@ -147,7 +147,7 @@ impl Trial<'_> {
     fn step(&self, id: StateId, at: usize, cells: &mut [usize; FEW]) -> Next
         requires state { IsState self.now id }
         requires place { IsPlace self.now at }
-        ensures { Follows self.now at (found_in self.now cells.old id at) cells.new result }
+        ensures { Follows self.now (found_in self.now cells.old id at) cells.new result }
     {
         let state = self.nfa.state(id);
         match state {
@@ -177,11 +177,17 @@ impl Trial<'_> {
         requires choice { state_in self.now id ≡ states.Split first second }
         requires states { IsState self.now first × IsState self.now second }
         requires place { IsPlace self.now at }
-        ensures { (cells : List ℕ) → Follows self.now at (found_in self.now cells id at) cells result }
+        ensures { (cells : List ℕ) → Follows self.now (found_in self.now cells id at) cells result }
     {
         let Passed { place, is_open } = self.pass(id, first, second, at);
         if is_open {
             return Next::Choice(first, second, place);
+        }
+        if self.reads_not(first, place) {
+            return Next::On(second, place);
+        }
+        if self.reads_not(second, place) {
+            return Next::On(first, place);
         }
         if self.fails(second, place) {
             return Next::On(first, place);

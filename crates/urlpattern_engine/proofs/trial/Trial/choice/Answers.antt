@@ -1,17 +1,32 @@
-use Rattle.std.proofs.Common.{◌∙◌, sym, ap}
-use Rattle.regex_vm.specs.Found.{found_from_trace}
-use Rattle.urlpattern_engine.proofs.TrialLemmas.{chosen, run_by_first, run_by_second, same_found}
+use Rattle.urlpattern_engine.proofs.TrialLemmas.{goes_on_first, goes_on_second, stays_open}
 use Rattle.urlpattern_engine.proofs.trial.Trial.choice.Goals as goal
+
+pub returns-then-is_open : goal.returns-then-is_open
+returns-then-is_open c cells =
+    stays_open c.args.self.now c.args.id c.args.first c.args.second c.args.at c.pass-place.result.place c.requires.choice c.requires.states
+    c.pass-place.ensures.within c.pass-place.ensures.same cells
+
+pub returns-then-reads_not : goal.returns-then-reads_not
+returns-then-reads_not c cells =
+    goes_on_second c.args.self.now c.args.id c.args.first c.args.second c.args.at c.pass-place.result.place c.requires.choice c.requires.states
+    c.pass-place.ensures.within c.pass-place.ensures.same cells (c.reads_not.ensures c.if-reads_not.true)
+
+pub returns-then-reads_not-2 : goal.returns-then-reads_not-2
+returns-then-reads_not-2 c cells =
+    goes_on_first c.args.self.now c.args.id c.args.first c.args.second c.args.at c.pass-place.result.place c.requires.choice c.requires.states
+    c.pass-place.ensures.within c.pass-place.ensures.same cells (c.reads_not-2.ensures c.if-reads_not-2.true)
 
 pub returns-then-fails : goal.returns-then-fails
 returns-then-fails c cells =
-    let trial = c.args.self.now in
-    let place = c.pass-place.result.place in
-    record {
-      is_state = c.requires.states.0;
-      is_place = c.pass-place.ensures.within;
-      is_after = c.pass-place.ensures.after;
-      same =
-          same_found trial cells c.args.id c.args.at c.args.first place
-          (c.pass-place.ensures.same ∙ run_by_first trial c.args.id place c.args.first c.args.second c.requires.choice (c.fails.ensures c.if-fails.true));
-    }
+    goes_on_first c.args.self.now c.args.id c.args.first c.args.second c.args.at c.pass-place.result.place c.requires.choice c.requires.states
+    c.pass-place.ensures.within c.pass-place.ensures.same cells (c.fails.ensures c.if-fails.true)
+
+pub returns-then-fails-2 : goal.returns-then-fails-2
+returns-then-fails-2 c cells =
+    goes_on_second c.args.self.now c.args.id c.args.first c.args.second c.args.at c.pass-place.result.place c.requires.choice c.requires.states
+    c.pass-place.ensures.within c.pass-place.ensures.same cells (c.fails-2.ensures c.if-fails-2.true)
+
+pub returns : goal.returns
+returns c cells =
+    stays_open c.args.self.now c.args.id c.args.first c.args.second c.args.at c.pass-place.result.place c.requires.choice c.requires.states
+    c.pass-place.ensures.within c.pass-place.ensures.same cells

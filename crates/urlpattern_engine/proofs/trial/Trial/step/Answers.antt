@@ -11,7 +11,6 @@ returns-in-Save c =
     record {
       is_state = below_within trial.nfa.now save.next c.args.id save.ensures.sound.1;
       is_place = c.requires.place;
-      is_after = omega arith;
       same =
           ap (λ cells. found_in trial cells save.next c.args.at) c.write.ensures
           ∙ found_by_write trial c.args.id c.args.at save.slot save.next (sym save.ensures.is) c.args.cells.now;
@@ -24,7 +23,6 @@ returns-then-holds c =
     record {
       is_state = below_within trial.nfa.now look.next c.args.id look.ensures.sound;
       is_place = c.requires.place;
-      is_after = omega arith;
       same =
           same_found trial c.args.cells.now c.args.id c.args.at look.next c.args.at
           (run_by_look trial c.args.id c.args.at look.look look.next (sym look.ensures.is) (sym c.if-holds.true ∙ c.holds.ensures));
@@ -42,7 +40,6 @@ pub returns-in-Some : goal.returns-in-Some
 returns-in-Some c = record {
   is_state = c.in-Some.ensures.within.0;
   is_place = omega (arith, c.in-Some.ensures.within.1);
-  is_after = omega arith;
   same =
       same_found c.args.self.now c.args.cells.now c.args.id c.args.at c.in-Some.next (c.args.at + 1)
       (run_by_byte c.args.self.now c.args.id c.args.at c.state-state.result c.state-state.ensures.is
