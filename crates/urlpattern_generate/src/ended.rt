@@ -4,7 +4,7 @@ ghost use Rattle.std.specs.List.{list_all};
 ghost use Rattle.std.specs.Prelude.{◌≡◌, ◌≢◌, ◌++◌, [], IfOk, IfSome, IsTrue, OnOk, codes, true};
 ghost use Rattle.std.specs.Str.{chars};
 ghost use Rattle.urlpattern_generate.specs.Passing.{IsKeptText, is_ascii_run_character, is_run_character};
-ghost use Rattle.urlpattern_generate.specs.Writers.{Drafts};
+ghost use Rattle.urlpattern_generate.specs.Writers.{Drafts, manner_of_writer};
 ghost use Rattle.urlpattern_syntax.specs.Text.{text_of};
 
 use crate::plain::MARKS;
@@ -27,9 +27,18 @@ impl Writer<'_> {
     pub(crate) fn ended_draft<R: RegExp>(&self, component: &Component<R>) -> Option<String>
         ensures { IfSome result (λ text. Drafts R.answer component.now self.now (text_of text)) }
     {
-        if self.is_path() {
+        if self.is_path() || !ends_in_asterisk(&component.pattern_string) {
             return None;
         }
+        self.joined_draft(component)
+    }
+
+    /// The same of a component that is no path of segments.
+    #[inline(never)]
+    fn joined_draft<R: RegExp>(&self, component: &Component<R>) -> Option<String>
+        requires { (manner_of_writer self.now).options.prefix ≡ [] }
+        ensures { IfSome result (λ text. Drafts R.answer component.now self.now (text_of text)) }
+    {
         let front = before_asterisk(&component.pattern_string)?;
         if !is_run(front) {
             return None;
@@ -46,6 +55,11 @@ impl Writer<'_> {
         }
         None
     }
+}
+
+/// Whether a pattern text ends in an asterisk. No promise rests on it: most pattern texts are left out at once.
+fn ends_in_asterisk(pattern: &str) -> bool {
+    matches!(pattern.as_bytes(), [.., b'*'])
 }
 
 /// What is before the asterisk at the end of a pattern text. `None`: none is there.

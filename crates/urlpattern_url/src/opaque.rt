@@ -11,6 +11,7 @@ use urlpattern_init::url_text;
 
 /// Whether the texts of a URL are known to be canonical in a pattern whose pathname is opaque: the path of the URL is, and its scheme and
 /// its query are known to be canonical.
+#[inline(never)]
 pub fn has_canonical_opaque_texts(url: &Url) -> bool
     ensures { IsTrue result → OpaqueTextsAreCanonical url.now }
 {
