@@ -1,5 +1,5 @@
 -- Values that are canonical as they are.
-use Rattle.std.proofs.Common.{◌≡◌, ◌∙◌, ◌+◌, ◌<◌, ◌≤◌, ℕ, add-one, drop, get_or, Bool, true, false, not, ◌&&◌, ◌==◌, List, [], ◌∷◌, ◌++◌, append_assoc, ◌⊎◌, length, All, None, Some, Ok, ap, arith, inl, inr, refl, subst, sym}
+use Rattle.std.proofs.Common.{◌≡◌, ◌∙◌, ◌+◌, ◌<◌, ◌≤◌, ℕ, add-one, drop, get_or, Bool, true, false, not, ◌&&◌, ◌==◌, List, [], ◌∷◌, ◌++◌, append_assoc, ◌⊎◌, length, All, Some, Ok, ap, arith, inl, inr, refl, subst, sym}
 use Rattle.std.proofs.lemmas.Bool.{and_from, and_parts, cond-false, eqb-true, false≢true, not-true}
 use Rattle.std.proofs.lemmas.Bool.Decides.{nat_tests}
 use Rattle.std.proofs.Math.Seq.{drop-cons}
@@ -11,8 +11,7 @@ use Rattle.std.specs.Char.{encode_utf8, is_ascii_digit, is_digit, to_ascii_lower
 use Rattle.std.specs.List.{list_all}
 use Rattle.std.specs.Prelude.{IsAscii, IsTrue, Option, ◌||◌, codes, if◌then◌else◌, slice_index, unwrap_or}
 use Rattle.std.specs.Str.{chars}
-use Rattle.percent_encoding.proofs.PercentLemmas.{percent_encode_unchanged}
-use Rattle.percent_encoding.specs.Percent.{IsKept, percent_encode}
+use Rattle.percent_encoding.specs.Percent.{IsKept}
 use Rattle.percent_encoding.specs.declared.ascii_set.AsciiSet.{AsciiSet}
 use Rattle.url.proofs.InputLemmas.{All_from_list_all, IsNot, Passes, is_empty_nonempty, rsplit_once_none}
 use Rattle.url.proofs.OnLiterals.{url_on_literals}
@@ -23,20 +22,20 @@ use Rattle.url.specs.Host.{IsHostOf}
 use Rattle.url.specs.Input.{is_empty, lowercase}
 use Rattle.url.specs.Ipv4.{ends_in_a_number, is_number, last_label_of, number_of, parse_number, split_radix}
 use Rattle.url.specs.Parser.{and_then}
-use Rattle.url.specs.Parts.{Parts}
 use Rattle.url.specs.Path.{IsSegment, IsSegmentList, dot_count}
 use Rattle.url.specs.Scheme.{is_slash}
 use Rattle.url.specs.Setters as setters
 use Rattle.url.specs.declared.host.Host.TheVariants.{Domain}
 use Rattle.url.specs.declared.scheme.SchemeType.TheVariants.{SpecialNotFile}
-use Rattle.url.specs.declared.sets.TheConstants.{FORBIDDEN_DOMAIN, FRAGMENT, OPAQUE_PATH, OPAQUE_PATH_START, PATH, SPECIAL_QUERY}
-use Rattle.urlpattern_canonical.proofs.CanonicalLemmas.{after-ok, pathname_of-bare}
-use Rattle.urlpattern_canonical.specs.Canonical.{after, canonical_hostname, canonical_opaque_pathname, canonical_protocol, dummy_url, hostname_of, opaque_url, path_of, pathname_of, without_guard}
+use Rattle.url.specs.declared.sets.TheConstants.{FORBIDDEN_DOMAIN, FRAGMENT, OPAQUE_PATH, PATH, SPECIAL_QUERY}
+use Rattle.urlpattern_canonical.proofs.CanonicalLemmas.{pathname_of-bare}
+use Rattle.urlpattern_canonical.specs.Canonical.{after, canonical_hostname, canonical_opaque_pathname, canonical_protocol, dummy_url, hostname_of, pathname_of, without_guard}
 use Rattle.urlpattern_eight.specs.declared.eight.ComponentName.{ComponentName}
 use Rattle.urlpattern_eight.specs.declared.eight.ComponentName.TheVariants.{Protocol, Username, Password, Hostname, Port, Pathname, Search, Hash}
 use Rattle.urlpattern_generate.proofs.HostTexts.{host_visible, hostname_kept}
+use Rattle.urlpattern_generate.proofs.OpaquePaths.{path_canonical}
 use Rattle.urlpattern_generate.proofs.PlainReadings.{empty_canonical}
-use Rattle.urlpattern_generate.proofs.SetTexts.{AreVisible, by_bytes, hash_kept, is_visible, path_stays, pathname_kept, search_kept, stripped}
+use Rattle.urlpattern_generate.proofs.SetTexts.{AreVisible, by_bytes, hash_kept, is_visible, path_stays, pathname_kept, search_kept}
 use Rattle.urlpattern_generate.specs.Manners.{canonical_for}
 use Rattle.urlpattern_syntax.proofs.TextLemmas.{chars_nothing}
 use Rattle.urlpattern_syntax.specs.Text.{lacks, line_feed}
@@ -44,7 +43,7 @@ use Rattle.urlpattern_generate.specs.Kept.{is_dot_mark, is_kept_character, is_ke
 
 -- ---- characters that are kept
 
-kept_ascii : (b : ℕ) → Passes is_kept_character b → b < 128
+pub kept_ascii : (b : ℕ) → Passes is_kept_character b → b < 128
 kept_ascii b passes = grind (arith, nat_tests)
 
 kept_visible : (b : ℕ) → Passes is_kept_character b → Passes is_visible b
@@ -227,37 +226,10 @@ path_ends begins bytes i past = sym (ap (is_kept_path begins) (drop_all i bytes 
 
 -- ---- an opaque path
 
-abbrev opaque : Parts
-opaque = record {
-  scheme = codes "data";
-  username = [];
-  password = [];
-  host = None;
-  port = None;
-  path = codes "dummy,test";
-  query = None;
-  fragment = None;
-}
-
-opaque_is : opaque_url ≡ Ok opaque
-unfolding url_on_literals
-opaque_is = refl
-
-opaque_set : (bytes : List ℕ) → All (Passes is_kept_character) bytes → (slice_index bytes 0 == slash) ≡ false → setters.new_path opaque bytes ≡ bytes
-opaque_set [] all bare = ap (λ text. text ++ percent_encode OPAQUE_PATH []) (percent_encode_unchanged OPAQUE_PATH_START [] (All-nil (IsKept OPAQUE_PATH_START))) ∙ percent_encode_unchanged OPAQUE_PATH [] (All-nil (IsKept OPAQUE_PATH))
-opaque_set (b ∷ bytes) all bare =
-    let kept = All-head (Passes is_kept_character) b bytes all in
-    let first = kept_from_passes is_of_segment OPAQUE_PATH_START refl b (kept_ascii b kept) (and_from (is_kept_character b) (not (b == slash)) kept (ap not bare)) in
-    ap (λ text. text ++ percent_encode OPAQUE_PATH bytes) (percent_encode_unchanged OPAQUE_PATH_START (b ∷ []) (All-cons (IsKept OPAQUE_PATH_START) b [] first (All-nil (IsKept OPAQUE_PATH_START))))
-    ∙ ap (λ text. b ∷ text) (percent_encode_unchanged OPAQUE_PATH bytes (are_kept OPAQUE_PATH refl bytes (All-tail (Passes is_kept_character) b bytes all)))
-
 opaque_kept : (bytes : List ℕ) → is_kept_opaque bytes ≡ true → canonical_opaque_pathname (chars bytes) ≡ Ok (chars bytes)
 opaque_kept bytes e =
     let parts = and_parts (not (slice_index bytes 0 == slash)) (list_all is_kept_character bytes) e in
-    let all = All_from_list_all is_kept_character bytes parts.1 in
-    by_bytes (path_of opaque_url) bytes (are_visible bytes all)
-    (after-ok opaque_url (λ old. Ok (setters.set_path old bytes)) (λ new. new.path) opaque (setters.set_path opaque bytes) opaque_is refl
-    ∙ ap (λ text. Ok text) (ap (setters.new_path opaque) (stripped bytes (are_visible bytes all)) ∙ opaque_set bytes all (not-true (slice_index bytes 0 == slash) parts.0)))
+    path_canonical bytes (are_kept OPAQUE_PATH refl bytes (All_from_list_all is_kept_character bytes parts.1)) (not-true (slice_index bytes 0 == slash) parts.0)
 
 -- ---- protocols that are often used
 

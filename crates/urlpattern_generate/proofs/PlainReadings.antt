@@ -60,11 +60,11 @@ module _ {E : Type 0} (answer : E → List ℕ → Option Captures) (matcher : M
 
 -- ---- plain texts
 
+pub plain_below : (b : ℕ) → Passes is_plain_character b → b < 128
+plain_below b passes = grind (arith, nat_tests)
+
 plain_ascii : (text : List ℕ) → list_all is_plain_character text ≡ true → IsAscii text
-plain_ascii text all = IsAscii-from_all text (All-weaker (Passes is_plain_character) (λ b. b < 128) below text (All_from_list_all is_plain_character text all))
-  where
-    below : (b : ℕ) → Passes is_plain_character b → b < 128
-    below b passes = grind (arith, nat_tests)
+plain_ascii text all = IsAscii-from_all text (All-weaker (Passes is_plain_character) (λ b. b < 128) plain_below text (All_from_list_all is_plain_character text all))
 
 -- a test of bytes is one of characters
 pub plain_chars : (bytes : List ℕ) → IsUtf8 bytes → list_all is_plain_character bytes ≡ list_all is_plain_character (chars bytes)
@@ -140,7 +140,7 @@ module _ {E : Type 0} (answer : E → List ℕ → Option Captures) (matcher : M
 
 -- ---- an asterisk alone
 
-star : chars (codes "*") ≡ codes "*"
+pub star : chars (codes "*") ≡ codes "*"
 unfolding chars
 star = refl
 
@@ -172,7 +172,7 @@ pub other_tested : (pattern given : List ℕ) (same : Bool) → IsTrue same ↔ 
 other_tested pattern given same test e = ((λ t. absurd (false≢true (sym e ∙ t))), λ both. test.1 (both.0 ∙ sym star))
 
 -- a full wildcard without a name
-abbrev anything : List PartView
+abbrev pub anything : List PartView
 anything = group FullWildcard [] (codes "0") [] modifiers.None ∷ []
 
 abbrev asterisk_pieces : List Piece
@@ -223,7 +223,7 @@ empty_canonical Search hierarchical is_ipv6 = refl
 empty_canonical Hash hierarchical is_ipv6 = refl
 
 -- it is to capture what is given, if that is canonical
-asterisk_asked : (canonical : List ℕ → Parsed (List ℕ)) (given : Option (List ℕ)) (text : List ℕ) → text ≡ unwrap_or given [] → canonical text ≡ Ok text →
+pub asterisk_asked : (canonical : List ℕ → Parsed (List ℕ)) (given : Option (List ℕ)) (text : List ℕ) → text ≡ unwrap_or given [] → canonical text ≡ Ok text →
     IsAskedBy canonical given (group FullWildcard [] (codes "0") [] modifiers.None) (Some text)
 asterisk_asked canonical None text e is = ap (λ of. Some of) e
 asterisk_asked canonical (Some of) text e is = (text, ap canonical (sym e) ∙ is, refl)

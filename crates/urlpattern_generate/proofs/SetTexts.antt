@@ -46,7 +46,7 @@ stripped bytes visible = filter_all _ bytes (All-weaker (Passes is_visible) (Pas
 
 -- ---- texts that a question answers by themselves
 
-by_text : (ask : List ℕ → Parsed (List ℕ)) (text : List ℕ) → ask (encode_utf8_all text) ≡ Ok (encode_utf8_all text) → chars (encode_utf8_all text) ≡ text → canonical ask text ≡ Ok text
+pub by_text : (ask : List ℕ → Parsed (List ℕ)) (text : List ℕ) → ask (encode_utf8_all text) ≡ Ok (encode_utf8_all text) → chars (encode_utf8_all text) ≡ text → canonical ask text ≡ Ok text
 by_text ask [] asked kept = refl
 by_text ask (c ∷ text) asked kept = ap (λ parsed. and_then parsed (λ answer. Ok (chars answer))) asked ∙ ap (λ answer. Ok answer) kept
 

@@ -1,5 +1,5 @@
 -- A pattern text that is passed over once, while a text is drafted for it: what is left of it, and what the parts of the rest give.
-use Rattle.std.specs.Prelude.{◌≡◌, ◌≢◌, ◌&&◌, ◌||◌, ◌<◌, ◌^◌, ℕ, Bool, false, true, not, List, [], ◌∷◌, ◌++◌, bytes_eq, length, map, Contains, Option, Some, None, Ok, codes}
+use Rattle.std.specs.Prelude.{◌≡◌, ◌≢◌, ◌&&◌, ◌||◌, ◌<◌, ◌^◌, ℕ, Bool, false, true, not, ltb, List, [], ◌∷◌, ◌++◌, bytes_eq, length, map, Contains, Option, Some, None, Ok, codes}
 use Rattle.std.specs.List.{list_all}
 use Rattle.std.specs.{Borrow.Bor, Str.IsUtf8, Str.chars}
 use Rattle.urlpattern_generate.specs.Asked.{AreAsked, IsAsked}
@@ -23,6 +23,10 @@ use Rattle.urlpattern_syntax.specs.Tokens.{IsRegexpBody, is_ignored}
 -- a character that stands for itself wherever it is in a pattern text
 abbrev pub is_run_character : ℕ → Bool
 is_run_character c = not (is_among pattern_marks c) && not (is_ignored c)
+
+-- such a character is ASCII
+abbrev pub is_ascii_run_character : ℕ → Bool
+is_ascii_run_character c = ltb c 128 && is_run_character c
 
 -- the characters of a kind pass this test
 abbrev pub kind_test : Characters → (ℕ → Bool)

@@ -124,6 +124,9 @@ impl Writer<'_> {
     fn own_draft<R: RegExp>(&self, component: &Component<R>) -> Option<String>
         ensures { IfSome result (λ text. Drafts R.answer component.now self.now (text_of text)) }
     {
+        if let Some(text) = self.ended_draft(component) {
+            return Some(text);
+        }
         let Ok(draft) = self.passed_draft(component) else {
             return None;
         };

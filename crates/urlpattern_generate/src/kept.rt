@@ -10,7 +10,28 @@ ghost use Rattle.urlpattern_generate.specs.Writers.{manner_of_writer};
 ghost use Rattle.urlpattern_syntax.specs.Text.{lacks, line_feed};
 
 use crate::writer::Writer;
+use percent_encoding::{AsciiSet, CONTROLS, ascii_set};
 use urlpattern_eight::ComponentName;
+
+/// The ASCII characters that a path, a search or a hash may escape.
+const ESCAPED: AsciiSet = ascii_set!(
+    CONTROLS
+        .add(b' ')
+        .add(b'"')
+        .add(b'#')
+        .add(b'\'')
+        .add(b'<')
+        .add(b'>')
+        .add(b'?')
+        .add(b'[')
+        .add(b'\\')
+        .add(b']')
+        .add(b'^')
+        .add(b'`')
+        .add(b'{')
+        .add(b'|')
+        .add(b'}')
+);
 
 impl Writer<'_> {
     /// Whether a value is known to be canonical in the component.
@@ -107,28 +128,14 @@ fn is_kept_text(value: &[u8]) -> bool
 fn is_kept_byte(b: u8) -> bool
     ensures { result ≡ is_kept_character b }
 {
-    b.is_ascii_lowercase()
-        || b.is_ascii_alphanumeric()
-        || matches!(
-            b,
-            b'-' | b'.'
-                | b'_'
-                | b'~'
-                | b'/'
-                | b'!'
-                | b'$'
-                | b'%'
-                | b'&'
-                | b'('
-                | b')'
-                | b'*'
-                | b'+'
-                | b','
-                | b':'
-                | b';'
-                | b'='
-                | b'@'
-        )
+    b.is_ascii_lowercase() || b.is_ascii_alphanumeric() || is_unescaped(b)
+}
+
+/// The same of any character by one test, which takes longer for letters and digits.
+fn is_unescaped(b: u8) -> bool
+    ensures { result ≡ is_kept_character b }
+{
+    !ESCAPED.should_percent_encode(b)
 }
 
 /// Whether a value is a label of a host in lower case without digits.

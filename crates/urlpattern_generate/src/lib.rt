@@ -3,6 +3,7 @@
 
 mod captures;
 mod component;
+mod ended;
 mod error;
 mod expression;
 mod front;

@@ -11,8 +11,25 @@ use crate::error::GenerateError;
 use crate::groups::{given_text, is_same_text};
 use crate::read_back::{captures_all, is_matched};
 use crate::writer::Writer;
+use percent_encoding::{AsciiSet, ascii_set};
 use urlpattern_core::component::Component;
 use urlpattern_core::regexp::RegExp;
+
+/// The characters that do not stand for themselves in a pattern text.
+pub(crate) const MARKS: AsciiSet = ascii_set!(
+    AsciiSet::EMPTY
+        .add(b'\t')
+        .add(b'\n')
+        .add(b'\r')
+        .add(b'(')
+        .add(b'*')
+        .add(b'+')
+        .add(b':')
+        .add(b'?')
+        .add(b'\\')
+        .add(b'{')
+        .add(b'}')
+);
 
 impl Writer<'_> {
     /// The text of a component whose pattern text is plain, and is that text.
@@ -78,6 +95,7 @@ impl<'d> Writer<'d> {
     /// A draft of the text of a component whose pattern text is an asterisk: what is given for it, as it is.
     ///
     /// `None`: the pattern text is another, the component does not capture each text whole, or what is given has a line feed.
+    #[inline(always)]
     pub(crate) fn whole_draft<R: RegExp>(&self, component: &'d Component<R>) -> Option<&'d str>
         ensures { IfSome result (λ text. Drafts R.answer component.now self.now (chars text.now)) }
     {
@@ -92,7 +110,7 @@ impl<'d> Writer<'d> {
     }
 
     /// What is given for an asterisk alone, or the empty text.
-    fn given_alone(&self) -> &'d str
+    pub(crate) fn given_alone(&self) -> &'d str
         ensures { chars result.now ≡ unwrap_or ((manner_of_writer self.now).given (codes "0")) [] }
     {
         match given_text(self.groups, self.component, "0") {
@@ -137,9 +155,5 @@ fn is_plain_text(pattern: &str) -> bool
 fn is_plain_byte(b: u8) -> bool
     ensures { result ≡ is_plain_character b }
 {
-    b < 128
-        && !matches!(
-            b,
-            b'{' | b'}' | b'*' | b'+' | b'?' | b'\\' | b':' | b'(' | b'\t' | b'\n' | b'\r'
-        )
+    b.is_ascii() && !MARKS.contains(b)
 }

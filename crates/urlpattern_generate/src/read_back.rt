@@ -84,6 +84,16 @@ pub(crate) fn is_matched<R: RegExp>(matcher: &Matcher<R>, text: &str) -> bool
     matches!(matcher.look(text), Some(Look::Matched))
 }
 
+/// Whether a matcher captures this in a text without an engine, in its one group.
+pub(crate) fn is_captured<R: RegExp>(matcher: &Matcher<R>, text: &str, capture: &str) -> bool
+    ensures { IsTrue result → Answers R.answer (matcher_view matcher.now) (chars text.now) (Some (Some (chars capture.now) ∷ [])) }
+{
+    match matcher.look(text) {
+        Some(Look::Captured(found)) => is_same_text(found, capture),
+        _ => false,
+    }
+}
+
 /// Whether a matcher captures each text whole.
 pub(crate) fn captures_all<R: RegExp>(matcher: &Matcher<R>) -> bool
     ensures { IsTrue result → (text : List ℕ) → Answers R.answer (matcher_view matcher.now) text (Some (Some text ∷ [])) }

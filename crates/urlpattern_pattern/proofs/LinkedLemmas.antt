@@ -1,6 +1,6 @@
 -- The URL of a pattern, by the texts of its components.
 use Rattle.std.proofs.Common.{◌≡◌, ◌∙◌, ℕ, All, Bool, true, false, List, Option, Result, Ok, Err, String, ap, inl, inr, refl, subst, sym}
-use Rattle.std.proofs.lemmas.Bool.{false≢true}
+use Rattle.std.proofs.lemmas.Bool.{false≢true, true≢false}
 use Rattle.std.proofs.lemmas.List.Elements.{All-weaker}
 use Rattle.std.specs.Prelude.{IfErr, IfOk, MatchResult}
 use Rattle.std.specs.declared.alloc.Global.{Global}
@@ -24,6 +24,7 @@ use Rattle.urlpattern_eight.specs.declared.eight.Eight.{Eight}
 use Rattle.urlpattern_eight.specs.Eight.{IsFirstError, Texts, at, components}
 use Rattle.urlpattern_syntax.specs.Text.{text_of}
 use Rattle.urlpattern_url.proofs.CanonicalTexts.{texts_are_canonical}
+use Rattle.urlpattern_url.specs.OpaqueUrls.{OpaqueTextsAreCanonical}
 use Rattle.urlpattern_url.specs.UrlsOfTexts.{IsReadOfTexts, RefusesTexts, cow_texts, string_texts}
 use Rattle.urlpattern_url.specs.WebUrls.{IsWebUrl}
 use Rattle.urlpattern_url.specs.declared.error.NoLink.{NoLink}
@@ -72,6 +73,12 @@ web_canonical pattern true url kind web no_address component =
     canonical_under (λ name. (pattern name).pattern_string) no_address component (at (texts_of_url url) component)
     (subst (λ text. canonical_for component true false text ≡ Ok text) (sym (at-each (λ name. url_text name url) component)) (texts_are_canonical url web component))
 web_canonical pattern false url kind web no_address component = absurd (false≢true kind)
+
+-- the texts of a URL with an opaque path are canonical
+pub opaque_canonical : {E : Type 0} (pattern : PatternView E) (hierarchical : Bool) (url : Parts) → hierarchical ≡ false → OpaqueTextsAreCanonical url → AreCanonicalIn pattern hierarchical (texts_of_url url)
+opaque_canonical pattern true url kind are component = absurd (true≢false kind)
+opaque_canonical pattern false url kind are component =
+    subst (IsCanonicalIn pattern false component) (sym (at-each (λ name. url_text name url) component)) (are component (begins_ipv6 (pattern component).pattern_string))
 
 module _ {E : Type 0} (pattern : PatternView E) (hierarchical : Bool) (texts : Eight (CowStr Global)) where
   -- a text that is canonical by the test of its bytes

@@ -113,7 +113,7 @@ port_set n few =
     ∙ cond-false _ _ _ (and_left _ _ (is_empty_nonempty (decimal n) (decimal_nonempty n small)))
     ∙ ap (λ parsed. and_then parsed (setters.set_port port_url)) (parse_port-decimal (codes "dummy") n (few, λ same. cc))
 
-abbrev port_text : Option ℕ → List ℕ
+abbrev pub port_text : Option ℕ → List ℕ
 port_text port = unwrap_or (option_map decimal port) []
 
 port_kept : (scheme : List ℕ) (port : Option ℕ) → IsPortOf scheme port → port_of port_scheme (port_text port) ≡ Ok (port_text port)

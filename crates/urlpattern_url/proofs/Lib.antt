@@ -1,2 +1,3 @@
 pub mod CanonicalTexts
+pub mod OpaqueTexts
 pub mod UrlLemmas

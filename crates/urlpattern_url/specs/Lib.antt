@@ -1,4 +1,5 @@
 pub mod NoLinkText
+pub mod OpaqueUrls
 pub mod UrlLines
 pub mod UrlsOfTexts
 pub mod WebUrls

@@ -19,7 +19,7 @@ use urlpattern_eight::{ComponentName, Eight};
 use urlpattern_generate::{
     GenerateError, GivenGroup, begins_ipv6, draft_component, generate_component, keeps,
 };
-use urlpattern_url::{NoLink, is_web_url, url_of_texts};
+use urlpattern_url::{NoLink, has_canonical_opaque_texts, is_web_url, url_of_texts};
 
 impl<R: RegExp> UrlPattern<R> {
     /// The URL that the pattern matches, with these groups: each of its texts is what `generate` returns for the component, and it is what
@@ -132,13 +132,13 @@ impl<R: RegExp> UrlPattern<R> {
         }
     }
 
-    /// Whether the texts of a URL are known to be canonical, as it is a URL of the web, the pathname is hierarchical, and the pattern text of
-    /// the hostname does not begin like an IPv6 address.
+    /// Whether the texts of a URL are known to be canonical. Where the pathname is hierarchical, they are those of a URL of the web, and the
+    /// pattern text of the hostname does not begin like an IPv6 address. Otherwise the path of the URL is opaque.
     fn has_canonical_texts(&self, hierarchical: bool, url: &Url) -> bool
         ensures { IsTrue result → AreCanonicalIn (pattern_view self.now) hierarchical (texts_of_url url.now) }
     {
         if !hierarchical {
-            return false;
+            return has_canonical_opaque_texts(url);
         }
         is_web_url(url) && !begins_ipv6(&self.hostname.pattern_string)
     }
