@@ -1,6 +1,7 @@
 //! The text of a component.
 
 ghost use Rattle.std.specs.Prelude.{◌≡◌, IfErr, IfOk, IfSome};
+ghost use Rattle.std.specs.Str.{chars};
 ghost use Rattle.urlpattern_core.specs.Components.{component_view};
 ghost use Rattle.urlpattern_generate.specs.Generating.{HasDraft, HasText, LacksText};
 ghost use Rattle.urlpattern_generate.specs.Manners.{given_groups, unchanged};
@@ -44,7 +45,7 @@ pub fn generate_component<R: RegExp>(
 /// is no such text, or memory ran out.
 ///
 /// If eight drafts are the texts of a URL, and each text is canonical, none has to be tested again.
-#[inline(never)]
+#[inline(always)]
 pub fn draft_component<'d, R: RegExp>(
     alloc: Global,
     component: &'d Component<R>,
@@ -54,8 +55,40 @@ pub fn draft_component<'d, R: RegExp>(
 ) -> Option<CowStr<'d>>
     ensures { IfSome result (λ text. HasDraft R.answer (component_view component.now) name hierarchical (given_groups groups.now) (cow_text text)) }
 {
+    match given_draft(alloc, component, name, hierarchical, groups) {
+        Some(text) => Some(CowStr::Borrowed(text)),
+        None => other_draft(alloc, component, name, hierarchical, groups),
+    }
+}
+
+/// The same where the pattern text is an asterisk, and what is given for it is the draft. `None`: it is another.
+#[inline(always)]
+fn given_draft<'d, R: RegExp>(
+    alloc: Global,
+    component: &'d Component<R>,
+    name: ComponentName,
+    hierarchical: bool,
+    groups: &'d [GivenGroup<'d>],
+) -> Option<&'d str>
+    ensures { IfSome result (λ text. HasDraft R.answer (component_view component.now) name hierarchical (given_groups groups.now) (chars text.now)) }
+{
     let writer = Writer::new(alloc, &component.pattern_string, name, hierarchical, groups);
-    writer.draft(component)
+    writer.whole_draft(component)
+}
+
+/// The same where the pattern text is another one.
+#[inline(never)]
+fn other_draft<'d, R: RegExp>(
+    alloc: Global,
+    component: &'d Component<R>,
+    name: ComponentName,
+    hierarchical: bool,
+    groups: &'d [GivenGroup<'d>],
+) -> Option<CowStr<'d>>
+    ensures { IfSome result (λ text. HasDraft R.answer (component_view component.now) name hierarchical (given_groups groups.now) (cow_text text)) }
+{
+    let writer = Writer::new(alloc, &component.pattern_string, name, hierarchical, groups);
+    writer.other_draft(component)
 }
 
 impl Writer<'_> {
@@ -104,13 +137,20 @@ impl Writer<'_> {
 
 impl<'d> Writer<'d> {
     /// A draft of the text of a component.
-    #[inline(always)]
     fn draft<R: RegExp>(&self, component: &'d Component<R>) -> Option<CowStr<'d>>
         ensures { IfSome result (λ text. Drafts R.answer component.now self.now (cow_text text)) }
     {
-        if let Some(text) = self.whole_draft(component) {
-            return Some(CowStr::Borrowed(text));
+        match self.whole_draft(component) {
+            Some(text) => Some(CowStr::Borrowed(text)),
+            None => self.other_draft(component),
         }
+    }
+
+    /// A draft of the text of a component that is not what is given for an asterisk.
+    #[inline(always)]
+    fn other_draft<R: RegExp>(&self, component: &'d Component<R>) -> Option<CowStr<'d>>
+        ensures { IfSome result (λ text. Drafts R.answer component.now self.now (cow_text text)) }
+    {
         if let Some(text) = self.plain_draft(component) {
             return Some(CowStr::Borrowed(text));
         }

@@ -179,6 +179,7 @@ impl<R: RegExp> UrlPattern<R> {
     }
 
     /// A draft of the text of a component with these groups. `hierarchical` says whether the pathname is a path of segments.
+    #[inline(always)]
     fn draft<'d>(
         &'d self,
         alloc: Global,
