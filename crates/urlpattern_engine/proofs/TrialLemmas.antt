@@ -5,9 +5,10 @@ use Rattle.std.proofs.lemmas.Option.{none-some, same_Some, slice_get-get_or, sli
 use Rattle.std.specs.Option.{option_or}
 use Rattle.std.specs.Prelude.{IfSome, option_and_then, option_map}
 use Rattle.regex_hir.specs.Looks.{holds, holds_between}
+use Rattle.regex_hir.specs.Text.{byte_before}
 use Rattle.regex_hir.specs.Re.{Trace, write}
 use Rattle.regex_hir.specs.declared.look.Look as look
-use Rattle.regex_hir.specs.declared.look.Look.TheVariants.{End}
+use Rattle.regex_hir.specs.declared.look.Look.TheVariants.{End, Start}
 use Rattle.regex_hir.proofs.FindLemmas.{first_between_here, first_between_next, first_between_past}
 use Rattle.regex_hir.proofs.OptionLemmas.{option_or-None}
 use Rattle.regex_hir.specs.Find as find
@@ -23,7 +24,7 @@ use Rattle.regex_vm.specs.Pike.{IsResting}
 use Rattle.urlpattern_engine.specs.Automatons.{match_at_start}
 use Rattle.regex_vm.proofs.FoundLemmas.{apply_zeros, none_of_found_from_trace}
 use Rattle.regex_vm.proofs.NfaLemmas.{run_reads}
-use Rattle.urlpattern_engine.specs.Trials.{Chooses, GoesOn, IsInSpan, IsPlace, IsState, NeedsByte, found_in, next_in, run_in, state_in}
+use Rattle.urlpattern_engine.specs.Trials.{Chooses, GoesOn, GoesRound, IsInSpan, IsPlace, IsState, NeedsByte, found_in, next_in, run_in, state_in}
 use Rattle.urlpattern_engine.specs.declared.ahead.Span.{Span}
 use Rattle.urlpattern_engine.specs.declared.trial.Trial.{Trial}
 
@@ -181,6 +182,11 @@ pub end_holds : (bytes : List ℕ) (i : ℕ) (some none : Bool) → some ≡ nat
 unfolding holds holds_between
 end_holds bytes i some none there is = none_is some none is ∙ ap not (there ∙ sym (byte_is_there bytes i))
 
+-- before all bytes the start holds
+pub start_holds : (bytes : List ℕ) (i : ℕ) → i ≡ 0 → true ≡ holds Start bytes i
+unfolding holds holds_between byte_before
+start_holds bytes i first = subst (λ (at : ℕ). true ≡ holds Start bytes at) (sym first) refl
+
 -- ---- ranges of bytes
 
 -- the state is not the one where a match ends
@@ -236,6 +242,10 @@ module _ (trial : Trial) (q i : ℕ) where
         | inr miss ↦ cond-false (covers t b) (Some t.next) None miss
       ])
 
+  pub none_past_end : (state : State) → state ≡ state_in trial q → IsResting state → (state ≡ Match → ⊥) → length trial.bytes.now ≤ i → run_in trial q i ≡ None
+  none_past_end state is resting other past =
+      none_by_byte trial q i state is resting other (next_in trial state i) refl (next_past trial state i past)
+
   pub run_in_sparse : (from to other : ℕ) → Sparse from to ≡ state_in trial q → i < length trial.bytes.now
       → target_in (slice_range trial.nfa.now.transitions.items from to) (slice_index trial.bytes.now i) ≡ Some other
       → run_in trial q i ≡ run_in trial other (i + 1)
@@ -253,9 +263,23 @@ needs_either trial q first second one other both is by_one by_other low_one low_
     (by_one at inside (λ within. outside (record { inside = inside; low = omega (arith, within.low); high = omega (arith, within.high) })))
     (by_other at inside (λ within. outside (record { inside = inside; low = omega (arith, within.low); high = omega (arith, within.high) })))
 
+-- a loop that reads all bytes after this one, and is left nowhere after them
+pub none_to_end : (trial : Trial) (q body exit place last : ℕ) → state_in trial q ≡ Split body exit → run_in trial body place ≡ run_in trial q (place + 1)
+    → run_in trial q (place + 1) ≡ run_in trial q last → last ≡ length trial.bytes.now → run_in trial body (length trial.bytes.now) ≡ None
+    → run_in trial exit last ≡ None → run_in trial body place ≡ None
+none_to_end trial q body exit place last is goes same ends none left =
+    goes ∙ same ∙ none_of_both trial q last body exit is (subst (λ (i : ℕ). run_in trial body i ≡ None) (sym ends) none) left
+
+-- the end of all bytes leads nowhere, if there is such a span
+pub ends_with_spans : (trial : Trial) (q from to : ℕ) (found : Option Span) → Sparse from to ≡ state_in trial q
+    → IfSome found (λ _. run_in trial q (length trial.bytes.now) ≡ None)
+ends_with_spans trial q from to None is = tt
+ends_with_spans trial q from to (Some span) is =
+    none_past_end trial q (length trial.bytes.now) (Sparse from to) is tt (sparse_is_no_match trial q 0 from to) (omega arith)
+
 pub run_in_spans : (trial : Trial) (q from to other : ℕ) (found : Option Span) → Sparse from to ≡ state_in trial q
     → IfSome found (λ span. (b : ℕ) → span.low ≤ b → b ≤ span.high → target_in (slice_range trial.nfa.now.transitions.items from to) b ≡ Some other)
-    → IfSome found (λ span. (i : ℕ) → IsInSpan trial span i → run_in trial q i ≡ run_in trial other (i + 1))
+    → IfSome found (GoesRound trial q other)
 run_in_spans trial q from to other None is leads = tt
 run_in_spans trial q from to other (Some span) is leads = λ i within. run_in_sparse trial q i from to other is within.inside (leads _ within.low within.high)
 

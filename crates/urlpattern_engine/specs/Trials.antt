@@ -1,5 +1,5 @@
 -- What a search that goes back finds.
-use Rattle.std.specs.Prelude.{◌≡◌, ℕ, ◌<◌, ◌≤◌, List, length, Option, Some, None, option_and_then, option_map, slice_index, vec_len}
+use Rattle.std.specs.Prelude.{◌≡◌, ℕ, ◌+◌, ◌<◌, ◌≤◌, List, length, Option, Some, None, option_and_then, option_map, slice_index, vec_len}
 use Rattle.std.specs.Option.{option_or}
 use Rattle.regex_hir.specs.Re.{Trace}
 use Rattle.regex_nfa.specs.Run.{run, state_of}
@@ -7,7 +7,7 @@ use Rattle.regex_nfa.specs.States.{IsReadable, byte_below, next_on}
 use Rattle.regex_nfa.specs.declared.state.State.{State}
 use Rattle.regex_vm.specs.Found.{Found, found_from_span, found_from_trace}
 use Rattle.urlpattern_engine.specs.declared.trial.Next.{Next}
-use Rattle.urlpattern_engine.specs.declared.trial.Next.TheVariants.{Choice, Ends, Fails, On}
+use Rattle.urlpattern_engine.specs.declared.trial.Next.TheVariants.{Choice, Ends, Fails, Left, On}
 use Rattle.urlpattern_engine.specs.declared.ahead.Span.{Span}
 use Rattle.urlpattern_engine.specs.declared.trial.Trial.{Trial}
 
@@ -58,6 +58,7 @@ pub record Chooses (trial : Trial) (found : Option Found) (cells : List ℕ) (fi
 -- what is to be found follows so
 abbrev pub Follows : Trial → Option Found → (cells : List ℕ) → Next → Type 0
 Follows trial found cells (On next place) = GoesOn trial found cells next place
+Follows trial found cells (Left next place) = GoesOn trial found cells next place
 Follows trial found cells (Choice first second place) = Chooses trial found cells first second place
 Follows trial found cells (Ends end) = IsFound found cells (Some end)
 Follows trial found cells Fails = IsFound found cells None
@@ -73,3 +74,7 @@ pub record IsInSpan (trial : Trial) (span : Span) (at : ℕ) : Type 0 where
 -- nothing goes on with this state where there is another byte
 abbrev pub NeedsByte : Trial → ℕ → Span → Type 0
 NeedsByte trial id span = (at : ℕ) → at < length trial.bytes.now → ¬ IsInSpan trial span at → run_in trial id at ≡ None
+
+-- the state goes on with the other one on each byte of the span
+abbrev pub GoesRound : Trial → (id other : ℕ) → Span → Type 0
+GoesRound trial id other span = (at : ℕ) → IsInSpan trial span at → run_in trial id at ≡ run_in trial other (at + 1)

@@ -1,10 +1,10 @@
-//! What the next byte says of a choice.
+//! What the next byte says of a state.
 
 ghost use Rattle.std.specs.Prelude.{◌≡◌, ◌⊎◌, ◌+◌, ◌<◌, ◌≤◌, ◌↔◌, ℕ, Some, None, length, slice_range, IfSome, IsTrue};
 ghost use Rattle.regex_hir.specs.Looks as looks;
 ghost use Rattle.regex_nfa.specs.States.{IsSparseRange, target_in};
 ghost use Rattle.regex_nfa.specs.declared.state.State.TheVariants as states;
-ghost use Rattle.urlpattern_engine.specs.Trials.{IsInSpan, IsPlace, IsReadableIn, IsState, NeedsByte, next_in, run_in, state_in};
+ghost use Rattle.urlpattern_engine.specs.Trials.{GoesRound, IsInSpan, IsPlace, IsReadableIn, IsState, NeedsByte, next_in, run_in, state_in};
 
 use crate::trial::Trial;
 use regex_hir::Look;
@@ -15,79 +15,33 @@ const AHEAD: usize = 4;
 
 /// The bytes from one to another. There are none if the first is greater.
 #[derive(Clone, Copy)]
-struct Span {
+pub(crate) struct Span {
     low: u8,
     high: u8,
 }
 
-/// How far a choice was come back to.
-#[derive(Clone, Copy)]
-pub(crate) struct Passed {
-    pub(crate) place: usize,
-    /// Whether the next byte is one with which a match may go on with either state.
-    pub(crate) is_open: bool,
-}
-
 impl Trial<'_> {
-    /// How far a choice is come back to byte by byte, as long as nothing else goes on with the next byte.
-    #[inline(always)]
-    pub(crate) fn pass(&self, id: StateId, first: StateId, second: StateId, at: usize) -> Passed
-        requires states { IsState self.now first × IsState self.now second }
-        requires choice { state_in self.now id ≡ states.Split first second }
-        requires place { IsPlace self.now at }
-        ensures same { run_in self.now id at ≡ run_in self.now id result.place }
-        ensures after { at ≤ result.place }
-        ensures within { IsPlace self.now result.place }
-    {
-        if self.reads(first) {
-            self.loop_end(id, first, second, at)
-        } else {
-            self.loop_end(id, second, first, at)
-        }
-    }
-
-    /// The same, where one state of the choice may be the body of a loop, and the other one leaves it.
-    #[inline(always)]
-    fn loop_end(&self, id: StateId, body: StateId, exit: StateId, at: usize) -> Passed
-        requires states { IsState self.now body × IsState self.now exit }
-        requires choice { (state_in self.now id ≡ states.Split body exit) ⊎ (state_in self.now id ≡ states.Split exit body) }
-        requires place { IsPlace self.now at }
-        ensures same { run_in self.now id at ≡ run_in self.now id result.place }
-        ensures after { at ≤ result.place }
-        ensures within { IsPlace self.now result.place }
-    {
-        let Some(inside) = self.loop_bytes(body, at, id) else {
-            return closed(at);
-        };
-        let Some(leaving) = self.first_bytes(exit) else {
-            return closed(at);
-        };
-        let mut place = at;
-        'bytes: while place < self.bytes.len() {
-            let byte = self.bytes[place];
-            if !inside.contains(byte) {
-                return closed(place);
-            }
-            if leaving.contains(byte) {
-                return Passed {
-                    place,
-                    is_open: true,
-                };
-            }
-            place += 1;
-        }
-        closed(place)
-    }
-
     /// Whether a state reads a byte.
     #[inline(always)]
-    fn reads(&self, id: StateId) -> bool
+    pub(crate) fn reads(&self, id: StateId) -> bool
         requires { IsState self.now id }
     {
         matches!(
             self.nfa.state(id),
             State::ByteRange(_) | State::Sparse { .. }
         )
+    }
+
+    /// Whether the byte at a place is one of these. After all bytes it is not.
+    #[inline(always)]
+    pub(crate) fn is_byte_of(&self, span: Span, at: usize) -> bool
+        ensures { IsTrue result → IsInSpan self.now span at }
+    {
+        if at < self.bytes.len() {
+            span.contains(self.bytes[at])
+        } else {
+            false
+        }
     }
 
     /// Whether a state reads a byte, but not the one at a place.
@@ -106,9 +60,10 @@ impl Trial<'_> {
 
     /// Bytes that lead from a state to another one, among them the byte at a place, if that does.
     #[inline(always)]
-    fn loop_bytes(&self, id: StateId, at: usize, other: StateId) -> Option<Span>
+    pub(crate) fn loop_bytes(&self, id: StateId, at: usize, other: StateId) -> Option<Span>
         requires { IsState self.now id }
-        ensures { IfSome result (λ span. (i : ℕ) → IsInSpan self.now span i → run_in self.now id i ≡ run_in self.now other (i + 1)) }
+        ensures goes { IfSome result (GoesRound self.now id other) }
+        ensures ends { IfSome result (λ _. run_in self.now id (length self.now.bytes.now) ≡ None) }
     {
         if at >= self.bytes.len() {
             return None;
@@ -154,7 +109,7 @@ impl Trial<'_> {
 
     /// The bytes with which a match may go on with a state. `None`: they are not known.
     #[inline(always)]
-    fn first_bytes(&self, id: StateId) -> Option<Span>
+    pub(crate) fn first_bytes(&self, id: StateId) -> Option<Span>
         requires { IsState self.now id }
         ensures { IfSome result (NeedsByte self.now id) }
     {
@@ -248,6 +203,7 @@ impl Trial<'_> {
     {
         match look {
             Look::End => self.bytes.get(at).is_none(),
+            Look::Start if at == 0 => true,
             _ => holds(look, self.bytes, at),
         }
     }
@@ -267,17 +223,6 @@ impl Trial<'_> {
     }
 }
 
-/// A place where the next byte, if there is one, may leave no choice.
-#[inline(always)]
-fn closed(place: usize) -> Passed
-    ensures { result.place ≡ place }
-{
-    Passed {
-        place,
-        is_open: false,
-    }
-}
-
 /// The bytes from the least to the greatest of both.
 #[inline(always)]
 fn either(one: Span, other: Span) -> Span
@@ -293,7 +238,7 @@ fn either(one: Span, other: Span) -> Span
 impl Span {
     /// Whether a byte is one of them.
     #[inline(always)]
-    fn contains(self, byte: u8) -> bool
+    pub(crate) fn contains(self, byte: u8) -> bool
         ensures { IsTrue result ↔ ((self.low ≤ byte) × (byte ≤ self.high)) }
     {
         self.low <= byte && byte <= self.high

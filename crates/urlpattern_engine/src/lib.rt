@@ -9,6 +9,7 @@
 
 mod ahead;
 mod automaton;
+mod choices;
 mod cost;
 mod ecma_regexp;
 mod kept;

@@ -1,17 +1,16 @@
 //! Searches an automaton state by state, and goes back where a way ends.
 
-ghost use Rattle.std.specs.Prelude.{◌≡◌, ◌^◌, ◌<◌, ◌≤◌, ℕ, List, option_map, IfNone, IfOk};
-ghost use Rattle.regex_nfa.specs.declared.state.State.TheVariants as states;
+ghost use Rattle.std.specs.Prelude.{◌≡◌, ◌^◌, ◌<◌, ◌≤◌, option_map, IfNone, IfOk};
 ghost use Rattle.regex_vm.specs.Found.{group_cells, put};
 ghost use Rattle.urlpattern_engine.specs.Automatons.{match_at_start};
-ghost use Rattle.urlpattern_engine.specs.Trials.{Follows, IsFound, IsPlace, IsState, found_in, state_in};
+ghost use Rattle.urlpattern_engine.specs.Trials.{Follows, IsFound, IsPlace, IsState, found_in};
 
-use crate::ahead::Passed;
 use regex_nfa::{Nfa, State, StateId};
 
-/// How many states are visited at most, and how many more for each byte. A choice that stays open counts as many as bytes are left.
+/// How many states are visited at most. A choice that stays open, or is decided by all bytes that are left, counts as many as these.
 const STATES: usize = 128;
 
+/// How many more for each byte.
 const STATES_PER_BYTE: usize = 16;
 
 /// How many choices are left open at most.
@@ -26,9 +25,11 @@ pub(crate) struct GivenUp;
 
 /// What follows a state at a place.
 #[derive(Clone, Copy)]
-enum Next {
+pub(crate) enum Next {
     /// Go on with this state at this place.
     On(StateId, usize),
+    /// The same, where all bytes that are left were looked at.
+    Left(StateId, usize),
     /// Try the first of these states at this place, and go on with the second one if no match goes on with the first.
     Choice(StateId, StateId, usize),
     /// A match ends here.
@@ -90,6 +91,11 @@ impl Trial<'_> {
             *budget -= 1;
             match self.step(id, place, cells) {
                 Next::On(next, after) => {
+                    id = next;
+                    place = after;
+                }
+                Next::Left(next, after) => {
+                    *budget = budget.saturating_sub(self.bytes.len() - after);
                     id = next;
                     place = after;
                 }
@@ -169,33 +175,6 @@ impl Trial<'_> {
                 None => Next::Fails,
             },
         }
-    }
-
-    /// What follows a choice of two states at a place.
-    #[inline(always)]
-    fn choice(&self, id: StateId, first: StateId, second: StateId, at: usize) -> Next
-        requires choice { state_in self.now id ≡ states.Split first second }
-        requires states { IsState self.now first × IsState self.now second }
-        requires place { IsPlace self.now at }
-        ensures { (cells : List ℕ) → Follows self.now (found_in self.now cells id at) cells result }
-    {
-        let Passed { place, is_open } = self.pass(id, first, second, at);
-        if is_open {
-            return Next::Choice(first, second, place);
-        }
-        if self.reads_not(first, place) {
-            return Next::On(second, place);
-        }
-        if self.reads_not(second, place) {
-            return Next::On(first, place);
-        }
-        if self.fails(second, place) {
-            return Next::On(first, place);
-        }
-        if self.fails(first, place) {
-            return Next::On(second, place);
-        }
-        Next::Choice(first, second, place)
     }
 }
 

@@ -8,9 +8,9 @@ bytes-preserved c =
     let trial = c.args.self.now in
     let place = c.bytes.place in
     let inside = c.contains.ensures.0 c.if-not-contains.false in
-    let within : IsInSpan trial c.in-Some.inside place = record { inside = c.bytes-test.true; low = inside.0; high = inside.1 } in
-    let goes = c.in-Some.ensures place within in
-    let left = c.in-Some-first_bytes.ensures place c.bytes-test.true (λ w. true≢false (sym (c.contains-in-bytes.ensures.1 (w.low, w.high)) ∙ c.if-contains.false)) in
+    let within : IsInSpan trial c.args.inside place = record { inside = c.bytes-test.true; low = inside.0; high = inside.1 } in
+    let goes = c.requires.goes place within in
+    let left = c.requires.leaves place c.bytes-test.true (λ w. true≢false (sym (c.contains-in-bytes.ensures.1 (w.low, w.high)) ∙ c.if-contains.false)) in
     record {
       same =
           c.bytes.invariant.same
@@ -19,6 +19,5 @@ bytes-preserved c =
           (λ is. run_by_second trial c.args.id place c.args.exit c.args.body is left)
           c.requires.choice
           ∙ goes;
-      after = omega (arith, c.bytes.invariant.after);
       within = omega (arith, c.bytes-test.true);
     }

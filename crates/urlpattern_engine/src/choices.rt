@@ -1,0 +1,185 @@
+//! Choices of two states.
+
+ghost use Rattle.std.specs.Prelude.{◌≡◌, ◌⊎◌, ℕ, None, List, IsTrue, false};
+ghost use Rattle.regex_nfa.specs.declared.state.State.TheVariants as states;
+ghost use Rattle.urlpattern_engine.specs.Trials.{Follows, GoesRound, IsPlace, IsState, NeedsByte, found_in, run_in, state_in};
+
+use crate::ahead::Span;
+use crate::trial::{Next, Trial};
+use regex_nfa::StateId;
+
+/// How far a choice is come back to.
+#[derive(Clone, Copy)]
+struct Passed {
+    place: usize,
+    /// Whether a match may go on with either state there.
+    is_open: bool,
+    /// Whether none goes on with the first state there, by all bytes that are left.
+    is_left: bool,
+}
+
+impl Trial<'_> {
+    /// What follows a choice of two states at a place.
+    #[inline(always)]
+    pub(crate) fn choice(&self, id: StateId, first: StateId, second: StateId, at: usize) -> Next
+        requires choice { state_in self.now id ≡ states.Split first second }
+        requires states { IsState self.now first × IsState self.now second }
+        requires place { IsPlace self.now at }
+        ensures { (cells : List ℕ) → Follows self.now (found_in self.now cells id at) cells result }
+    {
+        let Passed {
+            place,
+            is_open,
+            is_left,
+        } = self.pass(id, first, second, at);
+        if is_left {
+            return Next::Left(second, place);
+        }
+        if is_open {
+            return Next::Choice(first, second, place);
+        }
+        if self.reads_not(first, place) {
+            return Next::On(second, place);
+        }
+        if self.reads_not(second, place) {
+            return Next::On(first, place);
+        }
+        if self.fails(second, place) {
+            return Next::On(first, place);
+        }
+        if self.fails(first, place) {
+            return Next::On(second, place);
+        }
+        Next::Choice(first, second, place)
+    }
+
+    /// How far a choice is come back to byte by byte, as long as nothing else goes on with the next byte.
+    #[inline(always)]
+    fn pass(&self, id: StateId, first: StateId, second: StateId, at: usize) -> Passed
+        requires choice { state_in self.now id ≡ states.Split first second }
+        requires states { IsState self.now first × IsState self.now second }
+        requires place { IsPlace self.now at }
+        ensures same { run_in self.now id at ≡ run_in self.now id result.place }
+        ensures within { IsPlace self.now result.place }
+        ensures left { IsTrue result.is_left → run_in self.now first result.place ≡ None }
+    {
+        if self.reads(first) {
+            self.pass_body(id, first, second, at)
+        } else {
+            self.pass_exit(id, first, second, at)
+        }
+    }
+
+    /// The same, where the first state may be the body of a loop. If the loop may be left at one place alone, it is left there.
+    #[inline(always)]
+    fn pass_body(&self, id: StateId, body: StateId, exit: StateId, at: usize) -> Passed
+        requires choice { state_in self.now id ≡ states.Split body exit }
+        requires states { IsState self.now body × IsState self.now exit }
+        requires place { IsPlace self.now at }
+        ensures same { run_in self.now id at ≡ run_in self.now id result.place }
+        ensures within { IsPlace self.now result.place }
+        ensures left { IsTrue result.is_left → run_in self.now body result.place ≡ None }
+    {
+        let Some(inside) = self.loop_bytes(body, at, id) else {
+            return closed(at);
+        };
+        let Some(leaving) = self.first_bytes(exit) else {
+            return closed(at);
+        };
+        let place = self.loop_end(id, body, exit, inside, leaving, at);
+        if !self.is_byte_of(inside, place) {
+            return closed(place);
+        }
+        let last = self.loop_end(id, body, exit, inside, leaving, place + 1);
+        if last < self.bytes.len() {
+            return open(place);
+        }
+        Passed {
+            place,
+            is_open: true,
+            is_left: self.fails(exit, last),
+        }
+    }
+
+    /// The same, where the second state may be the body of a loop, which the first one leaves.
+    #[inline(always)]
+    fn pass_exit(&self, id: StateId, exit: StateId, body: StateId, at: usize) -> Passed
+        requires choice { state_in self.now id ≡ states.Split exit body }
+        requires states { IsState self.now exit × IsState self.now body }
+        requires place { IsPlace self.now at }
+        ensures same { run_in self.now id at ≡ run_in self.now id result.place }
+        ensures within { IsPlace self.now result.place }
+        ensures left { IsTrue result.is_left → run_in self.now exit result.place ≡ None }
+    {
+        let Some(inside) = self.loop_bytes(body, at, id) else {
+            return closed(at);
+        };
+        let Some(leaving) = self.first_bytes(exit) else {
+            return closed(at);
+        };
+        let place = self.loop_end(id, body, exit, inside, leaving, at);
+        if self.is_byte_of(inside, place) {
+            open(place)
+        } else {
+            closed(place)
+        }
+    }
+
+    /// How far a loop is gone on with, whose body reads these bytes and which is left with those.
+    #[inline(always)]
+    fn loop_end(
+        &self,
+        id: StateId,
+        body: StateId,
+        exit: StateId,
+        inside: Span,
+        leaving: Span,
+        at: usize,
+    ) -> usize
+        requires choice { (state_in self.now id ≡ states.Split body exit) ⊎ (state_in self.now id ≡ states.Split exit body) }
+        requires goes { GoesRound self.now body id inside }
+        requires leaves { NeedsByte self.now exit leaving }
+        requires place { IsPlace self.now at }
+        ensures same { run_in self.now id at ≡ run_in self.now id result }
+        ensures within { IsPlace self.now result }
+    {
+        let mut place = at;
+        'bytes: while place < self.bytes.len() {
+            let byte = self.bytes[place];
+            if !inside.contains(byte) {
+                return place;
+            }
+            if leaving.contains(byte) {
+                return place;
+            }
+            place += 1;
+        }
+        place
+    }
+}
+
+/// A place where a match may go on with either state.
+#[inline(always)]
+fn open(place: usize) -> Passed
+    ensures place { result.place ≡ place }
+    ensures left { result.is_left ≡ false }
+{
+    Passed {
+        place,
+        is_open: true,
+        is_left: false,
+    }
+}
+
+/// A place where the next byte, if there is one, may leave no choice.
+#[inline(always)]
+fn closed(place: usize) -> Passed
+    ensures place { result.place ≡ place }
+    ensures left { result.is_left ≡ false }
+{
+    Passed {
+        place,
+        is_open: false,
+        is_left: false,
+    }
+}
