@@ -1,5 +1,5 @@
 -- A pattern text that is a fixed text and an asterisk after it.
-use Rattle.std.proofs.Common.{◌≡◌, ◌≢◌, ◌∙◌, ◌<◌, ltb, ℕ, true, false, List, [], ◌∷◌, ◌++◌, append-nil, Some, Ok, ap, arith, refl, subst}
+use Rattle.std.proofs.Common.{◌≡◌, ◌≢◌, ◌∙◌, ◌<◌, ◌≤◌, ◌&&◌, ltb, lt-ltb, ℕ, Bool, true, false, List, [], ◌∷◌, ◌++◌, append-nil, Some, Ok, ap, arith, refl, subst}
 use Rattle.std.proofs.lemmas.Bool.{and_parts}
 use Rattle.std.proofs.lemmas.Bool.Decides.{nat_tests}
 use Rattle.std.proofs.lemmas.List.Elements.{All-weaker}
@@ -28,6 +28,13 @@ use Rattle.urlpattern_syntax.specs.declared.parser.PartType.TheVariants.{FullWil
 
 pub run_ascii : (b : ℕ) → Passes is_ascii_run_character b → b < 128
 run_ascii b passes = grind (arith, nat_tests)
+
+-- a character that is not ASCII stands for itself
+pub run_beyond : (c : ℕ) → 128 ≤ c → true ≡ is_run_character c
+run_beyond c beyond = grind (arith, nat_tests)
+
+pub run_within : (c : ℕ) → c < 128 → is_ascii_run_character c ≡ is_run_character c
+run_within c within = ap (λ (ascii : Bool). ascii && is_run_character c) (lt-ltb c 128 within)
 
 of_run : (b : ℕ) → Passes is_ascii_run_character b → Passes is_run_character b
 of_run b passes = (and_parts (ltb b 128) (is_run_character b) passes).1

@@ -88,7 +88,7 @@ fn are_of_run(text: &str) -> bool
 }
 
 /// Whether a byte is ASCII and stands for itself wherever it is in a pattern text.
-fn is_byte_of_run(b: u8) -> bool
+pub(crate) fn is_byte_of_run(b: u8) -> bool
     ensures { result ≡ is_ascii_run_character b }
 {
     b.is_ascii() && !RUN_MARKS.contains(b)

@@ -10,6 +10,7 @@ ghost use Rattle.urlpattern_syntax.specs.RegexpText.{is_unmodified, modifier_tex
 ghost use Rattle.urlpattern_syntax.specs.Text.{begins_with};
 ghost use Rattle.urlpattern_syntax.specs.Tokens.{IsName, SkipsBy};
 
+use crate::ended::is_byte_of_run;
 use crate::expression::expression;
 use crate::pass::{Group, Pass};
 use crate::writer::Writer;
@@ -332,8 +333,8 @@ pub(crate) fn begins_group(text: &str) -> bool
 pub(crate) fn is_of_run(c: char) -> bool
     ensures { result ≡ is_run_character c }
 {
-    !matches!(
-        c,
-        '{' | '}' | '*' | '+' | '?' | '\\' | ':' | '(' | ')' | '\t' | '\n' | '\r'
-    )
+    if !c.is_ascii() {
+        return true;
+    }
+    is_byte_of_run(c as u8)
 }

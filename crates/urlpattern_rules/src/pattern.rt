@@ -162,10 +162,10 @@ impl PatternParts {
 
     /// Returns whether this pattern means all that the asked one means: eight texts without line feed.
     ///
-    /// Components are compared one by one. One that takes each text covers any other, and one covers the same parts under the same options,
-    /// whatever the names, also with custom regular expressions or where case is ignored, but not with both. Of other components with a
-    /// custom regular expression, and where case is ignored, nothing is known; and nothing where the work would be too much, which has a
-    /// bound. The texts of `NotCovered` are among the shortest.
+    /// Components are compared one by one. One that takes each text, with case counting, covers any other, and one covers the same parts
+    /// under the same options, whatever the names, also with custom regular expressions or where case is ignored, but not with both. Of
+    /// other components with a custom regular expression, and where case is ignored, nothing is known; and nothing where the work would be
+    /// too much, which has a bound. The texts of `NotCovered` are among the shortest, though no clause promises that.
     pub fn covers(&self, alloc: Global, asked: &Self) -> Result<PatternCovering, AllocError>
         ensures { IfOk result (IsPatternCovering self.now asked.now) }
     {
