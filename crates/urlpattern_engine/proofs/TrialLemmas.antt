@@ -24,7 +24,7 @@ use Rattle.regex_vm.specs.Pike.{IsResting}
 use Rattle.urlpattern_engine.specs.Automatons.{match_at_start}
 use Rattle.regex_vm.proofs.FoundLemmas.{apply_zeros, none_of_found_from_trace}
 use Rattle.regex_vm.proofs.NfaLemmas.{run_reads}
-use Rattle.urlpattern_engine.specs.Trials.{Chooses, GoesOn, GoesRound, IsInSpan, IsPlace, IsState, NeedsByte, found_in, next_in, run_in, state_in}
+use Rattle.urlpattern_engine.specs.Trials.{Chooses, GoesOn, GoesRound, HasByte, IsInSpan, IsPlace, IsState, NeedsByte, found_in, next_in, run_in, state_in}
 use Rattle.urlpattern_engine.specs.declared.ahead.Span.{Span}
 use Rattle.urlpattern_engine.specs.declared.trial.Trial.{Trial}
 
@@ -227,7 +227,7 @@ module _ (trial : Trial) (q i : ℕ) where
       let b = slice_index trial.bytes.now i in
       run_by_byte trial q i (ByteRange t) is tt (range_is_no_match t) (next_in trial (ByteRange t) i) refl other
       (next_inside trial (ByteRange t) i within.inside
-      ∙ cond-true (covers t b) (Some t.next) None (and_from _ _ (le-leb t.start b within.low) (le-leb b t.end within.high))
+      ∙ cond-true (covers t b) (Some t.next) None (and_from _ _ (le-leb t.start b within.has.0) (le-leb b t.end within.has.1))
       ∙ ap (λ n. Some n) leads)
 
   pub none_past_range : (t : Transition) → ByteRange t ≡ state_in trial q → i < length trial.bytes.now
@@ -238,7 +238,7 @@ module _ (trial : Trial) (q i : ℕ) where
       none_by_byte trial q i (ByteRange t) is tt (range_is_no_match t) (next_in trial (ByteRange t) i) refl
       (next_inside trial (ByteRange t) i inside
       ∙ elim (cases_Bool (covers t b)) [
-        | inl hit ↦ let parts = covers_parts t b hit in absurd (outside (record { inside = inside; low = parts.0; high = parts.1 }))
+        | inl hit ↦ let parts = covers_parts t b hit in absurd (outside (record { inside = inside; has = parts }))
         | inr miss ↦ cond-false (covers t b) (Some t.next) None miss
       ])
 
@@ -254,14 +254,14 @@ module _ (trial : Trial) (q i : ℕ) where
       run_by_byte trial q i (Sparse from to) is tt (sparse_is_no_match from to) (next_in trial (Sparse from to) i) refl other
       (next_inside trial (Sparse from to) i inside ∙ leads)
 
--- what needs a byte of one span or of another needs one of a span around both
+-- what needs a byte of one span or of another needs one of a span with both
 pub needs_either : (trial : Trial) (q first second : ℕ) (one other both : Span) → state_in trial q ≡ Split first second
     → NeedsByte trial first one → NeedsByte trial second other
-    → both.low ≤ one.low → both.low ≤ other.low → one.high ≤ both.high → other.high ≤ both.high → NeedsByte trial q both
-needs_either trial q first second one other both is by_one by_other low_one low_other high_one high_other at inside outside =
+    → ((b : ℕ) → HasByte one b → HasByte both b) → ((b : ℕ) → HasByte other b → HasByte both b) → NeedsByte trial q both
+needs_either trial q first second one other both is by_one by_other of_one of_other at inside outside =
     none_of_both trial q at first second is
-    (by_one at inside (λ within. outside (record { inside = inside; low = omega (arith, within.low); high = omega (arith, within.high) })))
-    (by_other at inside (λ within. outside (record { inside = inside; low = omega (arith, within.low); high = omega (arith, within.high) })))
+    (by_one at inside (λ within. outside (record { inside = inside; has = of_one _ within.has })))
+    (by_other at inside (λ within. outside (record { inside = inside; has = of_other _ within.has })))
 
 -- a loop that reads all bytes after this one, and is left nowhere after them
 pub none_to_end : (trial : Trial) (q body exit place last : ℕ) → state_in trial q ≡ Split body exit → run_in trial body place ≡ run_in trial q (place + 1)
@@ -281,7 +281,7 @@ pub run_in_spans : (trial : Trial) (q from to other : ℕ) (found : Option Span)
     → IfSome found (λ span. (b : ℕ) → span.low ≤ b → b ≤ span.high → target_in (slice_range trial.nfa.now.transitions.items from to) b ≡ Some other)
     → IfSome found (GoesRound trial q other)
 run_in_spans trial q from to other None is leads = tt
-run_in_spans trial q from to other (Some span) is leads = λ i within. run_in_sparse trial q i from to other is within.inside (leads _ within.low within.high)
+run_in_spans trial q from to other (Some span) is leads = λ i within. run_in_sparse trial q i from to other is within.inside (leads _ within.has.0 within.has.1)
 
 -- ---- the whole search
 

@@ -1,4 +1,4 @@
--- What a search that goes back finds.
+-- What a search without marks finds.
 use Rattle.std.specs.Prelude.{◌≡◌, ℕ, ◌+◌, ◌<◌, ◌≤◌, List, length, Option, Some, None, option_and_then, option_map, slice_index, vec_len}
 use Rattle.std.specs.Option.{option_or}
 use Rattle.regex_hir.specs.Re.{Trace}
@@ -7,7 +7,7 @@ use Rattle.regex_nfa.specs.States.{IsReadable, byte_below, next_on}
 use Rattle.regex_nfa.specs.declared.state.State.{State}
 use Rattle.regex_vm.specs.Found.{Found, found_from_span, found_from_trace}
 use Rattle.urlpattern_engine.specs.declared.trial.Next.{Next}
-use Rattle.urlpattern_engine.specs.declared.trial.Next.TheVariants.{Choice, Ends, Fails, Left, On}
+use Rattle.urlpattern_engine.specs.declared.trial.Next.TheVariants.{Choice, Ends, Fails, On, OnByRest}
 use Rattle.urlpattern_engine.specs.declared.ahead.Span.{Span}
 use Rattle.urlpattern_engine.specs.declared.trial.Trial.{Trial}
 
@@ -55,23 +55,25 @@ pub record Chooses (trial : Trial) (found : Option Found) (cells : List ℕ) (fi
   pub is_place : IsPlace trial place
   pub same : found_from_trace 0 cells (option_or (run_in trial first place) (run_in trial second place)) ≡ found
 
--- what is to be found follows so
+-- the step tells how to find what is found
 abbrev pub Follows : Trial → Option Found → (cells : List ℕ) → Next → Type 0
 Follows trial found cells (On next place) = GoesOn trial found cells next place
-Follows trial found cells (Left next place) = GoesOn trial found cells next place
+Follows trial found cells (OnByRest next place) = GoesOn trial found cells next place
 Follows trial found cells (Choice first second place) = Chooses trial found cells first second place
 Follows trial found cells (Ends end) = IsFound found cells (Some end)
 Follows trial found cells Fails = IsFound found cells None
 
 -- ---- the bytes of a span
 
+abbrev pub HasByte : Span → ℕ → Type 0
+HasByte span b = (span.low ≤ b) × (b ≤ span.high)
+
 -- the byte at this place is in it
 pub record IsInSpan (trial : Trial) (span : Span) (at : ℕ) : Type 0 where
   pub inside : at < length trial.bytes.now
-  pub low : span.low ≤ slice_index trial.bytes.now at
-  pub high : slice_index trial.bytes.now at ≤ span.high
+  pub has : HasByte span (slice_index trial.bytes.now at)
 
--- nothing goes on with this state where there is another byte
+-- no match goes on with this state before a byte that is not in the span
 abbrev pub NeedsByte : Trial → ℕ → Span → Type 0
 NeedsByte trial id span = (at : ℕ) → at < length trial.bytes.now → ¬ IsInSpan trial span at → run_in trial id at ≡ None
 

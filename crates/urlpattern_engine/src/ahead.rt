@@ -4,7 +4,7 @@ ghost use Rattle.std.specs.Prelude.{◌≡◌, ◌⊎◌, ◌+◌, ◌<◌, ◌�
 ghost use Rattle.regex_hir.specs.Looks as looks;
 ghost use Rattle.regex_nfa.specs.States.{IsSparseRange, target_in};
 ghost use Rattle.regex_nfa.specs.declared.state.State.TheVariants as states;
-ghost use Rattle.urlpattern_engine.specs.Trials.{GoesRound, IsInSpan, IsPlace, IsReadableIn, IsState, NeedsByte, next_in, run_in, state_in};
+ghost use Rattle.urlpattern_engine.specs.Trials.{GoesRound, HasByte, IsInSpan, IsPlace, IsReadableIn, IsState, NeedsByte, next_in, run_in, state_in};
 
 use crate::trial::Trial;
 use regex_hir::Look;
@@ -107,7 +107,7 @@ impl Trial<'_> {
         None
     }
 
-    /// The bytes with which a match may go on with a state. `None`: they are not known.
+    /// Bytes among which are all with which a match may go on with a state. `None`: they are not known.
     #[inline(always)]
     pub(crate) fn first_bytes(&self, id: StateId) -> Option<Span>
         requires { IsState self.now id }
@@ -223,12 +223,18 @@ impl Trial<'_> {
     }
 }
 
-/// The bytes from the least to the greatest of both.
+/// Bytes among which are those of both: those of one if the other has none, and else all from the least to the greatest.
 #[inline(always)]
 fn either(one: Span, other: Span) -> Span
-    ensures low { (result.low ≤ one.low) × (result.low ≤ other.low) }
-    ensures high { (one.high ≤ result.high) × (other.high ≤ result.high) }
+    ensures one { (b : ℕ) → HasByte one b → HasByte result b }
+    ensures other { (b : ℕ) → HasByte other b → HasByte result b }
 {
+    if one.high < one.low {
+        return other;
+    }
+    if other.high < other.low {
+        return one;
+    }
     Span {
         low: one.low.min(other.low),
         high: one.high.max(other.high),
@@ -239,7 +245,7 @@ impl Span {
     /// Whether a byte is one of them.
     #[inline(always)]
     pub(crate) fn contains(self, byte: u8) -> bool
-        ensures { IsTrue result ↔ ((self.low ≤ byte) × (byte ≤ self.high)) }
+        ensures { IsTrue result ↔ HasByte self byte }
     {
         self.low <= byte && byte <= self.high
     }

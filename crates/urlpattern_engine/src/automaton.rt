@@ -96,7 +96,7 @@ impl Automaton {
         }
     }
 
-    /// What the groups capture of a text, by a search that goes back, or by another one if that is given up.
+    /// What the groups capture of a text, by a search without marks, or by another one if that is given up.
     ///
     /// The error is that memory ran out.
     fn matches_few<'t>(
@@ -173,7 +173,7 @@ impl Automaton {
 
     /// Whether the expression matches at the start of the bytes. Where it does, the cells are those of its groups.
     ///
-    /// Where a search that goes back would need too many bits, the bytes are searched in one pass.
+    /// Where marks would need too many bits, the bytes are searched in one pass.
     ///
     /// The error is that memory ran out.
     fn search(&self, alloc: Global, bytes: &[u8], cells: &mut [usize]) -> Result<bool, OutOfMemory>

@@ -8,14 +8,14 @@ use crate::ahead::Span;
 use crate::trial::{Next, Trial};
 use regex_nfa::StateId;
 
-/// How far a choice is come back to.
+/// How far a loop is gone on with before there is a choice.
 #[derive(Clone, Copy)]
 struct Passed {
     place: usize,
     /// Whether a match may go on with either state there.
     is_open: bool,
-    /// Whether none goes on with the first state there, by all bytes that are left.
-    is_left: bool,
+    /// Whether none goes on with the first state there, as all remaining bytes tell.
+    first_fails: bool,
 }
 
 impl Trial<'_> {
@@ -30,10 +30,10 @@ impl Trial<'_> {
         let Passed {
             place,
             is_open,
-            is_left,
+            first_fails,
         } = self.pass(id, first, second, at);
-        if is_left {
-            return Next::Left(second, place);
+        if first_fails {
+            return Next::OnByRest(second, place);
         }
         if is_open {
             return Next::Choice(first, second, place);
@@ -53,7 +53,7 @@ impl Trial<'_> {
         Next::Choice(first, second, place)
     }
 
-    /// How far a choice is come back to byte by byte, as long as nothing else goes on with the next byte.
+    /// How far a choice is come back to over bytes that the body of a loop reads, and with which its exit cannot go on.
     #[inline(always)]
     fn pass(&self, id: StateId, first: StateId, second: StateId, at: usize) -> Passed
         requires choice { state_in self.now id ≡ states.Split first second }
@@ -61,7 +61,7 @@ impl Trial<'_> {
         requires place { IsPlace self.now at }
         ensures same { run_in self.now id at ≡ run_in self.now id result.place }
         ensures within { IsPlace self.now result.place }
-        ensures left { IsTrue result.is_left → run_in self.now first result.place ≡ None }
+        ensures fails { IsTrue result.first_fails → run_in self.now first result.place ≡ None }
     {
         if self.reads(first) {
             self.pass_body(id, first, second, at)
@@ -78,7 +78,7 @@ impl Trial<'_> {
         requires place { IsPlace self.now at }
         ensures same { run_in self.now id at ≡ run_in self.now id result.place }
         ensures within { IsPlace self.now result.place }
-        ensures left { IsTrue result.is_left → run_in self.now body result.place ≡ None }
+        ensures fails { IsTrue result.first_fails → run_in self.now body result.place ≡ None }
     {
         let Some(inside) = self.loop_bytes(body, at, id) else {
             return closed(at);
@@ -92,12 +92,12 @@ impl Trial<'_> {
         }
         let last = self.loop_end(id, body, exit, inside, leaving, place + 1);
         if last < self.bytes.len() {
-            return open(place);
+            return self.seen(exit, place);
         }
         Passed {
             place,
             is_open: true,
-            is_left: self.fails(exit, last),
+            first_fails: self.fails(exit, last),
         }
     }
 
@@ -109,7 +109,7 @@ impl Trial<'_> {
         requires place { IsPlace self.now at }
         ensures same { run_in self.now id at ≡ run_in self.now id result.place }
         ensures within { IsPlace self.now result.place }
-        ensures left { IsTrue result.is_left → run_in self.now exit result.place ≡ None }
+        ensures fails { IsTrue result.first_fails → run_in self.now exit result.place ≡ None }
     {
         let Some(inside) = self.loop_bytes(body, at, id) else {
             return closed(at);
@@ -119,13 +119,27 @@ impl Trial<'_> {
         };
         let place = self.loop_end(id, body, exit, inside, leaving, at);
         if self.is_byte_of(inside, place) {
-            open(place)
+            self.seen(exit, place)
         } else {
             closed(place)
         }
     }
 
-    /// How far a loop is gone on with, whose body reads these bytes and which is left with those.
+    /// A place where the next byte is one of those with which a match may go on with the exit of a loop.
+    #[inline(always)]
+    fn seen(&self, exit: StateId, place: usize) -> Passed
+        requires { IsState self.now exit }
+        ensures place { result.place ≡ place }
+        ensures open { result.first_fails ≡ false }
+    {
+        if self.fails(exit, place) {
+            closed(place)
+        } else {
+            open(place)
+        }
+    }
+
+    /// How far a loop goes on whose body reads the bytes `inside`, and whose exit begins with one of `leaving`.
     #[inline(always)]
     fn loop_end(
         &self,
@@ -162,12 +176,12 @@ impl Trial<'_> {
 #[inline(always)]
 fn open(place: usize) -> Passed
     ensures place { result.place ≡ place }
-    ensures left { result.is_left ≡ false }
+    ensures open { result.first_fails ≡ false }
 {
     Passed {
         place,
         is_open: true,
-        is_left: false,
+        first_fails: false,
     }
 }
 
@@ -175,11 +189,11 @@ fn open(place: usize) -> Passed
 #[inline(always)]
 fn closed(place: usize) -> Passed
     ensures place { result.place ≡ place }
-    ensures left { result.is_left ≡ false }
+    ensures open { result.first_fails ≡ false }
 {
     Passed {
         place,
         is_open: false,
-        is_left: false,
+        first_fails: false,
     }
 }

@@ -7,7 +7,8 @@ ghost use Rattle.urlpattern_engine.specs.Trials.{Follows, IsFound, IsPlace, IsSt
 
 use regex_nfa::{Nfa, State, StateId};
 
-/// How many states are visited at most. A choice that stays open, or is decided by all bytes that are left, counts as many as these.
+/// How many states a search may visit, apart from those for each byte. A choice that stays open, or that all remaining bytes decide, also
+/// uses up one for each remaining byte.
 const STATES: usize = 128;
 
 /// How many more for each byte.
@@ -16,7 +17,7 @@ const STATES_PER_BYTE: usize = 16;
 /// How many choices are left open at most.
 const DEPTH: usize = 64;
 
-/// How many cells there are, two for each group.
+/// How many cells a search has, two for each group.
 pub(crate) const FEW: usize = 8;
 
 /// A search that would visit too many states, or leave too many choices open.
@@ -28,8 +29,8 @@ pub(crate) struct GivenUp;
 pub(crate) enum Next {
     /// Go on with this state at this place.
     On(StateId, usize),
-    /// The same, where all bytes that are left were looked at.
-    Left(StateId, usize),
+    /// The same, where all remaining bytes were looked at.
+    OnByRest(StateId, usize),
     /// Try the first of these states at this place, and go on with the second one if no match goes on with the first.
     Choice(StateId, StateId, usize),
     /// A match ends here.
@@ -40,8 +41,8 @@ pub(crate) enum Next {
 
 /// An automaton and the bytes that are searched, at their start.
 ///
-/// A choice is left open only where the next byte leaves it open. No state is marked as visited, so that a search may take long, and is
-/// given up then.
+/// A choice stays open only where no byte was seen to decide it. No state is marked as visited, so that a search may take long, and is given
+/// up then.
 #[derive(Clone, Copy)]
 pub(crate) struct Trial<'a> {
     pub(crate) nfa: &'a Nfa,
@@ -94,7 +95,7 @@ impl Trial<'_> {
                     id = next;
                     place = after;
                 }
-                Next::Left(next, after) => {
+                Next::OnByRest(next, after) => {
                     *budget = budget.saturating_sub(self.bytes.len() - after);
                     id = next;
                     place = after;
@@ -148,7 +149,7 @@ impl Trial<'_> {
         }
     }
 
-    /// What follows a state at a place.
+    /// What follows a state at a place. A state that writes a cell writes it.
     #[inline(always)]
     fn step(&self, id: StateId, at: usize, cells: &mut [usize; FEW]) -> Next
         requires state { IsState self.now id }

@@ -1,10 +1,10 @@
 use Rattle.urlpattern_engine.proofs.TrialLemmas.{goes_on_first, goes_on_second, stays_open}
 use Rattle.urlpattern_engine.proofs.trial.Trial.choice.Goals as goal
 
-pub returns-then-is_left : goal.returns-then-is_left
-returns-then-is_left c cells =
+pub returns-then-first_fails : goal.returns-then-first_fails
+returns-then-first_fails c cells =
     goes_on_second c.args.self.now c.args.id c.args.first c.args.second c.args.at c.pass-place.result.place c.requires.choice c.requires.states
-    c.pass-place.ensures.within c.pass-place.ensures.same cells (c.pass-place.ensures.left c.if-is_left.true)
+    c.pass-place.ensures.within c.pass-place.ensures.same cells (c.pass-place.ensures.fails c.if-first_fails.true)
 
 pub returns-then-is_open : goal.returns-then-is_open
 returns-then-is_open c cells =

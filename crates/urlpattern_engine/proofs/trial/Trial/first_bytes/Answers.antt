@@ -7,4 +7,4 @@ returns-in_ok-other-in-Split c at inside outside =
     let around = c.either.ensures in
     c.after_writes-seen.ensures.none at
     (needs_either c.args.self.now c.after_writes-seen.result c.in-Split.first c.in-Split.second c.in_ok-one-in-Split.one c.in_ok-other-in-Split.other c.either.result
-    (sym c.in-Split.ensures.is) c.in_ok-one-in-Split.ensures c.in_ok-other-in-Split.ensures around.low.0 around.low.1 around.high.0 around.high.1 at inside outside)
+    (sym c.in-Split.ensures.is) c.in_ok-one-in-Split.ensures c.in_ok-other-in-Split.ensures around.one around.other at inside outside)

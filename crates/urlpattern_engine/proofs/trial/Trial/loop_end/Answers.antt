@@ -8,9 +8,9 @@ bytes-preserved c =
     let trial = c.args.self.now in
     let place = c.bytes.place in
     let inside = c.contains.ensures.0 c.if-not-contains.false in
-    let within : IsInSpan trial c.args.inside place = record { inside = c.bytes-test.true; low = inside.0; high = inside.1 } in
+    let within : IsInSpan trial c.args.inside place = record { inside = c.bytes-test.true; has = inside } in
     let goes = c.requires.goes place within in
-    let left = c.requires.leaves place c.bytes-test.true (λ w. true≢false (sym (c.contains-in-bytes.ensures.1 (w.low, w.high)) ∙ c.if-contains.false)) in
+    let left = c.requires.leaves place c.bytes-test.true (λ w. true≢false (sym (c.contains-in-bytes.ensures.1 w.has) ∙ c.if-contains.false)) in
     record {
       same =
           c.bytes.invariant.same

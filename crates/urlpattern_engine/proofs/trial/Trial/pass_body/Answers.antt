@@ -2,8 +2,8 @@ use Rattle.std.proofs.Common.{arith}
 use Rattle.urlpattern_engine.proofs.TrialLemmas.{none_to_end}
 use Rattle.urlpattern_engine.proofs.trial.Trial.pass_body.Goals as goal
 
-pub returns-clause-left : goal.returns-clause-left
-returns-clause-left c failed =
+pub returns-clause-fails : goal.returns-clause-fails
+returns-clause-fails c failed =
     let trial = c.args.self.now in
     let place = c.loop_end-place.result in
     let last = c.loop_end-last.result in
