@@ -4,4 +4,3 @@
 mod eight;
 
 pub use eight::{COMPONENTS, ComponentName, Eight, NamedValues};
-// x
