@@ -160,6 +160,20 @@ fn write_text<O: Write>(text: &str, out: &mut O) -> io::Result<()> {
     Ok(())
 }
 
+/// Writes nanoseconds as microseconds, to three digits: `0.25`, `27.2`, `126`.
+fn write_microseconds<O: Write>(time: u32, out: &mut O) -> io::Result<()> {
+    let time = u64::from(time);
+    if time < 9_995 {
+        let hundredths = (time + 5) / 10;
+        write!(out, "{}.{:02}", hundredths / 100, hundredths % 100)
+    } else if time < 99_950 {
+        let tenths = (time + 50) / 100;
+        write!(out, "{}.{}", tenths / 10, tenths % 10)
+    } else {
+        write!(out, "{}", (time + 500) / 1000)
+    }
+}
+
 /// Draws the bar of a time, and the time after it in microseconds.
 fn draw_bar<O: Write>(
     time: u32,
@@ -171,16 +185,13 @@ fn draw_bar<O: Write>(
     let length = bar_length(time, longest);
     let end = 246 + length;
     let baseline = top.saturating_add(9);
-    let hundredths = (u64::from(time) + 5) / 10;
-    let (whole, part) = (hundredths / 100, hundredths % 100);
     writeln!(
         out,
         r#"<rect x="240" y="{top}" width="{length}" height="10" fill="{color}"/>"#
     )?;
-    writeln!(
-        out,
-        r#"<text x="{end}" y="{baseline}" font-size="11">{whole}.{part:02}</text>"#
-    )
+    write!(out, r#"<text x="{end}" y="{baseline}" font-size="11">"#)?;
+    write_microseconds(time, out)?;
+    writeln!(out, "</text>")
 }
 
 /// Draws a row: its name, and its two bars one below the other.
