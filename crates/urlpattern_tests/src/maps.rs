@@ -4,7 +4,7 @@ use crate::given::{expect_same, pattern_of, url_of};
 use std::alloc::Global;
 use std::process::Abort;
 use std::test::Fail;
-use urlpattern::{Error, UrlPatternMap};
+use urlpattern::{Error, UrlPattern, UrlPatternMap};
 
 /// Paths, each with a value.
 const ROUTES: [(&str, u32); 3] = [("/users/me", 1), ("/users/:id", 2), ("/users/*", 3)];
@@ -79,6 +79,62 @@ fn a_map_holds_its_routes_and_finds_the_first(rt: HostRuntime) -> Result<(), Fai
     drop(map);
     outcome?;
     Ok(())
+}
+
+/// Some routes as entries, in their order.
+fn entries(alloc: Global, routes: &[(&str, u32)]) -> Result<Vec<(UrlPattern, u32)>, Error> {
+    let mut entries = Vec::new(alloc);
+    for (pathname, value) in routes {
+        entries.push((pattern_of(alloc, &[("pathname", *pathname)])?, *value))?;
+    }
+    Ok(entries)
+}
+
+/// A map of the first route, to which the others are appended at once.
+fn extended(alloc: Global) -> Result<UrlPatternMap<u32>, Error> {
+    let mut map = UrlPatternMap::new(alloc);
+    map.extend(entries(alloc, &ROUTES[..1])?)?;
+    map.extend(entries(alloc, &ROUTES[1..])?)?;
+    map.extend(Vec::new(alloc))?;
+    Ok(map)
+}
+
+#[test]
+fn routes_are_appended_in_their_order(rt: HostRuntime) -> Result<(), Fail> {
+    let map = extended(rt.alloc())?;
+    expect_held(&rt, &map);
+    let outcome = expect_first(&rt, rt.alloc(), &map);
+    drop(map);
+    outcome?;
+    Ok(())
+}
+
+/// Compares a map with all routes, or with the first of them if there was no room for all.
+fn expect_front(rt: &impl Abort, map: &UrlPatternMap<u32>, appended: &Result<(), Error>) {
+    expect_same(
+        rt,
+        map.len() == ROUTES.len(),
+        appended.is_ok(),
+        "whether there was room",
+    );
+    for ((pattern, value), (pathname, expected)) in map.iter().zip(&ROUTES) {
+        assert_eq!(rt; pattern.pathname(), *pathname);
+        assert_eq!(rt; value, expected);
+    }
+    assert!(rt; matches!(appended, Ok(()) | Err(Error::OutOfMemory)));
+}
+
+/// Holds whichever request for memory is refused.
+#[test]
+fn the_first_routes_are_held_if_there_is_no_room_for_all(rt: HostRuntime) {
+    let Ok(entries) = entries(rt.alloc(), &ROUTES) else {
+        return;
+    };
+    let mut map = UrlPatternMap::new(rt.alloc());
+    let appended = map.extend(entries);
+    expect_front(&rt, &map, &appended);
+    drop(appended);
+    drop(map);
 }
 
 /// Removes the second route of three.
