@@ -5,7 +5,7 @@
  * `groups STATUS URL BASE GROUPS` writes its groups, `link STATUS TEXT GIVEN URL` asks for a URL with groups, `text COMPONENT TEXT` reads a
  * component, `custom STATUS` asks for a custom regular expression, `first STATUS URL BASE INDEX` finds the first match, and
  * `covers STATUS IGNORES COMPONENT PATTERN BASE ASKED BASE` and `covers_init STATUS IGNORES COMPONENT JSON ASKED` compare two patterns. The
- * last line counts the answers that are as they should be.
+ * last line counts the answers that are as they should be. Texts that are not UTF-8 come first.
  *
  * A group of GROUPS is a byte 1, the digit of its component, its name, a byte 2, `+` with what it captured, if it took part, and a byte 3.
  * GIVEN has five numbers for each group, with commas between them.
@@ -272,8 +272,76 @@ static void ask(char **words, unsigned number) {
     }
 }
 
+/* Whether each text that is not UTF-8 is reported, and first that there is no such pattern. */
+static void ask_bytes(void) {
+    static const char url[] = "https://example.com/a", bad[] = "\xc3";
+    static const char bad_json[] = "{\"hash\":\"\xc3\"}";
+    const size_t length = sizeof url - 1, json = sizeof bad_json - 1;
+    size_t number = 0;
+    uint32_t component = 0, missed = 0;
+    urlpattern_sizes sizes;
+    urlpattern_place place;
+    urlpattern_list none = URLPATTERN_EMPTY;
+    uint32_t status = urlpattern_add(&patterns, url, length, "", 0, false);
+    compare(status == URLPATTERN_DONE, 0, status);
+    uint32_t statuses[] = {
+        urlpattern_add(&patterns, bad, 1, "", 0, false),
+        urlpattern_add(&patterns, "/a", 2, bad, 1, false),
+        urlpattern_add_init(&patterns, bad_json, json, false),
+        urlpattern_test(&patterns, 0, bad, 1, "", 0),
+        urlpattern_test(&patterns, 0, url, length, bad, 1),
+        urlpattern_first(&patterns, bad, 1, "", 0, &number),
+        urlpattern_mismatch(&patterns, 0, bad, 1, "", 0, &component),
+        urlpattern_exec(&patterns, 0, bad, 1, "", 0, buffer, ROOM, &number),
+        urlpattern_captures(&patterns, 0, bad, 1, "", 0, buffer, ROOM, spans, SPANS, &sizes),
+        urlpattern_first_captures(&patterns, bad, 1, "", 0, &number, buffer, ROOM, spans, SPANS,
+                                  &sizes),
+        urlpattern_covers(bad, 1, "", 0, url, length, "", 0, false, &missed),
+        urlpattern_covers(url, length, "", 0, url, length, bad, 1, false, &missed),
+        urlpattern_covers_init("{}", 2, bad_json, json, false, &missed),
+        urlpattern_diagnose(bad, 1, "", 0, false, buffer, ROOM, &number, &place),
+        urlpattern_diagnose("(", 1, bad, 1, false, buffer, ROOM, &number, &place),
+        urlpattern_diagnose_init(bad_json, json, false, buffer, ROOM, &number, &place),
+    };
+    for (size_t at = 0; at < sizeof statuses / sizeof statuses[0]; at++) {
+        compare(statuses[at] == URLPATTERN_NOT_UTF8, 0, statuses[at]);
+    }
+    compare(component == COMPONENTS && missed == COMPONENTS, 0, URLPATTERN_NOT_UTF8);
+    status = urlpattern_test(&patterns, 1, bad, 1, "", 0);
+    compare(status == URLPATTERN_NO_PATTERN, 0, status);
+    status = urlpattern_first(&none, bad, 1, "", 0, &number);
+    compare(status == URLPATTERN_NO_PATTERN, 0, status);
+}
+
+static uint32_t link_with(const char *groups, size_t length, urlpattern_given part,
+                          size_t *needed) {
+    return urlpattern_link(&patterns, 0, groups, length, &part, 1, buffer, ROOM, needed);
+}
+
+/* Whether each part of the text of a link has to be UTF-8, and the text as a whole need not be. */
+static void ask_parts(void) {
+    static const char pattern[] = "https://example.com/:id", groups[] = "id\xc3\xa9\xff";
+    static const urlpattern_given whole = { 5, 0, 2, 2, 2 }, cut = { 5, 0, 2, 2, 1 };
+    static const urlpattern_given bad = { 5, 0, 2, 4, 1 };
+    static char url[] = "https://example.com/%C3%A9";
+    text wanted = { url, sizeof url - 1 };
+    size_t needed = 0, length = sizeof groups - 1;
+    urlpattern_free(&patterns);
+    uint32_t status = urlpattern_add(&patterns, pattern, sizeof pattern - 1, "", 0, false);
+    compare(status == URLPATTERN_DONE, 0, status);
+    memset(buffer, EDGE, sizeof url);
+    status = link_with(groups, length, whole, &needed);
+    compare(is_written(status, needed, wanted), 0, status);
+    status = link_with(groups, length, cut, &needed);
+    compare(status == URLPATTERN_NO_PATTERN, 0, status);
+    status = link_with(groups, length, bad, &needed);
+    compare(status == URLPATTERN_NO_PATTERN, 0, status);
+}
+
 int main(void) {
     compare(urlpattern_version() == URLPATTERN_VERSION, 0, URLPATTERN_DONE);
+    ask_bytes();
+    ask_parts();
     for (unsigned number = 1; fgets(line, sizeof line, stdin); number++) {
         char *words[WORDS] = { "", "", "-", "-", "-", "-", "-", "-" };
         int count = 0;

@@ -1,20 +1,45 @@
-/* URL patterns, as those of browsers: texts such as "https://example.com/users/:id" that say which URLs are meant, and name their
- * pieces. The functions are those of the library `urlpattern`, whose answers are proved.
+/* URL patterns, as those of browsers: texts such as "https://example.com/users/:id" that say which
+ * URLs are meant, and name their pieces. The functions are those of the library `urlpattern`, whose
+ * answers are proved.
  *
  * A caller guarantees:
  *
- * - Each text is a pointer and a number of bytes that may be read there. The pointer is not null, even if there are no bytes. That the
- *   bytes are UTF-8 is checked. So it is with groups that are given, a pointer and a number of elements.
- * - Each other pointer leads to a value of its type that may be written, and that nothing else uses during the call; a buffer to as
- *   many bytes, and an array to as many elements, as its size says. Neither pointer is null, even if the size is 0. No two arguments
- *   overlap, but for texts.
- * - A handle holds zeros (`URLPATTERN_EMPTY`) before its first call. After that only these functions write it, it is not copied, and one
- *   call at a time has it. Each call of a handle is made by the same thread: that another one may make it is not proved.
- * - `malloc`, `realloc` and `free` come from one allocator, and align a block to each power of two up to 16 that divides its size.
+ * - Each text is a pointer and a number of bytes that may be read there. The pointer is not null,
+ *   even if there are no bytes. So it is with groups that are given, a pointer and a number of
+ *   elements.
+ * - Each other pointer leads to a value of its type that may be written, and that nothing else uses
+ *   during the call; a buffer to as many bytes, and an array to as many elements, as its size says.
+ *   Neither pointer is null, even if the size is 0. No two arguments overlap, but for texts.
+ * - A handle holds zeros (`URLPATTERN_EMPTY`) before its first call. After that only these
+ *   functions write it, it is not copied, and one call at a time has it. Each call of a handle is
+ *   made by the same thread: that another one may make it is not proved.
+ * - `malloc`, `realloc` and `free` come from one allocator, and align a block to each power of two
+ *   up to 16 that divides its size.
  * - No call is made from a signal handler, nor from the forked child of a process with threads.
  *
- * No function keeps a pointer that it was given, but for the handle's own memory. None has global state, prints anything or ends the
- * program.
+ * No function keeps a pointer that it was given, but for the handle's own memory. None has global
+ * state, prints anything or ends the program.
+ *
+ * No URL. NO_MATCH says that a URL does not match, or that a text is no URL, and a URL or a base
+ * URL of 16 MB (2^24 bytes) or more may count as none. So a program that denies what matches does
+ * not permit a text for NO_MATCH alone, nor for any other status, but only if text and base also
+ * have less than 16 MB, and `urlpattern_mismatch`, of whichever pattern, reports DONE or a component
+ * less than 8: then the text is a URL.
+ *
+ * Base URLs. A base URL does not tie a URL to its host. Under `https://example.com/` the text
+ * `//other.com/x` is the URL `https://other.com/x`, also with backslashes, and an absolute URL is
+ * itself.
+ *
+ * Bytes. A URL, a base URL, a pattern or JSON that is not UTF-8 gets NOT_UTF8; NO_PATTERN comes
+ * before that, and with two patterns a refusal of the first one does. Which status such bytes get
+ * is tested, not proved. The text of `urlpattern_link` need not be UTF-8, but each part of it that
+ * is given has to be, or the status is NO_PATTERN.
+ *
+ * Buffers. A text is written to the start of a buffer, without a byte 0 after it, and the rest of
+ * the buffer is as it was; `needed` is how many bytes the text has. For TOO_SMALL `needed` is that
+ * too, and the buffer is as it was. For each other status the buffer is as it was, and nothing is
+ * promised of `needed`. Only `urlpattern_captures` and `urlpattern_first_captures` may leave part
+ * of a match that is too large, as they say.
  */
 #ifndef URLPATTERN_H
 #define URLPATTERN_H
@@ -36,64 +61,80 @@ uint32_t urlpattern_version(void);
 /* What a call reports. */
 enum urlpattern_status {
     URLPATTERN_DONE = 0,          /* it is done; of a match: there is one */
-    URLPATTERN_NO_MATCH = 1,      /* no match, or the text is no URL */
+    URLPATTERN_NO_MATCH = 1,      /* no match, or the text counts as no URL */
     URLPATTERN_NOT_UTF8 = 2,      /* a text is not UTF-8 */
-    URLPATTERN_REFUSED = 3,       /* the pattern is refused; `urlpattern_diagnose` and `urlpattern_diagnose_init` say why */
-    URLPATTERN_OUT_OF_MEMORY = 4, /* memory ran out; the handle is as it was */
-    URLPATTERN_NO_PATTERN = 5,    /* the handle has no pattern of this index, or there is no component or group of this number */
-    URLPATTERN_TOO_SMALL = 6,     /* the buffer is too small; it is as it was, and `needed` has the size that is needed */
+    URLPATTERN_REFUSED = 3,       /* a pattern is refused; of `urlpattern_link`: there is no URL */
+    URLPATTERN_OUT_OF_MEMORY = 4, /* memory ran out; the patterns are as they were */
+    URLPATTERN_NO_PATTERN = 5,    /* no pattern of this index, no component or group of a number */
+    URLPATTERN_TOO_SMALL = 6,     /* too little room; `needed` has the size that is needed */
     URLPATTERN_UNKNOWN = 7        /* it is not known whether a pattern covers another one */
 };
 
-/* A handle: patterns in their order, as the routes of a router, each named by its index from 0 on. One pattern is a list of one. */
+/* A handle: patterns in their order, as the routes of a router, each named by its index from 0
+ * on. One pattern is a list of one. */
 typedef struct urlpattern_list {
     bool is_made;
     void *at;
 } urlpattern_list;
 
-/* What a handle is before its first call, and after it is freed. It has no pattern, and no memory. */
+/* What a handle is before its first call, and after it is freed. It has no pattern, and no
+ * memory. */
 #define URLPATTERN_EMPTY { false, NULL }
 
-/* Compiles a constructor string, and appends the pattern. The base URL is what the string inherits from; no bytes: there is none.
- * With `ignore_case` the path, the query and the fragment are matched without regard to the case of ASCII letters.
- * DONE, NOT_UTF8, REFUSED, or OUT_OF_MEMORY; but for DONE, the patterns are as they were. */
-uint32_t urlpattern_add(urlpattern_list *patterns, const char *text, size_t length, const char *base, size_t base_length,
-                        bool ignore_case);
-
-/* Compiles an init, and appends the pattern. The init is an object of JSON with some of `protocol`, `username`, `password`, `hostname`,
- * `port`, `pathname`, `search`, `hash` and `baseURL`, each a text or null, as browsers take it.
- * DONE, NOT_UTF8, REFUSED (also where the JSON is no such object, or the base URL is refused), or OUT_OF_MEMORY; but for DONE, the
+/* Compiles a constructor string, and appends the pattern. The base URL is what the string
+ * inherits from; no bytes: there is none. With `ignore_case` the path, the query and the
+ * fragment are matched without regard to the case of ASCII letters.
+ * DONE, NOT_UTF8, REFUSED (`urlpattern_diagnose` says why), or OUT_OF_MEMORY; but for DONE, the
  * patterns are as they were. */
-uint32_t urlpattern_add_init(urlpattern_list *patterns, const char *json, size_t length, bool ignore_case);
+uint32_t urlpattern_add(urlpattern_list *patterns, const char *text, size_t length,
+                        const char *base, size_t base_length, bool ignore_case);
+
+/* Compiles an init, and appends the pattern. The init is an object of JSON with some of
+ * `protocol`, `username`, `password`, `hostname`, `port`, `pathname`, `search`, `hash` and
+ * `baseURL`, each a text or null, as browsers take it: any other key is passed over, so that
+ * `{"path":"/x"}` is the pattern that matches every URL.
+ * DONE, NOT_UTF8, REFUSED (`urlpattern_diagnose_init` says why, unless the JSON is no such
+ * object or the base URL is refused), or OUT_OF_MEMORY; but for DONE, the patterns are as they
+ * were. */
+uint32_t urlpattern_add_init(urlpattern_list *patterns, const char *json, size_t length,
+                             bool ignore_case);
 
 /* Frees the patterns. The handle is empty again, so that it may be used, or freed once more. */
 void urlpattern_free(urlpattern_list *patterns);
 
-/* Whether the pattern of this index matches a URL, which may be relative to a base URL; no bytes: there is none.
+/* Whether the pattern of this index matches a URL, which may be relative to a base URL; no
+ * bytes: there is none.
  * DONE (a match), NO_MATCH, NOT_UTF8, OUT_OF_MEMORY, or NO_PATTERN. */
-uint32_t urlpattern_test(urlpattern_list *patterns, size_t index, const char *url, size_t length, const char *base, size_t base_length);
+uint32_t urlpattern_test(urlpattern_list *patterns, size_t index, const char *url, size_t length,
+                         const char *base, size_t base_length);
 
 /* Finds the first pattern that matches a URL, and writes its index.
- * DONE, NO_MATCH, NOT_UTF8, OUT_OF_MEMORY, or NO_PATTERN (an empty handle); but for DONE, `index` is as it was. */
-uint32_t urlpattern_first(urlpattern_list *patterns, const char *url, size_t length, const char *base, size_t base_length, size_t *index);
+ * DONE, NO_MATCH, NOT_UTF8, OUT_OF_MEMORY, or NO_PATTERN (an empty handle); but for DONE,
+ * `index` is as it was. */
+uint32_t urlpattern_first(urlpattern_list *patterns, const char *url, size_t length,
+                          const char *base, size_t base_length, size_t *index);
 
-/* Whether the pattern of this index matches a URL, and if not, which component is the first that does not: `component` is its number, as
- * of `urlpattern_component`, or 8 if there is none, as where the text is no URL.
- * DONE (a match), NO_MATCH, NOT_UTF8, OUT_OF_MEMORY, or NO_PATTERN. */
-uint32_t urlpattern_mismatch(urlpattern_list *patterns, size_t index, const char *url, size_t length, const char *base, size_t base_length,
+/* Whether the pattern of this index matches a URL, and if not, which component is the first that
+ * does not: `component` is its number, as of `urlpattern_component`.
+ * DONE (a match), NO_MATCH, NOT_UTF8, OUT_OF_MEMORY, or NO_PATTERN. For NO_MATCH a component of
+ * 8 says that the text counts as no URL; for the other statuses it is 8. */
+uint32_t urlpattern_mismatch(urlpattern_list *patterns, size_t index,
+                             const char *url, size_t length, const char *base, size_t base_length,
                              uint32_t *component);
 
-/* Writes the match of a URL as JSON, in the shape of a browser's `exec`: an object with `input` and `groups` of each component. A group
- * that took no part is null.
- * DONE, NO_MATCH, NOT_UTF8, OUT_OF_MEMORY, NO_PATTERN, or TOO_SMALL. For DONE and TOO_SMALL `needed` is how many bytes the text has. */
-uint32_t urlpattern_exec(urlpattern_list *patterns, size_t index, const char *url, size_t length, const char *base, size_t base_length,
+/* Writes the match of a URL as JSON, in the shape of a browser's `exec`: an object with `input`
+ * and `groups` of each component. A group that took no part is null.
+ * DONE, NO_MATCH, NOT_UTF8, OUT_OF_MEMORY, NO_PATTERN, or TOO_SMALL. */
+uint32_t urlpattern_exec(urlpattern_list *patterns, size_t index, const char *url, size_t length,
+                         const char *base, size_t base_length,
                          char *buffer, size_t room, size_t *needed);
 
 /* Where the text of a group lies in a text that is written. */
 typedef struct urlpattern_span {
     uint32_t component; /* the number of the component, as of `urlpattern_component` */
-    uint32_t took_part; /* 1: the group took part in the match, 0: it took no part, and its text has no bytes */
-    size_t group;       /* the number of the group in its component, from 0 on, as of `urlpattern_group_name` */
+    uint32_t took_part; /* 1: the group took part in the match; 0: it did not, and has no bytes */
+    size_t group;       /* the number of the group in its component, from 0 on, as of
+                         * `urlpattern_group_name` */
     size_t start;       /* the byte at which its text begins */
     size_t length;      /* how many bytes its text has */
 } urlpattern_span;
@@ -104,18 +145,27 @@ typedef struct urlpattern_sizes {
     size_t spans;
 } urlpattern_sizes;
 
-/* Writes what the groups of the pattern of this index capture of a URL: to the buffer the text of each, one after the other, and to the
- * array a span for each, component by component in the order of their numbers.
- * DONE, NO_MATCH, NOT_UTF8, OUT_OF_MEMORY, NO_PATTERN, or TOO_SMALL. For DONE and TOO_SMALL `needed` is how many bytes and spans there
- * are. For TOO_SMALL and OUT_OF_MEMORY the buffer and the array may be written, though not past their sizes; for the others they are as
- * they were. */
-uint32_t urlpattern_captures(urlpattern_list *patterns, size_t index, const char *url, size_t length, const char *base, size_t base_length,
-                             char *buffer, size_t room, urlpattern_span *spans, size_t span_room, urlpattern_sizes *needed);
+/* Writes what the groups of the pattern of this index capture of a URL: to the buffer the text
+ * of each, one after the other, and to the array a span for each, component by component in the
+ * order of their numbers. The rest of both is as it was.
+ * DONE, NO_MATCH, NOT_UTF8, OUT_OF_MEMORY, NO_PATTERN, or TOO_SMALL (the buffer or the array
+ * is). For DONE and TOO_SMALL `needed` is how many bytes and spans there are. For TOO_SMALL and
+ * OUT_OF_MEMORY anything may be in the buffer and in the array, though nothing is written past
+ * their sizes; for NO_MATCH, NOT_UTF8 and NO_PATTERN they are as they were. */
+uint32_t urlpattern_captures(urlpattern_list *patterns, size_t index,
+                             const char *url, size_t length, const char *base, size_t base_length,
+                             char *buffer, size_t room, urlpattern_span *spans, size_t span_room,
+                             urlpattern_sizes *needed);
 
-/* Finds the first pattern that matches a URL, and writes its index, and its groups as `urlpattern_captures` does.
- * DONE, NO_MATCH, NOT_UTF8, OUT_OF_MEMORY, NO_PATTERN (an empty handle), or TOO_SMALL, for which `index` is written too. */
-uint32_t urlpattern_first_captures(urlpattern_list *patterns, const char *url, size_t length, const char *base, size_t base_length,
-                                   size_t *index, char *buffer, size_t room, urlpattern_span *spans, size_t span_room,
+/* Finds the first pattern that matches a URL, and writes its index, and its groups as
+ * `urlpattern_captures` does.
+ * DONE, NO_MATCH, NOT_UTF8, OUT_OF_MEMORY, NO_PATTERN (an empty handle), or TOO_SMALL. For DONE
+ * and TOO_SMALL `index` is written; for OUT_OF_MEMORY it may be; for the others it is as it was.
+ * The buffer, the array and `needed` are as `urlpattern_captures` leaves them. */
+uint32_t urlpattern_first_captures(urlpattern_list *patterns, const char *url, size_t length,
+                                   const char *base, size_t base_length, size_t *index,
+                                   char *buffer, size_t room,
+                                   urlpattern_span *spans, size_t span_room,
                                    urlpattern_sizes *needed);
 
 /* What is given for a group: its name and a text for it, which are parts of one text. */
@@ -127,56 +177,76 @@ typedef struct urlpattern_given {
     size_t length;      /* how many bytes it has */
 } urlpattern_given;
 
-/* Writes the URL that the pattern of this index matches with these groups, or why there is none. A name has to be given, unless it is
- * optional; a wildcard that is not given is empty. What is given for a group that the pattern has not is ignored.
- * DONE, REFUSED (there is no such URL, and the reason is written), OUT_OF_MEMORY, NO_PATTERN (also where there is no component of a
- * number, or a part lies outside of the text or is not UTF-8), or TOO_SMALL. For DONE, REFUSED and TOO_SMALL `needed` is how many bytes
- * the URL or the reason has. */
-uint32_t urlpattern_link(urlpattern_list *patterns, size_t index, const char *text, size_t length, const urlpattern_given *given,
-                         size_t count, char *buffer, size_t room, size_t *needed);
+/* Writes the URL that the pattern of this index matches with these groups, or why there is none.
+ * A name has to be given, unless it is optional; a wildcard that is not given is empty. What is
+ * given for a group that the pattern has not is ignored.
+ * DONE (the URL is written), REFUSED (the pattern has no URL with these groups, and the reason
+ * is written), OUT_OF_MEMORY, NO_PATTERN (also where there is no component of a number, or a
+ * part lies outside of the text or is not UTF-8, as one that cuts a character), or TOO_SMALL
+ * (there is no room for the URL, or for the reason, and `needed` does not say for which). */
+uint32_t urlpattern_link(urlpattern_list *patterns, size_t index, const char *text, size_t length,
+                         const urlpattern_given *given, size_t count,
+                         char *buffer, size_t room, size_t *needed);
 
-/* Writes the name of a group, by its number in a component: a group that has none in the pattern is named by a number of its own.
- * DONE, NO_PATTERN, or TOO_SMALL, with `needed` as of `urlpattern_exec`. */
-uint32_t urlpattern_group_name(urlpattern_list *patterns, size_t index, uint32_t component, size_t group, char *buffer, size_t room,
-                               size_t *needed);
+/* Writes the name of a group, by its number in a component: a group that has none in the pattern
+ * is named by a number of its own.
+ * DONE, NO_PATTERN, or TOO_SMALL. */
+uint32_t urlpattern_group_name(urlpattern_list *patterns, size_t index, uint32_t component,
+                               size_t group, char *buffer, size_t room, size_t *needed);
 
-/* Writes the pattern text of a component: 0 protocol, 1 username, 2 password, 3 hostname, 4 port, 5 pathname, 6 search, 7 hash.
- * DONE, NO_PATTERN, or TOO_SMALL, with `needed` as of `urlpattern_exec`. */
-uint32_t urlpattern_component(urlpattern_list *patterns, size_t index, uint32_t component, char *buffer, size_t room, size_t *needed);
+/* Writes the pattern text of a component: 0 protocol, 1 username, 2 password, 3 hostname, 4
+ * port, 5 pathname, 6 search, 7 hash.
+ * DONE, NO_PATTERN, or TOO_SMALL. */
+uint32_t urlpattern_component(urlpattern_list *patterns, size_t index, uint32_t component,
+                              char *buffer, size_t room, size_t *needed);
 
-/* Whether the pattern of this index has a custom regular expression, as `hasRegExpGroups` of a browser.
+/* Whether the pattern of this index has a custom regular expression, as `hasRegExpGroups` of a
+ * browser.
  * DONE (it has one), NO_MATCH (it has none), or NO_PATTERN. */
 uint32_t urlpattern_has_regexp_groups(urlpattern_list *patterns, size_t index);
 
-/* Whether a pattern covers the asked one: whether it matches each URL that the asked one matches. Both are constructor strings with base
- * URLs, as `urlpattern_add` takes them, since a pattern in a handle does not keep what patterns are compared by; both ignore case, or
- * neither does. `component` is a number, as of `urlpattern_component`, or 8 if there is none.
- * DONE (it covers it), NO_MATCH (it does not: it does not match a text of this component that the asked one matches), UNKNOWN (because of
- * this component: it has a custom regular expression, ignores case, or would take too many steps to compare), NOT_UTF8, REFUSED (one of
- * the patterns is), or OUT_OF_MEMORY. */
-uint32_t urlpattern_covers(const char *text, size_t length, const char *base, size_t base_length, const char *asked, size_t asked_length,
-                           const char *asked_base, size_t asked_base_length, bool ignore_case, uint32_t *component);
+/* Whether a pattern covers the asked one: whether it matches each URL that the asked one
+ * matches. Both are constructor strings with base URLs, as `urlpattern_add` takes them, since a
+ * pattern in a handle does not keep what patterns are compared by; both ignore case, or neither
+ * does. `component` is a number, as of `urlpattern_component`, or 8 if there is none.
+ * DONE (it covers it), NO_MATCH (it does not: it does not match a text of this component that
+ * the asked one matches), UNKNOWN (because of this component: it has a custom regular
+ * expression, ignores case, or would take too many steps to compare), NOT_UTF8 (a text of one of
+ * the two is not), REFUSED (one of the two is refused, and `urlpattern_diagnose` of each says
+ * which and why), or OUT_OF_MEMORY. But for NO_MATCH and UNKNOWN `component` is 8. */
+uint32_t urlpattern_covers(const char *text, size_t length, const char *base, size_t base_length,
+                           const char *asked, size_t asked_length,
+                           const char *asked_base, size_t asked_base_length,
+                           bool ignore_case, uint32_t *component);
 
-/* The same of inits, objects of JSON, as `urlpattern_add_init` takes them. */
-uint32_t urlpattern_covers_init(const char *json, size_t length, const char *asked, size_t asked_length, bool ignore_case,
-                                uint32_t *component);
+/* The same of inits, objects of JSON, as `urlpattern_add_init` takes them. REFUSED also where
+ * one of the two is no such object, or its base URL is refused. */
+uint32_t urlpattern_covers_init(const char *json, size_t length,
+                                const char *asked, size_t asked_length,
+                                bool ignore_case, uint32_t *component);
 
 /* The part of a text that is at fault, in bytes. */
 typedef struct urlpattern_place {
-    uint32_t subject; /* 0: the pattern's text, 1: the base URL; of an init, 2 and the number of the component whose text it is */
+    uint32_t subject; /* 0: the pattern's text, 1: the base URL; of an init, 2 and the number of the
+                       * component whose text it is */
     size_t start;
     size_t end;
 } urlpattern_place;
 
 /* Writes why `urlpattern_add` refuses these texts, and the place that is at fault.
- * DONE, NO_MATCH (they are accepted), NOT_UTF8, OUT_OF_MEMORY, or TOO_SMALL, with `needed` as of `urlpattern_exec`. */
-uint32_t urlpattern_diagnose(const char *text, size_t length, const char *base, size_t base_length, bool ignore_case, char *buffer,
-                             size_t room, size_t *needed, urlpattern_place *place);
+ * DONE, NO_MATCH (they are accepted), NOT_UTF8, OUT_OF_MEMORY, or TOO_SMALL. For DONE and
+ * TOO_SMALL `place` is written; for the others nothing is promised of it. */
+uint32_t urlpattern_diagnose(const char *text, size_t length, const char *base, size_t base_length,
+                             bool ignore_case, char *buffer, size_t room, size_t *needed,
+                             urlpattern_place *place);
 
-/* Writes why `urlpattern_add_init` refuses an init, and the place that is at fault in one of its texts.
- * DONE, NO_MATCH (it is accepted), NOT_UTF8, REFUSED (the JSON is no init, or the base URL is refused), OUT_OF_MEMORY, or TOO_SMALL, with
- * `needed` as of `urlpattern_exec`. */
-uint32_t urlpattern_diagnose_init(const char *json, size_t length, bool ignore_case, char *buffer, size_t room, size_t *needed,
+/* Writes why `urlpattern_add_init` refuses an init, and the place that is at fault in one of its
+ * texts.
+ * DONE, NO_MATCH (it is accepted), NOT_UTF8, REFUSED (the JSON is no init, or the base URL is
+ * refused, and no reason is written), OUT_OF_MEMORY, or TOO_SMALL, with `place` as of
+ * `urlpattern_diagnose`. */
+uint32_t urlpattern_diagnose_init(const char *json, size_t length, bool ignore_case,
+                                  char *buffer, size_t room, size_t *needed,
                                   urlpattern_place *place);
 
 #ifdef __cplusplus

@@ -4,19 +4,39 @@
     >>> pattern.exec("https://example.com/users/7")["pathname"]["groups"]
     {'id': '7'}
 
-The shared object is the one that the environment variable URLPATTERN_LIBRARY names, or else `liburlpattern.so` beside this file.
+The shared object is the one that the environment variable URLPATTERN_LIBRARY names, or else
+`liburlpattern.so` beside this file.
 
-Give each object to one thread, which makes all its calls and frees it: that a handle may go to another thread is not proved. Calls of
-different objects may be made at the same time, and the interpreter's lock is held during each.
+A text that is no URL does not match, and a URL or base of 16 MB (2**24 bytes in UTF-8) or more may
+count as none. So a rule that denies what matches lets such a text through: reject it before the
+call. `mismatch` raises ValueError where a text counts as no URL. A base does not tie a URL to its
+host: `//other.com/x` and `https://other.com/x` have the host other.com under each base of the web.
+
+Threads may share an object. Each call has memory of its own for what it returns, and the
+interpreter's lock is held while the library runs (an interpreter without it gets a lock of this
+module). A pattern that one thread appends is there for all once `append` returns. Of this the
+proofs of the library say nothing: they are about calls of a handle that one thread makes, one after
+the other. That another thread may make them, or free the handle, is not proved but tested, by eight
+threads that share objects. To rely on proofs alone, make, use and drop an object in one thread.
 """
 import ctypes
 import json
+import operator
 import os
 import struct
+import sys
+import threading
+from types import SimpleNamespace
+from typing import NamedTuple
 
-__all__ = ["URLPattern", "URLPatternList", "URLPatternError", "version"]
+__all__ = ["First", "FirstCaptures", "URLPattern", "URLPatternError", "URLPatternList", "version"]
 
 COMPONENTS = ("protocol", "username", "password", "hostname", "port", "pathname", "search", "hash")
+_NUMBERS = {name: number for number, name in enumerate(COMPONENTS)}
+
+# The keys of a dict, and what other libraries call them.
+_KEYS = (*COMPONENTS, "baseURL")
+_SYNONYMS = {"scheme": "protocol", "netloc": "hostname", "query": "search", "fragment": "hash"}
 
 DONE, NO_MATCH, NOT_UTF8, REFUSED, OUT_OF_MEMORY, NO_PATTERN, TOO_SMALL, UNKNOWN = range(8)
 
@@ -24,9 +44,44 @@ DONE, NO_MATCH, NOT_UTF8, REFUSED, OUT_OF_MEMORY, NO_PATTERN, TOO_SMALL, UNKNOWN
 ROOM = 1024
 SPANS = 16
 
+# For how many bytes memory has room at most that is kept for later calls.
+KEPT = 1 << 16
+
+
+def _open():
+    """The shared object. The interpreter's lock is held during each call."""
+    beside = os.path.join(os.path.dirname(os.path.abspath(__file__)), "liburlpattern.so")
+    return ctypes.PyDLL(os.environ.get("URLPATTERN_LIBRARY") or beside)
+
+
+_library = _open()
+
+# What keeps calls apart where the interpreter has no lock, and what appends apart anywhere.
+_CALLING, _ADDING = threading.RLock(), threading.RLock()
+
+
+def _function(name, arguments=None, result=ctypes.c_uint32):
+    """A function of the library. Without types its arguments have to have those of C: to convert
+    them takes longer than to match."""
+    function = getattr(_library, f"urlpattern_{name}")
+    function.argtypes, function.restype = arguments, result
+    if getattr(sys, "_is_gil_enabled", lambda: True)():
+        return function
+
+    def alone(*given, lock=_CALLING):
+        with lock:
+            return function(*given)
+
+    return alone
+
 
 class _Handle(ctypes.Structure):
+    """Patterns of the library. They are freed when nothing refers to this object any more."""
+
     _fields_ = [("is_made", ctypes.c_bool), ("at", ctypes.c_void_p)]
+
+    def __del__(self, free=_function("free", result=None), address=ctypes.byref):
+        free(address(self))
 
 
 class _Place(ctypes.Structure):
@@ -43,21 +98,52 @@ class _Given(ctypes.Structure):
     ]
 
 
-# A span, as the header declares it: the component, whether the group took part, its number, and where its text begins and how long it is.
-_SPAN = struct.Struct("@IINNN")
-
-
 class _Sizes(ctypes.Structure):
     _fields_ = [("bytes", ctypes.c_size_t), ("spans", ctypes.c_size_t)]
 
 
+# A span, as the header declares it: the component, whether the group took part, its number, and
+# where its text begins and how long it is.
+_SPAN = struct.Struct("@IINNN")
+
+
+def _declared():
+    """The functions that are called by name."""
+    handle, text, size = ctypes.POINTER(_Handle), ctypes.c_char_p, ctypes.c_size_t
+    number, ignores = ctypes.POINTER(ctypes.c_uint32), ctypes.c_bool
+    string, init = [text, size, text, size], [text, size]
+    reason = [text, size, ctypes.POINTER(size), ctypes.POINTER(_Place)]
+    matching = ("test", "first", "mismatch", "exec", "captures", "first_captures")
+    writing = ("link", "group_name", "component", "has_regexp_groups")
+    return SimpleNamespace(
+        **{name: _function(name) for name in (*matching, *writing)},
+        add=_function("add", [handle, *string, ignores]),
+        add_init=_function("add_init", [handle, *init, ignores]),
+        covers=_function("covers", [*string, *string, ignores, number]),
+        covers_init=_function("covers_init", [*init, *init, ignores, number]),
+        diagnose=_function("diagnose", [*string, ignores, *reason]),
+        diagnose_init=_function("diagnose_init", [*init, ignores, *reason]),
+        version=_function("version", []),
+    )
+
+
+_calls = _declared()
+_test, _first, _exec = _calls.test, _calls.first, _calls.exec
+_captures, _first_captures = _calls.captures, _calls.first_captures
+
+
 class _Numbers(dict):
-    """Numbers as arguments of C's type `size_t`. Those below ROOM are made once."""
+    """Numbers as arguments of C's type `size_t`, and the largest of those for any other number.
+    Those below ROOM are made once."""
+
+    LARGEST = ctypes.c_size_t(-1).value
 
     def __missing__(self, number):
-        made = ctypes.c_size_t.from_param(number)
-        if number < ROOM:
-            self[number] = made
+        number = operator.index(number)
+        within = number if 0 <= number <= self.LARGEST else self.LARGEST
+        made = ctypes.c_size_t.from_param(within)
+        if within < ROOM:
+            self[within] = made
         return made
 
 
@@ -66,55 +152,49 @@ _NONE = _SIZE[0]
 _NO_TEXT = ctypes.c_char_p.from_param(b"")
 
 
-def _load():
-    path = os.environ.get("URLPATTERN_LIBRARY") or os.path.join(os.path.dirname(os.path.abspath(__file__)), "liburlpattern.so")
-    library = ctypes.PyDLL(path)
-    handle, text, size, status = ctypes.POINTER(_Handle), ctypes.c_char_p, ctypes.c_size_t, ctypes.c_uint32
-    texts, room = [text, size, text, size], [ctypes.c_char_p, size, ctypes.POINTER(size)]
-    # What matches a URL or writes a text takes arguments that have their types: to convert them takes longer than to match.
-    as_they_are = None
-    for name, arguments, result in (
-        ("add", [handle, *texts, ctypes.c_bool], status),
-        ("add_init", [handle, text, size, ctypes.c_bool], status),
-        ("free", [handle], None),
-        ("test", as_they_are, status),
-        ("first", as_they_are, status),
-        ("mismatch", as_they_are, status),
-        ("exec", as_they_are, status),
-        ("captures", as_they_are, status),
-        ("first_captures", as_they_are, status),
-        ("link", as_they_are, status),
-        ("group_name", as_they_are, status),
-        ("component", as_they_are, status),
-        ("has_regexp_groups", [handle, size], status),
-        ("covers", [*texts, *texts, ctypes.c_bool, ctypes.POINTER(status)], status),
-        ("covers_init", [text, size, text, size, ctypes.c_bool, ctypes.POINTER(status)], status),
-        ("version", [], ctypes.c_uint32),
-        ("diagnose", [*texts, ctypes.c_bool, *room, ctypes.POINTER(_Place)], status),
-        ("diagnose_init", [text, size, ctypes.c_bool, *room, ctypes.POINTER(_Place)], status),
-    ):
-        function = getattr(library, f"urlpattern_{name}")
-        function.argtypes, function.restype = arguments, result
-    return library
+class _Memory:
+    """Memory that one call has: for a text, spans and sizes, with the arguments for them."""
+
+    __slots__ = ("text", "spans", "number", "sizes", "is_kept", "for_number", "for_text", "for_match", "for_first")
+
+    def __init__(self, size=ROOM, count=SPANS):
+        self.text = (ctypes.c_char * size)()
+        self.spans = (ctypes.c_char * (count * _SPAN.size))()
+        self.number, self.sizes = ctypes.c_size_t(), _Sizes()
+        self.is_kept = size + count * _SPAN.size <= KEPT
+        text, spans = ctypes.byref(self.text), ctypes.byref(self.spans)
+        self.for_number = ctypes.byref(self.number)
+        self.for_text = text, _SIZE[size], self.for_number
+        self.for_match = text, _SIZE[size], spans, _SIZE[count], ctypes.byref(self.sizes)
+        self.for_first = (self.for_number, *self.for_match)
+
+    def leave(self):
+        """Leaves the memory to later calls."""
+        if self.is_kept:
+            _FREE.append(self)
 
 
-_library = _load()
-_test = _library.urlpattern_test
-_first = _library.urlpattern_first
-_mismatch = _library.urlpattern_mismatch
-_exec = _library.urlpattern_exec
-_captures = _library.urlpattern_captures
-_first_captures = _library.urlpattern_first_captures
+# Memory that no call has.
+_FREE = []
+
+
+def _memory():
+    """Memory that no other call has."""
+    try:
+        return _FREE.pop()
+    except IndexError:
+        return _Memory()
 
 
 def version():
     """The version of the library, as a tuple of two numbers."""
-    return divmod(_library.urlpattern_version(), 1000)
+    return divmod(_calls.version(), 1000)
 
 
 class URLPatternError(ValueError):
-    """A pattern is refused. `place` is the span of bytes that is at fault: of the pattern, or of the base URL if `in_base`, or of the text of
-    `component` in a dict. It is None where nothing more is known."""
+    """A pattern is refused. `place` is the span that is at fault, as indices of a str: of the
+    pattern, or of the base URL if `in_base`, or of the text of `component` in a dict. It is None
+    where nothing more is known."""
 
     def __init__(self, message, place=None, in_base=False, component=None):
         super().__init__(message)
@@ -123,13 +203,96 @@ class URLPatternError(ValueError):
         self.component = component
 
 
+class First(NamedTuple):
+    """The first pattern of a list that matches. It is true, also where its index is 0."""
+
+    index: int
+
+
+class FirstCaptures(NamedTuple):
+    """The first pattern of a list that matches, and the groups of its match."""
+
+    index: int
+    groups: list
+
+
+# Makes a named tuple, without a call of Python's own.
+_tuple = tuple.__new__
+
+
+def _encoded(text, name, kind="a str"):
+    """The UTF-8 of a text. TypeError: it is no str."""
+    try:
+        return str.encode(text)
+    except TypeError:
+        raise TypeError(f"{name} is {kind}, not {type(text).__name__}") from None
+
+
+def _unknown(key):
+    """What is said of a key that a pattern may not have."""
+    import difflib
+
+    plain = lambda it: str(it).replace("_", "").lower()
+    names = {**_SYNONYMS, **{plain(name): name for name in _KEYS}}
+    near = difflib.get_close_matches(plain(key), names, 1)
+    hint = f"did you mean {names[near[0]]!r}?" if near else f"it may be {', '.join(_KEYS)}"
+    return f"unknown key {key!r} of a pattern: {hint}"
+
+
+def _source(pattern, base, ignore_case):
+    """What a pattern is compiled from: a str or a dict, a base URL, and whether it ignores case."""
+    if not isinstance(pattern, dict):
+        _encoded(pattern, "a pattern", "a str or a dict")
+        if base is not None:
+            _encoded(base, "a base URL")
+        return pattern, base, bool(ignore_case)
+    if base is not None:
+        raise URLPatternError("the base URL of a dict is its `baseURL`")
+    pattern = dict(pattern)
+    for key, text in pattern.items():
+        if key not in _KEYS:
+            raise TypeError(_unknown(key))
+        _encoded(text, f"{key!r} of a pattern")
+    return pattern, None, bool(ignore_case)
+
+
+def _given(pattern, base):
+    """The texts of a source, each with the number of its bytes."""
+    if isinstance(pattern, dict):
+        text = json.dumps(pattern, ensure_ascii=False).encode()
+        return text, len(text)
+    text, base = pattern.encode(), b"" if base is None else base.encode()
+    return text, len(text), base, len(base)
+
+
 def _texts(url, base):
     """A URL and its base, each with the number of its bytes, as arguments."""
-    url = url.encode()
+    url = _encoded(url, "a URL")
     if base is None:
         return url, _SIZE[len(url)], _NO_TEXT, _NONE
-    base = base.encode()
+    base = _encoded(base, "a base URL")
     return url, _SIZE[len(url)], base, _SIZE[len(base)]
+
+
+def _number(component):
+    """The number of a component."""
+    try:
+        return _NUMBERS[component]
+    except KeyError:
+        _encoded(component, "a component")
+        raise ValueError(f"no component {component!r}: it may be {', '.join(COMPONENTS)}") from None
+
+
+def _groups_given(groups):
+    """The names and texts of groups, one after the other, and where each of them lies."""
+    text, given = b"", []
+    for component, name, value in groups:
+        number, name = _number(component), _encoded(name, "the name of a group")
+        if value is not None:
+            value = _encoded(value, "the text of a group")
+            given.append((number, len(text), len(name), len(text) + len(name), len(value)))
+            text += name + value
+    return text, (_Given * len(given))(*given)
 
 
 def _checked(status):
@@ -141,189 +304,235 @@ def _checked(status):
     return status == DONE
 
 
-def _refusal(diagnose, *arguments):
-    """The error that says why a pattern is refused."""
+def _diagnosed(function, arguments):
+    """The status of a diagnosis, its reason, and the place that is at fault."""
     needed, place, room = ctypes.c_size_t(), _Place(), ROOM
     while True:
-        buffer = ctypes.create_string_buffer(room)
-        status = diagnose(*arguments, buffer, room, ctypes.byref(needed), ctypes.byref(place))
+        text = ctypes.create_string_buffer(room)
+        status = function(*arguments, text, room, ctypes.byref(needed), ctypes.byref(place))
         if status != TOO_SMALL:
-            break
+            return status, text.raw[: needed.value].decode(), place
         room = needed.value
+
+
+def _refusal(pattern, base, ignore_case):
+    """The error that says why a pattern is refused."""
+    is_init = isinstance(pattern, dict)
+    function = _calls.diagnose_init if is_init else _calls.diagnose
+    status, reason, place = _diagnosed(function, (*_given(pattern, base), ignore_case))
     if status == OUT_OF_MEMORY:
         return MemoryError("out of memory")
     if status != DONE:
-        return URLPatternError("no texts of components, or the base URL is refused")
+        return URLPatternError("the base URL is refused", in_base=True)
+    in_base = place.subject == 1
     component = COMPONENTS[place.subject - 2] if place.subject > 1 else None
-    return URLPatternError(buffer.raw[: needed.value].decode(), (place.start, place.end), place.subject == 1, component)
+    if is_init:
+        pattern, base = pattern.get(component), pattern.get("baseURL")
+    return URLPatternError(reason, _indices(base if in_base else pattern, place), in_base, component)
+
+
+def _indices(text, place):
+    """A place as indices of its text, if there is one."""
+    if text is None:
+        return None
+    text = text.encode()
+    return tuple(len(text[:at].decode(errors="ignore")) for at in (place.start, place.end))
 
 
 def _covers(source, asked):
-    """Whether the pattern of some texts covers that of the asked ones, or None if it is not known."""
-    (*texts, ignore_case), (*asked_texts, asked_ignore_case) = source, asked
-    if len(texts) != len(asked_texts) or ignore_case != asked_ignore_case:
-        raise ValueError("only constructor strings, or only dicts, are compared, which ignore case alike")
-    function = _library.urlpattern_covers if len(texts) > 2 else _library.urlpattern_covers_init
-    status = function(*texts, *asked_texts, ignore_case, ctypes.byref(ctypes.c_uint32()))
+    """Whether the pattern of a source covers that of the asked one, or None if it is not known."""
+    (pattern, base, ignore_case), (asked_pattern, asked_base, asked_ignore_case) = source, asked
+    is_init = isinstance(pattern, dict)
+    if is_init != isinstance(asked_pattern, dict) or ignore_case != asked_ignore_case:
+        raise ValueError("only strs, or only dicts, are compared, which ignore case alike")
+    function = _calls.covers_init if is_init else _calls.covers
+    texts = *_given(pattern, base), *_given(asked_pattern, asked_base)
+    status = function(*texts, ignore_case, ctypes.byref(ctypes.c_uint32()))
     if status == REFUSED:
         raise URLPatternError("a pattern is refused")
     return None if status == UNKNOWN else _checked(status)
 
 
 class URLPatternList:
-    """Patterns in their order, as the routes of a router."""
+    """Patterns in their order, as the routes of a router. A copy is compiled again."""
+
+    __slots__ = ("_handle", "_address", "_names", "_sources", "__dict__", "__weakref__")
 
     def __init__(self, patterns=()):
+        if isinstance(patterns, (str, dict)):
+            raise TypeError(f"patterns are a list of patterns, not a {type(patterns).__name__}")
         self._handle = _Handle()
         self._address = ctypes.byref(self._handle)
-        self._length = 0
         self._names = {}
         self._sources = []
-        self._number, self._sizes = ctypes.c_size_t(), _Sizes()
-        self._number_at, self._sizes_at = ctypes.byref(self._number), ctypes.byref(self._sizes)
-        self._room(ROOM, SPANS)
         for pattern in patterns:
             self.append(pattern)
 
+    def __getstate__(self):
+        return self.__dict__, self._sources[:]
+
+    def __setstate__(self, state):
+        attributes, sources = state
+        URLPatternList.__init__(self)
+        self.__dict__.update(attributes)
+        for source in sources:
+            self._add(*source)
+
     def append(self, pattern, base=None, *, ignore_case=False):
-        """Compiles a constructor string, with a base URL if there is one, or a dict of the texts of components with a `baseURL`, and appends
-        the pattern."""
-        if isinstance(pattern, dict):
-            if base is not None:
-                raise URLPatternError("the base URL of a dict is its `baseURL`")
-            add, diagnose = _library.urlpattern_add_init, _library.urlpattern_diagnose_init
-            text = json.dumps(pattern).encode()
-            arguments = text, len(text), ignore_case
-        else:
-            add, diagnose = _library.urlpattern_add, _library.urlpattern_diagnose
-            text, base = pattern.encode(), b"" if base is None else base.encode()
-            arguments = text, len(text), base, len(base), ignore_case
-        status = add(self._address, *arguments)
+        """Compiles a str, which is a constructor string, with a base URL if there is one, or a dict
+        of the texts of components with a `baseURL`, and appends the pattern."""
+        self._add(*_source(pattern, base, ignore_case))
+
+    def _add(self, *source):
+        """Compiles a source, and appends the pattern."""
+        pattern, base, ignore_case = source
+        add = _calls.add_init if isinstance(pattern, dict) else _calls.add
+        arguments = *_given(pattern, base), ignore_case
+        with _ADDING:
+            status = add(self._address, *arguments)
+            if status == DONE:
+                self._sources.append(source)
         if status == REFUSED:
-            raise _refusal(diagnose, *arguments)
-        if status == OUT_OF_MEMORY:
-            raise MemoryError("out of memory")
-        self._sources.append(arguments)
-        self._length += 1
+            raise _refusal(*source)
+        _checked(status)
 
     def __len__(self):
-        return self._length
+        return len(self._sources)
 
     def first(self, url, base=None):
-        """The index of the first pattern that matches, or None."""
-        status = _first(self._address, *_texts(url, base), self._number_at)
-        return self._number.value if status != NO_PATTERN and _checked(status) else None
+        """The first pattern that matches, with its `index`, or None."""
+        memory = _memory()
+        status = _first(self._address, *_texts(url, base), memory.for_number)
+        index = memory.number.value
+        memory.leave()
+        return _tuple(First, (index,)) if status != NO_PATTERN and _checked(status) else None
 
     def test(self, index, url, base=None):
         """Whether the pattern of this index matches."""
         return _checked(_test(self._address, _SIZE[index], *_texts(url, base)))
 
     def mismatch(self, index, url, base=None):
-        """The first component that the pattern of this index does not match, or None if it matches. ValueError: the text is no URL."""
+        """The first component that the pattern of this index does not match, or None if it matches.
+        ValueError: the text is no URL."""
         component = ctypes.c_uint32()
-        if _checked(_mismatch(self._address, _SIZE[index], *_texts(url, base), ctypes.byref(component))):
+        arguments = _SIZE[index], *_texts(url, base), ctypes.byref(component)
+        if _checked(_calls.mismatch(self._address, *arguments)):
             return None
         if component.value == len(COMPONENTS):
             raise ValueError("not a URL")
         return COMPONENTS[component.value]
 
     def exec(self, index, url, base=None):
-        """The match of the pattern of this index, or None: a dict of components, each with `input` and `groups`."""
-        text = self._written(_exec, _SIZE[index], *_texts(url, base))
-        return None if text is None else json.loads(text)
-
-    def _room(self, size, spans):
-        """Makes room for a text of this size, and for a match of so many spans."""
-        self._buffer, self._spans = ctypes.create_string_buffer(size), ctypes.create_string_buffer(spans * _SPAN.size)
-        self._text_memory = ctypes.byref(self._buffer), ctypes.c_size_t.from_param(size), self._number_at
-        self._memory = (*self._text_memory[:2], ctypes.byref(self._spans), ctypes.c_size_t.from_param(spans), self._sizes_at)
-
-    def _filled(self, function, *arguments):
-        """Calls what writes a text, with as much room as it needs. Returns the status."""
-        status = TOO_SMALL
-        while status == TOO_SMALL:
-            status = function(self._address, *arguments, *self._text_memory)
-            if status == TOO_SMALL:
-                self._room(self._number.value, SPANS)
-        return status
-
-    def _text(self):
-        """The text that is written."""
-        return self._buffer[: self._number.value].decode()
+        """The match of the pattern of this index, or None: a dict of components, each with `input`
+        and `groups`."""
+        status, text = self._written(_exec, _SIZE[index], *_texts(url, base))
+        return json.loads(text) if _checked(status) else None
 
     def _written(self, function, *arguments):
-        """The text that a call writes, or None if there is none."""
-        return self._text() if _checked(self._filled(function, *arguments)) else None
+        """Calls what writes a text, with as much room as it needs. Returns the status and the text,
+        which is empty if none is written."""
+        memory = _memory()
+        status = function(self._address, *arguments, *memory.for_text)
+        while status == TOO_SMALL:
+            memory = _Memory(memory.number.value)
+            status = function(self._address, *arguments, *memory.for_text)
+        is_written = status == DONE or status == REFUSED
+        text = memory.text[: memory.number.value].decode() if is_written else ""
+        memory.leave()
+        return status, text
 
     def captures(self, index, url, base=None):
-        """The groups of the match of the pattern of this index, or None: a list of tuples of the component, the name, and what the group
-        captured, which is None where it took no part. They are in the order of the pattern, component by component."""
-        return self._groups(index) if self._matched(_captures, _SIZE[index], *_texts(url, base)) else None
+        """The groups of the match of the pattern of this index, or None: a list of tuples of the
+        component, the name, and what the group captured, which is None where it took no part. They
+        are in the order of the pattern, component by component."""
+        memory = self._matched(_captures, "for_match", _SIZE[index], *_texts(url, base))
+        return memory and self._groups(index, memory)
 
     def first_captures(self, url, base=None):
-        """The index of the first pattern that matches, with its groups as `captures` gives them, or None."""
-        found = self._length > 0 and self._matched(_first_captures, *_texts(url, base), self._number_at)
-        return (self._number.value, self._groups(self._number.value)) if found else None
+        """The first pattern that matches, with its `index` and the `groups` of its match as
+        `captures` gives them, or None."""
+        if not self._sources:
+            return self.first(url, base)
+        memory = self._matched(_first_captures, "for_first", *_texts(url, base))
+        if memory is None:
+            return None
+        index = memory.number.value
+        return _tuple(FirstCaptures, (index, self._groups(index, memory)))
 
-    def _matched(self, function, *arguments):
-        """Whether there is a match, which is then written to the room for it."""
-        status = TOO_SMALL
+    def _matched(self, function, room, *arguments):
+        """Calls what writes a match to this room of a memory, with as much of it as it needs.
+        Returns the memory that has the match, or None if there is none."""
+        memory = _memory()
+        status = function(self._address, *arguments, *getattr(memory, room))
         while status == TOO_SMALL:
-            status = function(self._address, *arguments, *self._memory)
-            if status == TOO_SMALL:
-                self._room(max(self._sizes.bytes, ROOM), max(self._sizes.spans, SPANS))
-        return _checked(status)
+            memory = _Memory(max(memory.sizes.bytes, ROOM), max(memory.sizes.spans, SPANS))
+            status = function(self._address, *arguments, *getattr(memory, room))
+        if _checked(status):
+            return memory
+        memory.leave()
+        return None
 
-    def _groups(self, index):
-        """The groups of the match that is written."""
-        text, spans = self._buffer[: self._sizes.bytes], self._spans[: self._sizes.spans * _SPAN.size]
+    def _groups(self, index, memory):
+        """The groups of the match that memory has, which is then left."""
+        sizes = memory.sizes
+        text, spans = memory.text[: sizes.bytes], memory.spans[: sizes.spans * _SPAN.size]
+        memory.leave()
         names = self._names.get(index)
         if names is None:
-            names = self._names[index] = [self._name(index, component, group) for component, _, group, _, _ in _SPAN.iter_unpack(spans)]
+            groups = ((component, group) for component, _, group, _, _ in _SPAN.iter_unpack(spans))
+            names = self._names[index] = [self._name(index, *group) for group in groups]
         return [
             (component, name, text[start : start + length].decode() if took_part else None)
-            for (component, name), (_, took_part, _, start, length) in zip(names, _SPAN.iter_unpack(spans))
+            for (component, name), (_, took_part, _, start, length)
+            in zip(names, _SPAN.iter_unpack(spans))
         ]
 
     def _name(self, index, component, group):
         """The component and the name of a group. Each match of a pattern has the same groups."""
-        return COMPONENTS[component], self._written(_library.urlpattern_group_name, _SIZE[index], component, _SIZE[group])
+        arguments = _SIZE[index], component, _SIZE[group]
+        status, name = self._written(_calls.group_name, *arguments)
+        _checked(status)
+        return COMPONENTS[component], name
 
     def link(self, index, groups):
-        """The URL that the pattern of this index matches with these groups, each a tuple of the component, the name and the text, as `captures`
-        gives them; one whose text is None takes no part. ValueError: there is no such URL, and the message says why."""
-        text, given = b"", []
-        for component, name, value in groups:
-            if value is not None:
-                name, value = name.encode(), value.encode()
-                given.append((COMPONENTS.index(component), len(text), len(name), len(text) + len(name), len(value)))
-                text += name + value
-        given = (_Given * len(given))(*given)
-        status = self._filled(_library.urlpattern_link, _SIZE[index], text, _SIZE[len(text)], ctypes.byref(given), _SIZE[len(given)])
+        """The URL that the pattern of this index matches with these groups, each a tuple of the
+        component, the name and the text, as `captures` gives them; one whose text is None takes no
+        part. ValueError: there is no such URL, and the message says why."""
+        text, given = _groups_given(groups)
+        arguments = text, _SIZE[len(text)], ctypes.byref(given), _SIZE[len(given)]
+        status, text = self._written(_calls.link, _SIZE[index], *arguments)
         if status == REFUSED:
-            raise ValueError(self._text())
+            raise ValueError(text)
         _checked(status)
-        return self._text()
+        return text
 
     def covers(self, index, asked):
-        """Whether the pattern of this index matches each URL that the pattern of the asked index matches, or None if it is not known. Both are
-        constructor strings or both are dicts, and both ignore case or neither does."""
-        return _covers(self._sources[index], self._sources[asked])
+        """Whether the pattern of this index matches each URL that the pattern of the asked index
+        matches, or None if it is not known. Both are strs or both are dicts, and both ignore case
+        or neither does."""
+        return _covers(self._source(index), self._source(asked))
+
+    def _source(self, index):
+        """What the pattern of this index was compiled from."""
+        index = operator.index(index)
+        if not 0 <= index < len(self._sources):
+            raise IndexError("no such pattern")
+        return self._sources[index]
 
     def component(self, index, name):
         """The pattern text of a component."""
-        return self._written(_library.urlpattern_component, _SIZE[index], COMPONENTS.index(name))
+        status, text = self._written(_calls.component, _SIZE[index], _number(name))
+        _checked(status)
+        return text
 
     def has_regexp_groups(self, index):
         """Whether the pattern of this index has a custom regular expression."""
-        return _checked(_library.urlpattern_has_regexp_groups(self._address, index))
-
-    def __del__(self, free=_library.urlpattern_free):
-        free(self._address)
+        return _checked(_calls.has_regexp_groups(self._address, _SIZE[index]))
 
 
 class URLPattern:
-    """A pattern: a constructor string, with a base URL if there is one, or a dict of the texts of components with a `baseURL`."""
+    """A pattern: a str, which is a constructor string, with a base URL if there is one, or a dict
+    of the texts of components with a `baseURL`. A copy is compiled again."""
 
     __slots__ = ("_list", "_address")
 
@@ -332,16 +541,26 @@ class URLPattern:
         self._address = self._list._address
         self._list.append(pattern, base, ignore_case=ignore_case)
 
+    def __getstate__(self):
+        return getattr(self, "__dict__", {}), self._list._sources[0]
+
+    def __setstate__(self, state):
+        attributes, (pattern, base, ignore_case) = state
+        URLPattern.__init__(self, pattern, base, ignore_case=ignore_case)
+        for name, value in attributes.items():
+            setattr(self, name, value)
+
     def test(self, url, base=None):
         """Whether the pattern matches."""
-        if base is not None:
+        if base is not None or not isinstance(url, str):
             return self._list.test(0, url, base)
-        url = url.encode()
+        url = str.encode(url)
         status = _test(self._address, _NONE, url, _SIZE[len(url)], _NO_TEXT, _NONE)
         return status == DONE if status < REFUSED else _checked(status)
 
     def mismatch(self, url, base=None):
-        """The first component that does not match, or None if each does. ValueError: the text is no URL."""
+        """The first component that does not match, or None if each does. ValueError: the text is no
+        URL."""
         return self._list.mismatch(0, url, base)
 
     @property
@@ -354,19 +573,23 @@ class URLPattern:
         return self._list.exec(0, url, base)
 
     def captures(self, url, base=None):
-        """The groups of the match, or None: a list of tuples of the component, the name, and what the group captured, which is None where
-        it took no part. It has what `exec` has, in the order of the pattern, and takes less time."""
+        """The groups of the match, or None: a list of tuples of the component, the name, and what
+        the group captured, which is None where it took no part. It has what `exec` has, in the
+        order of the pattern, and takes less time."""
         return self._list.captures(0, url, base)
 
     def link(self, groups=()):
-        """The URL that the pattern matches with these groups, each a tuple of the component, the name and the text, as `captures` gives them;
-        one whose text is None takes no part. ValueError: there is no such URL, and the message says why."""
+        """The URL that the pattern matches with these groups, each a tuple of the component, the
+        name and the text, as `captures` gives them; one whose text is None takes no part.
+        ValueError: there is no such URL, and the message says why."""
         return self._list.link(0, groups)
 
     def covers(self, asked):
-        """Whether the pattern matches each URL that the asked pattern matches, or None if it is not known. Both are constructor strings or both
-        are dicts, and both ignore case or neither does."""
-        return _covers(self._list._sources[0], asked._list._sources[0])
+        """Whether the pattern matches each URL that the asked pattern matches, or None if it is not
+        known. Both are strs or both are dicts, and both ignore case or neither does."""
+        if not isinstance(asked, URLPattern):
+            raise TypeError(f"what is compared is a URLPattern, not {type(asked).__name__}")
+        return _covers(self._list._source(0), asked._list._source(0))
 
     def __repr__(self):
         texts = {name: getattr(self, name) for name in COMPONENTS}
@@ -374,4 +597,11 @@ class URLPattern:
 
 
 for _name in COMPONENTS:
-    setattr(URLPattern, _name, property(lambda self, name=_name: self._list.component(0, name), doc=f"The pattern text of the {_name}."))
+    setattr(
+        URLPattern,
+        _name,
+        property(
+            lambda self, name=_name: self._list.component(0, name),
+            doc=f"The pattern text of the {_name}.",
+        ),
+    )

@@ -1,0 +1,333 @@
+"""Tests of the module, beside the rows and the session of docs/C.md. `.ci/bindings` runs them."""
+import copy
+import gc
+import pickle
+import sys
+import threading
+import unittest
+
+import urlpattern
+from urlpattern import URLPattern, URLPatternError, URLPatternList
+
+THREADS, CALLS = 8, 200_000
+
+# A URL for each number, by three routes in turn.
+FOLDERS = ("users", "posts", "files")
+SOURCES = ["https://example.com/users/:id", "https://example.com/posts/:id", "https://example.com/*"]
+TEXTS = dict.fromkeys(urlpattern.COMPONENTS, "*")
+TEXTS.update(protocol="https", hostname="example.com", port="", pathname="/users/:id")
+NAMES = ("year", "month", "day", "hour")
+
+
+def route(n):
+    return n % len(FOLDERS)
+
+
+def url(n):
+    return f"https://example.com/{FOLDERS[route(n)]}/{n}"
+
+
+def groups(n):
+    """What the route of a URL captures of it."""
+    path = ("0", f"files/{n}") if route(n) == 2 else ("id", str(n))
+    open_before, open_after = ("username", "password"), ("search", "hash")
+    return [
+        *((name, "0", "") for name in open_before),
+        ("pathname", *path),
+        *((name, "0", "") for name in open_after),
+    ]
+
+
+def asked(pattern, routes, dated):
+    """What threads ask of shared objects, by a number, and the answer: with these calls in turn."""
+    where = urlpattern.COMPONENTS
+    is_user = lambda n: route(n) == 0
+    missing = lambda n: NAMES[n % len(NAMES)]
+    given = lambda n: [("pathname", name, str(n)) for name in NAMES if name != missing(n)]
+    return {
+        "test": (lambda n: pattern.test(url(n)), is_user),
+        "mismatch": (lambda n: pattern.mismatch(url(n)), lambda n: None if is_user(n) else "pathname"),
+        "exec": (
+            lambda n: (pattern.exec(url(n)) or {}).get("pathname"),
+            lambda n: {"groups": {"id": str(n)}, "input": f"/users/{n}"} if is_user(n) else None,
+        ),
+        "captures": (lambda n: pattern.captures(url(n)), lambda n: groups(n) if is_user(n) else None),
+        "link": (
+            lambda n: pattern.link([("pathname", "id", str(n))]),
+            lambda n: f"https://example.com/users/{n}",
+        ),
+        "reason of link": (
+            lambda n: said(lambda: dated.link(given(n))),
+            lambda n: f"the group `pathname.{missing(n)}` is missing",
+        ),
+        "component": (lambda n: getattr(pattern, where[n % 8]), lambda n: TEXTS[where[n % 8]]),
+        "has_regexp_groups": (lambda n: dated.has_regexp_groups, lambda n: True),
+        "covers": (lambda n: routes.covers(2, route(n)), lambda n: True),
+        "repr": (lambda n: repr(pattern)[:36], lambda n: "URLPattern({'protocol': 'https', 'ho"),
+        "first": (lambda n: routes.first(url(n)).index, route),
+        "first_captures": (lambda n: routes.first_captures(url(n)), lambda n: (route(n), groups(n))),
+        "list test": (lambda n: routes.test(route(n), url(n)), lambda n: True),
+        "list captures": (lambda n: routes.captures(route(n), url(n)), groups),
+        "list component": (
+            lambda n: routes.component(route(n), "pathname"),
+            lambda n: ("/users/:id", "/posts/:id", "/*")[route(n)],
+        ),
+        "len": (lambda n: len(routes), lambda n: 3),
+    }
+
+
+def said(call):
+    """What the error of a call says."""
+    try:
+        return call()
+    except ValueError as error:
+        return str(error)
+
+
+def in_threads(work):
+    """Does this in each thread, with its number. The interpreter goes from one to another as often as it can."""
+    interval = sys.getswitchinterval()
+    threads = [threading.Thread(target=work, args=(number,)) for number in range(THREADS)]
+    sys.setswitchinterval(1e-6)
+    try:
+        for thread in threads:
+            thread.start()
+        for thread in threads:
+            thread.join()
+    finally:
+        sys.setswitchinterval(interval)
+
+
+def wrong_answers(call, answer, calls):
+    """How many calls of threads have another answer, or raise an error."""
+    wrong = [0] * THREADS
+
+    def work(number):
+        for n in range(number, calls, THREADS):
+            try:
+                wrong[number] += call(n) != answer(n)
+            except Exception:
+                wrong[number] += 1
+
+    in_threads(work)
+    return sum(wrong)
+
+
+class Threads(unittest.TestCase):
+    def test_eight_threads_share_objects(self):
+        pattern, routes = URLPattern(SOURCES[0]), URLPatternList(SOURCES)
+        dated = URLPattern("https://example.com/:year(\\d+)/:month/:day/:hour")
+        for name, (call, answer) in asked(pattern, routes, dated).items():
+            with self.subTest(name):
+                self.assertEqual(wrong_answers(call, answer, CALLS), 0)
+
+    def test_a_pattern_is_appended_while_others_are_read(self):
+        routes, each = URLPatternList(SOURCES), 200
+
+        def call(n):
+            if n < THREADS * each:
+                routes.append(f"https://example.com/more/{n}/:id")
+            return routes.first_captures(url(n))
+
+        self.assertEqual(wrong_answers(call, lambda n: (route(n), groups(n)), 4 * THREADS * each), 0)
+        self.assertEqual(len(routes), len(SOURCES) + THREADS * each)
+        paths = [routes.component(index, "pathname") for index in range(len(routes))]
+        self.assertEqual(paths, [source[len("https://example.com") :] for source, _, _ in routes._sources])
+
+    def test_a_refused_pattern_has_its_own_reason(self):
+        def call(n):
+            try:
+                URLPattern(f"https://example.com/{'x' * (n % 7)}(")
+            except URLPatternError as error:
+                return error.place
+
+        place = lambda n: (20 + n % 7, 21 + n % 7)
+        self.assertEqual(wrong_answers(call, place, CALLS // 100), 0)
+
+
+class Copies(unittest.TestCase):
+    WAYS = (
+        copy.copy,
+        copy.deepcopy,
+        *(lambda it, to=to: pickle.loads(pickle.dumps(it, to)) for to in range(pickle.HIGHEST_PROTOCOL + 1)),
+    )
+
+    def test_a_list_outlives_its_copies(self):
+        for way in self.WAYS:
+            denied = URLPatternList()
+            denied.append("/admin/*", "https://example.com", ignore_case=True)
+            denied.append({"hostname": "*.example.com"})
+            made = way(denied)
+            self.assertEqual(len(made), 2)
+            self.assertTrue(made.test(0, "https://example.com/ADMIN/users"))
+            self.assertTrue(made.test(1, "http://a.example.com/"))
+            made.append("https://example.com/more")
+            self.assertEqual((len(made), len(denied)), (3, 2))
+            del made
+            gc.collect()
+            self.assertTrue(denied.test(0, "https://example.com/ADMIN/users"))
+
+    def test_a_copy_outlives_its_list(self):
+        for way in self.WAYS:
+            pattern, routes = URLPattern(SOURCES[0]), URLPatternList(SOURCES)
+            made = way(pattern), way(routes)
+            del pattern, routes
+            gc.collect()
+            self.assertTrue(made[0].test(url(0)))
+            self.assertEqual(made[1].first(url(1)).index, 1)
+
+    def test_a_subclass_keeps_its_attributes(self):
+        for way in self.WAYS:
+            named, allowed = Named("users"), Allowed(["a"])
+            self.assertEqual((type(way(named)), way(named).name), (Named, "users"))
+            self.assertEqual((type(way(allowed)), way(allowed).users), (Allowed, ["a"]))
+            self.assertTrue(way(named).test(url(0)) and way(allowed).test(0, url(0)))
+
+
+class Named(URLPattern):
+    def __init__(self, name):
+        super().__init__(f"https://example.com/{name}/*")
+        self.name = name
+
+
+class Allowed(URLPatternList):
+    def __init__(self, users):
+        super().__init__(["https://example.com/*"])
+        self.users = users
+
+
+class Arguments(unittest.TestCase):
+    def refuses(self, error, words, call, *arguments):
+        with self.assertRaises(error) as refused:
+            call(*arguments)
+        self.assertIn(words, str(refused.exception))
+
+    def test_what_is_no_text(self):
+        pattern, routes = URLPattern(SOURCES[0]), URLPatternList(SOURCES)
+        whole = pattern.test, pattern.mismatch, pattern.exec, pattern.captures
+        listed = routes.test, routes.mismatch, routes.exec, routes.captures
+        matching = (*whole, routes.first, routes.first_captures, URLPatternList().first_captures)
+        matching += tuple(lambda *texts, call=call: call(0, *texts) for call in listed)
+        for wrong, name in ((None, "NoneType"), (b"https://example.com/users/7", "bytes"), (7, "int")):
+            for call in matching:
+                self.refuses(TypeError, f"a URL is a str, not {name}", call, wrong)
+                if wrong is not None:
+                    self.refuses(TypeError, f"a base URL is a str, not {name}", call, "/users/7", wrong)
+                    self.refuses(TypeError, f"a base URL is a str, not {name}", URLPattern, "/a", wrong)
+                call(url(0), None)
+            for call in (URLPattern, routes.append, lambda it: URLPatternList([it])):
+                self.refuses(TypeError, f"a pattern is a str or a dict, not {name}", call, wrong)
+            for key in (*urlpattern.COMPONENTS, "baseURL"):
+                self.refuses(TypeError, f"{key!r} of a pattern is a str, not {name}", URLPattern, {key: wrong})
+            for group in ((wrong, "id", "7"), ("pathname", wrong, "7"), ("pathname", "id", wrong)):
+                if wrong is not None or group[2]:
+                    self.refuses(TypeError, f"is a str, not {name}", pattern.link, [group])
+            self.refuses(TypeError, f"a component is a str, not {name}", routes.component, 0, wrong)
+            self.refuses(TypeError, f"not {name}", pattern.covers, wrong)
+        for one in (SOURCES[0], {"pathname": "/"}):
+            self.refuses(TypeError, f"not a {type(one).__name__}", URLPatternList, one)
+        self.assertEqual(len(routes), len(SOURCES))
+
+    def test_keys_of_a_dict(self):
+        nearest = {
+            "path": "pathname",
+            "host": "hostname",
+            "base": "baseURL",
+            "base_url": "baseURL",
+            "hashes": "hash",
+            "query": "search",
+            "scheme": "protocol",
+        }
+        for key, meant in nearest.items():
+            words = f"unknown key {key!r} of a pattern: did you mean {meant!r}?"
+            self.refuses(TypeError, words, URLPattern, {"pathname": "/", key: "x"})
+        for key in ("xyz", 7, None):
+            words = f"unknown key {key!r} of a pattern: it may be protocol, username"
+            self.refuses(TypeError, words, URLPattern, {key: "x"})
+
+    def test_indices(self):
+        routes, end = URLPatternList(SOURCES), len(SOURCES)
+        asks = (
+            lambda index: routes.test(index, url(0)),
+            lambda index: routes.mismatch(index, url(0)),
+            lambda index: routes.exec(index, url(0)),
+            lambda index: routes.captures(index, url(0)),
+            lambda index: routes.link(index, []),
+            lambda index: routes.component(index, "hash"),
+            lambda index: routes.has_regexp_groups(index),
+            lambda index: routes.covers(index, 0),
+            lambda index: routes.covers(0, index),
+        )
+        for ask in asks:
+            for index in (-1, end, 1 << 64, -1 << 64):
+                self.refuses(IndexError, "no such pattern", ask, index)
+            for index in (None, "0", 0.5):
+                self.refuses(TypeError, "cannot be interpreted as an integer", ask, index)
+        self.refuses(ValueError, "no component 'path': it may be protocol", routes.component, 0, "path")
+
+
+class Answers(unittest.TestCase):
+    def test_a_first_match_is_true(self):
+        routes = URLPatternList(SOURCES)
+        self.assertTrue(routes.first(url(0)) and routes.first_captures(url(0)))
+        self.assertEqual([routes.first(url(n)).index for n in range(3)], [0, 1, 2])
+        found = routes.first_captures(url(1))
+        self.assertEqual((found.index, found.groups), (1, groups(1)))
+        for missed in ("https://example.org/", "no URL"):
+            self.assertIs(routes.first(missed), None)
+            self.assertIs(routes.first_captures(missed), None)
+            self.assertIs(URLPatternList().first(missed), None)
+            self.assertIs(URLPatternList().first_captures(missed), None)
+
+    def test_a_place_is_one_of_characters(self):
+        """Each text has characters of one to four bytes before its fault, which is `(`."""
+        before = "aé€😀"
+        place = len(before), len(before) + 1
+        cases = (
+            ((before + "(", "https://example.com"), place, False, None),
+            ((before,), (0, len(before)), False, None),
+            ((f"https://{before}/{before}(",), (8 + 4 + 1 + 4, 8 + 4 + 1 + 4 + 1), False, None),
+            (({"pathname": before + "("},), place, False, "pathname"),
+            (({"hostname": before, "hash": before + "("},), place, False, "hash"),
+            ((before, before), (0, len(before)), True, None),
+        )
+        for arguments, place, in_base, component in cases:
+            with self.subTest(arguments), self.assertRaises(URLPatternError) as refused:
+                URLPattern(*arguments)
+            error = refused.exception
+            self.assertEqual((error.place, error.in_base, error.component), (place, in_base, component))
+            again = pickle.loads(pickle.dumps(error))
+            self.assertEqual((str(again), again.place), (str(error), error.place))
+
+    def test_texts_that_need_more_room(self):
+        long, many = "x" * 100_000, 300
+        pattern = URLPattern("https://example.com/users/:id")
+        wide = URLPattern({"pathname": "".join(f"/:name{number}" for number in range(many))})
+        for _ in range(2):
+            self.assertIn(("pathname", "id", long), pattern.captures(f"https://example.com/users/{long}"))
+            groups = pattern.exec(f"https://example.com/users/{long}")["pathname"]["groups"]
+            self.assertEqual(groups, {"id": long})
+            found = wide.captures("https://example.com" + "/a" * many)
+            self.assertEqual([it for it in found if it[0] == "pathname"][-1], ("pathname", "name299", "a"))
+            self.assertEqual(len(found), many + 7)
+        self.assertLessEqual(max(len(it.text) for it in urlpattern._FREE), urlpattern.KEPT)
+
+    def test_a_base_does_not_tie_a_url_to_its_host(self):
+        pattern = URLPattern("https://example.com/*")
+        self.assertTrue(pattern.test("/x", "https://example.com"))
+        for left in ("//other.com/x", "\\\\other.com\\x", "https://other.com/x"):
+            self.assertFalse(pattern.test(left, "https://example.com"))
+            self.assertEqual(pattern.mismatch(left, "https://example.com"), "hostname")
+
+    def test_no_url_and_no_match(self):
+        pattern = URLPattern("https://example.com/*")
+        for text in ("no URL", "", "https://"):
+            self.assertFalse(pattern.test(text))
+            self.assertIs(pattern.exec(text), None)
+            self.assertIs(pattern.captures(text), None)
+            with self.assertRaisesRegex(ValueError, "not a URL"):
+                pattern.mismatch(text)
+
+
+if __name__ == "__main__":
+    unittest.main()
