@@ -336,6 +336,7 @@ static void ask_parts(void) {
     compare(status == URLPATTERN_NO_PATTERN, 0, status);
     status = link_with(groups, length, bad, &needed);
     compare(status == URLPATTERN_NO_PATTERN, 0, status);
+    urlpattern_free(&patterns);
 }
 
 int main(void) {

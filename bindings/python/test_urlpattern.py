@@ -1,10 +1,13 @@
 """Tests of the module, beside the rows and the session of docs/C.md. `.ci/bindings` runs them."""
 import copy
+import ctypes
 import gc
+import importlib.util
 import pickle
 import sys
 import threading
 import unittest
+from unittest import mock
 
 import urlpattern
 from urlpattern import URLPattern, URLPatternError, URLPatternList
@@ -13,9 +16,11 @@ THREADS, CALLS = 8, 200_000
 
 # A URL for each number, by three routes in turn.
 FOLDERS = ("users", "posts", "files")
-SOURCES = ["https://example.com/users/:id", "https://example.com/posts/:id", "https://example.com/*"]
+SOURCES = [f"https://example.com/{path}" for path in ("users/:id", "posts/:id", "*")]
+DATED = "https://example.com/:year(\\d+)/:month/:day/:hour"
 TEXTS = dict.fromkeys(urlpattern.COMPONENTS, "*")
 TEXTS.update(protocol="https", hostname="example.com", port="", pathname="/users/:id")
+REPR = f"URLPattern({ {name: text for name, text in TEXTS.items() if text != '*'} })"
 NAMES = ("year", "month", "day", "hour")
 
 
@@ -38,41 +43,52 @@ def groups(n):
     ]
 
 
-def asked(pattern, routes, dated):
-    """What threads ask of shared objects, by a number, and the answer: with these calls in turn."""
-    where = urlpattern.COMPONENTS
+def asked(module):
+    """What threads ask of shared objects, by a number, and what the answer is: of each call."""
+    pattern, dated = module.URLPattern(SOURCES[0]), module.URLPattern(DATED)
+    routes = module.URLPatternList(SOURCES)
     is_user = lambda n: route(n) == 0
+    name_of = lambda n: urlpattern.COMPONENTS[n % len(urlpattern.COMPONENTS)]
     missing = lambda n: NAMES[n % len(NAMES)]
     given = lambda n: [("pathname", name, str(n)) for name in NAMES if name != missing(n)]
     return {
         "test": (lambda n: pattern.test(url(n)), is_user),
-        "mismatch": (lambda n: pattern.mismatch(url(n)), lambda n: None if is_user(n) else "pathname"),
+        "mismatch": (
+            lambda n: pattern.mismatch(url(n)),
+            lambda n: None if is_user(n) else "pathname",
+        ),
         "exec": (
             lambda n: (pattern.exec(url(n)) or {}).get("pathname"),
-            lambda n: {"groups": {"id": str(n)}, "input": f"/users/{n}"} if is_user(n) else None,
+            lambda n: {"groups": {"id": f"{n}"}, "input": f"/users/{n}"} if is_user(n) else None,
         ),
-        "captures": (lambda n: pattern.captures(url(n)), lambda n: groups(n) if is_user(n) else None),
+        "captures": (
+            lambda n: pattern.captures(url(n)),
+            lambda n: groups(n) if is_user(n) else None,
+        ),
         "link": (
-            lambda n: pattern.link([("pathname", "id", str(n))]),
+            lambda n: pattern.link([("pathname", "id", f"{n}")]),
             lambda n: f"https://example.com/users/{n}",
         ),
         "reason of link": (
             lambda n: said(lambda: dated.link(given(n))),
             lambda n: f"the group `pathname.{missing(n)}` is missing",
         ),
-        "component": (lambda n: getattr(pattern, where[n % 8]), lambda n: TEXTS[where[n % 8]]),
+        "component": (lambda n: getattr(pattern, name_of(n)), lambda n: TEXTS[name_of(n)]),
         "has_regexp_groups": (lambda n: dated.has_regexp_groups, lambda n: True),
-        "covers": (lambda n: routes.covers(2, route(n)), lambda n: True),
-        "repr": (lambda n: repr(pattern)[:36], lambda n: "URLPattern({'protocol': 'https', 'ho"),
+        "repr": (lambda n: repr(pattern), lambda n: REPR),
         "first": (lambda n: routes.first(url(n)).index, route),
-        "first_captures": (lambda n: routes.first_captures(url(n)), lambda n: (route(n), groups(n))),
-        "list test": (lambda n: routes.test(route(n), url(n)), lambda n: True),
-        "list captures": (lambda n: routes.captures(route(n), url(n)), groups),
-        "list component": (
+        "first_captures": (
+            lambda n: routes.first_captures(url(n)),
+            lambda n: (route(n), groups(n)),
+        ),
+        "test of a list": (lambda n: routes.test(route(n), url(n)), lambda n: True),
+        "captures of a list": (lambda n: routes.captures(route(n), url(n)), groups),
+        "component of a list": (
             lambda n: routes.component(route(n), "pathname"),
             lambda n: ("/users/:id", "/posts/:id", "/*")[route(n)],
         ),
-        "len": (lambda n: len(routes), lambda n: 3),
+        "covers": (lambda n: routes.covers(2, route(n)), lambda n: True),
+        "len": (lambda n: len(routes), lambda n: len(SOURCES)),
     }
 
 
@@ -85,9 +101,10 @@ def said(call):
 
 
 def in_threads(work):
-    """Does this in each thread, with its number. The interpreter goes from one to another as often as it can."""
-    interval = sys.getswitchinterval()
+    """Does this in each thread, with its number. The interpreter goes from one thread to another as
+    often as it can."""
     threads = [threading.Thread(target=work, args=(number,)) for number in range(THREADS)]
+    interval = sys.getswitchinterval()
     sys.setswitchinterval(1e-6)
     try:
         for thread in threads:
@@ -98,8 +115,8 @@ def in_threads(work):
         sys.setswitchinterval(interval)
 
 
-def wrong_answers(call, answer, calls):
-    """How many calls of threads have another answer, or raise an error."""
+def wrong_answers(call, answer, calls=CALLS):
+    """How many calls of the threads return something else than the answer, or raise an error."""
     wrong = [0] * THREADS
 
     def work(number):
@@ -113,28 +130,43 @@ def wrong_answers(call, answer, calls):
     return sum(wrong)
 
 
-class Threads(unittest.TestCase):
-    def test_eight_threads_share_objects(self):
-        pattern, routes = URLPattern(SOURCES[0]), URLPatternList(SOURCES)
-        dated = URLPattern("https://example.com/:year(\\d+)/:month/:day/:hour")
-        for name, (call, answer) in asked(pattern, routes, dated).items():
-            with self.subTest(name):
-                self.assertEqual(wrong_answers(call, answer, CALLS), 0)
+def module_without_lock():
+    """The module as it is where the interpreter has no lock: functions of a CDLL run without it."""
+    spec = importlib.util.spec_from_file_location("without_lock", urlpattern.__file__)
+    made = importlib.util.module_from_spec(spec)
+    has_none = mock.patch.object(sys, "_is_gil_enabled", lambda: False, create=True)
+    with has_none, mock.patch.object(ctypes, "PyDLL", ctypes.CDLL):
+        spec.loader.exec_module(made)
+    return made
 
-    def test_a_pattern_is_appended_while_others_are_read(self):
-        routes, each = URLPatternList(SOURCES), 200
+
+class Threads(unittest.TestCase):
+    def test_each_call_of_shared_objects_has_its_own_answer(self):
+        for name, (call, answer) in asked(urlpattern).items():
+            with self.subTest(name):
+                self.assertEqual(wrong_answers(call, answer), 0)
+
+    def test_an_interpreter_without_a_lock(self):
+        for name, (call, answer) in asked(module_without_lock()).items():
+            with self.subTest(name):
+                self.assertEqual(wrong_answers(call, answer, CALLS // 100), 0)
+
+    def test_patterns_are_appended_while_others_are_read(self):
+        routes, added = URLPatternList(SOURCES), 200 * THREADS
 
         def call(n):
-            if n < THREADS * each:
+            if n < added:
                 routes.append(f"https://example.com/more/{n}/:id")
             return routes.first_captures(url(n))
 
-        self.assertEqual(wrong_answers(call, lambda n: (route(n), groups(n)), 4 * THREADS * each), 0)
-        self.assertEqual(len(routes), len(SOURCES) + THREADS * each)
-        paths = [routes.component(index, "pathname") for index in range(len(routes))]
-        self.assertEqual(paths, [source[len("https://example.com") :] for source, _, _ in routes._sources])
+        answer = lambda n: (route(n), groups(n))
+        self.assertEqual(wrong_answers(call, answer, 4 * added), 0)
+        self.assertEqual(len(routes), len(SOURCES) + added)
+        for index in range(len(routes)):
+            source = "https://example.com" + routes.component(index, "pathname")
+            self.assertTrue(URLPattern(source).covers(URLPattern(routes._source(index)[0])))
 
-    def test_a_refused_pattern_has_its_own_reason(self):
+    def test_each_refused_pattern_has_its_own_place(self):
         def call(n):
             try:
                 URLPattern(f"https://example.com/{'x' * (n % 7)}(")
@@ -145,12 +177,13 @@ class Threads(unittest.TestCase):
         self.assertEqual(wrong_answers(call, place, CALLS // 100), 0)
 
 
+def pickled(protocol):
+    return lambda it: pickle.loads(pickle.dumps(it, protocol))
+
+
 class Copies(unittest.TestCase):
-    WAYS = (
-        copy.copy,
-        copy.deepcopy,
-        *(lambda it, to=to: pickle.loads(pickle.dumps(it, to)) for to in range(pickle.HIGHEST_PROTOCOL + 1)),
-    )
+    PROTOCOLS = range(pickle.HIGHEST_PROTOCOL + 1)
+    WAYS = copy.copy, copy.deepcopy, *map(pickled, PROTOCOLS)
 
     def test_a_list_outlives_its_copies(self):
         for way in self.WAYS:
@@ -202,31 +235,53 @@ class Arguments(unittest.TestCase):
             call(*arguments)
         self.assertIn(words, str(refused.exception))
 
-    def test_what_is_no_text(self):
-        pattern, routes = URLPattern(SOURCES[0]), URLPatternList(SOURCES)
-        whole = pattern.test, pattern.mismatch, pattern.exec, pattern.captures
-        listed = routes.test, routes.mismatch, routes.exec, routes.captures
-        matching = (*whole, routes.first, routes.first_captures, URLPatternList().first_captures)
-        matching += tuple(lambda *texts, call=call: call(0, *texts) for call in listed)
-        for wrong, name in ((None, "NoneType"), (b"https://example.com/users/7", "bytes"), (7, "int")):
-            for call in matching:
+    WRONG = ((None, "NoneType"), (b"https://example.com/users/7", "bytes"), (7, "int"))
+
+    def test_what_is_no_url(self):
+        pattern, routes, none = URLPattern(SOURCES[0]), URLPatternList(SOURCES), URLPatternList()
+        calls = [pattern.test, pattern.mismatch, pattern.exec, pattern.captures]
+        calls += [routes.first, routes.first_captures, none.first, none.first_captures]
+        for call in (routes.test, routes.mismatch, routes.exec, routes.captures):
+            calls.append(lambda *texts, call=call: call(0, *texts))
+        for call in calls:
+            call(url(0), None)
+            for wrong, name in self.WRONG:
                 self.refuses(TypeError, f"a URL is a str, not {name}", call, wrong)
+                self.refuses(TypeError, f"a URL is a str, not {name}", call, wrong, url(0))
                 if wrong is not None:
-                    self.refuses(TypeError, f"a base URL is a str, not {name}", call, "/users/7", wrong)
-                    self.refuses(TypeError, f"a base URL is a str, not {name}", URLPattern, "/a", wrong)
-                call(url(0), None)
+                    self.refuses(TypeError, f"a base URL is a str, not {name}", call, "/", wrong)
+
+    def test_what_is_no_pattern(self):
+        pattern, routes = URLPattern(SOURCES[0]), URLPatternList(SOURCES)
+        for wrong, name in self.WRONG:
             for call in (URLPattern, routes.append, lambda it: URLPatternList([it])):
                 self.refuses(TypeError, f"a pattern is a str or a dict, not {name}", call, wrong)
             for key in (*urlpattern.COMPONENTS, "baseURL"):
-                self.refuses(TypeError, f"{key!r} of a pattern is a str, not {name}", URLPattern, {key: wrong})
-            for group in ((wrong, "id", "7"), ("pathname", wrong, "7"), ("pathname", "id", wrong)):
-                if wrong is not None or group[2]:
-                    self.refuses(TypeError, f"is a str, not {name}", pattern.link, [group])
-            self.refuses(TypeError, f"a component is a str, not {name}", routes.component, 0, wrong)
+                words = f"{key!r} of a pattern is a str, not {name}"
+                self.refuses(TypeError, words, URLPattern, {"pathname": "/", key: wrong})
             self.refuses(TypeError, f"not {name}", pattern.covers, wrong)
+            if wrong is not None:
+                words = f"a base URL is a str, not {name}"
+                self.refuses(TypeError, words, URLPattern, "/", wrong)
+                self.refuses(TypeError, words, routes.append, "/", wrong)
         for one in (SOURCES[0], {"pathname": "/"}):
             self.refuses(TypeError, f"not a {type(one).__name__}", URLPatternList, one)
         self.assertEqual(len(routes), len(SOURCES))
+
+    def test_what_is_no_component_or_group(self):
+        pattern, routes = URLPattern(SOURCES[0]), URLPatternList(SOURCES)
+        for wrong, name in self.WRONG:
+            words = f"a component is a str, not {name}"
+            self.refuses(TypeError, words, routes.component, 0, wrong)
+            self.refuses(TypeError, words, pattern.link, [(wrong, "id", "7")])
+            words = f"the name of a group is a str, not {name}"
+            self.refuses(TypeError, words, pattern.link, [("pathname", wrong, "7")])
+            if wrong is not None:
+                words = f"the text of a group is a str, not {name}"
+                self.refuses(TypeError, words, pattern.link, [("pathname", "id", wrong)])
+        words = "no component 'path': it may be protocol"
+        self.refuses(ValueError, words, routes.component, 0, "path")
+        self.refuses(ValueError, words, pattern.link, [("path", "id", "7")])
 
     def test_keys_of_a_dict(self):
         nearest = {
@@ -263,7 +318,6 @@ class Arguments(unittest.TestCase):
                 self.refuses(IndexError, "no such pattern", ask, index)
             for index in (None, "0", 0.5):
                 self.refuses(TypeError, "cannot be interpreted as an integer", ask, index)
-        self.refuses(ValueError, "no component 'path': it may be protocol", routes.component, 0, "path")
 
 
 class Answers(unittest.TestCase):
@@ -290,12 +344,14 @@ class Answers(unittest.TestCase):
             (({"pathname": before + "("},), place, False, "pathname"),
             (({"hostname": before, "hash": before + "("},), place, False, "hash"),
             ((before, before), (0, len(before)), True, None),
+            (({"pathname": "/", "baseURL": before},), None, True, None),
         )
         for arguments, place, in_base, component in cases:
             with self.subTest(arguments), self.assertRaises(URLPatternError) as refused:
                 URLPattern(*arguments)
             error = refused.exception
-            self.assertEqual((error.place, error.in_base, error.component), (place, in_base, component))
+            self.assertEqual(error.place, place)
+            self.assertEqual((error.in_base, error.component), (in_base, component))
             again = pickle.loads(pickle.dumps(error))
             self.assertEqual((str(again), again.place), (str(error), error.place))
 
@@ -304,12 +360,12 @@ class Answers(unittest.TestCase):
         pattern = URLPattern("https://example.com/users/:id")
         wide = URLPattern({"pathname": "".join(f"/:name{number}" for number in range(many))})
         for _ in range(2):
-            self.assertIn(("pathname", "id", long), pattern.captures(f"https://example.com/users/{long}"))
-            groups = pattern.exec(f"https://example.com/users/{long}")["pathname"]["groups"]
-            self.assertEqual(groups, {"id": long})
+            text = f"https://example.com/users/{long}"
+            self.assertIn(("pathname", "id", long), pattern.captures(text))
+            self.assertEqual(pattern.exec(text)["pathname"]["groups"], {"id": long})
             found = wide.captures("https://example.com" + "/a" * many)
-            self.assertEqual([it for it in found if it[0] == "pathname"][-1], ("pathname", "name299", "a"))
-            self.assertEqual(len(found), many + 7)
+            named = [name for component, name, _ in found if component == "pathname"]
+            self.assertEqual(named, [f"name{number}" for number in range(many)])
         self.assertLessEqual(max(len(it.text) for it in urlpattern._FREE), urlpattern.KEPT)
 
     def test_a_base_does_not_tie_a_url_to_its_host(self):

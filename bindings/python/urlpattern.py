@@ -155,7 +155,10 @@ _NO_TEXT = ctypes.c_char_p.from_param(b"")
 class _Memory:
     """Memory that one call has: for a text, spans and sizes, with the arguments for them."""
 
-    __slots__ = ("text", "spans", "number", "sizes", "is_kept", "for_number", "for_text", "for_match", "for_first")
+    __slots__ = (
+        *("text", "spans", "number", "sizes", "is_kept"),
+        *("for_number", "for_text", "for_match", "for_first"),
+    )
 
     def __init__(self, size=ROOM, count=SPANS):
         self.text = (ctypes.c_char * size)()
@@ -256,7 +259,7 @@ def _source(pattern, base, ignore_case):
     return pattern, None, bool(ignore_case)
 
 
-def _given(pattern, base):
+def _pattern_texts(pattern, base):
     """The texts of a source, each with the number of its bytes."""
     if isinstance(pattern, dict):
         text = json.dumps(pattern, ensure_ascii=False).encode()
@@ -319,7 +322,7 @@ def _refusal(pattern, base, ignore_case):
     """The error that says why a pattern is refused."""
     is_init = isinstance(pattern, dict)
     function = _calls.diagnose_init if is_init else _calls.diagnose
-    status, reason, place = _diagnosed(function, (*_given(pattern, base), ignore_case))
+    status, reason, place = _diagnosed(function, (*_pattern_texts(pattern, base), ignore_case))
     if status == OUT_OF_MEMORY:
         return MemoryError("out of memory")
     if status != DONE:
@@ -328,7 +331,8 @@ def _refusal(pattern, base, ignore_case):
     component = COMPONENTS[place.subject - 2] if place.subject > 1 else None
     if is_init:
         pattern, base = pattern.get(component), pattern.get("baseURL")
-    return URLPatternError(reason, _indices(base if in_base else pattern, place), in_base, component)
+    indices = _indices(base if in_base else pattern, place)
+    return URLPatternError(reason, indices, in_base, component)
 
 
 def _indices(text, place):
@@ -346,7 +350,7 @@ def _covers(source, asked):
     if is_init != isinstance(asked_pattern, dict) or ignore_case != asked_ignore_case:
         raise ValueError("only strs, or only dicts, are compared, which ignore case alike")
     function = _calls.covers_init if is_init else _calls.covers
-    texts = *_given(pattern, base), *_given(asked_pattern, asked_base)
+    texts = (*_pattern_texts(pattern, base), *_pattern_texts(asked_pattern, asked_base))
     status = function(*texts, ignore_case, ctypes.byref(ctypes.c_uint32()))
     if status == REFUSED:
         raise URLPatternError("a pattern is refused")
@@ -387,7 +391,7 @@ class URLPatternList:
         """Compiles a source, and appends the pattern."""
         pattern, base, ignore_case = source
         add = _calls.add_init if isinstance(pattern, dict) else _calls.add
-        arguments = *_given(pattern, base), ignore_case
+        arguments = *_pattern_texts(pattern, base), ignore_case
         with _ADDING:
             status = add(self._address, *arguments)
             if status == DONE:
@@ -445,32 +449,29 @@ class URLPatternList:
         """The groups of the match of the pattern of this index, or None: a list of tuples of the
         component, the name, and what the group captured, which is None where it took no part. They
         are in the order of the pattern, component by component."""
-        memory = self._matched(_captures, "for_match", _SIZE[index], *_texts(url, base))
-        return memory and self._groups(index, memory)
+        status, memory = self._matched(_captures, "for_match", _SIZE[index], *_texts(url, base))
+        return self._groups(index, memory) if _checked(status) else None
 
     def first_captures(self, url, base=None):
         """The first pattern that matches, with its `index` and the `groups` of its match as
         `captures` gives them, or None."""
-        if not self._sources:
-            return self.first(url, base)
-        memory = self._matched(_first_captures, "for_first", *_texts(url, base))
-        if memory is None:
+        status, memory = self._matched(_first_captures, "for_first", *_texts(url, base))
+        if status == NO_PATTERN or not _checked(status):
             return None
         index = memory.number.value
         return _tuple(FirstCaptures, (index, self._groups(index, memory)))
 
     def _matched(self, function, room, *arguments):
-        """Calls what writes a match to this room of a memory, with as much of it as it needs.
-        Returns the memory that has the match, or None if there is none."""
+        """Calls what writes a match, with as much room of this kind as it needs. Returns the status
+        and the memory, which is left if there is no match."""
         memory = _memory()
         status = function(self._address, *arguments, *getattr(memory, room))
         while status == TOO_SMALL:
             memory = _Memory(max(memory.sizes.bytes, ROOM), max(memory.sizes.spans, SPANS))
             status = function(self._address, *arguments, *getattr(memory, room))
-        if _checked(status):
-            return memory
-        memory.leave()
-        return None
+        if status != DONE:
+            memory.leave()
+        return status, memory
 
     def _groups(self, index, memory):
         """The groups of the match that memory has, which is then left."""
