@@ -405,8 +405,8 @@ class URLPatternList:
 
     def first(self, url, base=None):
         """The first pattern that matches, with its `index`, or None."""
-        memory = _memory()
-        status = _first(self._address, *_texts(url, base), memory.for_number)
+        texts, memory = _texts(url, base), _memory()
+        status = _first(self._address, *texts, memory.for_number)
         index = memory.number.value
         memory.leave()
         return _tuple(First, (index,)) if status != NO_PATTERN and _checked(status) else None
@@ -417,7 +417,7 @@ class URLPatternList:
 
     def mismatch(self, index, url, base=None):
         """The first component that the pattern of this index does not match, or None if it matches.
-        ValueError: the text is no URL."""
+        ValueError: the text counts as no URL."""
         component = ctypes.c_uint32()
         arguments = _SIZE[index], *_texts(url, base), ctypes.byref(component)
         if _checked(_calls.mismatch(self._address, *arguments)):
@@ -560,8 +560,8 @@ class URLPattern:
         return status == DONE if status < REFUSED else _checked(status)
 
     def mismatch(self, url, base=None):
-        """The first component that does not match, or None if each does. ValueError: the text is no
-        URL."""
+        """The first component that does not match, or None if each does. ValueError: the text
+        counts as no URL."""
         return self._list.mismatch(0, url, base)
 
     @property
