@@ -10,7 +10,7 @@ use Rattle.urlpattern_laws.proofs.laws.inits_have_one_outcome.Goals as goal
 
 -- the regular expression of such parts is never refused
 takes_generated : TakesOrRefusesGenerated pattern_engine
-takes_generated manner none parts reads value error taken (inl (named, may)) = may (manner.options, parts, none parts reads, refl)
+takes_generated manner none parts reads value error taken (inl (named, may)) = may.0 (manner.options, parts, none parts reads, refl)
 takes_generated manner none parts reads value error taken (inr (again, refused)) = let never : false ≡ true = again in cc never
 
 pub returns-clause-not_both : goal.returns-clause-not_both
