@@ -34,8 +34,9 @@ use Rattle.urlpattern_engine.proofs.EngineLaws.{pattern_values_read, regex_value
 use Rattle.urlpattern_engine.specs.Automatons.{config_for}
 use Rattle.urlpattern_engine.specs.PatternRegexps.{IsExpressionOf, pattern_engine}
 use Rattle.urlpattern_engine.specs.Readings.{re_answer}
+use Rattle.urlpattern_engine.specs.TextsAlone.{tree_of_generated}
 use Rattle.urlpattern_engine.specs.declared.pattern_regexp.Expression.{Expression}
-use Rattle.urlpattern_engine.specs.declared.pattern_regexp.Expression.TheVariants.{Own, Compiled, Kept, Other}
+use Rattle.urlpattern_engine.specs.declared.pattern_regexp.Expression.TheVariants.{Own, Compiled, Other, Generated, Custom}
 use Rattle.urlpattern_engine.specs.declared.pattern_regexp.PatternRegexp.{PatternRegexp}
 use Rattle.urlpattern_meaning.specs.Dialect.{Atom, Items, Nothing, Item, Captured, Grouped, IsTreeOf, atom_group_count, atom_text, group_count, items_text, quantifier_text}
 use Rattle.urlpattern_meaning.specs.PartMeaning.{Captures}
@@ -43,6 +44,7 @@ use Rattle.urlpattern_regex.proofs.TreesRead.{scalars_parts, tree_is_read}
 use Rattle.urlpattern_syntax.specs.Options.{OptionsView}
 use Rattle.urlpattern_syntax.specs.Parts.{PartView}
 use Rattle.urlpattern_syntax.specs.RegexpText.{part_regexp, regexp_text}
+use Rattle.urlpattern_syntax.specs.Text.{text_of}
 
 mapped : {A B : Type 0} (f : A → B) (o : Option A) → is_some (option_map f o) ≡ is_some o
 mapped f None = refl
@@ -183,16 +185,20 @@ read_kept ignore_case source hir names kept reads = subst (λ (b : Bool). Reads 
 expression_good : (ignore_case : Bool) (regexp : List ℕ) (expression : Expression) → IsExpressionOf ignore_case regexp expression → scalars regexp ≡ true
 expression_good ignore_case regexp (Own own) made = text_good own.text regexp made.0
 expression_good ignore_case regexp (Compiled automaton) made = text_good automaton.value.text regexp made.0
-expression_good ignore_case regexp (Kept kept) made = text_good kept.value.text regexp made.0
 expression_good ignore_case regexp (Other regex) made = text_good regex.value.pattern.source regexp made.0.of_text
+expression_good ignore_case regexp (Generated own) made = text_good own.text regexp made
+expression_good ignore_case regexp (Custom own) made = text_good own regexp made.0
 
 expression_some : (ignore_case : Bool) (regexp : List ℕ) (expression : Expression) → ignore_case ≡ false → IsExpressionOf ignore_case regexp expression → HasNumbers regexp → IsSome (read default_config regexp)
 expression_some ignore_case regexp (Own own) kept made room = tree_some regexp made.1.tree made.1.is_tree (text_good own.text regexp made.0) room
 expression_some ignore_case regexp (Compiled automaton) kept made room =
     reads_some (string_bytes automaton.value.text) regexp _ _ made.0 (read_kept ignore_case _ _ _ kept made.1.of_tree.is_read)
-expression_some ignore_case regexp (Kept value) kept made room = reads_some (string_bytes value.value.text) regexp _ _ made.0 (read_kept ignore_case _ _ _ kept made.1.is_read)
 expression_some ignore_case regexp (Other regex) kept made room =
     reads_some (regex_source regex.value) regexp _ _ made.0.of_text (read_kept ignore_case _ _ _ kept (rw (made.0.by_case) at made.0.is_read))
+expression_some ignore_case regexp (Generated own) kept made room =
+    let known = tree_of_generated (text_of own.text) own.is_generated in
+    tree_some regexp known.0 (subst (λ t. IsTreeOf t known.0) made known.1) (text_good own.text regexp made) room
+expression_some ignore_case regexp (Custom own) kept made room = subst (λ (b : Bool). IsSome (read (config_for b) regexp)) kept made.1
 
 pattern_read : (regexp flags : List ℕ) (value : PatternRegexp) → KeepsCase flags → HasNumbers regexp → pattern_engine.IsMade value regexp flags → IsReadFor regexp (pattern_engine.answer value)
 pattern_read regexp flags value keeps room made =

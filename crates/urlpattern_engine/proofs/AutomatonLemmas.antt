@@ -4,7 +4,7 @@ use Rattle.std.proofs.lemmas.Bool.{and_from, and_parts, cases_Bool, cond-true, c
 use Rattle.std.proofs.lemmas.List.FromFn.{get_or-map-range_with_len, length-map-range_with_len}
 use Rattle.std.proofs.lemmas.Option.{none-some, same_Some}
 use Rattle.std.proofs.lemmas.Str.{IsCharBoundary-start, encodes-chars, scalars-chars}
-use Rattle.std.proofs.Math.Logic.{∥∥₁_elim, ∥∥₁_prop}
+use Rattle.std.proofs.Math.Logic.{∥∥₁_elim}
 use Rattle.std.specs.Coded.{coded_list, coded_option, coded_ℕ}
 use base.Stored.{Coded-set}
 use Rattle.std.specs.List.{range_with_len}
@@ -32,7 +32,7 @@ use Rattle.regex_syntax.specs.Verdict.{Reads}
 use Rattle.regex_vm.specs.Found.{cell, first_match, group_cells}
 use Rattle.urlpattern_core.specs.Regexes.{group_texts, regex_answer, text_between}
 use Rattle.urlpattern_regex.proofs.RegexWays.{read_answers_first}
-use Rattle.urlpattern_engine.specs.Automatons.{IsRegexReadAs, IsNfaOf, IsReadAtStart, automaton_answer, config_for, match_captures, cell_texts, match_at_start, place_of, text_cut, tree_answer}
+use Rattle.urlpattern_engine.specs.Automatons.{IsRegexReadAs, IsNfaOf, automaton_answer, config_for, match_captures, cell_texts, match_at_start, place_of, text_cut, tree_answer}
 use Rattle.urlpattern_engine.proofs.TextParts.{text_parts}
 use Rattle.urlpattern_engine.proofs.TwoReadings.{readings_same, regex_answer_is, regex_is_read}
 use Rattle.urlpattern_meaning.specs.Dialect.{IsTreeOf, Items}
@@ -166,24 +166,6 @@ pub automaton_same_once : (ignore_case : Bool) (source : List ℕ) (nfa : Nfa) �
 automaton_same_once ignore_case source nfa utf8 made regex also bytes text =
     ∥∥₁_elim made (Coded-set (coded_option (coded_list (coded_option (coded_list coded_ℕ)))) _ _)
     (λ made. automaton_same ignore_case (chars source) source nfa utf8 refl made (chars bytes) (scalars-chars bytes text) regex also)
-
--- an automaton of a tree of which as much is known
-module _ (ignore_case : Bool) (source : List ℕ) (nfa : Nfa) (tree : Hir) (names : Names) (of_tree : ∥ IsReadAtStart ignore_case source tree names ∥₁)
-    (implements : Implements nfa (meaning tree)) (slots : nfa.slot_count ≡ 2 * length names) where
-  abbrev nfa_of_tree : IsReadAtStart ignore_case source tree names → IsNfaOf ignore_case source nfa
-  nfa_of_tree known = record { tree = tree; names = names; of_tree = known; implements = implements; slots = slots }
-
-  pub is_nfa_of_tree : ∥ IsNfaOf ignore_case source nfa ∥₁
-  is_nfa_of_tree = ∥∥₁_elim of_tree ∥∥₁_prop (λ known. ∣ nfa_of_tree known ∣₁)
-
-  as_known_tree : IsUtf8 source → (bytes : List ℕ) → IsUtf8 bytes → IsReadAtStart ignore_case source tree names → automaton_answer nfa (chars bytes) ≡ tree_answer tree names (chars bytes)
-  as_known_tree utf8 bytes text known =
-      answers_as_tree ignore_case (chars source) source nfa utf8 refl (nfa_of_tree known) (chars bytes) (scalars-chars bytes text)
-
-  pub automaton_as_tree : IsUtf8 source → (bytes : List ℕ) → IsUtf8 bytes → automaton_answer nfa (chars bytes) ≡ tree_answer tree names (chars bytes)
-  automaton_as_tree utf8 bytes text =
-      ∥∥₁_elim of_tree (Coded-set (coded_option (coded_list (coded_option (coded_list coded_ℕ)))) (automaton_answer nfa (chars bytes)) (tree_answer tree names (chars bytes)))
-      (as_known_tree utf8 bytes text)
 
 -- ---- the cells that a search writes
 

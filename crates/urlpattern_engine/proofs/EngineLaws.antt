@@ -1,10 +1,12 @@
 -- A value of the engine answers the first way, and what `regex::Regex` answers.
 use Rattle.std.proofs.Common.{◌≡◌, ℕ, Bool, false, true, List, Option, Some, None, length, refl, sym, ap, ◌∙◌, subst, inl, inr}
 use Rattle.std.proofs.lemmas.Str.{IsUtf8-string_bytes}
-use Rattle.std.specs.Prelude.{⊤, IfSome, IsOk, IsTrue, Ok, Err, Result, string_bytes}
+use Rattle.std.specs.Prelude.{⊤, IfSome, IsOk, IsSome, IsTrue, Ok, Err, Result, String, string_bytes}
+use Rattle.std.specs.declared.alloc.Global.{Global}
 use Rattle.std.specs.Str.{all_scalars}
 use Rattle.regex.specs.declared.string.regex.Regex.{Regex}
 use Rattle.regex_hir.specs.Re.{Re}
+use Rattle.regex_hir.proofs.OptionLemmas.{value_of_IsSome}
 use Rattle.regex_hir.specs.declared.hir.Hir.{Hir}
 use Rattle.regex_syntax.specs.Brackets.{Nested}
 use Rattle.regex_syntax.specs.Grammar.{Names, read}
@@ -13,7 +15,7 @@ use Rattle.urlpattern_core.specs.Regexes.{IsRegexOf, regex_answer, regex_engine}
 use Rattle.urlpattern_core.specs.FirstWays.{AllAnswerAlike, ComponentsTakeGenerated, EachAnswersFirst, KeepsCase, MatchersTakeGenerated, ValuesAnswerAlike, ValuesAnswerByFlags, ValuesAnswerFirst}
 use Rattle.urlpattern_core.specs.Generated.{AreGenerated}
 use Rattle.urlpattern_core.proofs.FirstMatchers.{first_alike, made_first}
-use Rattle.urlpattern_regex.proofs.RegexWays.{read_answers_first, regex_answers_first}
+use Rattle.urlpattern_regex.proofs.RegexWays.{regex_answers_first}
 use Rattle.urlpattern_meaning.specs.Dialect.{IsTreeOf, Items}
 use Rattle.urlpattern_meaning.specs.FirstAnswers.{AnswersFirst}
 use Rattle.urlpattern_meaning.specs.Ways.{first_way, first_way_by}
@@ -24,18 +26,21 @@ use Rattle.urlpattern_syntax.specs.Errors.{ErrorView}
 use Rattle.urlpattern_syntax.specs.Options.{OptionsView}
 use Rattle.urlpattern_syntax.specs.Parts.{PartView}
 use Rattle.urlpattern_syntax.specs.RegexpText.{regexp_text}
+use Rattle.urlpattern_syntax.specs.Text.{text_of}
 use Rattle.urlpattern_engine.specs.declared.pattern_regexp.Expression.{Expression}
-use Rattle.urlpattern_engine.specs.declared.pattern_regexp.Expression.TheVariants.{Own, Compiled, Kept, Other}
+use Rattle.urlpattern_engine.specs.declared.pattern_regexp.Expression.TheVariants.{Own, Compiled, Other, Generated, Custom}
 use Rattle.urlpattern_engine.specs.declared.pattern_regexp.PatternRegexp.{PatternRegexp}
 use Rattle.urlpattern_engine.specs.PatternRegexps.{IsExpressionOf, IsPatternRegexpOf, expression_answer, pattern_answer, pattern_engine}
 use Rattle.urlpattern_steps.specs.declared.step.Step.{Step}
-use Rattle.urlpattern_engine.specs.Automatons.{IsRegexReadAs, config_for, names_of}
-use Rattle.urlpattern_walk.specs.ReadSteps.{AreStepsOf, IsGenerated}
+use Rattle.urlpattern_engine.specs.Automatons.{IsRegexReadAs, config_for}
+use Rattle.urlpattern_engine.specs.TextsAlone.{generated_answer, read_answer, tree_of_generated}
+use Rattle.urlpattern_meaning.specs.GeneratedTexts.{IsGenerated}
+use Rattle.urlpattern_walk.specs.ReadSteps.{AreStepsOf}
 use Rattle.urlpattern_engine.specs.Readings.{ValuesAnswerAsRead, re_answer}
 use Rattle.urlpattern_steps.specs.Walk.{walk}
 use Rattle.urlpattern_meaning.proofs.FirstAnswers.{took_all}
 use Rattle.urlpattern_engine.proofs.AutomatonLemmas.{answers_as_tree, automaton_first, automaton_same}
-use Rattle.urlpattern_engine.proofs.TwoReadings.{default_read, first_is_read, read_by_default, regex_read, regexes_same, tree_is_read, tree_same}
+use Rattle.urlpattern_engine.proofs.TwoReadings.{default_read, first_is_read, read_answer_is, read_by_default, regex_as_read, regex_read, regexes_same, tree_is_read}
 
 -- the steps of an expression answer the first way of its tree, whether case counts or not
 steps_first : (ignore_case : Bool) (regexp : List ℕ) (tree : Items) (steps : List Step) (text : List ℕ) → IsTreeOf regexp tree → AreStepsOf regexp steps → walk ignore_case steps text ≡ first_way_by ignore_case tree text
@@ -45,16 +50,36 @@ steps_first ignore_case regexp tree steps text is of =
 by_default : (ignore_case : Bool) (regexp : List ℕ) (regex : Regex) → ignore_case ≡ false → IsRegexReadAs ignore_case regexp regex → IsRegexOf regexp regex
 by_default ignore_case regexp regex kept made = default_read regexp regex (subst (λ (b : Bool). IsRegexReadAs b regexp regex) kept made)
 
+-- the text of generated parts alone answers the first way of its tree
+generated_first : (ignore_case : Bool) (regexp : List ℕ) (tree : Items) (own : List ℕ) (generated : ∥ IsGenerated own ∥₁) (text : List ℕ) → own ≡ regexp → IsTreeOf regexp tree
+    → generated_answer ignore_case own generated text ≡ first_way_by ignore_case tree text
+generated_first ignore_case regexp tree own generated text same is =
+    let known = tree_of_generated own generated in
+    ap (λ t. first_way_by ignore_case t text) (trees_are_one own known.0 tree known.1 (subst (λ t. IsTreeOf t tree) (sym same) is))
+
+-- what is read if case is ignored or not is what is read by default, if it is not
+read_default : (ignore_case : Bool) (regexp : List ℕ) → ignore_case ≡ false → IsSome (read (config_for ignore_case) regexp) → IsSome (read default_config regexp)
+read_default ignore_case regexp kept some = subst (λ (b : Bool). IsSome (read (config_for b) regexp)) kept some
+
+-- a custom text alone answers what the grammar reads
+custom_read : (ignore_case : Bool) (regexp : List ℕ) (own : String Global) → ignore_case ≡ false → text_of own ≡ regexp → (found : Nested Re × Names) → read default_config regexp ≡ Some found
+    → (text : List ℕ) → read_answer ignore_case (text_of own) text ≡ re_answer found.0.value (length found.1) text
+custom_read ignore_case regexp own kept same found e text =
+    ap (λ b. read_answer b (text_of own) text) kept ∙ ap (λ t. read_answer false t text) same ∙ read_answer_is false regexp found e text
+
 pub expression_first : (ignore_case : Bool) (regexp : List ℕ) (tree : Items) (expression : Expression) (text : List ℕ) → ignore_case ≡ false → IsTreeOf regexp tree → IsExpressionOf ignore_case regexp expression
     → IsTrue (all_scalars text) → expression_answer ignore_case expression text ≡ first_way tree text
 expression_first ignore_case regexp tree (Own own) text kept is made fine =
     steps_first ignore_case regexp tree own.steps.items text is made.1 ∙ ap (λ b. first_way_by b tree text) kept
 expression_first ignore_case regexp tree (Compiled automaton) text kept is made fine =
     automaton_first ignore_case regexp (string_bytes automaton.value.text) automaton.value.nfa (IsUtf8-string_bytes automaton.value.text) made.0 made.1 text fine kept tree is
-expression_first ignore_case regexp tree (Kept value) text kept is made fine =
-    read_answers_first regexp tree (string_bytes value.value.text) value.value.hir (names_of value.value.names.items) text is (IsUtf8-string_bytes value.value.text) made.0
-    (subst (λ (b : Bool). Reads (config_for b) (string_bytes value.value.text) value.value.hir (names_of value.value.names.items)) kept made.1.is_read) fine
 expression_first ignore_case regexp tree (Other regex) text kept is made fine = regex_answers_first regexp tree regex.value text is (by_default ignore_case regexp regex.value kept made.0) fine
+expression_first ignore_case regexp tree (Generated generated) text kept is made fine =
+    generated_first ignore_case regexp tree (text_of generated.text) generated.is_generated text made is ∙ ap (λ b. first_way_by b tree text) kept
+expression_first ignore_case regexp tree (Custom own) text kept is made fine =
+    let found = value_of_IsSome (read default_config regexp) (read_default ignore_case regexp kept made.1) in
+    custom_read ignore_case regexp own kept made.0 found.0 found.1 text
+    ∙ sym (first_is_read regexp (string_bytes own) tree is (IsUtf8-string_bytes own) made.0 found.0 found.1 text fine)
 
 pub pattern_regexp_first : (regexp flags : List ℕ) (tree : Items) (value : PatternRegexp) (text : List ℕ) → ignores_case flags ≡ false → IsTreeOf regexp tree → IsPatternRegexpOf regexp flags value → IsTrue (all_scalars text)
     → pattern_answer value text ≡ first_way tree text
@@ -73,8 +98,9 @@ expression_generated : (ignore_case : Bool) (regexp : List ℕ) (tree : Items) (
     → expression_answer ignore_case expression text ≡ first_way_by ignore_case tree text
 expression_generated ignore_case regexp tree (Own own) text generated is made = steps_first ignore_case regexp tree own.steps.items text is made.1
 expression_generated ignore_case regexp tree (Compiled automaton) text generated is made = absurd (made.2 generated)
-expression_generated ignore_case regexp tree (Kept value) text generated is made = absurd (made.2 generated)
 expression_generated ignore_case regexp tree (Other regex) text generated is made = absurd (made.1 generated)
+expression_generated ignore_case regexp tree (Generated own) text generated is made = generated_first ignore_case regexp tree (text_of own.text) own.is_generated text made is
+expression_generated ignore_case regexp tree (Custom own) text generated is made = absurd (made.2 generated)
 
 pub values_by_flags : ValuesAnswerByFlags pattern_engine
 unfolding pattern_answer
@@ -89,11 +115,15 @@ expression_same ignore_case regexp (Own own) regex text kept made also fine =
 expression_same ignore_case regexp (Compiled automaton) regex text kept made also fine =
     automaton_same ignore_case regexp (string_bytes automaton.value.text) automaton.value.nfa (IsUtf8-string_bytes automaton.value.text) made.0 made.1 text fine regex
     (subst (λ (b : Bool). IsRegexReadAs b regexp regex) (sym kept) (read_by_default regexp regex also))
-expression_same ignore_case regexp (Kept value) regex text kept made also fine =
-    tree_same ignore_case regexp (string_bytes value.value.text) value.value.hir (names_of value.value.names.items) made.0 made.1.is_read regex
-    (subst (λ (b : Bool). IsRegexReadAs b regexp regex) (sym kept) (read_by_default regexp regex also)) text fine
 expression_same ignore_case regexp (Other other) regex text kept made also fine =
     regexes_same ignore_case regexp other.value regex made.0 (subst (λ (b : Bool). IsRegexReadAs b regexp regex) (sym kept) (read_by_default regexp regex also)) text fine
+expression_same ignore_case regexp (Generated own) regex text kept made also fine =
+    let known = tree_of_generated (text_of own.text) own.is_generated in
+    let is = subst (λ t. IsTreeOf t known.0) made known.1 in
+    ap (λ b. first_way_by b known.0 text) kept ∙ sym (regex_answers_first regexp known.0 regex text is also fine)
+expression_same ignore_case regexp (Custom own) regex text kept made also fine =
+    ap (λ t. read_answer ignore_case t text) made.0
+    ∙ sym (regex_as_read ignore_case regexp regex (subst (λ (b : Bool). IsRegexReadAs b regexp regex) (sym kept) (read_by_default regexp regex also)) text fine)
 
 pub pattern_regexp_same : ValuesAnswerAlike pattern_engine regex_engine KeepsCase
 unfolding pattern_answer
@@ -101,8 +131,8 @@ pattern_regexp_same regexp flags value regex text keeps made also fine = express
 
 -- ---- what the grammar reads
 
-read_default : (ignore_case : Bool) (source : List ℕ) (hir : Hir) (names : Names) → ignore_case ≡ false → Reads (config_for ignore_case) source hir names → Reads default_config source hir names
-read_default ignore_case source hir names kept is_read = subst (λ (b : Bool). Reads (config_for b) source hir names) kept is_read
+tree_default : (ignore_case : Bool) (source : List ℕ) (hir : Hir) (names : Names) → ignore_case ≡ false → Reads (config_for ignore_case) source hir names → Reads default_config source hir names
+tree_default ignore_case source hir names kept is_read = subst (λ (b : Bool). Reads (config_for b) source hir names) kept is_read
 
 expression_read : (ignore_case : Bool) (regexp : List ℕ) (expression : Expression) → ignore_case ≡ false → IsExpressionOf ignore_case regexp expression
     → (found : Nested Re × Names) → read default_config regexp ≡ Some found
@@ -113,13 +143,14 @@ expression_read ignore_case regexp (Own own) kept made found e text fine =
 expression_read ignore_case regexp (Compiled automaton) kept made found e text fine =
     let source = string_bytes automaton.value.text in
     answers_as_tree ignore_case regexp source automaton.value.nfa (IsUtf8-string_bytes automaton.value.text) made.0 made.1 text fine
-    ∙ tree_is_read regexp made.1.tree made.1.names (source, made.0, read_default ignore_case source made.1.tree made.1.names kept made.1.of_tree.is_read) found e text fine
-expression_read ignore_case regexp (Kept value) kept made found e text fine =
-    let source = string_bytes value.value.text in
-    let names = names_of value.value.names.items in
-    tree_is_read regexp value.value.hir names (source, made.0, read_default ignore_case source value.value.hir names kept made.1.is_read) found e text fine
+    ∙ tree_is_read regexp made.1.tree made.1.names (source, made.0, tree_default ignore_case source made.1.tree made.1.names kept made.1.of_tree.is_read) found e text fine
 expression_read ignore_case regexp (Other regex) kept made found e text fine =
     regex_read regexp regex.value (by_default ignore_case regexp regex.value kept made.0) found e text fine
+expression_read ignore_case regexp (Generated own) kept made found e text fine =
+    let known = tree_of_generated (text_of own.text) own.is_generated in
+    let is = subst (λ t. IsTreeOf t known.0) made known.1 in
+    ap (λ b. first_way_by b known.0 text) kept ∙ first_is_read regexp (string_bytes own.text) known.0 is (IsUtf8-string_bytes own.text) made found e text fine
+expression_read ignore_case regexp (Custom own) kept made found e text fine = custom_read ignore_case regexp own kept made.0 found e text
 
 if_some : {X : Type 0} (o : Option X) (P : X → Type 0) → ((x : X) → o ≡ Some x → P x) → IfSome o P
 if_some None P f = tt

@@ -6,3 +6,4 @@ pub mod EngineLaws
 pub mod AlikeLaws
 pub mod LargeLemmas
 pub mod RefusalLemmas
+pub mod TextLemmas

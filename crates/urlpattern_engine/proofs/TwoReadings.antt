@@ -1,7 +1,7 @@
 -- Two trees that the grammar reads in the same text answer the same, and what the grammar reads.
 use Rattle.std.proofs.Common.{◌≡◌, ℕ, ◌+◌, ◌-◌, ◌*◌, List, map, length, Option, Some, None, IsSomeAnd, is_some, option_map, true, Bool, false, true≢false, refl, sym, ap, subst, suc, arith, codes, ◌∙◌, ◌++◌}
 use Rattle.std.specs.List.{range_with_len}
-use Rattle.std.specs.Prelude.{IsTrue, encode_utf8_all}
+use Rattle.std.specs.Prelude.{IsTrue, encode_utf8_all, option_and_then}
 use Rattle.std.specs.Str.{IsUtf8, all_scalars, chars}
 use Rattle.std.proofs.lemmas.List.{length-replicate}
 use Rattle.std.proofs.lemmas.Option.{same_Some}
@@ -30,6 +30,7 @@ use Rattle.urlpattern_meaning.specs.Dialect.{IsTreeOf, Items, group_count, items
 use Rattle.urlpattern_meaning.specs.Ways.{first_way}
 use Rattle.urlpattern_engine.specs.Automatons.{IsRegexReadAs, config_for, tree_answer}
 use Rattle.urlpattern_engine.specs.Readings.{re_answer}
+use Rattle.urlpattern_engine.specs.TextsAlone.{read_answer}
 use Rattle.urlpattern_meaning.specs.PartMeaning.{Captures}
 
 both_hold : {A B : Type 0} (o : Option A) (P Q : A → Type 0) → ((x : A) → P x → Q x → B) → IsSomeAnd o P → IsSomeAnd o Q → B
@@ -80,9 +81,30 @@ module _ (config : Config) (regexp : List ℕ) (hir other : Hir) (names others :
       ap (λ (all : Names). re_answer (meaning hir) (length all) text) both_alike.1
       ∙ answers_alike (meaning hir) (meaning other) both_alike.0 text fine (length others)
 
+-- the answer of a tree that matches as what is read does
+if_read : (o : Option (Nested Re × Names)) (P : Nested Re × Names → Type 0) (hir : Hir) (names : Names) (text : List ℕ) → IsTrue (all_scalars text)
+    → ((found : Nested Re × Names) → P found → SameCaptures (meaning hir) found.0.value × (names ≡ found.1)) → IsSomeAnd o P
+    → tree_answer hir names text ≡ option_and_then (λ (pattern, others). re_answer pattern.value (length others) text) o
+if_read None P hir names text fine same p = absurd p
+if_read (Some found) P hir names text fine same p =
+    let known = same found p in
+    ap (λ (all : Names). re_answer (meaning hir) (length all) text) known.1 ∙ answers_alike (meaning hir) found.0.value known.0 text fine (length found.1)
+
 of_value : {X : Type 0} (o : Option X) (P : X → Type 0) → IsSomeAnd o P → (x : X) → o ≡ Some x → P x
 of_value None P p x e = absurd p
 of_value (Some y) P p x e = subst P (same_Some y x e) p
+
+-- such a tree answers what the grammar reads, whether case counts or not
+pub tree_as_read : (ignore_case : Bool) (regexp : List ℕ) (hir : Hir) (names : Names) → IsReadIn (config_for ignore_case) regexp hir names → (text : List ℕ) → IsTrue (all_scalars text)
+    → tree_answer hir names text ≡ read_answer ignore_case regexp text
+unfolding Reads
+tree_as_read ignore_case regexp hir names made text fine =
+    if_read (read (config_for ignore_case) regexp) _ hir names text fine (λ found known. (known.1, known.2)) (rw (made.1) at made.2)
+
+-- so it does where what it reads is known
+pub read_answer_is : (ignore_case : Bool) (regexp : List ℕ) (found : Nested Re × Names) → read (config_for ignore_case) regexp ≡ Some found → (text : List ℕ)
+    → read_answer ignore_case regexp text ≡ re_answer found.0.value (length found.1) text
+read_answer_is ignore_case regexp found e text = ap (option_and_then (λ (pattern, names). re_answer pattern.value (length names) text)) e
 
 -- such a tree answers what the grammar reads
 pub tree_is_read : (regexp : List ℕ) (hir : Hir) (names : Names) → IsReadIn default_config regexp hir names → (found : Nested Re × Names) → read default_config regexp ≡ Some found
@@ -131,14 +153,13 @@ regexes_same ignore_case regexp regex other made again text fine =
     ∙ readings_same (config_for ignore_case) regexp _ _ _ _ (regex_is_read ignore_case regexp regex made) (regex_is_read ignore_case regexp other again) text fine
     ∙ sym (regex_answer_is other text)
 
-pub tree_same : (ignore_case : Bool) (regexp source : List ℕ) (hir : Hir) (names : Names) → chars source ≡ regexp → Reads (config_for ignore_case) source hir names
-    → (regex : Regex) → IsRegexReadAs ignore_case regexp regex → (text : List ℕ) → IsTrue (all_scalars text) → tree_answer hir names text ≡ regex_answer regex text
-tree_same ignore_case regexp source hir names of_text is_read regex made text fine =
-    readings_same (config_for ignore_case) regexp hir _ names _ (source, of_text, is_read) (regex_is_read ignore_case regexp regex made) text fine
-    ∙ sym (regex_answer_is regex text)
-
 -- a value answers what the grammar reads in its text
 pub regex_read : (regexp : List ℕ) (regex : Regex) → IsRegexOf regexp regex → (found : Nested Re × Names) → read default_config regexp ≡ Some found
     → (text : List ℕ) → IsTrue (all_scalars text) → regex_answer regex text ≡ re_answer found.0.value (length found.1) text
 regex_read regexp regex made found e text fine =
     regex_answer_is regex text ∙ tree_is_read regexp _ _ (regex_is_read false regexp regex (read_by_default regexp regex made)) found e text fine
+
+pub regex_as_read : (ignore_case : Bool) (regexp : List ℕ) (regex : Regex) → IsRegexReadAs ignore_case regexp regex → (text : List ℕ) → IsTrue (all_scalars text)
+    → regex_answer regex text ≡ read_answer ignore_case regexp text
+regex_as_read ignore_case regexp regex made text fine =
+    regex_answer_is regex text ∙ tree_as_read ignore_case regexp _ _ (regex_is_read ignore_case regexp regex made) text fine

@@ -1,6 +1,7 @@
 pub mod Readings
 pub mod Automatons
 pub mod Refusals
+pub mod TextsAlone
 pub mod Trials
 pub mod PatternRegexps
 pub mod EcmaRegexps

@@ -212,7 +212,7 @@ pub(crate) fn read_expression(
 }
 
 /// How `regex_syntax` is to read an expression: by its default options, but that case may be ignored.
-pub(crate) fn config_for(ignore_case: bool) -> Config
+fn config_for(ignore_case: bool) -> Config
     ensures { result ≡ config_for ignore_case }
 {
     let mut config = Config::default();
@@ -239,7 +239,7 @@ pub(crate) fn regex_of(alloc: Global, regexp: &str, ignore_case: bool) -> Result
 /// The automaton of the tree of an expression with so many groups, the whole match among them.
 ///
 /// The error says whether it would be too large or memory ran out.
-pub(crate) fn nfa_of(
+fn nfa_of(
     alloc: Global,
     regexp: &str,
     hir: &Hir,
