@@ -4,7 +4,7 @@ use Rattle.std.specs.declared.alloc.Global.{Global}
 use Rattle.urlpat_commands.specs.Answers.{AreAnswered, FailsWhere}
 use Rattle.urlpat_words.specs.Words.{words_view, AreWordsAfter}
 use Rattle.urlpat_commands.specs.FilterLines.{AskToFilter, Does}
-use Rattle.urlpat_commands.specs.Notes.{HasRefusedInput}
+use Rattle.urlpat_commands.specs.Notes.{HasNote}
 use Rattle.urlpat_matching.specs.declared.status.TheConstants.{FAILED}
 use Rattle.urlpat_rules.specs.Coverings.{TellsWhether}
 use Rattle.urlpat_rules.specs.Routes.{RoutesLines}
@@ -31,9 +31,10 @@ DoesAny flags Has words status input old new = DoesRules flags Has words status 
 abbrev pub RunsAny : Flags → (Has : (name table : List ℕ) → Type 0) → (words : List (String Global)) → (status : ℕ) → (input old new : Option (List ℕ)) → Type 0
 RunsAny flags Has words status input old new = status ≢ FAILED → DoesAny flags Has (words_view words) status input old new
 
--- the words may be answered with a report beside the answer: `url` refuses their input, or they ask for lines or for patterns
-abbrev pub MayReport : (words : List (List ℕ)) → Type 0
-MayReport words = HasRefusedInput words ⊎ AskToFilter words ⊎ AskForRules words
+-- the words may be answered with a report beside the answer: `url` refuses their input, where errors
+-- are explained, or they ask for lines or for patterns
+abbrev pub MayReport : Flags → (words : List (List ℕ)) → Type 0
+MayReport flags words = HasNote flags words ⊎ AskToFilter words ⊎ AskForRules words
 
 -- the words have no answer, and this is so; or they have one, or ask for lines or for patterns
 abbrev pub FailsAny : Flags → (words : List (List ℕ)) → (IsSo : Type 0) → Type 0

@@ -25,7 +25,7 @@ pub fn run<T: Tables, In: BufRead, Out: Write, Err: Write>(
 ) -> u8
     ensures status { (result ≡ DONE) ⊎ (result ≡ NO_MATCH) ⊎ (result ≡ FAILED) }
     ensures answers { RunsAny flags (T.Has tables.now) words.now result (In.remaining input.old) (Out.contents out.old) (Out.contents out.new) }
-    ensures quiet { result ≢ FAILED → (err.new ≡ err.old) ⊎ MayReport (words_view words.now) }
+    ensures quiet { result ≢ FAILED → (err.new ≡ err.old) ⊎ MayReport flags (words_view words.now) }
     ensures fails { result ≡ FAILED → FailsAny flags (words_view words.now) (out.new ≡ out.old) }
 {
     if let Some(rest) = words_after(words, "covers") {

@@ -5,12 +5,15 @@
 ghost use Rattle.std.specs.Prelude.{⊤};
 
 mod command;
+mod output;
 
 use command::run;
+use output::{Output, report_output};
 use std::alloc::AllocError;
-use std::io::{BufReader, BufWriter};
+use std::io::{BufRead, BufReader, BufWriter, IsTerminal, Write};
 use std::process::ExitCode;
 use std::{env, fs, io};
+use urlpat_commands::explains_errors;
 use urlpat_explain::explain;
 use urlpat_links::link;
 use urlpat_matching::{Failure, fail};
@@ -35,7 +38,11 @@ impl Tables for HostFiles<'_> {
 fn main(rt: HostRuntime) -> ExitCode {
     ExitCode::from(match words(&rt) {
         Ok(mut words) => {
-            let flags = take_flags(&mut words);
+            let mut flags = take_flags(&mut words);
+            // At a terminal a person reads the errors.
+            if rt.stderr().is_terminal() {
+                flags.explain_errors = true;
+            }
             match run_buffered(&rt, &words, flags) {
                 Ok(status) => status,
                 Err(_) => fail(&Failure::from(AllocError), &mut rt.stderr()),
@@ -45,20 +52,38 @@ fn main(rt: HostRuntime) -> ExitCode {
     })
 }
 
-/// Does what the arguments ask for, over buffers, and gives the status to end with. The error is that memory ran out.
+/// Does what the arguments ask for, over buffers, and gives the status to end with. Where errors are
+/// explained, it says why the output cannot be written. The error is that memory ran out.
 fn run_buffered(rt: &HostRuntime, words: &[String], flags: Flags) -> io::Result<u8> {
     let alloc = rt.alloc();
     let mut input = BufReader::new(alloc, rt.stdin())?;
-    let mut out = BufWriter::new(alloc, rt.stdout())?;
+    let mut out = Output::new(BufWriter::new(alloc, rt.stdout())?);
     let mut err = rt.stderr();
+    let status = run_words(rt, words, flags, &mut input, &mut out, &mut err);
+    if explains_errors(words, flags) {
+        report_output(out.failure(), &mut err);
+    }
+    Ok(status)
+}
+
+/// Does what the arguments ask for, and gives the status to end with.
+fn run_words<In: BufRead, Out: Write, Err: Write>(
+    rt: &HostRuntime,
+    words: &[String],
+    flags: Flags,
+    input: &mut In,
+    out: &mut Out,
+    err: &mut Err,
+) -> u8 {
+    let alloc = rt.alloc();
     if let Some(rest) = words_after(words, "link") {
-        return Ok(link(alloc, rest, &mut out, &mut err));
+        return link(alloc, rest, out, err);
     }
     if let Some(rest) = words_after(words, "explain") {
-        return Ok(explain(alloc, rest, flags, &mut out, &mut err));
+        return explain(alloc, rest, flags, out, err);
     }
     let files = HostFiles { rt };
-    Ok(run(alloc, &files, words, flags, &mut input, &mut out, &mut err))
+    run(alloc, &files, words, flags, input, out, err)
 }
 
 /// The arguments after the program's own name. The error is that one of them is not UTF-8, or that memory ran out.

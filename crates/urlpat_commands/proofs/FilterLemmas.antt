@@ -2,8 +2,8 @@
 use Rattle.std.proofs.Common.{◌≡◌, ◌∙◌, ℕ, Bool, List, ap, subst}
 use Rattle.std.specs.Prelude.{Option, None, Some, IfSome}
 use Rattle.urlpat_matching.specs.InputUrls.{BaseView, base_view}
-use Rattle.urlpat_matching.specs.PatternWords.{IsPatternOf, base_of}
-use Rattle.urlpat_commands.specs.FilterLines.{FiltersLines, IsFiltered}
+use Rattle.urlpat_matching.specs.PatternWords.{base_of}
+use Rattle.urlpat_commands.specs.FilterLines.{FiltersLines, IsAskedPattern, IsFiltered}
 use Rattle.urlpat_matching.specs.Status.{status_of}
 use Rattle.urlpat_filter.specs.Filters.{FiltersText}
 use Rattle.urlpat_words.specs.Queries.{IsQueryOf}
@@ -14,15 +14,15 @@ use Rattle.urlpattern_engine.specs.declared.pattern_regexp.PatternRegexp.{Patter
 
 -- the lines are filtered under the base URL that the words have
 pub filters : (flags : Flags) (words : List (List ℕ)) (query : Query) (compiled : PatternView PatternRegexp) (base : Option (List ℕ)) (kept : BaseView) (input old new : Option (List ℕ)) (any : Bool) (status : ℕ)
-    → IsQueryOf flags.json words query → IsPatternOf flags.ignore_case query.pattern.now base compiled → base ≡ base_of query.base.now
+    → IsQueryOf flags.json words query → IsAskedPattern flags.ignore_case query base compiled → base ≡ base_of query.base.now
     → kept ≡ base_view base → status ≡ status_of any → IfSome input (λ text. FiltersText (IsFiltered compiled kept query) query.shape text any old new)
     → FiltersLines flags words status input old new
 filters flags words query compiled base kept None old new any status asks is same read ends found =
-    (query, asks, compiled, subst (λ b. IsPatternOf flags.ignore_case query.pattern.now b compiled) same is, tt)
+    (query, asks, compiled, subst (λ b. IsAskedPattern flags.ignore_case query b compiled) same is, tt)
 filters flags words query compiled base kept (Some text) old new any status asks is same read ends found = (
   query,
   asks,
   compiled,
-  subst (λ b. IsPatternOf flags.ignore_case query.pattern.now b compiled) same is,
+  subst (λ b. IsAskedPattern flags.ignore_case query b compiled) same is,
   (any, ends, subst (λ b. FiltersText (IsFiltered compiled b query) query.shape text any old new) (read ∙ ap base_view same) found),
 )

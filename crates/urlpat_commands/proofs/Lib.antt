@@ -3,3 +3,4 @@ pub mod AnswerLemmas
 pub mod FirstLemmas
 pub mod ShortLemmas
 pub mod FilterLemmas
+pub mod NoteLemmas

@@ -1,5 +1,6 @@
 -- What `filter` answers to its words and to the lines that it reads. Words and texts are bytes.
-use Rattle.std.specs.Prelude.{◌≡◌, ◌≢◌, ◌⊎◌, ℕ, Bool, List, [], codes, Option, None, Some, IfSome, String}
+use Rattle.std.specs.Prelude.{◌≡◌, ◌≢◌, ◌⊎◌, ◌++◌, ℕ, Bool, IsTrue, List, [], codes, Option, None, Some, IfSome, String}
+use Rattle.std.specs.Borrow.{Bor}
 use Rattle.std.specs.declared.alloc.Global.{Global}
 use Rattle.std.specs.Str.{chars}
 use Rattle.url.specs.Parts.{Parts}
@@ -8,6 +9,7 @@ use Rattle.urlpat_matching.specs.PatternWords.{IsPatternOf, base_of}
 use Rattle.urlpat_matching.specs.MatchTexts.{IsUnmatchedUnder}
 use Rattle.urlpat_commands.specs.Answers.{AreAnswered, FailsWhere, Prints}
 use Rattle.urlpat_matching.specs.GroupLines.{group_bytes}
+use Rattle.urlpat_matching.specs.Groups.{has_group}
 use Rattle.urlpat_matching.specs.MatchJson.{IsMatchJson}
 use Rattle.urlpat_matching.specs.Status.{status_of}
 use Rattle.urlpat_matching.specs.declared.status.TheConstants.{FAILED}
@@ -25,6 +27,7 @@ use Rattle.urlpattern.specs.Patterns.{PatternView}
 use Rattle.urlpattern_engine.specs.PatternRegexps.{pattern_answer}
 use Rattle.urlpattern_engine.specs.declared.pattern_regexp.PatternRegexp.{PatternRegexp}
 use Rattle.urlpattern_init.specs.declared.init.UrlPatternMatchInput.TheVariants as match_inputs
+use Rattle.urlpattern_eight.specs.Eight.{name_text}
 use Rattle.urlpattern_eight.specs.declared.eight.ComponentName.{ComponentName}
 
 -- what is printed of a group: what it captured, or nothing
@@ -47,6 +50,32 @@ pub record IsPieceOf (compiled : PatternView PatternRegexp) (base : BaseView) (t
   pub is_match : IsMatch pattern_answer compiled (match_inputs.Url url) result
   pub is_piece : HasPiece result shape piece
 
+-- a component, and the name of a group
+abbrev pub Group : Type 0
+Group = ComponentName × Bor (List ℕ)
+
+-- the pattern has the group that a shape asks for, if it asks for one
+abbrev pub HasAskedGroup : PatternView PatternRegexp → Shape → Type 0
+HasAskedGroup compiled (shapes.Group component name) =
+    IsTrue (has_group compiled (chars name.now) component)
+HasAskedGroup compiled shape = Unit {0}
+
+-- the shape asks for this group, and the pattern does not have it
+abbrev pub IsMissingGroup : PatternView PatternRegexp → Shape → Group → Type 0
+IsMissingGroup compiled shape (component, name) =
+    (shape ≡ shapes.Group component name) × ¬ HasAskedGroup compiled shape
+
+-- what is printed of such a group
+abbrev pub missing_group_line : ComponentName → (name : List ℕ) → List ℕ
+missing_group_line component name =
+    codes "the pattern has no group `" ++ name_text component ++ codes "." ++ name ++ codes "`\n"
+
+-- the pattern of a query has the group that is asked for
+abbrev pub IsAskedPattern : (ignores : Bool) → Query → (base : Option (List ℕ))
+    → PatternView PatternRegexp → Type 0
+IsAskedPattern ignores query base compiled =
+    IsPatternOf ignores query.pattern.now base compiled × HasAskedGroup compiled query.shape
+
 -- the answer to a line: by what the pattern captures of it under this base URL, as is asked
 abbrev pub IsFiltered : PatternView PatternRegexp → BaseView → Query → (text line : List ℕ) → Verdict → (written : List ℕ) → Type 0
 IsFiltered compiled base query =
@@ -55,7 +84,9 @@ IsFiltered compiled base query =
 -- the words after `filter` are answered over what the reader has, if that is known
 abbrev pub FiltersLines : Flags → (words : List (List ℕ)) → (status : ℕ) → (input old new : Option (List ℕ)) → Type 0
 FiltersLines flags words status input old new =
-    (query : Query) × IsQueryOf flags.json words query × (compiled : PatternView PatternRegexp) × IsPatternOf flags.ignore_case query.pattern.now (base_of query.base.now) compiled
+    (query : Query) × IsQueryOf flags.json words query
+    × (compiled : PatternView PatternRegexp)
+    × IsAskedPattern flags.ignore_case query (base_of query.base.now) compiled
     × IfSome input (λ text. (any : Bool) × (status ≡ status_of any)
     × FiltersText (IsFiltered compiled (base_view (base_of query.base.now)) query) query.shape text any old new)
 

@@ -1,19 +1,22 @@
 //! The commands of the program: what its words ask for, and what it prints.
 
-ghost use Rattle.std.specs.Prelude.{◌≡◌, ◌≢◌, ◌⊎◌, map, string_bytes, IfErr, IfOk, IfSome, Ok, None};
+ghost use Rattle.std.specs.Io.KnownBytes.{Appends};
+ghost use Rattle.std.specs.Prelude.{◌≡◌, ◌≢◌, ◌⊎◌, map, string_bytes, IfErr, IfOk, IfSome, OnOk, Ok, None};
 ghost use Rattle.urlpat_commands.specs.Answers.{FailsComponent, FailsWhere, AreAnswered, IsCommandAnswer, IsComponentAnswer, IsComponentFailure, IsComponentText, CopiesBytes, IsFailure, IsPrintedOf, Prints, IsFirstAnswer, IsFirstFailure, IsShortAnswer, IsShortFailure, IsMatchAnswer, IsMatchFailure};
 ghost use Rattle.urlpat_words.specs.Words.{words_view};
 ghost use Rattle.urlpat_commands.specs.Kinds.{IsKind, NamesOptions};
 ghost use Rattle.urlpat_commands.specs.FilterLines.{AskToFilter, FailsOne, RunsOne};
-ghost use Rattle.urlpat_commands.specs.Notes.{HasRefusedInput};
+ghost use Rattle.urlpat_commands.specs.Notes.{ExplainsErrors, HasNote, ReportsFirst, note_bytes};
+ghost use Rattle.urlpat_matching.specs.Status.{failure_lines};
 ghost use Rattle.urlpat_commands.specs.Report.{component_lines, no_match_text};
 ghost use Rattle.urlpattern.specs.Options.{options_view};
 ghost use Rattle.urlpattern.specs.Errors.{OnlyOutOfMemory};
 
 use crate::filter::filter;
 use crate::first::first_groups;
-use crate::notes::{diagnosis_note, input_note};
+use crate::notes::{diagnosis_note, explains_errors, input_note};
 use std::alloc::{AllocError, Global};
+use std::io;
 use std::io::{BufRead, Write};
 use urlpat_matching::{
     DONE, FAILED, Failure, NO_BASE, NO_MATCH, fail, matched_groups, print, report,
@@ -33,7 +36,8 @@ struct Printed {
 /// Does what the words and the flags ask for, and gives the status to end with.
 ///
 /// `filter` reads lines from `input`. What is printed goes to `out`, the answer of each other command in one piece. Why there is no
-/// answer goes to `err`, and that an input or a line is no URL.
+/// answer goes to `err`, and that an input or a line is no URL. `component`, `match` and `first` print
+/// an error alone, and say nothing of their input, unless the flags ask for errors that are explained.
 pub fn run<In: BufRead, Out: Write, Err: Write>(
     alloc: Global,
     words: &[String],
@@ -44,7 +48,8 @@ pub fn run<In: BufRead, Out: Write, Err: Write>(
 ) -> u8
     ensures status { (result ≡ DONE) ⊎ (result ≡ NO_MATCH) ⊎ (result ≡ FAILED) }
     ensures answers { RunsOne flags words.now result (In.remaining input.old) (Out.contents out.old) (Out.contents out.new) }
-    ensures quiet { result ≢ FAILED → (err.new ≡ err.old) ⊎ HasRefusedInput (words_view words.now) ⊎ AskToFilter (words_view words.now) }
+    ensures quiet { result ≢ FAILED → (err.new ≡ err.old) ⊎ HasNote flags (words_view words.now)
+        ⊎ AskToFilter (words_view words.now) }
     ensures fails { result ≡ FAILED → FailsOne flags (words_view words.now) (out.new ≡ out.old) }
 {
     match words_after(words, "filter") {
@@ -63,7 +68,7 @@ fn run_once<Out: Write, Err: Write>(
 ) -> u8
     ensures status { (result ≡ DONE) ⊎ (result ≡ NO_MATCH) ⊎ (result ≡ FAILED) }
     ensures answers { result ≢ FAILED → Prints flags (words_view words.now) result (Out.contents out.old) (Out.contents out.new) }
-    ensures quiet { result ≢ FAILED → (err.new ≡ err.old) ⊎ HasRefusedInput (words_view words.now) }
+    ensures quiet { result ≢ FAILED → (err.new ≡ err.old) ⊎ HasNote flags (words_view words.now) }
     ensures fails { result ≡ FAILED → FailsWhere flags (words_view words.now) (out.new ≡ out.old) ⊎ AreAnswered flags (words_view words.now) }
 {
     if let Some(text) = help_of(words) {
@@ -73,57 +78,75 @@ fn run_once<Out: Write, Err: Write>(
         };
     }
     match answer(alloc, words, flags) {
-        Ok(answer) => match note_beside(alloc, words, answer.status) {
+        Ok(answer) => match note_beside(alloc, words, flags, answer.status) {
             Ok(note) => match print(answer.text.as_bytes(), out) {
                 Ok(()) => {
-                    write_note(&note, err);
+                    let _ = write_note(&note, err);
                     answer.status
                 }
                 Err(_) => FAILED,
             },
             Err(error) => fail(&Failure::from(error), err),
         },
-        Err(failure) => fail_with_note(alloc, words, &failure, err),
+        Err(failure) => {
+            let _ = write_failure(alloc, words, flags, &failure, err);
+            FAILED
+        }
     }
 }
 
-/// What is said beside an answer with this status.
-fn note_beside(alloc: Global, words: &[String], status: u8) -> Result<Option<String>, Error>
-    ensures { IfOk result (λ note. IfSome note (λ text. HasRefusedInput (words_view words.now))) }
+/// What is said beside an answer with this status: that the input is no URL, where errors are
+/// explained.
+fn note_beside(
+    alloc: Global,
+    words: &[String],
+    flags: Flags,
+    status: u8,
+) -> Result<Option<String>, Error>
+    ensures { IfOk result (λ note. IfSome note (λ text. HasNote flags (words_view words.now))) }
 {
-    if status == NO_MATCH {
+    if status == NO_MATCH && explains_errors(words, flags) {
         input_note(alloc, words)
     } else {
         Ok(None)
     }
 }
 
-/// Writes what is said beside an answer, if there is such.
-fn write_note<Err: Write>(note: &Option<String>, err: &mut Err)
-    ensures { note.now ≡ None → err.new ≡ err.old }
+/// Writes what is said beside an answer or an error, if there is such.
+fn write_note<Err: Write>(note: &Option<String>, err: &mut Err) -> io::Result<()>
+    ensures none { note.now ≡ None → err.new ≡ err.old }
+    ensures written { OnOk result
+        (Appends (Err.contents err.old) (Err.contents err.new) (note_bytes note.now)) }
 {
-    if let Some(text) = note {
-        let _ = err.write_all(text.as_bytes());
+    match note {
+        Some(text) => err.write_all(text.as_bytes()),
+        None => Ok(()),
     }
 }
 
-/// Reports why there is no answer, and what is wrong with the pattern among the words, and gives the status to end with.
-fn fail_with_note<Err: Write>(
+/// Writes why there is no answer, and after it, where errors are explained, what is wrong with the
+/// pattern among the words.
+fn write_failure<Err: Write>(
     alloc: Global,
     words: &[String],
+    flags: Flags,
     failure: &Failure,
     err: &mut Err,
-) -> u8
-    ensures { result ≡ FAILED }
+) -> io::Result<()>
+    ensures alone { ¬ ExplainsErrors flags (words_view words.now) → IfSome (failure_lines failure.now)
+        (λ lines. OnOk result (Appends (Err.contents err.old) (Err.contents err.new) lines)) }
+    ensures first { IfSome (failure_lines failure.now)
+        (λ lines. OnOk result (ReportsFirst lines (Err.contents err.old) (Err.contents err.new))) }
 {
+    if !explains_errors(words, flags) {
+        return report(failure, err);
+    }
     match diagnosis_note(alloc, words, failure) {
         Ok(note) => {
-            if report(failure, err).is_ok() {
-                write_note(&note, err);
-            }
-            FAILED
+            report(failure, err)?;
+            write_note(&note, err)
         }
-        Err(error) => fail(&Failure::from(Error::from(error)), err),
+        Err(error) => report(&Failure::from(Error::from(error)), err),
     }
 }
 

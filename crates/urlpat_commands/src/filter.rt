@@ -1,23 +1,25 @@
 //! The command `filter`: the lines of a reader whose URLs match a pattern.
 
-ghost use Rattle.std.specs.Prelude.{◌≡◌, ◌⊎◌, OnOk};
+ghost use Rattle.std.specs.Io.KnownBytes.{Appends};
+ghost use Rattle.std.specs.Prelude.{◌≡◌, ◌⊎◌, option_copied, IfNone, IfSome, OnOk};
 ghost use Rattle.urlpat_matching.specs.MatchTexts.{IsUnmatchedUnder};
 ghost use Rattle.urlpat_matching.specs.InputUrls.{kept_base};
-ghost use Rattle.urlpat_commands.specs.FilterLines.{FilterReplies, HasPiece, IsPieceOf};
+ghost use Rattle.urlpat_commands.specs.FilterLines.{FilterReplies, HasAskedGroup, HasPiece, IsAskedPattern, IsMissingGroup, IsPieceOf, missing_group_line};
 ghost use Rattle.urlpat_filter.specs.Filters.{GetsPiece};
 ghost use Rattle.urlpattern.specs.BorrowedMatches.{pattern_captures_view};
 ghost use Rattle.urlpattern.specs.Patterns.{pattern_view};
 
 use std::alloc::{AllocError, Global};
+use std::io;
 use std::io::{BufRead, Write};
 use urlpat_filter::{LineMatcher, Outcome, filter_lines};
 use urlpat_matching::{
-    BaseUrl, DONE, FAILED, NO_MATCH, base_of, base_url, capture_of, compiled, match_json,
-    url_under, write_refusal,
+    BaseUrl, DONE, FAILED, NO_MATCH, base_of, base_url, capture_of, compiled, has_group,
+    match_json, url_under, write_refusal,
 };
-use urlpat_words::{Flags, Shape, query_of};
+use urlpat_words::{Flags, Query, Shape, query_of};
 use urlpattern::regexp::PatternRegexp;
-use urlpattern::{UrlPattern, UrlPatternCaptures};
+use urlpattern::{ComponentName, UrlPattern, UrlPatternCaptures};
 
 /// The usage of `filter`.
 const FILTER_USAGE: &str = "\
@@ -56,9 +58,8 @@ pub fn filter<In: BufRead, Out: Write, Err: Write>(
         return FAILED;
     };
     let base = base_of(query.base);
-    let pattern = match compiled(alloc, query.pattern, base, flags.ignore_case) {
-        Ok(pattern) => pattern,
-        Err(error) => return write_refusal(alloc, query.pattern, base, error, err),
+    let Some(pattern) = asked_pattern(alloc, query, base, flags.ignore_case, err) else {
+        return FAILED;
     };
     let kept = match base_url(alloc, base) {
         Ok(kept) => kept,
@@ -81,6 +82,65 @@ pub fn filter<In: BufRead, Out: Write, Err: Write>(
 /// The usage of `filter`.
 fn usage(json: bool) -> &'static str {
     if json { JSON_USAGE } else { FILTER_USAGE }
+}
+
+/// The pattern of a query. `None`: it is refused, or does not have the group that is asked for, which
+/// is reported.
+fn asked_pattern<Err: Write>(
+    alloc: Global,
+    query: Query<'_>,
+    base: Option<&str>,
+    ignore_case: bool,
+    err: &mut Err,
+) -> Option<UrlPattern<PatternRegexp>>
+    ensures { IfSome result (λ pattern.
+        IsAskedPattern ignore_case query.entry (option_copied base.entry) (pattern_view pattern)) }
+{
+    let pattern = match compiled(alloc, query.pattern, base, ignore_case) {
+        Ok(pattern) => pattern,
+        Err(error) => {
+            write_refusal(alloc, query.pattern, base, error, err);
+            return None;
+        }
+    };
+    match missing_group(&pattern, query.shape) {
+        Some((component, name)) => {
+            drop(pattern);
+            let _ = report_missing_group(component, name, err);
+            None
+        }
+        None => Some(pattern),
+    }
+}
+
+/// The group that a shape asks for, if a pattern does not have it.
+fn missing_group<'q>(
+    pattern: &UrlPattern<PatternRegexp>,
+    shape: Shape<'q>,
+) -> Option<(ComponentName, &'q str)>
+    ensures missing { IfSome result (IsMissingGroup (pattern_view pattern.now) shape.entry) }
+    ensures there { IfNone result (HasAskedGroup (pattern_view pattern.now) shape.entry) }
+{
+    let Shape::Group(component, name) = shape else {
+        return None;
+    };
+    if has_group(pattern.get(component), name) {
+        None
+    } else {
+        Some((component, name))
+    }
+}
+
+/// Reports that the pattern does not have a group that is asked for.
+fn report_missing_group<Err: Write>(
+    component: ComponentName,
+    name: &str,
+    err: &mut Err,
+) -> io::Result<()>
+    ensures { OnOk result (Appends (Err.contents err.old) (Err.contents err.new)
+        (missing_group_line component name.now)) }
+{
+    writeln!(err, "the pattern has no group `{component}.{name}`")
 }
 
 impl LineMatcher for UrlLines<'_> {

@@ -10,3 +10,4 @@ mod json;
 mod notes;
 
 pub use command::run;
+pub use notes::explains_errors;

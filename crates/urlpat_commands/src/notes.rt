@@ -1,16 +1,46 @@
 //! What goes to standard error beside the answer: what is wrong with a pattern that is refused, and that an input is no URL.
 
-ghost use Rattle.std.specs.Prelude.{IfOk, IfSome};
+ghost use Rattle.std.specs.Prelude.{IfOk, IfSome, IsFalse, IsTrue};
 ghost use Rattle.urlpat_words.specs.Words.{words_view};
-ghost use Rattle.urlpat_commands.specs.Notes.{HasRefusedFirstInput, HasRefusedInput, HasRefusedMatchInput, HasRefusedShortInput};
+ghost use Rattle.urlpat_commands.specs.Answers.{IsCommand};
+ghost use Rattle.urlpat_commands.specs.Notes.{AreOfCommand, ExplainsErrors, HasRefusedFirstInput, HasRefusedInput, HasRefusedMatchInput, HasRefusedShortInput};
 
 use crate::command::options_of;
 use std::alloc::Global;
 use urlpat_matching::{Failure, base_of, first_diagnosis, match_diagnosis, note_of};
+use urlpat_words::Flags;
 use urlpattern::error::OutOfMemory;
 use urlpattern::parser::parse_pattern_string;
 use urlpattern::{ComponentName, Diagnosis, Error, Subject};
 use urlpattern_diagnosis::{Place, fault_of};
+
+/// Whether errors are explained: the flags ask for it, or the words are not those of `component`,
+/// `match` or `first`.
+pub fn explains_errors(words: &[String], flags: Flags) -> bool
+    ensures explained { IsTrue result → ExplainsErrors flags (words_view words.now) }
+    ensures alone { IsFalse result → ¬ ExplainsErrors flags (words_view words.now) }
+{
+    flags.explain_errors || !are_of_command(words)
+}
+
+/// Whether the words are those of `component`, `match` or `first`.
+fn are_of_command(words: &[String]) -> bool
+    ensures these { IsTrue result → AreOfCommand (words_view words.now) }
+    ensures other { IsFalse result → ¬ AreOfCommand (words_view words.now) }
+{
+    let [command, ..] = words else {
+        return false;
+    };
+    is_command(command)
+}
+
+/// Whether a word is one of these commands.
+fn is_command(word: &str) -> bool
+    ensures these { IsTrue result → IsCommand word.now }
+    ensures other { IsFalse result → ¬ IsCommand word.now }
+{
+    matches!(word, "component" | "match" | "first")
+}
 
 /// Says that the input among the words is no URL. `None`: it is one, or there is none.
 ///

@@ -138,7 +138,7 @@ fn report_fault<Err: Write>(fault: &Fault, err: &mut Err) -> Option<bool>
     ensures { result ≡ None }
 {
     let _ = match fault {
-        Fault::Read => err.write_all(b"standard input cannot be read\n"),
+        Fault::Read(error) => writeln!(err, "standard input cannot be read: {error}"),
         Fault::Write => Ok(()),
         Fault::OutOfMemory => err.write_all(b"out of memory\n"),
     };

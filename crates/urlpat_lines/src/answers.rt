@@ -50,7 +50,7 @@ pub struct Tally {
 #[derive(Debug, Drop)]
 pub enum Fault {
     /// The reader failed.
-    Read,
+    Read(io::Error),
     /// The writer failed.
     Write,
     /// Memory ran out.
@@ -61,7 +61,7 @@ impl From<io::Error> for Fault {
     fn from(error: io::Error) -> Fault {
         match error.kind() {
             io::ErrorKind::OutOfMemory => Fault::OutOfMemory,
-            _ => Fault::Read,
+            _ => Fault::Read(error),
         }
     }
 }
@@ -100,7 +100,7 @@ pub fn answer_lines<In: BufRead, Out: Write, Err: Write, R: Rule>(
         report(verdict, number, &line, err);
         tally = counted(tally, verdict);
     }
-    Err(Fault::Read)
+    Err(Fault::Read(io::ErrorKind::Other.into()))
 }
 
 /// Writes what is to be written for a line.

@@ -1,22 +1,13 @@
 -- Lemmas on what words give.
-use Rattle.std.proofs.Common.{◌≡◌, ◌+◌, ◌<◌, ◌≤◌, ℕ, List, [], ◌∷◌, ◌++◌, ◌∙◌, ap, bytes_eq, get_or, length, map, refl, subst, sym, take, take_all, String, string_bytes}
+use Rattle.std.proofs.Common.{◌≡◌, ◌+◌, ◌<◌, ◌≤◌, ℕ, List, [], ◌∷◌, ◌++◌, ◌∙◌, ap, get_or, length, subst, sym, take, take_all, String, string_bytes}
 use Rattle.std.proofs.lemmas.List.{get_or-map, length-map, take_more}
 use Rattle.std.proofs.lemmas.Slice.Zip.{all_zipped_more}
-use Rattle.std.proofs.lemmas.Str.{IsUtf8-string_bytes}
-use Rattle.std.specs.List.{AllZip, before_first, list_any}
-use Rattle.std.specs.Prelude.{◌||◌, Any}
-use Rattle.std.specs.Str.{IsUtf8, chars}
+use Rattle.std.specs.List.{AllZip, before_first}
+use Rattle.std.specs.Prelude.{Any}
 use Rattle.std.specs.declared.alloc.Global.{Global}
 use Rattle.urlpat_links.specs.Given.{AreGiven, Given, WordGivesGroup, WordGivesNothing, IsGroupNamed, NamesNoGroup, is_equals_sign}
 use Rattle.urlpat_words.specs.Words.{words_view}
-use Rattle.urlpattern_matches.proofs.GroupLemmas.{chars-test}
 use Rattle.urlpattern_pattern.specs.Patterns.{PatternView}
-use Rattle.urlpattern_syntax.specs.Text.{text_of}
-
--- a name is among others by its bytes as by its characters
-pub among_alike : (name : List ℕ) → IsUtf8 name → (others : List (String Global)) → list_any (λ other. bytes_eq name (string_bytes other)) others ≡ list_any (bytes_eq (chars name)) (map (λ other. text_of other) others)
-among_alike name utf8 [] = refl
-among_alike name utf8 (other ∷ others) = λ i. sym (chars-test name (string_bytes other) utf8 (IsUtf8-string_bytes other)) i || among_alike name utf8 others i
 
 module _ {E : Type 0} (pattern : PatternView E) where
   -- a word, as it is, gives this

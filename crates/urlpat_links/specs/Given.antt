@@ -1,17 +1,15 @@
 -- What the words of `link` give for the groups of a pattern. Words are bytes.
-use Rattle.std.specs.Prelude.{◌≡◌, ◌⊎◌, ◌<◌, ◌==◌, ℕ, Any, Bool, List, [], ◌∷◌, bytes_eq, codes, length, slice_index}
-use Rattle.std.specs.{Borrow.Bor, List.AllZip, List.filter, List.list_any, Str.chars}
+use Rattle.std.specs.Prelude.{◌≡◌, ◌⊎◌, ◌<◌, ◌==◌, ℕ, Any, Bool, List, [], ◌∷◌, codes, length, slice_index}
+use Rattle.std.specs.{Borrow.Bor, List.AllZip, List.filter, Str.chars}
 use Rattle.std.specs.List.{after_first, before_first, position_or_len}
 use Rattle.urlpat_links.specs.declared.given.Misgiven.{Misgiven}
 use Rattle.urlpat_links.specs.declared.given.Misgiven.TheVariants as misgiven
+use Rattle.urlpat_matching.specs.Groups.{has_group}
 use Rattle.urlpattern_eight.specs.declared.eight.ComponentName.{ComponentName}
 use Rattle.urlpattern_eight.specs.Eight.{components, name_text}
 use Rattle.urlpattern_pattern.specs.Patterns.{PatternView}
 
 -- ---- the groups of a pattern
-
-abbrev pub has_group : {E : Type 0} → PatternView E → (name : List ℕ) → ComponentName → Bool
-has_group pattern name component = list_any (bytes_eq name) (pattern component).group_name_list
 
 -- the components that have a group of this name
 abbrev pub owners : {E : Type 0} → PatternView E → (name : List ℕ) → List ComponentName

@@ -1,16 +1,14 @@
 //! What the words of `link` give for the groups of a pattern.
 
-ghost use Rattle.std.specs.Prelude.{◌≡◌, IfErr, IfNone, IfOk, IfSome, bytes_eq, string_bytes};
-ghost use Rattle.std.specs.List.{list_any};
+ghost use Rattle.std.specs.Prelude.{◌≡◌, IfErr, IfNone, IfOk, IfSome};
 ghost use Rattle.std.specs.Str.{chars};
 ghost use Rattle.urlpat_links.specs.Given.{AreGiven, WordGivesNothing, IsOnlyOwner, WordGivesGroup, IsNobodys, IsGroupNamed, NamesNoGroup, RefusesWords};
 ghost use Rattle.urlpat_links.specs.declared.given.Misgiven.TheVariants as all_misgiven;
 ghost use Rattle.urlpat_words.specs.Words.{words_view};
-ghost use Rattle.urlpattern_core.specs.Components.{component_view};
 ghost use Rattle.urlpattern_pattern.specs.Patterns.{pattern_view};
 
 use std::alloc::{AllocError, Global};
-use urlpattern_core::component::Component;
+use urlpat_matching::has_group;
 use urlpattern_eight::ComponentName;
 use urlpattern_engine::PatternRegexp;
 use urlpattern_generate::GivenGroup;
@@ -97,18 +95,4 @@ fn owner(pattern: &UrlPattern<PatternRegexp>, name: &str) -> Option<ComponentNam
         }
     }
     found
-}
-
-/// Whether a component has a group of this name.
-fn has_group(component: &Component<PatternRegexp>, name: &str) -> bool
-    ensures { result ≡ list_any (bytes_eq (chars name.now)) (component_view component.now).group_name_list }
-{
-    is_among(&component.group_name_list, name)
-}
-
-/// Whether a name is among these.
-fn is_among(names: &[String], name: &str) -> bool
-    ensures { result ≡ list_any (λ other. bytes_eq name.now (string_bytes other)) names.now }
-{
-    names.iter().any(|other| name == other.as_str())
 }

@@ -1,5 +1,5 @@
 -- Lemmas on what is printed of patterns.
-use Rattle.std.proofs.Common.{◌≡◌, ◌<◌, ◌≤◌, ◌+◌, arith, ℕ, List, [], ◌∷◌, ◌++◌, length, take, get_or, ap, sym, subst, refl, ◌∙◌}
+use Rattle.std.proofs.Common.{◌≡◌, ◌<◌, ◌+◌, ℕ, List, [], ◌∷◌, ◌++◌, length, take, get_or, ap, sym, subst, ◌∙◌}
 use Rattle.std.proofs.lemmas.Grind.{take_at_read}
 use Rattle.std.proofs.lemmas.List.{map-append}
 use Rattle.std.specs.List.{AllZip}
@@ -33,13 +33,6 @@ parts-more base entries index none patterns next parts within is_next are is =
     (one-more (λ (e : EntryView) p. ArePartsOf e.pattern base p) (entries_view (take index entries)) patterns (entry_view entry) parts are is))
 
 -- ---- what is printed
-
-pub two_words : (words : List (String Global)) (a b : String Global) → 2 ≤ length words → length words < 3
-    → a ≡ get_or words 0 a → b ≡ get_or words 1 b → words ≡ a ∷ b ∷ []
-two_words [] a b least most is_a is_b = absurd (omega (arith, least))
-two_words (x ∷ []) a b least most is_a is_b = absurd (omega (arith, least))
-two_words (x ∷ y ∷ []) a b least most is_a is_b = rw (is_a, is_b) refl
-two_words (x ∷ y ∷ z ∷ rest) a b least most is_a is_b = absurd (omega (arith, most))
 
 pub tells-whether : (words : List (String Global)) (pattern asked : String Global) (covering : PatternCovering) (status : ℕ) (old new : Option (List ℕ)) → words ≡ pattern ∷ asked ∷ []
     → ComparesWith (string_bytes pattern) (string_bytes asked) covering → TellsCovering covering status old new → TellsWhether (words_view words) status old new

@@ -1,4 +1,5 @@
 pub mod Coverings
+pub mod Doubts
 pub mod Routes
 pub mod TableWords
 pub mod Unreached

@@ -6,6 +6,7 @@ ghost use Rattle.urlpat_words.specs.Words.{words_view};
 ghost use Rattle.urlpat_rules.specs.Coverings.{ArePartsOf, ComparesWith, TellsCovering, TellsWhether, parting_lines, text_lines};
 
 use crate::parts::parts_of_text;
+use crate::reason::reason_text;
 use std::alloc::{AllocError, Global};
 use std::io::Write;
 use urlpat_matching::{DONE, FAILED, NO_MATCH, print, write_refusal};
@@ -145,11 +146,6 @@ fn push_texts(text: &mut String, texts: &Eight<String>) -> Result<(), AllocError
 
 /// Reports why it is not known whether a pattern covers another.
 fn report_unknown<Err: Write>(component: ComponentName, reason: Reason, err: &mut Err) {
-    let component = component.as_str();
-    let why = match reason {
-        Reason::CustomExpression => "has a custom expression",
-        Reason::IgnoredCase => "ignores case",
-        Reason::TooMany => "would take too many steps to compare",
-    };
+    let why = reason_text(reason);
     let _ = writeln!(err, "not known: the {component} {why}");
 }

@@ -2,7 +2,9 @@
 #![tactic(auto)]
 
 mod covering;
+mod doubts;
 mod parts;
+mod reason;
 mod routing;
 mod row;
 mod tables;

@@ -35,7 +35,8 @@ pub fn table_words(words: &[String]) -> Option<(&str, Option<&str>)>
 
 /// The table of this name. `None`: it cannot be read, which is reported.
 pub fn read_table<T: Tables, Err: Write>(tables: &T, name: &str, err: &mut Err) -> Option<Vec<u8>>
-    ensures { IfSome result (λ table. T.Has tables.now name.now table.items) }
+    ensures table { IfSome result (λ table. T.Has tables.now name.now table.items) }
+    ensures quiet { IfSome result (λ table. err.new ≡ err.old) }
 {
     match tables.read(name) {
         Ok(table) => Some(table),
@@ -43,7 +44,7 @@ pub fn read_table<T: Tables, Err: Write>(tables: &T, name: &str, err: &mut Err) 
             let _ = if error.kind() == io::ErrorKind::OutOfMemory {
                 err.write_all(b"out of memory\n")
             } else {
-                writeln!(err, "the file `{name}` cannot be read")
+                writeln!(err, "the file `{name}` cannot be read: {error}")
             };
             None
         }
@@ -56,7 +57,8 @@ pub fn read_entries<'t, Err: Write>(
     table: &'t [u8],
     err: &mut Err,
 ) -> Option<Vec<Entry<'t>>>
-    ensures { IfSome result (λ entries. entries_view entries.items ≡ table_entries table.now) }
+    ensures entries { IfSome result (λ entries. entries_view entries.items ≡ table_entries table.now) }
+    ensures quiet { IfSome result (λ entries. err.new ≡ err.old) }
 {
     match entries_of(alloc, table) {
         Ok(entries) => Some(entries),

@@ -4,9 +4,11 @@ ghost use Rattle.std.specs.Io.KnownBytes.{Appends};
 ghost use Rattle.std.specs.Prelude.{◌≡◌, ◌≢◌, ◌⊎◌, ◌++◌, length, nat_lt, string_bytes, option_copied, IfOk, IfSome, OnOk};
 ghost use Rattle.urlpat_words.specs.Words.{words_view};
 ghost use Rattle.urlpat_matching.specs.Status.{status_of};
+ghost use Rattle.urlpat_rules.specs.Doubts.{HasDoubts, LeaveDoubts, TellsDoubts};
 ghost use Rattle.urlpat_rules.specs.Unreached.{ArePartsOfEach, AreUnreached, Lists, ListsOf, number_at, unreached_line};
 ghost use Rattle.urlpat_tables.specs.Tables.{entries_view};
 
+use crate::doubts::doubts_text;
 use crate::parts::parts_of_text;
 use crate::tables::{Tables, read_entries, read_table, report_refused, table_words};
 use std::alloc::{AllocError, Global};
@@ -18,7 +20,8 @@ use urlpattern::rules::{PatternParts, Shadowed, unreachable};
 /// The usage of `unreachable`.
 const UNREACHABLE_USAGE: &str = "usage: urlpat unreachable FILE [BASE]\n";
 
-/// Does what the words after `unreachable` ask for, and gives the status to end with.
+/// Does what the words after `unreachable` ask for, and gives the status to end with. Patterns of which
+/// it is not known whether one before them covers them are reported to `err`, whatever the status is.
 pub fn list_unreachable<T: Tables, Out: Write, Err: Write>(
     alloc: Global,
     tables: &T,
@@ -28,6 +31,8 @@ pub fn list_unreachable<T: Tables, Out: Write, Err: Write>(
 ) -> u8
     ensures status { (result ≡ DONE) ⊎ (result ≡ NO_MATCH) ⊎ (result ≡ FAILED) }
     ensures answers { result ≢ FAILED → Lists (T.Has tables.now) (words_view words.now) result (Out.contents out.old) (Out.contents out.new) }
+    ensures quiet { result ≢ FAILED → (err.new ≡ err.old)
+        ⊎ LeaveDoubts (T.Has tables.now) (words_view words.now) }
 {
     let Some((name, base)) = table_words(words) else {
         let _ = err.write_all(UNREACHABLE_USAGE.as_bytes());
@@ -41,7 +46,8 @@ pub fn list_unreachable<T: Tables, Out: Write, Err: Write>(
     status
 }
 
-/// Writes which patterns of a table one before them covers, and gives the status to end with.
+/// Writes which patterns of a table one before them covers, reports of which it is not known, and gives
+/// the status to end with.
 fn tell_unreachable<Out: Write, Err: Write>(
     alloc: Global,
     table: &[u8],
@@ -51,6 +57,8 @@ fn tell_unreachable<Out: Write, Err: Write>(
 ) -> u8
     ensures status { (result ≡ DONE) ⊎ (result ≡ NO_MATCH) ⊎ (result ≡ FAILED) }
     ensures answers { result ≢ FAILED → ListsOf table.now (option_copied base.entry) result (Out.contents out.old) (Out.contents out.new) }
+    ensures quiet { result ≢ FAILED → (err.new ≡ err.old)
+        ⊎ HasDoubts table.now (option_copied base.entry) }
 {
     let Some(entries) = read_entries(alloc, table, err) else {
         return FAILED;
@@ -58,16 +66,37 @@ fn tell_unreachable<Out: Write, Err: Write>(
     let Some(patterns) = parts_of_each(alloc, &entries, base, err) else {
         return FAILED;
     };
-    let text = unreached_text(alloc, &entries, &patterns);
+    let texts = texts_of(alloc, &entries, &patterns);
     drop(patterns);
-    let Ok(text) = text else {
+    let Ok((text, doubts)) = texts else {
         let _ = err.write_all(b"out of memory\n");
         return FAILED;
     };
     match print(text.as_bytes(), out) {
-        Ok(()) => status_of(&text),
+        Ok(()) => {
+            if !doubts.is_empty() {
+                let _ = err.write_all(doubts.as_bytes());
+            }
+            status_of(&text)
+        }
         Err(_) => FAILED,
     }
+}
+
+/// A line for each pattern that one before it covers, and one for each of which it is not known.
+fn texts_of(
+    alloc: Global,
+    entries: &[Entry<'_>],
+    patterns: &[PatternParts],
+) -> Result<(String, String), AllocError>
+    ensures unreached { IfOk result (λ texts.
+        AreUnreached patterns.now (entries_view entries.now) (string_bytes texts.0)) }
+    ensures doubts { IfOk result (λ texts.
+        TellsDoubts patterns.now (entries_view entries.now) (string_bytes texts.1)) }
+{
+    let text = unreached_text(alloc, entries, patterns)?;
+    let doubts = doubts_text(alloc, entries, patterns)?;
+    Ok((text, doubts))
 }
 
 /// The status of a run that printed these lines, or none.
@@ -85,7 +114,9 @@ fn parts_of_each<Err: Write>(
     base: Option<&str>,
     err: &mut Err,
 ) -> Option<Vec<PatternParts>>
-    ensures { IfSome result (λ parts. ArePartsOfEach (option_copied base.entry) (entries_view entries.now) parts.items) }
+    ensures parts { IfSome result (λ parts.
+        ArePartsOfEach (option_copied base.entry) (entries_view entries.now) parts.items) }
+    ensures quiet { IfSome result (λ parts. err.new ≡ err.old) }
 {
     let mut patterns = Vec::new(alloc);
     for entry in entries {
@@ -136,7 +167,7 @@ fn push_shadowed(
 }
 
 /// The number of the line of an entry.
-fn number_at(entries: &[Entry<'_>], index: usize) -> u64
+pub fn number_at(entries: &[Entry<'_>], index: usize) -> u64
     ensures { result ≡ number_at (entries_view entries.now) index }
 {
     match entries.get(index) {

@@ -32,6 +32,8 @@ usage: urlpat PATTERN URL
 
 BASE is a URL for the pattern and the input, or - for none. With --ignore-case, which may stand anywhere, the patterns of match, first,
 filter, route and explain ignore case. With --json, which may stand anywhere too, these commands print JSON.
+match, first and component print an error alone, and with --explain-errors, or if standard error is
+a terminal, its reason and its place too, as the other commands always do.
 `urlpat COMMAND --help` says more of a command.
 
 example: urlpat 'https://example.com/users/:id' https://example.com/users/7
@@ -48,6 +50,8 @@ printed for it.
 usage: urlpat component default|hostname|pathname PATTERN
 
 A name stands for a segment, which ends at a dot in a hostname and at a slash in a pathname. By default there are no segments.
+With --explain-errors, or if standard error is a terminal, an error is printed with its reason and
+its place in the pattern.
 
 example: urlpat component pathname /users/:id
 ";
@@ -60,7 +64,9 @@ match, prints `no match` and ends with status 1.
 usage: urlpat match PATTERN BASE INPUT
 
 BASE is a URL for the pattern and the input, or - for none. With --ignore-case the pattern ignores case. With --json the match is
-printed as JSON, as a browser returns it, or `null`.
+printed as JSON, as a browser returns it, or `null`. With --explain-errors, or if standard error is
+a terminal, an error is printed with its reason and its place in the pattern, and an input that is
+no URL is reported.
 
 example: urlpat match /users/:id https://example.com/ /users/7
 ";
@@ -73,7 +79,9 @@ Prints `match` and the index of the first pattern that matches a URL, from 0 on,
 usage: urlpat first BASE INPUT PATTERN..
 
 BASE is a URL for the patterns and the input, or - for none. With --ignore-case the patterns ignore case. With --json an object with
-`index` and `match` is printed, or `null`.
+`index` and `match` is printed, or `null`. With --explain-errors, or if standard error is a terminal,
+an error is printed with its reason and its place in the pattern, and an input that is no URL is
+reported.
 
 example: urlpat first https://example.com/ /users/7 /about /users/:id
 ";
@@ -91,11 +99,12 @@ usage: urlpat filter PATTERN BASE
 
   --not          prints the lines that do not match
   --count        prints how many there are, and no line
-  --group        prints what a group captured, in place of the line
+  --group        prints what a group captured, in place of the line; the pattern has to have it
   --json         prints the match as JSON, in place of the line
   --ignore-case  may be added to each: the pattern ignores case
 
 BASE is a URL for the pattern and the lines, or - for none. A line that is no URL does not match.
+--not and --count may stand in any order.
 
 example: urlpat filter 'https://example.com/users/:id' - --group pathname.id <urls.txt
 ";
@@ -149,8 +158,9 @@ a text for each component that the asked one matches, and ends with status 1.
 
 usage: urlpat covers PATTERN ASKED
 
-Of a custom expression nothing is known; only a component that is a wildcard alone covers it. Where it is not known whether a pattern
-covers another, the status is 2. The texts need not be those of a URL.
+A component with a custom expression is covered by one with the same parts, whatever the names of
+their groups, and by one that takes any text, such as *. Nothing else is known of it. Where it is not
+known whether a pattern covers another, the status is 2. The texts need not be those of a URL.
 
 example: urlpat covers 'https://example.com/*' 'https://example.com/users/:id'
 ";
@@ -159,6 +169,8 @@ example: urlpat covers 'https://example.com/*' 'https://example.com/users/:id'
 const UNREACHABLE_HELP: &str = "\
 Finds the patterns of a table that are never the first match, since one before them covers them. Prints a line for each: the number
 of its line, a tab, and that of the pattern that covers it. Ends with status 1 if there is none.
+A pattern of which it is not known whether one before it covers it is reported on standard error,
+with the reason.
 
 usage: urlpat unreachable FILE [BASE]
 

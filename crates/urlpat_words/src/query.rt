@@ -1,7 +1,8 @@
 //! What the words after `filter` ask for.
 
-ghost use Rattle.std.specs.Prelude.{◌≡◌, ◌∷◌, ◌++◌, true, IfSome};
-ghost use Rattle.urlpat_words.specs.Queries.{IsQuery, IsAskedByFlags, IsAskedByOne, IsAskedByTwo, IsQueryOf, NamesGroup};
+ghost use Rattle.std.specs.Prelude.{◌≡◌, true, false, IfNone, IfSome};
+ghost use Rattle.urlpat_words.specs.Queries.{AsksNothing, AskForNoQuery, IsQuery, IsAskedByFlags, IsAskedByOne, IsAskedByTwo, IsQueryOf, NamesGroup};
+ghost use Rattle.urlpat_words.specs.declared.query.Shape.TheVariants as shapes;
 ghost use Rattle.urlpat_words.specs.Words.{words_view};
 
 use urlpattern_eight::ComponentName;
@@ -34,7 +35,8 @@ pub struct Query<'a> {
 
 /// What the words after `filter` ask for, with JSON as the answer or not. `None`: they are not such words.
 pub fn query_of(words: &[String], json: bool) -> Option<Query<'_>>
-    ensures { IfSome result (IsQueryOf json (words_view words.now)) }
+    ensures asked { IfSome result (IsQueryOf json (words_view words.now)) }
+    ensures other { IfNone result (AskForNoQuery json (words_view words.now)) }
 {
     let [pattern, base, rest @ ..] = words else {
         return None;
@@ -54,7 +56,8 @@ pub fn query_of(words: &[String], json: bool) -> Option<Query<'_>>
 
 /// What the words after the base ask for, with JSON as the answer: there are none, and the match is printed.
 fn asked_as_json(words: &[String]) -> Option<(bool, Shape<'_>)>
-    ensures { IfSome result (IsQuery true (words_view words.now)) }
+    ensures asked { IfSome result (IsQuery true (words_view words.now)) }
+    ensures other { IfNone result (AsksNothing (IsQuery true (words_view words.now))) }
 {
     if words.is_empty() {
         Some((false, Shape::Json))
@@ -65,7 +68,8 @@ fn asked_as_json(words: &[String]) -> Option<(bool, Shape<'_>)>
 
 /// What the words after the base ask for: whether lines that do not match are looked for, and what is printed of a line.
 fn asked_by(flags: &[String]) -> Option<(bool, Shape<'_>)>
-    ensures { IfSome result (IsAskedByFlags (words_view flags.now)) }
+    ensures asked { IfSome result (IsAskedByFlags (words_view flags.now)) }
+    ensures other { IfNone result (AsksNothing (IsAskedByFlags (words_view flags.now))) }
 {
     match flags {
         [] => Some((false, Shape::Line)),
@@ -77,7 +81,8 @@ fn asked_by(flags: &[String]) -> Option<(bool, Shape<'_>)>
 
 /// The same of one word.
 fn asked_by_one(flag: &str) -> Option<(bool, Shape<'_>)>
-    ensures { IfSome result (IsAskedByOne flag.now) }
+    ensures asked { IfSome result (IsAskedByOne flag.now) }
+    ensures other { IfNone result (AsksNothing (IsAskedByOne flag.now)) }
 {
     match flag {
         "--not" => Some((true, Shape::Line)),
@@ -86,38 +91,37 @@ fn asked_by_one(flag: &str) -> Option<(bool, Shape<'_>)>
     }
 }
 
-/// The same of two words.
+/// The same of two words: flags in any order, or one with a group.
 fn asked_by_two<'a>(first: &str, second: &'a str) -> Option<(bool, Shape<'a>)>
-    ensures { IfSome result (IsAskedByTwo first.now second.now) }
+    ensures asked { IfSome result (IsAskedByTwo first.now second.now) }
+    ensures other { IfNone result (AsksNothing (IsAskedByTwo first.now second.now)) }
 {
     match first {
-        "--not" => {
-            if second == "--count" {
-                Some((true, Shape::Count))
-            } else {
-                None
-            }
-        }
+        "--not" => others_counted(second == "--count"),
+        "--count" => others_counted(second == "--not"),
         "--group" => group_of(second),
         _ => None,
     }
 }
 
-/// The group of a name, after that of its component and a dot.
-fn group_of(word: &str) -> Option<(bool, Shape<'_>)>
-    ensures { IfSome result (NamesGroup word.now) }
+/// The count of the lines that do not match, if both flags for it are there.
+fn others_counted<'a>(both: bool) -> Option<(bool, Shape<'a>)>
+    ensures asked { IfSome result (λ asked. (both ≡ true) × (asked ≡ (true, shapes.Count))) }
+    ensures other { IfNone result (both ≡ false) }
 {
-    for component in ComponentName::all() {
-        if let Some(name) = after(word, component.as_str()) {
-            return Some((false, Shape::Group(component, name)));
-        }
+    if both {
+        Some((true, Shape::Count))
+    } else {
+        None
     }
-    None
 }
 
-/// What follows a name and a dot.
-fn after<'a>(word: &'a str, name: &str) -> Option<&'a str>
-    ensures { IfSome result (λ rest. word.now ≡ name.now ++ 46 ∷ rest.now) }
+/// The group of a name, after that of its component and a dot.
+fn group_of(word: &str) -> Option<(bool, Shape<'_>)>
+    ensures asked { IfSome result (NamesGroup word.now) }
+    ensures other { IfNone result (AsksNothing (NamesGroup word.now)) }
 {
-    word.strip_prefix(name)?.strip_prefix('.')
+    let (component, name) = word.split_once('.')?;
+    let component = ComponentName::from_name(component)?;
+    Some((false, Shape::Group(component, name)))
 }

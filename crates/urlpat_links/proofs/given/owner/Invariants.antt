@@ -2,7 +2,7 @@ use Rattle.std.proofs.Common.{◌≡◌, take}
 use Rattle.std.specs.List.{filter}
 use Rattle.std.specs.Option.{option_to_list}
 use Rattle.std.specs.Str.{chars}
-use Rattle.urlpat_links.specs.Given.{has_group}
+use Rattle.urlpat_matching.specs.Groups.{has_group}
 use Rattle.urlpattern_pattern.specs.Patterns.{pattern_view}
 use Rattle.urlpat_links.proofs.given.owner.Given as goal
 

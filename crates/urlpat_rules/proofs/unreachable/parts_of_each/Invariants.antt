@@ -1,8 +1,10 @@
-use Rattle.std.proofs.Common.{take}
+use Rattle.std.proofs.Common.{◌≡◌, take}
 use Rattle.std.specs.Prelude.{option_copied}
 use Rattle.urlpat_rules.specs.Unreached.{ArePartsOfEach}
 use Rattle.urlpat_tables.specs.Tables.{entries_view}
 use Rattle.urlpat_rules.proofs.unreachable.parts_of_each.Given as goal
 
 abbrev pub invariant-loop-entry : goal.invariant-loop-entry
-invariant-loop-entry g l = ArePartsOfEach (option_copied l.base) (entries_view (take l.entry-index l.entries)) l.patterns.items
+invariant-loop-entry g l =
+    ArePartsOfEach (option_copied l.base) (entries_view (take l.entry-index l.entries)) l.patterns.items
+    × (l.err ≡ l.initial.err)

@@ -1,7 +1,7 @@
 use Rattle.std.proofs.Common.{◌≡◌, bytes_eq, rules, string_bytes, ◌∙◌}
 use Rattle.std.specs.List.{list_any}
-use Rattle.urlpat_links.proofs.GivenLemmas.{among_alike}
-use Rattle.urlpat_links.proofs.given.has_group.Goals as goal
+use Rattle.urlpat_matching.proofs.NameLemmas.{among_alike}
+use Rattle.urlpat_matching.proofs.groups.has_group.Goals as goal
 
 pub returns : goal.returns
 returns c =

@@ -1,0 +1,88 @@
+//! Standard output, which keeps why a write to it failed.
+
+ghost use Rattle.std.specs.Io.KnownBytes.{Appends, Keeps};
+ghost use Rattle.std.specs.IoError.{error_kind};
+ghost use Rattle.std.specs.Prelude.{◌≡◌, IfErr, IfNone, IfSome, OnOk, None, Some};
+ghost use Rattle.std.specs.declared.io.ErrorKind.TheVariants as kinds;
+
+use std::io;
+use std::io::Write;
+
+/// A writer that keeps why a write to it failed.
+#[derive(Drop)]
+pub struct Output<W> {
+    writer: W,
+    failure: Option<io::Error>,
+}
+
+impl<W> Output<W> {
+    /// A writer over this one, no write of which has failed.
+    pub fn new(writer: W) -> Output<W>
+        ensures { (result.writer ≡ writer) × (result.failure ≡ None) }
+    {
+        Output {
+            writer,
+            failure: None,
+        }
+    }
+
+    /// Why a write failed, the last that did. `None`: none failed.
+    pub fn failure(&self) -> Option<io::Error>
+        ensures { result ≡ self.now.failure }
+    {
+        self.failure
+    }
+
+    /// Keeps why a write failed, if it did.
+    fn keep(&mut self, written: &io::Result<()>)
+        ensures writer { self.new.writer ≡ self.old.writer }
+        ensures failed { IfErr written.now (λ error. self.new.failure ≡ Some error) }
+        ensures done { OnOk written.now (self.new.failure ≡ self.old.failure) }
+    {
+        if let Err(error) = written {
+            self.failure = Some(*error);
+        }
+    }
+}
+
+impl<W: Write> Write for Output<W> {
+    ghost contents = { λ output. W.contents output.writer };
+
+    fn write(&mut self, buf: &[u8]) -> io::Result<usize> {
+        self.writer.write(buf)
+    }
+
+    fn flush(&mut self) -> io::Result<()>
+        ensures bytes { Keeps (W.contents self.old.writer) (W.contents self.new.writer) }
+        ensures failed { IfErr result (λ error. self.new.failure ≡ Some error) }
+        ensures done { OnOk result (self.new.failure ≡ self.old.failure) }
+    {
+        let flushed = self.writer.flush();
+        self.keep(&flushed);
+        flushed
+    }
+
+    fn write_all(&mut self, buf: &[u8]) -> io::Result<()>
+        ensures bytes { OnOk result
+            (Appends (W.contents self.old.writer) (W.contents self.new.writer) buf.now) }
+        ensures failed { IfErr result (λ error. self.new.failure ≡ Some error) }
+        ensures done { OnOk result (self.new.failure ≡ self.old.failure) }
+    {
+        let written = self.writer.write_all(buf);
+        self.keep(&written);
+        written
+    }
+}
+
+/// Reports why the output cannot be written. Nothing is said of a pipe that nobody reads.
+pub fn report_output<Err: Write>(failure: Option<io::Error>, err: &mut Err)
+    ensures none { IfNone failure (err.new ≡ err.old) }
+    ensures closed { IfSome failure
+        (λ error. error_kind error ≡ kinds.BrokenPipe → err.new ≡ err.old) }
+{
+    if let Some(error) = failure {
+        if error.kind() != io::ErrorKind::BrokenPipe {
+            let _ = writeln!(err, "urlpat: standard output cannot be written: {error}");
+        }
+    }
+}

@@ -1,0 +1,116 @@
+//! The patterns of a table of which it is not known whether one before them covers them.
+
+ghost use Rattle.std.specs.Prelude.{◌≡◌, ◌++◌, length, string_bytes, IfOk, OnOk};
+ghost use Rattle.std.specs.Option.{option_to_list};
+ghost use Rattle.urlpat_rules.specs.Doubts.{AreDoubts, IsDoubtAbout, TellsDoubts, doubt_line};
+ghost use Rattle.urlpat_tables.specs.Tables.{entries_view};
+
+use crate::reason::reason_text;
+use crate::unreachable::number_at;
+use std::alloc::{AllocError, Global};
+use urlpat_tables::Entry;
+use urlpattern::ComponentName;
+use urlpattern::rules::{PatternCovering, PatternParts, Reason};
+
+/// A pattern of which it is not known whether one before it covers it.
+#[derive(Clone, Copy)]
+pub struct Doubt {
+    /// The index of the pattern.
+    pub pattern: usize,
+    /// The index of the first pattern of which that is not known.
+    pub by: usize,
+    /// The component because of which it is not known.
+    pub component: ComponentName,
+    /// The reason.
+    pub reason: Reason,
+}
+
+/// A line for each pattern of which it is not known whether one before it covers it.
+pub fn doubts_text(
+    alloc: Global,
+    entries: &[Entry<'_>],
+    patterns: &[PatternParts],
+) -> Result<String, AllocError>
+    ensures { IfOk result (λ text.
+        TellsDoubts patterns.now (entries_view entries.now) (string_bytes text)) }
+{
+    let found = doubts(alloc, patterns)?;
+    let mut text = String::new(alloc);
+    for doubt in &found {
+        push_doubt(alloc, &mut text, entries, *doubt)?;
+    }
+    Ok(text)
+}
+
+/// Lists each pattern of which it is not known whether one before it covers it, in their order, unless
+/// another is known to.
+fn doubts(alloc: Global, patterns: &[PatternParts]) -> Result<Vec<Doubt>, AllocError>
+    ensures { IfOk result (λ found. AreDoubts patterns.now (length patterns.now) found.items) }
+{
+    let mut found = Vec::new(alloc);
+    for index in 0..patterns.len() {
+        let doubt = doubt_about(alloc, &patterns[..index], &patterns[index], index)?;
+        add(&mut found, doubt)?;
+    }
+    Ok(found)
+}
+
+/// Adds a doubt, if there is one.
+fn add(found: &mut Vec<Doubt>, doubt: Option<Doubt>) -> Result<(), AllocError>
+    ensures { OnOk result (found.new.items ≡ found.old.items ++ option_to_list doubt) }
+{
+    if let Some(doubt) = doubt {
+        found.push(doubt)?;
+    }
+    Ok(())
+}
+
+/// The first of these patterns of which it is not known whether it covers the asked one, whose index
+/// is given. `None`: one of them is known to cover it, or all are known not to.
+fn doubt_about(
+    alloc: Global,
+    patterns: &[PatternParts],
+    asked: &PatternParts,
+    pattern: usize,
+) -> Result<Option<Doubt>, AllocError>
+    ensures { IfOk result (IsDoubtAbout pattern patterns.now asked.now) }
+{
+    let mut first = None;
+    for by in 0..patterns.len() {
+        match patterns[by].covers(alloc, asked)? {
+            PatternCovering::Covered => return Ok(None),
+            PatternCovering::NotCovered(parting) => drop(parting),
+            PatternCovering::Unknown(component, reason) => {
+                let doubt = Doubt {
+                    pattern,
+                    by,
+                    component,
+                    reason,
+                };
+                first = first.or(Some(doubt));
+            }
+        }
+    }
+    Ok(first)
+}
+
+/// Appends a line with the number of the line of a pattern, that of the one that may cover it, and the
+/// reason.
+fn push_doubt(
+    alloc: Global,
+    text: &mut String,
+    entries: &[Entry<'_>],
+    doubt: Doubt,
+) -> Result<(), AllocError>
+    ensures { OnOk result (string_bytes text.new ≡
+        string_bytes text.old ++ doubt_line (entries_view entries.now) doubt) }
+{
+    let pattern = number_at(entries, doubt.pattern);
+    let by = number_at(entries, doubt.by);
+    let component = doubt.component;
+    let why = reason_text(doubt.reason);
+    let line = format!(in alloc;
+        "line {pattern}: not known whether line {by} covers it: the {component} {why}\n"
+    )?;
+    text.push_str(&line)
+}

@@ -1,0 +1,17 @@
+//! Why it is not known whether a pattern covers another, in words.
+
+ghost use Rattle.std.specs.Prelude.{◌≡◌};
+ghost use Rattle.urlpat_rules.specs.Doubts.{reason_text};
+
+use urlpattern::rules::Reason;
+
+/// Why it is not known, after the name of the component.
+pub fn reason_text(reason: Reason) -> &'static str
+    ensures { result.now ≡ reason_text reason }
+{
+    match reason {
+        Reason::CustomExpression => "has a custom expression",
+        Reason::IgnoredCase => "ignores case",
+        Reason::TooMany => "would take too many steps to compare",
+    }
+}
