@@ -12,7 +12,6 @@ use urlpattern_init::UrlPatternInit;
 use urlpattern_inputs::UrlPatternOptions;
 use urlpattern_pattern::UrlPattern;
 use urlpattern_quirks::process_construct_pattern_input;
-use urlpattern_readings::parts_of;
 use urlpattern_rules::{
     PatternCovering, PatternOverlap, PatternParts, Reason, first_covering, unreachable,
 };
@@ -144,23 +143,8 @@ fn is_unknown(name: ComponentName, reason: Reason, recorded: &Value) -> Result<b
 fn parts(alloc: Global, fields: &Value) -> Result<PatternParts, Fault> {
     let options = given::options(alloc, fields)?;
     let init = init(alloc, fields)?;
-    let parts = parts_under(alloc, fields, &init, &options);
-    drop(init);
-    parts
-}
-
-/// The parts of the pattern that is compiled of an init.
-fn parts_under(
-    alloc: Global,
-    fields: &Value,
-    values: &UrlPatternInit,
-    options: &UrlPatternOptions,
-) -> Result<PatternParts, Fault> {
-    let same = given::options(alloc, fields)?;
-    let pattern = made(UrlPattern::<PatternRegexp>::parse(alloc, init(alloc, fields)?, same))?;
-    let parts = parts_of(alloc, &pattern, values, options);
-    drop(pattern);
-    made(parts)
+    let pattern = made(UrlPattern::<PatternRegexp>::parse(alloc, init, options))?;
+    pattern.into_parts().ok_or(Fault::NoCase)
 }
 
 /// The init of a pattern.

@@ -8,7 +8,7 @@ ghost use Rattle.urlpattern_init.specs.Inheritance.{texts_of_url};
 ghost use Rattle.urlpattern_init.specs.declared.init.UrlPatternMatchInput.TheVariants as inputs;
 ghost use Rattle.urlpattern.specs.FirstMatch.{AsksBeforeMatch, HasGroupsInOrder, IsFirstMatch};
 ghost use Rattle.urlpattern.specs.PatternMaps.{entry_patterns, first_entry_view, HasValueAt, without_value};
-ghost use Rattle.urlpattern_pattern.specs.declared.pattern.UrlPattern.{UrlPattern};
+ghost use Rattle.urlpattern_pattern.specs.UrlPatterns.{UrlPattern};
 ghost use Rattle.urlpattern_syntax.specs.Errors.{OnlyOutOfMemory};
 
 mod iter;
@@ -48,7 +48,7 @@ pub struct UrlPatternMap<T, R: RegExp = regex::Regex> {
 
 impl<T, R: RegExp> Model for UrlPatternMap<T, R> {
     ghost use Rattle.std.specs.Prelude.{◌≡◌, List, length, zip};
-    ghost use Rattle.urlpattern_pattern.specs.declared.pattern.UrlPattern.{UrlPattern};
+    ghost use Rattle.urlpattern_pattern.specs.UrlPatterns.{UrlPattern};
 
     ghost Value = { List (UrlPattern R × T) };
 

@@ -7,18 +7,18 @@ use Rattle.urlpattern_calls.specs.Calls.{c_options, error_status, given_base}
 use Rattle.urlpattern_calls.specs.Coverings.{IsNoPatternOfInit, IsNoPatternOfText}
 use Rattle.urlpattern_calls.specs.declared.status.Status.{Status}
 use Rattle.urlpattern_calls.specs.declared.status.Status.TheVariants as statuses
-use Rattle.urlpattern_create.specs.Compiled.{RefusesInit, pattern_values}
+use Rattle.urlpattern_create.specs.Compiled.{RefusesInit}
 use Rattle.urlpattern_create.specs.FromString.{IsInitOfText, RefusesText}
 use Rattle.urlpattern_engine.specs.PatternRegexps.{pattern_engine}
 use Rattle.urlpattern_init.specs.declared.init.UrlPatternInit.{UrlPatternInit}
 use Rattle.urlpattern_syntax.specs.declared.error.Error.{Error}
 
--- an init with the same values is refused with the same errors
-pub same_refusal : (init copy : UrlPatternInit) (ignores : Bool) (error : Error) → pattern_values copy ≡ pattern_values init
-    → MemoryOr (RefusesInit pattern_engine copy (c_options ignores)) error → IsNoPatternOfInit init ignores (error_status (error_view error))
-same_refusal init copy ignores error same why =
-    reported (IsNoPatternOfInit init ignores) (RefusesInit pattern_engine copy (c_options ignores)) error tt
-    (λ reason. (error_view error, (reason.0, sym same ∙ reason.1, reason.2))) why
+-- an init is refused with these errors
+pub init_refused : (init : UrlPatternInit) (ignores : Bool) (error : Error)
+    → MemoryOr (RefusesInit pattern_engine init (c_options ignores)) error → IsNoPatternOfInit init ignores (error_status (error_view error))
+init_refused init ignores error why =
+    reported (IsNoPatternOfInit init ignores) (RefusesInit pattern_engine init (c_options ignores)) error tt
+    (λ reason. (error_view error, reason)) why
 
 -- ---- why there is no pattern
 

@@ -12,7 +12,7 @@ use Rattle.urlpattern_create.specs.Compiled.{IsPatternOfInit, RefusesInit}
 use Rattle.urlpattern_engine.specs.PatternRegexps.{pattern_engine}
 use Rattle.urlpattern_engine.specs.declared.pattern_regexp.PatternRegexp.{PatternRegexp}
 use Rattle.urlpattern_init.specs.declared.init.UrlPatternInit.{UrlPatternInit}
-use Rattle.urlpattern_pattern.specs.declared.pattern.UrlPattern.{UrlPattern}
+use Rattle.urlpattern_pattern.specs.UrlPatterns.{UrlPattern}
 use Rattle.urlpattern_syntax.specs.declared.error.Error.{Error}
 
 pub init_added : (old : PatternList) (json : List ℕ) (ignores : Bool) (init : UrlPatternInit) (pattern : UrlPattern PatternRegexp) (new : PatternList) (status : Status)

@@ -14,7 +14,7 @@ use Rattle.urlpattern_engine.specs.PatternRegexps.{pattern_engine}
 use Rattle.urlpattern_engine.specs.declared.pattern_regexp.PatternRegexp.{PatternRegexp}
 use Rattle.urlpattern_init.specs.declared.init.UrlPatternInit.{UrlPatternInit}
 use Rattle.urlpattern_pattern.specs.Patterns.{PatternView}
-use Rattle.urlpattern_readings.specs.Readings.{ArePartsBy}
+use Rattle.urlpattern_pattern.specs.UrlPatterns.{AreMadeOfParts}
 use Rattle.urlpattern_rules.specs.Comparing.{IsCovered, IsParting, IsReasonIn}
 use Rattle.urlpattern_covers.specs.declared.parts.Reason.{Reason}
 use Rattle.urlpattern_rules.specs.declared.pattern.{Parting.Parting, PatternParts.PatternParts}
@@ -24,7 +24,7 @@ use Rattle.urlpattern_rules.specs.declared.pattern.{Parting.Parting, PatternPart
 -- the parts are those of the pattern that the init is compiled to
 abbrev pub ArePartsOfCompiledInit : UrlPatternInit → (ignore_case : Bool) → PatternParts → Type 0
 ArePartsOfCompiledInit init ignores parts =
-    (compiled : PatternView PatternRegexp) × IsPatternOfInit pattern_engine init (c_options ignores) compiled × ArePartsBy pattern_engine compiled parts
+    (compiled : PatternView PatternRegexp) × IsPatternOfInit pattern_engine init (c_options ignores) compiled × AreMadeOfParts pattern_engine parts compiled
 
 -- the same of a constructor string with this base URL
 abbrev pub ArePartsOfText : (text base : List ℕ) → (ignore_case : Bool) → PatternParts → Type 0

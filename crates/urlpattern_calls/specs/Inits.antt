@@ -16,7 +16,7 @@ use Rattle.urlpattern_inputs.specs.InputJson.{init_read}
 use Rattle.urlpattern_inputs.specs.InputValues.{InitView, init_view}
 use Rattle.urlpattern_inputs.specs.declared.init.UrlPatternInit.{UrlPatternInit as PlainInit}
 use Rattle.urlpattern_inputs.specs.declared.input.StringOrInit.TheVariants as inputs
-use Rattle.urlpattern_pattern.specs.declared.pattern.UrlPattern.{UrlPattern}
+use Rattle.urlpattern_pattern.specs.UrlPatterns.{UrlPattern}
 use Rattle.urlpattern_quirks.specs.Inputs.{IsInitOf, RefusesInput}
 
 -- the texts that the JSON gives: an object, in which each may be missing or null

@@ -15,11 +15,9 @@ use regex::Regex;
 use std::alloc::{AllocError, Global};
 use urlpattern_core::RegexSyntax;
 use urlpattern_core::error::{OutOfMemory, RegExpError};
-use urlpattern_core::outline::OutlineItem;
 use urlpattern_core::regexp::RegExp;
 use urlpattern_steps::step::Step;
 use urlpattern_walk::choices::{Strategy, strategy_of};
-use urlpattern_walk::outline::{outline_of, outline_of_any};
 use urlpattern_walk::reading::read_steps;
 use urlpattern_walk::walk::walk;
 use urlpattern_walk::walk_by_table;
@@ -158,14 +156,8 @@ impl RegExp for PatternRegexp {
         }
     }
 
-    fn outline(&self, alloc: Global) -> Result<Vec<OutlineItem>, OutOfMemory> {
-        if self.ignore_case {
-            return Ok(outline_of_any(alloc)?);
-        }
-        match &self.expression {
-            Expression::Own(own) => Ok(outline_of(alloc, &own.steps)?),
-            _ => Ok(outline_of_any(alloc)?),
-        }
+    fn agrees_with_parts() -> bool {
+        true
     }
 }
 

@@ -5,11 +5,9 @@ ghost use Rattle.std.specs.Prelude.{◌≡◌, ◌&&◌, IsTrue, Ok, false, not}
 ghost use Rattle.std.specs.Str.{chars};
 ghost use Rattle.urlpattern_canonical.specs.Canonical.{canonical_protocol};
 ghost use Rattle.urlpattern_generate.specs.Manners.{canonical_for};
-ghost use Rattle.urlpattern_generate.specs.Kept.{is_dot_mark, is_kept_character, is_kept_opaque, is_kept_path, is_kept_value, is_label_character};
-ghost use Rattle.urlpattern_generate.specs.Writers.{manner_of_writer};
+ghost use Rattle.urlpattern_generate.specs.Kept.{is_dot_mark, is_host_character, is_kept_character, is_kept_host, is_kept_opaque, is_kept_path, is_kept_value};
 ghost use Rattle.urlpattern_syntax.specs.Text.{lacks, line_feed};
 
-use crate::writer::Writer;
 use percent_encoding::{AsciiSet, CONTROLS, ascii_set};
 use urlpattern_eight::ComponentName;
 
@@ -33,19 +31,9 @@ const ESCAPED: AsciiSet = ascii_set!(
         .add(b'}')
 );
 
-impl Writer<'_> {
-    /// Whether a value is known to be canonical in the component.
-    pub(crate) fn keeps(&self, text: &str) -> bool
-        ensures canonical { IsTrue result → (manner_of_writer self.now).canonical (chars text.now) ≡ Ok (chars text.now) }
-        ensures line { IsTrue result → IsTrue (lacks line_feed (chars text.now)) }
-    {
-        keeps(self.component, self.hierarchical, self.is_ipv6, text)
-    }
-}
-
-/// Whether a text is known to be canonical in a component, where a pathname is hierarchical or not and a hostname is an IPv6 address or
-/// not.
-pub fn keeps(component: ComponentName, hierarchical: bool, is_ipv6: bool, text: &str) -> bool
+/// Whether a text is known to be canonical in a component by its characters, where a pathname is hierarchical or not and a hostname is
+/// an IPv6 address or not.
+pub(crate) fn keeps(component: ComponentName, hierarchical: bool, is_ipv6: bool, text: &str) -> bool
     ensures canonical { IsTrue result → canonical_for component hierarchical is_ipv6 (chars text.now) ≡ Ok (chars text.now) }
     ensures line { IsTrue result → IsTrue (lacks line_feed (chars text.now)) }
 {
@@ -78,7 +66,7 @@ fn is_kept_value(component: ComponentName, hierarchical: bool, value: &[u8]) -> 
     ensures { result ≡ is_kept_value component hierarchical value.now }
 {
     match component {
-        ComponentName::Hostname => is_label(value),
+        ComponentName::Hostname => is_kept_host(value),
         ComponentName::Pathname if hierarchical => is_kept_path(value),
         ComponentName::Pathname => is_kept_opaque(value),
         ComponentName::Search | ComponentName::Hash => is_kept_text(value),
@@ -138,16 +126,23 @@ fn is_unescaped(b: u8) -> bool
     !ESCAPED.should_percent_encode(b)
 }
 
-/// Whether a value is a label of a host in lower case without digits.
-fn is_label(value: &[u8]) -> bool
-    ensures { result ≡ list_all is_label_character value.now }
+/// Whether a value is a host of labels in lower case without digits, and does not end with a dot.
+fn is_kept_host(value: &[u8]) -> bool
+    ensures { result ≡ is_kept_host false value.now }
 {
-    value.iter().all(|&b| is_label_byte(b))
+    let mut dotted = false;
+    for b in value {
+        if !is_host_byte(*b) {
+            return false;
+        }
+        dotted = *b == b'.';
+    }
+    !dotted
 }
 
-/// Whether a character is a letter in lower case or a hyphen.
-fn is_label_byte(b: u8) -> bool
-    ensures { result ≡ is_label_character b }
+/// Whether a character is a letter in lower case, a hyphen or a dot.
+fn is_host_byte(b: u8) -> bool
+    ensures { result ≡ is_host_character b }
 {
-    b.is_ascii_lowercase() || b == b'-'
+    b.is_ascii_lowercase() || b == b'-' || b == b'.'
 }

@@ -1,18 +1,18 @@
-use Rattle.std.proofs.Common.{subst, sym}
+use Rattle.std.proofs.Common.{ap, refl, subst, sym, true≢false}
+use Rattle.std.specs.Prelude.{Some, None}
 use Rattle.urlpattern.specs.Patterns.{pattern_view}
 use Rattle.urlpattern_calls.specs.Coverings.{IsNoPatternOfInit}
-use Rattle.urlpattern_calls.proofs.CoveringLemmas.{same_refusal}
-use Rattle.urlpattern_engine.proofs.EngineLaws.{taken_first}
-use Rattle.urlpattern_calls.specs.Calls.{c_options}
-use Rattle.urlpattern_readings.proofs.Copies.{same_answers}
+use Rattle.urlpattern_calls.proofs.CoveringLemmas.{init_refused}
 use Rattle.urlpattern_calls.proofs.parts.parts_of_init.Goals as goal
 
-pub read_parts-parts-requires-clause-by_text : goal.read_parts-parts-requires-clause-by_text
-read_parts-parts-requires-clause-by_text c =
-    same_answers c.args.init.now c.in-Ok.copy c.in-Ok.ensures (c_options c.args.ignore_case) (pattern_view c.in-Ok-parse.pattern)
-    (rw c.options.ensures at (c.in-Ok-parse.ensures.by_text taken_first))
+pub returns-in-Some-clause-parts : goal.returns-in-Some-clause-parts
+returns-in-Some-clause-parts c = (
+  pattern_view c.in-Ok.pattern,
+  rw c.options.ensures at c.in-Ok.ensures.compiled,
+  rw c.in-Some.is at c.into_parts.ensures.made,
+)
 
 pub returns-in-Err-clause-none : goal.returns-in-Err-clause-none
 returns-in-Err-clause-none c =
-    subst (IsNoPatternOfInit c.args.init.now c.args.ignore_case) (sym c.refusal-status.ensures)
-    (same_refusal c.args.init.now c.in-Ok.copy c.args.ignore_case c.in-Err.error c.in-Ok.ensures (rw c.options.ensures at c.in-Err.ensures.refused))
+    subst (IsNoPatternOfInit c.args.init c.args.ignore_case) (sym c.refusal-status.ensures)
+    (init_refused c.args.init c.args.ignore_case c.in-Err.error (rw c.options.ensures at c.in-Err.ensures.refused))
