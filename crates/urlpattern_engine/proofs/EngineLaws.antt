@@ -151,7 +151,7 @@ regex_values_read regexp flags regex any made = if_some (read default_config reg
 
 -- no value is missing for a text of parts of which none is custom
 takes_generated : (force_eval : Bool) (flags : List ℕ) (options : OptionsView) (parts : List PartView) (error : ErrorView) → AreGenerated parts → ¬ IsEngineOf pattern_engine force_eval flags (regexp_text options parts) (Err error)
-takes_generated force_eval flags options parts error generated (of_regexp, may) = may (options, parts, generated, refl)
+takes_generated force_eval flags options parts error generated (of_regexp, may) = may.0 (options, parts, generated, refl)
 
 pub matcher_takes : MatchersTakeGenerated pattern_engine
 matcher_takes options flags parts matcher made generated =

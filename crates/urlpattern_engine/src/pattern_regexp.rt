@@ -1,12 +1,14 @@
 //! The engine.
 
-ghost use Rattle.std.specs.Prelude.{◌≡◌, IfOk};
+ghost use Rattle.std.specs.Prelude.{◌≡◌, Err, IfOk};
 ghost use Rattle.std.specs.Str.{chars};
 ghost use Rattle.urlpattern_meaning.specs.CaptureTexts.{captures_view};
 ghost use Rattle.urlpattern_core.specs.Components.{ignores_case};
 ghost use Rattle.urlpattern_engine.specs.PatternRegexps.{IsExpressionOf, pattern_engine};
+ghost use Rattle.urlpattern_engine.specs.Refusals.{HasFault};
 ghost use Rattle.urlpattern_walk.specs.ReadSteps.{IsGenerated};
 ghost use Rattle.urlpattern_steps.specs.Walk.{walk};
+ghost use Rattle.urlpattern_syntax.specs.declared.error.RegExpError.TheVariants.{Pattern};
 ghost use Rattle.urlpattern_syntax.specs.Text.{text_of};
 
 use crate::automaton::{Automaton, regex_of};
@@ -71,8 +73,9 @@ struct Steps {
     strategy: Strategy,
 }
 
-/// It ignores case where the flags have an `i`, takes no notice of others, and reads each text at once. It refuses none that is
-/// generated of parts, none of them custom.
+/// It ignores case where the flags have an `i`, takes no notice of others, and reads each text at
+/// once. It refuses none that is generated of parts, none of them custom; and another only if the
+/// grammar of `regex` does not read it, or it is nested too deep or large.
 ///
 /// Where case is ignored, its own steps compare ASCII letters by their lower case, and any other character as it is. What the
 /// crate `regex` matches ignores case as that does, by Unicode.
@@ -187,7 +190,8 @@ fn own(alloc: Global, pattern: &str, steps: Vec<Step>) -> Result<Steps, AllocErr
 ///
 /// The error says whether `regex` rejects it or memory ran out.
 fn compiled(alloc: Global, pattern: &str, ignore_case: bool) -> Result<Expression, RegExpError>
-    ensures { IfOk result (λ made. ¬ IsGenerated (chars pattern.now) → IsExpressionOf ignore_case (chars pattern.now) made) }
+    ensures refused { result ≡ Err Pattern → HasFault ignore_case (chars pattern.now) }
+    ensures made { IfOk result (λ made. ¬ IsGenerated (chars pattern.now) → IsExpressionOf ignore_case (chars pattern.now) made) }
 {
     match Automaton::new(alloc, pattern, ignore_case)? {
         Some(automaton) => Ok(Expression::Compiled(boxed(alloc, automaton)?)),

@@ -14,11 +14,11 @@ use Rattle.urlpattern_laws.proofs.laws.inits_have_one_outcome.Goals as goal
 takes_generated : TakesOrRefusesGenerated pattern_engine
 takes_generated manner none = record {
   whole = λ parts reads value error taken refused. elim refused [
-    | inl is ↦ is.1 (manner.options, parts, none parts reads, refl)
+    | inl is ↦ is.1.0 (manner.options, parts, none parts reads, refl)
     | inr again ↦ (let never : false ≡ true = again.0 in cc never)
   ];
   of_matcher = λ parts before middle after reads cut value error taken refused.
-      refused.1 (manner.options, middle, all_right before middle (all_left (before ++ middle) after (subst (λ (ps : List PartView). All IsNotCustom ps) cut (none parts reads))), refl);
+      refused.1.0 (manner.options, middle, all_right before middle (all_left (before ++ middle) after (subst (λ (ps : List PartView). All IsNotCustom ps) cut (none parts reads))), refl);
 }
 
 pub returns-clause-not_both : goal.returns-clause-not_both
