@@ -104,13 +104,19 @@ module _ (manner : WritingManner) where
     form_asked : (part : PartView) (capture : Option (List ℕ)) → IsAsked manner part capture → IsForm (part.name, capture)
     form_asked part capture asked same = subst (λ of. IsAskedBy manner.canonical of part capture) (ap manner.given same ∙ given) asked
 
-    some_form : (entries : List Entry) → All IsForm entries → list_any (λ (entry : Entry). bytes_eq name entry.0) entries ≡ true → (value : List ℕ) × (manner.canonical text ≡ Ok value)
+    -- the text has a canonical form
+    abbrev HasForm : Type 0
+    HasForm = (value : List ℕ) × (manner.canonical text ≡ Ok value)
+
+    form_of_first : (entry : Entry) (is others : Bool) → bytes_eq name entry.0 ≡ is → IsForm entry → (others ≡ true → HasForm) → (is || others) ≡ true → HasForm
+    form_of_first entry true others e form rest has = let found = form (sym ((bytes_eq-Decides name entry.0).0 e)) in (found.0, found.1)
+    form_of_first entry false others e form rest has = rest has
+
+    some_form : (entries : List Entry) → All IsForm entries → list_any (λ (entry : Entry). bytes_eq name entry.0) entries ≡ true → HasForm
     some_form [] all has = absurd (false≢true has)
-    some_form (entry ∷ entries) all has = by (bytes_eq name entry.0) refl has
-      where
-        by : (is : Bool) → bytes_eq name entry.0 ≡ is → (is || list_any (λ (other : Entry). bytes_eq name other.0) entries) ≡ true → (value : List ℕ) × (manner.canonical text ≡ Ok value)
-        by true e has = let form = All-head IsForm entry entries all (sym ((bytes_eq-Decides name entry.0).0 e)) in (form.0, form.1)
-        by false e has = some_form entries (All-tail IsForm entry entries all) has
+    some_form (entry ∷ entries) all has =
+        form_of_first entry (bytes_eq name entry.0) (list_any (λ (other : Entry). bytes_eq name other.0) entries) refl
+        (All-head IsForm entry entries all) (some_form entries (All-tail IsForm entry entries all)) has
 
     one_form : (value : List ℕ) → manner.canonical text ≡ Ok value → (entries : List Entry) → All IsForm entries → All (HasCapture name (Some value)) entries
     one_form value is [] all = All-nil (HasCapture name (Some value))

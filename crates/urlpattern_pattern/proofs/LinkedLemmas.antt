@@ -188,17 +188,6 @@ module _ {E : Type 0} (answer : E → List ℕ → Option Captures) where
   refused_by_hand pattern groups none =
       subst (λ (of : Option PatternParts). MatchOption of (links.Component generating.NoParts ≡ links.Component generating.NoParts) (λ own. RefusesLinkOf answer (eight_view pattern.components) own groups (links.Component generating.NoParts))) (sym none) refl
 
--- ---- the first error
-
-module _ (parts : PatternParts) (groups : List GivenView) where
-  -- a component has a text
-  abbrev pub HasOwn : ComponentName → Type 0
-  HasOwn name = (text : CowStr Global) × AnswersParts parts groups name (Ok text)
-
-  pub first_error : (before after : List ComponentName) (name : ComponentName) (error : GenerateError) → components ≡ before ++ name ∷ after → All HasOwn before → AnswersParts parts groups name (Err error) →
-      IsFirstError (AnswersParts parts groups) error
-  first_error before after name error cut all refused = (before, after, name, cut, all, refused)
-
 -- a text, or why there is none, of the parts of a component
 pub part_answered : (parts : PatternParts) (groups : List GivenView) (name : ComponentName) (kept : ComponentParts) (result : Result (CowStr Global) GenerateError) → kept ≡ at parts.components name →
     IfOk result (λ text. IsWritten (manner_for name (kept_options kept) (kept_parts kept) groups) (kept_parts kept) (cow_text text)) →
