@@ -136,6 +136,18 @@ reported_parse answer asked bytes (Ok url) gives reported = (reported-ok (λ x. 
 reported_parse answer asked bytes (Err error) gives reported =
     (tt, reported-err (λ x. x) answer asked asked bytes (Err error) error gives reported refl (λ reason e. e))
 
+-- a refusal that is told is one of `url`
+pub refused_by_url : {T : Type 0} (asked : Parsed T) (bytes : ℕ) (error : Error) (reason : ParseError) → error ≡ errors.Url reason
+    → MemoryOr (Reports asked bytes) error → IsRefusedByUrl asked bytes
+refused_by_url asked bytes error reason is reported =
+    elim (rw is at reported) [
+      | inl memory ↦ absurd cc
+      | inr refused ↦ elim refused.1 [
+        | inl same ↦ inl (reason, same)
+        | inr long ↦ inr long.1
+      ]
+    ]
+
 -- ---- the steps of a question
 
 pub after-ok : (url : Parsed Parts) (set : Parts → Parsed Parts) (get : Parts → List ℕ) (old new : Parts) → url ≡ Ok old → set old ≡ Ok new

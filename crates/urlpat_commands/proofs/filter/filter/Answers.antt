@@ -1,7 +1,7 @@
 use Rattle.std.proofs.Common.{ap, sym}
 use Rattle.std.specs.Prelude.{option_copied}
 use Rattle.urlpat_commands.proofs.FilterLemmas.{filters}
-use Rattle.urlpat_matching.specs.InputUrls.{kept_base}
+use Rattle.urlpattern_canonical.specs.BaseUrls.{kept_base}
 use Rattle.urlpat_matching.specs.Status.{status_of}
 use Rattle.urlpattern.specs.Patterns.{pattern_view}
 use Rattle.urlpat_commands.proofs.filter.filter.Goals as goal

@@ -1,6 +1,6 @@
 use Rattle.std.proofs.Common.{ap, sym}
 use Rattle.std.specs.Prelude.{option_copied}
-use Rattle.urlpat_matching.specs.InputUrls.{kept_base}
+use Rattle.urlpattern_canonical.specs.BaseUrls.{kept_base}
 use Rattle.urlpat_matching.specs.Status.{status_of}
 use Rattle.urlpat_rules.proofs.RouteLemmas.{routes-by}
 use Rattle.urlpat_rules.proofs.routing.route_by.Goals as goal
