@@ -160,7 +160,7 @@ none_weaker P Q weaker (Err error) holds = tt
 -- ---- links
 
 -- what is given for the group `id` of the path alone
-given_id : (name text : List ℕ) → name ≡ codes "id" → text_given (given_groups ((Pathname, record { now = name }, record { now = text }) ∷ [])) Pathname (chars (codes "id")) ≡ Some (chars text)
+pub given_id : (name text : List ℕ) → name ≡ codes "id" → text_given (given_groups ((Pathname, record { now = name }, record { now = text }) ∷ [])) Pathname (chars (codes "id")) ≡ Some (chars text)
 given_id name text e =
     ap (λ (same : Bool). if bytes_eq (name_text Pathname) (name_text Pathname) && same then Some (chars text) else None) ((bytes_eq-Decides (chars name) (chars (codes "id"))).1 (ap chars e))
 
