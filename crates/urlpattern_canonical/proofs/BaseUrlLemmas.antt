@@ -1,5 +1,6 @@
 -- Lemmas on URLs under a base URL.
-use Rattle.std.proofs.Common.{◌≡◌, ℕ, List, Option, Result, IfOk, inl, inr, arith, subst, sym, ap, ◌∙◌, max}
+use Rattle.std.proofs.Common.{◌≡◌, ℕ, List, Option, Result, IfOk, length, subst, ap}
+use Rattle.std.proofs.Math.Nat.{le-max_right}
 use Rattle.url.specs.declared.error.ParseError.{ParseError}
 use Rattle.url.specs.declared.Url.{Url}
 use Rattle.url.specs.Parser.{and_then, parse_url}
@@ -22,4 +23,4 @@ refused_base text base error reason is refused =
     refused_by_url (parsed_text base text) (longer_bytes text (base_view base)) error reason is
     (reports-through (parsed_base base) (parsed_text base text) (longer_bytes text (base_view base)) error
     (λ why none. ap (λ url. and_then url (λ found. parse_url found text)) none)
-    (reports-more (parsed_base base) (text_bytes base) (longer_bytes text (base_view base)) error arith refused))
+    (reports-more (parsed_base base) (text_bytes base) (longer_bytes text (base_view base)) error (le-max_right (length text) (text_bytes base)) refused))

@@ -14,7 +14,7 @@ use Rattle.url.specs.declared.error.ParseError.TheVariants.{Overflow, OutOfMemor
 use Rattle.url.specs.Parser.{Gives, GivesBy, IsOutOfRoom, Parsed, and_then, parse_url}
 use Rattle.url.specs.Parts.{Parts}
 use Rattle.urlpattern_canonical.specs.Asking.{IsRefusedAs, reported_as}
-use Rattle.urlpattern_canonical.specs.Canonical.{IsAnswer, IsReported, Reports, after, canonical, dummy_url, long_text, path_of, pathname_of, reported_error, scheme_for_port, refused_as, without_guard}
+use Rattle.urlpattern_canonical.specs.Canonical.{IsRefusedByUrl, IsAnswer, IsReported, Reports, after, canonical, dummy_url, long_text, path_of, pathname_of, reported_error, scheme_for_port, refused_as, without_guard}
 use Rattle.urlpattern_syntax.proofs.TextLemmas.{chars-empty}
 use Rattle.urlpattern_syntax.specs.declared.error.Error.{Error}
 use Rattle.urlpattern_syntax.specs.declared.error.Error.TheVariants as errors

@@ -3,9 +3,8 @@ use Rattle.std.specs.Prelude.{◌≡◌, ℕ, List, [], length, max, Option, Non
 use Rattle.url.specs.declared.Url.{Url}
 use Rattle.url.specs.Parser.{Parsed, and_then, parse_url}
 use Rattle.url.specs.Parts.{Parts}
-use Rattle.urlpattern_canonical.specs.Canonical.{IsRefusedByUrl, Reports}
+use Rattle.urlpattern_canonical.specs.Canonical.{IsRefusedByUrl}
 use Rattle.urlpattern_canonical.specs.declared.base_url.BaseUrl.{BaseUrl}
-use Rattle.urlpattern_syntax.specs.Errors.{ErrorView}
 
 -- the URL of a text that may be missing
 abbrev pub parsed_base : Option (List ℕ) → Parsed (Option Parts)
@@ -51,10 +50,6 @@ IsRefusedUnder text base = IsRefusedByUrl (read_under base text) (longer_bytes t
 
 abbrev pub IsRefusedText : (text : List ℕ) → (base : Option (List ℕ)) → Type 0
 IsRefusedText text base = IsRefusedUnder text (base_view base)
-
--- why the text is no URL under the base URL is reported
-abbrev pub ReportsUnder : (text : List ℕ) → BaseView → ErrorView → Type 0
-ReportsUnder text base = Reports (read_under base text) (longer_bytes text base)
 
 -- what is found is the URL of the text; None where it has none
 abbrev pub FindsUrlUnder : (text : List ℕ) → BaseView → Option Url → Type 0

@@ -2,7 +2,7 @@
 
 ghost use Rattle.std.specs.Prelude.{◌≡◌, None, Ok, length, option_copied, IfErr, IfOk};
 ghost use Rattle.url.specs.Parser.{Gives, parse_url};
-ghost use Rattle.urlpattern_canonical.specs.BaseUrls.{FindsUrl, FindsUrlUnder, IsUrlUnder, ReportsUnder, base_view, kept_base, parsed_base, read_under, text_bytes};
+ghost use Rattle.urlpattern_canonical.specs.BaseUrls.{FindsUrl, FindsUrlUnder, IsUrlUnder, base_view, kept_base, parsed_base, read_under, text_bytes};
 ghost use Rattle.urlpattern_canonical.specs.Canonical.{Reports};
 ghost use Rattle.urlpattern_syntax.specs.Errors.{MemoryOr, OnlyOutOfMemory};
 
@@ -42,21 +42,21 @@ impl BaseUrl {
         ensures found { IfOk result (FindsUrlUnder text.now (kept_base self.now)) }
         ensures memory { OnlyOutOfMemory result }
     {
-        match self.read(alloc, text) {
+        match self.read(alloc, text, text.len().max(self.bytes)) {
             Ok(url) => Ok(Some(url)),
             Err(Error::Url(_)) => Ok(None),
             Err(_) => Err(Error::OutOfMemory),
         }
     }
 
-    /// The URL of a text under the base URL.
+    /// The URL of a text under the base URL, where neither has more than so many bytes.
     ///
     /// The error is the refusal of `url`, or that memory ran out.
-    fn read(&self, alloc: Global, text: &str) -> Result<Url, Error>
+    fn read(&self, alloc: Global, text: &str, bytes: usize) -> Result<Url, Error>
         ensures ok { IfOk result (IsUrlUnder text.now (kept_base self.now)) }
-        ensures err { IfErr result (MemoryOr (ReportsUnder text.now (kept_base self.now))) }
+        ensures err { IfErr result (MemoryOr (Reports (read_under (kept_base self.now) text.now) bytes)) }
     {
-        reported(self.joined(alloc, text), text.len().max(self.bytes))
+        reported(self.joined(alloc, text), bytes)
     }
 
     /// What `url` makes of a text under the base URL.
@@ -78,11 +78,7 @@ pub fn find_url(alloc: Global, text: &str, base: Option<&str>) -> Result<Option<
     ensures memory { OnlyOutOfMemory result }
 {
     match BaseUrl::parse(alloc, base) {
-        Ok(base) => {
-            let found = base.find(alloc, text);
-            drop(base);
-            found
-        }
+        Ok(base) => base.find(alloc, text),
         Err(Error::Url(_)) => Ok(None),
         Err(_) => Err(Error::OutOfMemory),
     }
