@@ -8,7 +8,7 @@ use Rattle.std.proofs.lemmas.Str.Parse.{digits_value_short, numerals_by_value, t
 use Rattle.std.specs.Char.{digit_value, encode_utf8, is_ascii_digit}
 use Rattle.std.specs.Fmt.{decimal}
 use Rattle.std.specs.List.{list_all}
-use Rattle.std.specs.Prelude.{codes, encode_utf8_all, slice_index}
+use Rattle.std.specs.Prelude.{codes, encode_utf8_all, if◌then◌else◌, slice_index}
 use Rattle.std.specs.Str.{chars}
 use Rattle.std.specs.Str.Parse.{AllDigits, digits_value}
 use Rattle.url.proofs.InputLemmas.{All_from_list_all, Passes, is_empty_nonempty}

@@ -135,7 +135,7 @@ fn reads_what_is_written<R>(matcher: &Matcher<R>) -> bool
 
 /// Whether a filter's character, if it has one, is no ASCII letter.
 fn has_one_case(filter: Option<char>) -> bool
-    ensures { result ≡ has_one_case filter.entry }
+    ensures { result ≡ has_one_case filter }
 {
     match filter {
         None => true,

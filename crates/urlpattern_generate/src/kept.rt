@@ -1,7 +1,8 @@
 //! Values that are canonical as they are.
 
 ghost use Rattle.std.specs.List.{list_all};
-ghost use Rattle.std.specs.Prelude.{◌≡◌, ◌&&◌, IsTrue, Ok, false, not};
+ghost use Rattle.std.specs.Prelude.{◌≡◌, ◌&&◌, IsTrue, Ok, false, leb, length, not};
+ghost use Rattle.std.specs.Char.{is_ascii_digit};
 ghost use Rattle.std.specs.Str.{chars};
 ghost use Rattle.urlpattern_canonical.specs.Canonical.{canonical_protocol};
 ghost use Rattle.urlpattern_generate.specs.Manners.{canonical_for};
@@ -84,9 +85,21 @@ fn is_kept_value(component: ComponentName, hierarchical: bool, value: &[u8]) -> 
 fn is_kept_port(value: &[u8]) -> bool
     ensures { result ≡ is_kept_port value.now }
 {
-    !matches!(value, [b'0', ..])
-        && value.len() <= SHORT_PORT
-        && value.iter().all(|b| b.is_ascii_digit())
+    !matches!(value, [b'0', ..]) && is_short(value) && are_digits(value)
+}
+
+/// Whether a value is no longer than that.
+fn is_short(value: &[u8]) -> bool
+    ensures { result ≡ leb (length value.now) 4 }
+{
+    value.len() <= SHORT_PORT
+}
+
+/// Whether a value has no other characters than digits.
+fn are_digits(value: &[u8]) -> bool
+    ensures { result ≡ list_all is_ascii_digit value.now }
+{
+    value.iter().all(|&b| b.is_ascii_digit())
 }
 
 /// Whether an opaque path escapes no character of a value, and the value does not begin with a slash.
