@@ -34,6 +34,7 @@ use Rattle.urlpattern_eight.specs.declared.eight.ComponentName.{ComponentName}
 use Rattle.urlpattern_eight.specs.declared.eight.ComponentName.TheVariants.{Protocol, Username, Password, Hostname, Port, Pathname, Search, Hash}
 use Rattle.urlpattern_generate.proofs.HostTexts.{host_visible, hostname_kept}
 use Rattle.urlpattern_generate.proofs.OpaquePaths.{path_canonical}
+use Rattle.urlpattern_generate.proofs.PortTexts.{port_digits, port_kept}
 use Rattle.urlpattern_generate.proofs.SetTexts.{AreVisible, by_bytes, hash_kept, is_visible, path_stays, pathname_kept, search_kept}
 use Rattle.urlpattern_generate.specs.Manners.{canonical_for}
 use Rattle.urlpattern_syntax.proofs.TextLemmas.{chars_nothing}
@@ -336,7 +337,7 @@ kept_for Protocol hierarchical bytes e = empty_kept Protocol hierarchical bytes 
 kept_for Username hierarchical bytes e = empty_kept Username hierarchical bytes e
 kept_for Password hierarchical bytes e = empty_kept Password hierarchical bytes e
 kept_for Hostname hierarchical bytes e = host_kept bytes e
-kept_for Port hierarchical bytes e = empty_kept Port hierarchical bytes e
+kept_for Port hierarchical bytes e = port_kept bytes e
 kept_for Pathname true bytes e = by_bytes pathname_of bytes (are_visible bytes (path_characters false bytes e)) (path_kept bytes e)
 kept_for Pathname false bytes e = opaque_kept bytes e
 kept_for Search hierarchical bytes e =
@@ -379,7 +380,9 @@ pub kept_line : (component : ComponentName) (hierarchical : Bool) (bytes : List 
 kept_line Protocol hierarchical bytes kept = empty_line bytes kept
 kept_line Username hierarchical bytes kept = empty_line bytes kept
 kept_line Password hierarchical bytes kept = empty_line bytes kept
-kept_line Port hierarchical bytes kept = empty_line bytes kept
+kept_line Port hierarchical bytes kept =
+    let all = port_digits bytes kept in
+    lines is_ascii_digit refl bytes (IsAscii-from_all bytes (All-weaker (Passes is_ascii_digit) (λ b. b < 128) (λ b passes. grind (arith, nat_tests)) bytes all)) all
 kept_line Hostname hierarchical bytes kept =
     let all = host_characters false bytes kept in
     lines is_host_character refl bytes (IsAscii-from_all bytes (All-weaker (Passes is_host_character) (λ b. b < 128) host_ascii bytes all)) all

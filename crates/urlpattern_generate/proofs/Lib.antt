@@ -6,6 +6,7 @@ pub mod HostTexts
 pub mod KeptValues
 pub mod MadeMatchers
 pub mod OpaquePaths
+pub mod PortTexts
 pub mod SetTests
 pub mod SetTexts
 pub mod TextLemmas

@@ -1,7 +1,10 @@
 -- A matcher without an engine finds in the text of the parts that it was made of what was asked of them.
-use Rattle.std.proofs.Common.{◌≡◌, ◌⊎◌, ◌∙◌, ℕ, zero, suc, Bool, true, false, List, [], ◌∷◌, ◌++◌, append-nil, append_assoc, ap, arith, inl, inr, refl, sym, subst, Option, Some, None, Result}
-use Rattle.std.specs.Prelude.{IsTrue, option_to_list, unwrap_or}
-use Rattle.urlpattern_generate.specs.Generating.{ReadsWritten}
+use Rattle.std.proofs.Common.{◌≡◌, ◌⊎◌, ◌∙◌, ℕ, zero, suc, Bool, true, false, not, ◌==◌, List, [], ◌∷◌, ◌++◌, append-nil, append_assoc, ap, arith, inl, inr, refl, sym, subst, Option, Some, None, Result}
+use Rattle.std.proofs.lemmas.Bool.{and_from, and_parts}
+use Rattle.std.proofs.lemmas.Bool.Decides.{nat_tests}
+use Rattle.std.specs.Char.{is_ascii_alphabetic, to_ascii_lowercase}
+use Rattle.std.specs.Prelude.{◌||◌, IsTrue, map, option_to_list, unwrap_or}
+use Rattle.urlpattern_generate.specs.Generating.{ReadsWritten, has_one_case}
 use Rattle.urlpattern_links.specs.Links.{IsCopyText, MayCapture, MayCaptureAll, OfFirst, captures_after, fewest_copies, text_of_group, text_of_part, text_of_parts}
 use Rattle.urlpattern_meaning.specs.Matching.{Answers, BeginsPlain, EndsPlain, IsMadeBetween, IsMadeByEngine, IsMadeOf, IsMadeOfOne, IsRemoved, MatcherView, MayBeEmpty, PassesFilter, end_text, folded, single_capture_matcher}
 use Rattle.urlpattern_meaning.specs.PartMeaning.{Allows, Captures}
@@ -99,16 +102,33 @@ passes (Some c) text lacking = lacking
 cut_out : (front prefix text suffix back : List ℕ) → front ++ ((prefix ++ text ++ suffix) ++ back) ≡ (front ++ prefix) ++ text ++ (suffix ++ back)
 cut_out front prefix text suffix back = simp append_assoc
 
+-- ---- a filter where case is ignored
+
+-- a character is no other where case is ignored, if it is no letter
+other_folded : (c d : ℕ) → not (is_ascii_alphabetic c) ≡ true → not (d == c) ≡ true → not (to_ascii_lowercase d == to_ascii_lowercase c) ≡ true
+other_folded c d one other = grind (arith, nat_tests)
+
+lacks_folded : (c : ℕ) (text : List ℕ) → not (is_ascii_alphabetic c) ≡ true → IsTrue (lacks c text) → IsTrue (lacks (to_ascii_lowercase c) (map to_ascii_lowercase text))
+lacks_folded c [] one lacking = refl
+lacks_folded c (d ∷ text) one lacking =
+    let parts = and_parts (not (d == c)) (lacks c text) lacking in
+    and_from (not (to_ascii_lowercase d == to_ascii_lowercase c)) (lacks (to_ascii_lowercase c) (map to_ascii_lowercase text)) (other_folded c d one parts.0) (lacks_folded c text one parts.1)
+
+passes_folded : (ignore_case : Bool) (filter : Option ℕ) (text : List ℕ) → IsTrue (not ignore_case || has_one_case filter) → PassesFilter false filter text → PassesFilter ignore_case filter text
+passes_folded false filter text one lacking = lacking
+passes_folded true None text one lacking = tt
+passes_folded true (Some c) text one lacking = lacks_folded c text one lacking
+
 module _ {E : Type 0} (answer : E → List ℕ → Option Captures) (IsEngine : (regexp : List ℕ) → Result E ErrorView → Type 0) (options : OptionsView) where
   -- one capture is found
   capture_found : (filter : Option ℕ) (allow_empty : Bool) (part : PartView) (front back text : List ℕ) (matcher : MatcherView E) →
-      matcher ≡ single_capture_matcher options front part back filter allow_empty → options.ignore_case ≡ false → MayBeEmpty allow_empty text → PassesFilter false filter text →
+      matcher ≡ single_capture_matcher options front part back filter allow_empty → IsTrue (not options.ignore_case || has_one_case filter) → MayBeEmpty allow_empty text → PassesFilter false filter text →
       Answers answer matcher (front ++ ((part.prefix ++ text ++ part.suffix) ++ back)) (Some (Some text ∷ []))
-  capture_found filter allow_empty part front back text matcher e kept some lacking =
+  capture_found filter allow_empty part front back text matcher e one some lacking =
       subst (λ m. Answers answer m (front ++ ((part.prefix ++ text ++ part.suffix) ++ back)) (Some (Some text ∷ []))) (sym e) (
         text,
         (front ++ part.prefix, part.suffix ++ back, cut_out front part.prefix text part.suffix back, refl, refl),
-        (some, subst (λ ignore. PassesFilter ignore filter text) (sym kept) lacking, refl),
+        (some, passes_folded options.ignore_case filter text one lacking, refl),
       )
 
   engine_made : (prefix suffix : List ℕ) (parts : List PartView) (matcher : MatcherView E) → IsMadeByEngine IsEngine options prefix parts suffix matcher → ReadsWritten matcher.ignore_case matcher.inner → ⊥
@@ -122,38 +142,39 @@ module _ {E : Type 0} (answer : E → List ℕ → Option Captures) (IsEngine : 
     -- of a capture of the part and others
     with_capture : (filter : Option ℕ) (allow_empty : Bool) (capture : Option (List ℕ)) (text : List ℕ) (more : Captures) → captures ≡ capture ∷ more → capture ≡ Some text →
         text_of_parts (part ∷ option_to_list back) captures ≡ text_of_group part capture ++ text_of_parts (option_to_list back) more → MayCaptureAll options (option_to_list back) more →
-        matcher ≡ single_capture_matcher options front part (end_text back) filter allow_empty → options.ignore_case ≡ false → MayBeEmpty allow_empty text → PassesFilter false filter text → Found
-    with_capture filter allow_empty capture text more e f cut may made kept some lacking =
+        matcher ≡ single_capture_matcher options front part (end_text back) filter allow_empty → IsTrue (not options.ignore_case || has_one_case filter) → MayBeEmpty allow_empty text → PassesFilter false filter text → Found
+    with_capture filter allow_empty capture text more e f cut may made folds some lacking =
         let alone = back_alone options back IsThere more removed may in
         let whole : text_of_parts (part ∷ option_to_list back) captures ≡ (part.prefix ++ text ++ part.suffix) ++ end_text back =
         cut ∙ ap (λ c. text_of_group part c ++ text_of_parts (option_to_list back) more) f ∙ ap (λ t. (part.prefix ++ text ++ part.suffix) ++ t) alone.1 in
         let all : captures ≡ Some text ∷ [] = e ∙ ap (λ c. c ∷ more) f ∙ ap (λ m. Some text ∷ m) alone.0 in
         subst (λ t. Answers answer matcher (front ++ t) (Some captures)) (sym whole)
         (subst (λ c. Answers answer matcher (front ++ ((part.prefix ++ text ++ part.suffix) ++ end_text back)) (Some c)) (sym all)
-        (capture_found filter allow_empty part front (end_text back) text matcher made kept some lacking))
+        (capture_found filter allow_empty part front (end_text back) text matcher made folds some lacking))
 
     segment_found : part.kind ≡ SegmentWildcard → part.modifier ≡ modifiers.None → MayCaptureAll options (part ∷ option_to_list back) captures →
-        matcher ≡ single_capture_matcher options front part (end_text back) options.delimiter false → options.ignore_case ≡ false → Found
-    segment_found e f may made kept =
+        matcher ≡ single_capture_matcher options front part (end_text back) options.delimiter false → IsTrue (not options.ignore_case || has_one_case options.delimiter) → Found
+    segment_found e f may made folds =
         let cut = first_cut options part (option_to_list back) part.kind captures (inl e) may in
         let one = one_text options SegmentWildcard part cut.capture e f cut.may_capture in
-        with_capture options.delimiter false cut.capture one.0 cut.more cut.is_cut one.1 cut.is_text cut.may_more made kept one.2.0 (passes options.delimiter one.0 one.2.1)
+        with_capture options.delimiter false cut.capture one.0 cut.more cut.is_cut one.1 cut.is_text cut.may_more made folds one.2.0 (passes options.delimiter one.0 one.2.1)
 
     full_found : part.kind ≡ FullWildcard → part.modifier ≡ modifiers.None → MayCaptureAll options (part ∷ option_to_list back) captures →
-        matcher ≡ single_capture_matcher options front part (end_text back) None true → options.ignore_case ≡ false → Found
-    full_found e f may made kept =
+        matcher ≡ single_capture_matcher options front part (end_text back) None true → IsTrue (not options.ignore_case || has_one_case None) → Found
+    full_found e f may made folds =
         let cut = first_cut options part (option_to_list back) part.kind captures (inr e) may in
         let one = one_text options FullWildcard part cut.capture e f cut.may_capture in
-        with_capture None true cut.capture one.0 cut.more cut.is_cut one.1 cut.is_text cut.may_more made kept tt tt
+        with_capture None true cut.capture one.0 cut.more cut.is_cut one.1 cut.is_text cut.may_more made folds tt tt
 
-    kept_case : (filter : Option ℕ) (allow_empty : Bool) → matcher ≡ single_capture_matcher options front part (end_text back) filter allow_empty → ReadsWritten matcher.ignore_case matcher.inner → options.ignore_case ≡ false
-    kept_case filter allow_empty e reads = subst (λ m. ReadsWritten m.ignore_case m.inner) e reads
+    one_case : (filter : Option ℕ) (allow_empty : Bool) → matcher ≡ single_capture_matcher options front part (end_text back) filter allow_empty → ReadsWritten matcher.ignore_case matcher.inner →
+        IsTrue (not options.ignore_case || has_one_case filter)
+    one_case filter allow_empty e reads = subst (λ m. ReadsWritten m.ignore_case m.inner) e reads
 
     -- the parts that are left by their kind and modifier
     one_found : (kind : PartType) (modifier : PartModifier) → part.kind ≡ kind → part.modifier ≡ modifier → IsMadeOfOne IsEngine kind modifier options front part (end_text back) matcher →
         ReadsWritten matcher.ignore_case matcher.inner → MayCaptureAll options (part ∷ option_to_list back) captures → Found
-    one_found FullWildcard modifiers.None e f made reads may = full_found e f may made (kept_case None true made reads)
-    one_found SegmentWildcard modifiers.None e f made reads may = segment_found e f may made (kept_case options.delimiter false made reads)
+    one_found FullWildcard modifiers.None e f made reads may = full_found e f may made (one_case None true made reads)
+    one_found SegmentWildcard modifiers.None e f made reads may = segment_found e f may made (one_case options.delimiter false made reads)
     one_found FullWildcard modifiers.Optional e f made reads may = absurd (engine_made front (end_text back) (part ∷ []) matcher made reads)
     one_found FullWildcard modifiers.ZeroOrMore e f made reads may = absurd (engine_made front (end_text back) (part ∷ []) matcher made reads)
     one_found FullWildcard modifiers.OneOrMore e f made reads may = absurd (engine_made front (end_text back) (part ∷ []) matcher made reads)

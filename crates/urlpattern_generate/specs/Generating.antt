@@ -1,6 +1,6 @@
 -- The text of a component that its matcher matches with what is given, and why there is none.
-use Rattle.std.specs.Prelude.{◌≡◌, ◌≢◌, ◌⊎◌, ◌≤◌, ℕ, Bool, false, List, length, MatchBool, Option, Some, Ok}
-use Rattle.std.specs.Str.{chars}
+use Rattle.std.specs.Prelude.{◌≡◌, ◌≢◌, ◌⊎◌, ◌≤◌, ◌||◌, ℕ, Bool, true, not, List, length, IsTrue, MatchBool, Option, Some, None, Ok}
+use Rattle.std.specs.{Char.is_ascii_alphabetic, Str.chars}
 use Rattle.url.specs.Parser.{Parsed}
 use Rattle.urlpattern_canonical.specs.Canonical.{long_text}
 use Rattle.urlpattern_eight.specs.declared.eight.ComponentName.{ComponentName}
@@ -28,10 +28,16 @@ FindsOther answer matcher manner parts text =
 abbrev pub TellsFound : {E : Type 0} → Bool → (answer : E → List ℕ → Option Captures) → MatcherView E → WritingManner → List PartView → (text : List ℕ) → Type 0
 TellsFound is answer matcher manner parts text = MatchBool is (FindsAsked answer matcher manner parts text) (FindsOther answer matcher manner parts text)
 
--- a matcher of this is sure to find what was written of the parts that it was made of: it has no engine, and case counts
+-- the filter's character is the same in both cases, as it is no ASCII letter
+abbrev pub has_one_case : (filter : Option ℕ) → Bool
+has_one_case None = true
+has_one_case (Some c) = not (is_ascii_alphabetic c)
+
+-- A matcher of this is sure to find what was written of the parts that it was made of: it has no engine, and if case is ignored, its
+-- filter has one case.
 abbrev pub ReadsWritten : {E : Type 0} → (ignore_case : Bool) → InnerView E → Type 0
 ReadsWritten ignore_case (Literal literal) = Unit {0}
-ReadsWritten ignore_case (SingleCapture filter allow_empty) = ignore_case ≡ false
+ReadsWritten ignore_case (SingleCapture filter allow_empty) = IsTrue (not ignore_case || has_one_case filter)
 ReadsWritten ignore_case (RegExp engine) = ⊥
 
 -- ---- canonical texts

@@ -69,6 +69,11 @@ abbrev pub begins_ipv6 : List PartView → Bool
 begins_ipv6 [] = false
 begins_ipv6 (part ∷ parts) = begins_with (λ c. c == slice_index (codes "[") 0) (front_of part.kind part)
 
+-- the component is a host that is an IPv6 address
+abbrev pub is_ipv6_host : ComponentName → List PartView → Bool
+is_ipv6_host Hostname parts = begins_ipv6 parts
+is_ipv6_host component parts = false
+
 -- the manner in which a component of these parts is written with these groups
 abbrev pub manner_for : ComponentName → OptionsView → List PartView → List GivenView → WritingManner
 manner_for component options parts groups = record {

@@ -5,7 +5,7 @@ ghost use Rattle.std.specs.Str.{chars};
 ghost use Rattle.urlpattern_core.specs.Components.{IsEngineOf, engine_flags};
 ghost use Rattle.urlpattern_core.specs.Matchers.{matcher_view};
 ghost use Rattle.urlpattern_generate.specs.Asked.{AreAsked, IsAsked};
-ghost use Rattle.urlpattern_generate.specs.Generating.{ReadsWritten, TellsFound};
+ghost use Rattle.urlpattern_generate.specs.Generating.{ReadsWritten, TellsFound, has_one_case};
 ghost use Rattle.urlpattern_generate.specs.Writing.{IsWritten, LeavesAsked, manner_of_writer};
 ghost use Rattle.urlpattern_meaning.specs.Matching.{IsMadeOf};
 ghost use Rattle.urlpattern_syntax.specs.ComponentParts.{kept_options, kept_parts};
@@ -120,14 +120,26 @@ impl Writer<'_> {
     }
 }
 
-/// Whether a matcher finds what was written: it has no engine, and case counts.
+/// Whether a matcher finds what was written: it has no engine, and if case is ignored, its filter has one case.
 fn reads_what_is_written<R>(matcher: &Matcher<R>) -> bool
     ensures { IsTrue result → ReadsWritten matcher.now.ignore_case (matcher_view matcher.now).inner }
 {
     match &matcher.inner {
         InnerMatcher::Literal { .. } => true,
-        InnerMatcher::SingleCapture { .. } => !matcher.ignore_case,
+        InnerMatcher::SingleCapture { filter, .. } => {
+            !matcher.ignore_case || has_one_case(*filter)
+        }
         InnerMatcher::RegExp { .. } => false,
+    }
+}
+
+/// Whether a filter's character, if it has one, is no ASCII letter.
+fn has_one_case(filter: Option<char>) -> bool
+    ensures { result ≡ has_one_case filter }
+{
+    match filter {
+        None => true,
+        Some(c) => !c.is_ascii_alphabetic(),
     }
 }
 

@@ -1,11 +1,12 @@
 //! Values that are canonical as they are.
 
 ghost use Rattle.std.specs.List.{list_all};
-ghost use Rattle.std.specs.Prelude.{◌≡◌, ◌&&◌, IsTrue, Ok, false, not};
+ghost use Rattle.std.specs.Prelude.{◌≡◌, ◌&&◌, IsTrue, Ok, false, leb, length, not};
+ghost use Rattle.std.specs.Char.{is_ascii_digit};
 ghost use Rattle.std.specs.Str.{chars};
 ghost use Rattle.urlpattern_canonical.specs.Canonical.{canonical_protocol};
 ghost use Rattle.urlpattern_generate.specs.Manners.{canonical_for};
-ghost use Rattle.urlpattern_generate.specs.Kept.{is_dot_mark, is_host_character, is_kept_character, is_kept_host, is_kept_opaque, is_kept_path, is_kept_value};
+ghost use Rattle.urlpattern_generate.specs.Kept.{is_dot_mark, is_host_character, is_kept_character, is_kept_host, is_kept_opaque, is_kept_path, is_kept_port, is_kept_value};
 ghost use Rattle.urlpattern_syntax.specs.Text.{lacks, line_feed};
 
 use percent_encoding::{AsciiSet, CONTROLS, ascii_set};
@@ -30,6 +31,9 @@ const ESCAPED: AsciiSet = ascii_set!(
         .add(b'|')
         .add(b'}')
 );
+
+/// So many digits are a port whatever they are.
+const SHORT_PORT: usize = 4;
 
 /// Whether a text is known to be canonical in a component by its characters, where a pathname is hierarchical or not and a hostname is
 /// an IPv6 address or not.
@@ -70,11 +74,32 @@ fn is_kept_value(component: ComponentName, hierarchical: bool, value: &[u8]) -> 
         ComponentName::Pathname if hierarchical => is_kept_path(value),
         ComponentName::Pathname => is_kept_opaque(value),
         ComponentName::Search | ComponentName::Hash => is_kept_text(value),
-        ComponentName::Protocol
-        | ComponentName::Username
-        | ComponentName::Password
-        | ComponentName::Port => value.is_empty(),
+        ComponentName::Port => is_kept_port(value),
+        ComponentName::Protocol | ComponentName::Username | ComponentName::Password => {
+            value.is_empty()
+        }
     }
+}
+
+/// Whether a port has at most four digits, the first of which is not 0.
+fn is_kept_port(value: &[u8]) -> bool
+    ensures { result ≡ is_kept_port value.now }
+{
+    !matches!(value, [b'0', ..]) && is_short(value) && are_digits(value)
+}
+
+/// Whether a value is no longer than that.
+fn is_short(value: &[u8]) -> bool
+    ensures { result ≡ leb (length value.now) 4 }
+{
+    value.len() <= SHORT_PORT
+}
+
+/// Whether a value has no other characters than digits.
+fn are_digits(value: &[u8]) -> bool
+    ensures { result ≡ list_all is_ascii_digit value.now }
+{
+    value.iter().all(|&b| b.is_ascii_digit())
 }
 
 /// Whether an opaque path escapes no character of a value, and the value does not begin with a slash.

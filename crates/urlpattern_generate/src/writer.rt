@@ -4,8 +4,9 @@ ghost use Rattle.std.specs.Prelude.{◌≡◌, ◌==◌, codes, slice_index, IfO
 ghost use Rattle.std.specs.Str.{chars};
 ghost use Rattle.urlpattern_canonical.specs.Canonical.{IsAnswer};
 ghost use Rattle.urlpattern_generate.specs.Generating.{TellsCanonical};
-ghost use Rattle.urlpattern_generate.specs.Manners.{begins_ipv6, is_slash};
+ghost use Rattle.urlpattern_generate.specs.Manners.{begins_ipv6, is_ipv6_host, is_slash};
 ghost use Rattle.urlpattern_generate.specs.Writing.{manner_of_writer};
+ghost use Rattle.urlpattern_syntax.specs.ComponentParts.{kept_parts};
 ghost use Rattle.urlpattern_syntax.specs.Parts.{parts_view};
 ghost use Rattle.urlpattern_syntax.specs.Text.{begins_with, lacks, line_feed};
 
@@ -33,7 +34,7 @@ impl Writer<'_> {
         ensures canonical { IsTrue result → (manner_of_writer self.now).canonical (chars text.now) ≡ Ok (chars text.now) }
         ensures line { IsTrue result → IsTrue (lacks line_feed (chars text.now)) }
     {
-        keeps(self.component, self.is_hierarchical(), self.is_ipv6(), text)
+        keeps(self.component, self.is_hierarchical(), self.is_ipv6_host(), text)
     }
 
     /// The canonical form of a value of the component, as `url` makes it.
@@ -81,6 +82,22 @@ impl Writer<'_> {
         ensures { result ≡ is_slash (manner_of_writer self.now).options.delimiter }
     {
         self.kept.options.delimiter_code_point == Some('/')
+    }
+
+    /// Whether the component is a host that is an IPv6 address.
+    fn is_ipv6_host(&self) -> bool
+        ensures { result ≡ is_ipv6_host self.now.component (kept_parts self.now.kept.now) }
+    {
+        match self.component {
+            ComponentName::Hostname => self.is_ipv6(),
+            ComponentName::Protocol
+            | ComponentName::Username
+            | ComponentName::Password
+            | ComponentName::Port
+            | ComponentName::Pathname
+            | ComponentName::Search
+            | ComponentName::Hash => false,
+        }
     }
 
     /// Whether the first part begins with a bracket.

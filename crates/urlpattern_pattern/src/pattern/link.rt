@@ -116,7 +116,7 @@ fn written_each<'d>(
     ensures written { IfOk result (λ texts. AreWritten parts.now (given_groups groups.now) (cow_texts texts)) }
     ensures refused { IfErr result (IsFirstError (AnswersParts parts.now (given_groups groups.now))) }
 {
-    let text = |component: ComponentName| -> Result<CowStr<'d>, GenerateError>
+    let text = |component: ComponentName| -> Result<CowStr<'_>, GenerateError>
         ensures { AnswersParts parts.entry.now (given_groups groups.entry.now) component result }
     { written(alloc, parts, component, groups) };
     Eight::try_from_fn(text)
