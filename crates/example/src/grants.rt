@@ -37,7 +37,8 @@ impl Grants {
     pub fn check(&self, alloc: Global, asked: &PatternParts) -> Result<bool, AllocError>
         ensures { IfOk result (λ permitted. IsTrue permitted → IsGranted self.now.patterns.items asked.now) }
     {
-        let found = first_covering(alloc, &self.patterns, asked)?;
+        let granted: Vec<&PatternParts> = self.patterns.iter().collect(alloc)?;
+        let found = first_covering(alloc, &granted, asked)?;
         Ok(found.is_some())
     }
 }

@@ -143,7 +143,8 @@ fn unreached_text(
 ) -> Result<String, AllocError>
     ensures { IfOk result (λ text. AreUnreached patterns.now (entries_view entries.now) (string_bytes text)) }
 {
-    let found = unreachable(alloc, patterns)?;
+    let all: Vec<&PatternParts> = patterns.iter().collect(alloc)?;
+    let found = unreachable(alloc, &all)?;
     let mut text = String::new(alloc);
     for shadowed in &found {
         push_shadowed(alloc, &mut text, entries, *shadowed)?;

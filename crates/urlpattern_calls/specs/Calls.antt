@@ -1,5 +1,5 @@
 -- What calls report, of texts that are bytes.
-use Rattle.std.specs.Prelude.{◌≡◌, ◌⊎◌, ◌++◌, ℕ, Bool, List, [], ◌∷◌, length, max, slice_get, MatchOption, Option, None, Some, Ok}
+use Rattle.std.specs.Prelude.{◌≡◌, ◌⊎◌, ◌++◌, ℕ, Bool, List, [], ◌∷◌, length, max, slice_get, MatchOption, Option, None, Some, Ok, is_some, IsTrue}
 use Rattle.std.specs.Str.{chars, IsUtf8}
 use Rattle.url.specs.Parts.{Parts}
 use Rattle.url.specs.declared.Url.{Url}
@@ -37,9 +37,10 @@ given_base (byte ∷ bytes) = Some (byte ∷ bytes)
 abbrev pub c_options : (ignore_case : Bool) → UrlPatternOptions
 c_options ignores = record { regex_syntax = Rust; ignore_case = ignores }
 
--- the constructor string with this base URL is compiled to the pattern
+-- the constructor string with this base URL is compiled to the pattern, which has parts
 abbrev pub IsCompiledFromText : (text : List ℕ) → (base : Option (List ℕ)) → (ignore_case : Bool) → UrlPattern PatternRegexp → Type 0
-IsCompiledFromText text base ignores pattern = IsPatternOfText pattern_engine (chars text) base (c_options ignores) (pattern_view pattern)
+IsCompiledFromText text base ignores pattern =
+    IsPatternOfText pattern_engine (chars text) base (c_options ignores) (pattern_view pattern) × IsTrue (is_some pattern.parts)
 
 -- it is refused with this error
 abbrev pub RefusesToCompile : (text : List ℕ) → (base : Option (List ℕ)) → (ignore_case : Bool) → ErrorView → Type 0
