@@ -37,10 +37,9 @@ given_base (byte ∷ bytes) = Some (byte ∷ bytes)
 abbrev pub c_options : (ignore_case : Bool) → UrlPatternOptions
 c_options ignores = record { regex_syntax = Rust; ignore_case = ignores }
 
--- the constructor string with this base URL is compiled to the pattern, which has parts
+-- the constructor string with this base URL is compiled to the pattern
 abbrev pub IsCompiledFromText : (text : List ℕ) → (base : Option (List ℕ)) → (ignore_case : Bool) → UrlPattern PatternRegexp → Type 0
-IsCompiledFromText text base ignores pattern =
-    IsPatternOfText pattern_engine (chars text) base (c_options ignores) (pattern_view pattern) × IsTrue (is_some pattern.parts)
+IsCompiledFromText text base ignores pattern = IsPatternOfText pattern_engine (chars text) base (c_options ignores) (pattern_view pattern)
 
 -- it is refused with this error
 abbrev pub RefusesToCompile : (text : List ℕ) → (base : Option (List ℕ)) → (ignore_case : Bool) → ErrorView → Type 0
@@ -57,10 +56,11 @@ IsPushed old pattern new statuses.Done = new ≡ old ++ pattern ∷ []
 IsPushed old pattern new statuses.OutOfMemory = new ≡ old
 IsPushed old pattern new status = ⊥
 
--- the constructor string with this base URL is compiled, and its pattern appended; else the patterns are as they were
+-- the constructor string with this base URL is compiled, and its pattern, which has parts, appended; else the patterns are as they were
 abbrev pub IsAdded : (old : List (UrlPattern PatternRegexp)) → (text base : List ℕ) → (ignore_case : Bool) → (new : List (UrlPattern PatternRegexp)) → Status → Type 0
 IsAdded old text base ignores new statuses.Done =
-    (pattern : UrlPattern PatternRegexp) × IsCompiledFromText text (given_base base) ignores pattern × (new ≡ old ++ pattern ∷ [])
+    (pattern : UrlPattern PatternRegexp) × IsCompiledFromText text (given_base base) ignores pattern × IsTrue (is_some pattern.parts)
+    × (new ≡ old ++ pattern ∷ [])
 IsAdded old text base ignores new statuses.Refused =
     (error : ErrorView) × RefusesToCompile text (given_base base) ignores error × (new ≡ old)
 IsAdded old text base ignores new statuses.NotUtf8 = ((¬ IsUtf8 text) ⊎ (¬ IsUtf8 base)) × (new ≡ old)

@@ -1,6 +1,8 @@
 //! Says whether a pattern covers another one.
+ghost use Rattle.std.specs.Prelude.{◌≡◌};
 ghost use Rattle.urlpattern_calls.specs.Coverings.{AreCompared, IsCoveringReported};
 ghost use Rattle.urlpattern_calls.specs.Kept.{boxed_patterns};
+ghost use Rattle.urlpattern_calls.specs.Mismatches.{no_component};
 
 use crate::kept::{Kept, pattern_at};
 use crate::mismatching::{NO_COMPONENT, component_number};
@@ -22,25 +24,28 @@ pub fn covers(
 ) -> Status
     ensures { IsCoveringReported (boxed_patterns kept.now) index (boxed_patterns others.now) asked component.new result }
 {
-    match (pattern_at(kept, index), pattern_at(others, asked)) {
-        (Some(pattern), Some(asked)) => compare(alloc, pattern, asked, component),
-        _ => {
-            *component = NO_COMPONENT;
-            Status::NoPattern
-        }
-    }
+    *component = NO_COMPONENT;
+    let pattern = match pattern_at(kept, index) {
+        Some(pattern) => pattern,
+        None => return Status::NoPattern,
+    };
+    let other = match pattern_at(others, asked) {
+        Some(other) => other,
+        None => return Status::NoPattern,
+    };
+    compare(alloc, pattern, other, component)
 }
 
-/// The same of two patterns.
+/// Whether a pattern covers the asked one. The number of none is written before.
 fn compare(
     alloc: Global,
     pattern: &UrlPattern<PatternRegexp>,
     asked: &UrlPattern<PatternRegexp>,
     component: &mut u32,
 ) -> Status
+    requires { component.old ≡ no_component }
     ensures { AreCompared pattern.now asked.now component.new result }
 {
-    *component = NO_COMPONENT;
     match pattern.covers(alloc, asked) {
         Ok(PatternCovering::Covered) => Status::Done,
         Ok(PatternCovering::NotCovered(parting)) => {

@@ -36,10 +36,13 @@ fn parts_of_each<R: RegExp>(
 {
     let mut all = Vec::new(alloc);
     for pattern in patterns {
-        let Some(parts) = pattern.parts() else {
-            return Err(CompareError::NoParts);
+        let parts = match pattern.parts() {
+            Some(parts) => parts,
+            None => return Err(CompareError::NoParts),
         };
-        all.push(parts)?;
+        let Ok(()) = all.push(parts) else {
+            return Err(CompareError::OutOfMemory);
+        };
     }
     Ok(all)
 }
