@@ -12,8 +12,9 @@ ghost use Rattle.urlpattern_calls.specs.Texts.{IsComponentWritten, IsExecReporte
 use crate::patterns::Patterns;
 use std::alloc::Global;
 use urlpattern_calls::{
-    Given, Place, Sizes, Span, add, add_init, captures, covers, diagnose, diagnose_init, execute, first, first_captures, has_regexp_groups, link, mismatch, test,
-    version, write_component, write_group_name,
+    Given, Place, Sizes, Span, add, add_init, captures, covers, diagnose, diagnose_init, execute,
+    first, first_captures, has_regexp_groups, link, mismatch, test, version, write_component,
+    write_group_name,
 };
 
 /// Compiles a constructor string, with a base URL unless that is empty, and appends the pattern.

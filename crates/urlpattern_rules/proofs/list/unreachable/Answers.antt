@@ -38,6 +38,6 @@ returns c =
       found.covered,
       found.ordered,
       λ index asked there.
-      let within : index < length patterns = subst (λ count. index < count) (length-map patterns now) (slice_get_within all index asked there) in
-      found.others index (omega arith) asked there,
+          let within : index < length patterns = subst (λ count. index < count) (length-map patterns now) (slice_get_within all index asked there) in
+          found.others index (omega arith) asked there,
     )
