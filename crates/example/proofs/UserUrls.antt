@@ -175,7 +175,7 @@ linked_user pattern groups text url is valid lines given matched returns =
     subst (λ (list : List (List ℕ)). list_any (bytes_eq (chars (codes "id"))) list ≡ true) (sym names) refl in
     let got =
     subst (λ (of : Option PatternParts). MatchOption of ⊥ (λ parts. (value : List ℕ) × ((manner_in parts groups Pathname).canonical text ≡ Ok value)
-        × IsCapturedBy pattern_answer (pattern_view pattern) url Pathname (chars (codes "id")) value)) kept.has_parts (returns Pathname (chars (codes "id")) text given has) in
+    × IsCapturedBy pattern_answer (pattern_view pattern) url Pathname (chars (codes "id")) value)) kept.has_parts (returns Pathname (chars (codes "id")) text given has) in
     let own = kept_parts (at kept.parts.components Pathname) in
     let canonical : canonical_pathname text ≡ Ok got.0 =
     subst (λ (options : OptionsView). canonical_for Pathname (is_slash options.delimiter) (begins_ipv6 own) text ≡ Ok got.0) (users_path pattern is.kept) got.1 in

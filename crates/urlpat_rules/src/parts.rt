@@ -15,8 +15,7 @@ pub fn parts_of_text(alloc: Global, text: &str, base: Option<&str>) -> Result<Pa
     ensures { IfOk result (ArePartsOf text.now (option_copied base.entry)) }
 {
     let options = UrlPatternOptions::default();
-    let pattern =
-        UrlPattern::<PatternRegexp>::from_constructor_string(alloc, text, base, options)?;
+    let pattern = UrlPattern::<PatternRegexp>::from_constructor_string(alloc, text, base, options)?;
     match pattern.into_parts() {
         Some(parts) => Ok(parts),
         None => unreachable!(),

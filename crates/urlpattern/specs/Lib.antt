@@ -98,3 +98,4 @@ pub mod NextMatch
 pub mod PatternKeys
 pub mod PatternMaps
 pub mod Theorem
+pub mod Unreached

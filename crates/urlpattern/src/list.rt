@@ -22,6 +22,7 @@ ghost use Rattle.urlpattern_syntax.specs.Errors.{OnlyOutOfMemory};
 mod finding;
 mod fixed;
 mod matches;
+mod unreached;
 
 use fixed::fixed_of;
 pub use matches::UrlPatternMatches;

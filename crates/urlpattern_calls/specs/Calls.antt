@@ -1,5 +1,5 @@
 -- What calls report, of texts that are bytes.
-use Rattle.std.specs.Prelude.{◌≡◌, ◌⊎◌, ◌++◌, ℕ, Bool, List, [], ◌∷◌, slice_get, Option, None, Some}
+use Rattle.std.specs.Prelude.{◌≡◌, ◌⊎◌, ◌++◌, ℕ, Bool, List, [], ◌∷◌, slice_get, Option, None, Some, is_some, IsTrue}
 use Rattle.std.specs.Str.{chars, IsUtf8}
 use Rattle.url.specs.Parts.{Parts}
 use Rattle.urlpattern.specs.Errors.{ErrorView}
@@ -54,10 +54,11 @@ IsPushed old pattern new statuses.Done = new ≡ old ++ pattern ∷ []
 IsPushed old pattern new statuses.OutOfMemory = new ≡ old
 IsPushed old pattern new status = ⊥
 
--- the constructor string with this base URL is compiled, and its pattern appended; else the patterns are as they were
+-- the constructor string with this base URL is compiled, and its pattern, which has parts, appended; else the patterns are as they were
 abbrev pub IsAdded : (old : List (UrlPattern PatternRegexp)) → (text base : List ℕ) → (ignore_case : Bool) → (new : List (UrlPattern PatternRegexp)) → Status → Type 0
 IsAdded old text base ignores new statuses.Done =
-    (pattern : UrlPattern PatternRegexp) × IsCompiledFromText text (given_base base) ignores pattern × (new ≡ old ++ pattern ∷ [])
+    (pattern : UrlPattern PatternRegexp) × IsCompiledFromText text (given_base base) ignores pattern × IsTrue (is_some pattern.parts)
+    × (new ≡ old ++ pattern ∷ [])
 IsAdded old text base ignores new statuses.Refused =
     (error : ErrorView) × RefusesToCompile text (given_base base) ignores error × (new ≡ old)
 IsAdded old text base ignores new statuses.NotUtf8 = ((¬ IsUtf8 text) ⊎ (¬ IsUtf8 base)) × (new ≡ old)

@@ -264,3 +264,7 @@ IsListed patterns found index asked =
 -- so it is of each pattern of the list
 abbrev pub ListsEachShadowed : List PatternParts → List Shadowed → Type 0
 ListsEachShadowed patterns found = (index : ℕ) (asked : PatternParts) → slice_get patterns index ≡ Some asked → IsListed patterns found index asked
+
+-- these are the patterns that one before them is known to cover, in their order, each with the first such one
+abbrev pub AreUnreachable : List PatternParts → List Shadowed → Type 0
+AreUnreachable patterns found = All (IsShadowed patterns) found × AreInOrder found × ListsEachShadowed patterns found

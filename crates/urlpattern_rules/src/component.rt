@@ -104,7 +104,11 @@ fn is_settled(component: &ComponentParts) -> bool
 }
 
 /// Returns whether each text without line feed that the asked parts mean is meant by these, or the parts are the same.
-pub(crate) fn component_covers(alloc: Global, component: &ComponentParts, asked: &ComponentParts) -> Result<Covering, AllocError>
+pub(crate) fn component_covers(
+    alloc: Global,
+    component: &ComponentParts,
+    asked: &ComponentParts,
+) -> Result<Covering, AllocError>
     ensures { IfOk result (IsComponentCovering component.now asked.now) }
 {
     if is_same(component, asked) {
@@ -128,7 +132,11 @@ pub(crate) fn component_covers(alloc: Global, component: &ComponentParts, asked:
 }
 
 /// Returns whether both mean a text without line feed.
-pub(crate) fn component_overlaps(alloc: Global, component: &ComponentParts, other: &ComponentParts) -> Result<Overlap, AllocError>
+pub(crate) fn component_overlaps(
+    alloc: Global,
+    component: &ComponentParts,
+    other: &ComponentParts,
+) -> Result<Overlap, AllocError>
     ensures { IfOk result (IsComponentOverlap component.now other.now) }
 {
     match unknown_with(component, other) {
@@ -144,7 +152,10 @@ pub(crate) fn component_overlaps(alloc: Global, component: &ComponentParts, othe
 }
 
 /// Returns a text without line feed that the parts mean, if there is one.
-pub(crate) fn component_example(alloc: Global, component: &ComponentParts) -> Result<Overlap, AllocError>
+pub(crate) fn component_example(
+    alloc: Global,
+    component: &ComponentParts,
+) -> Result<Overlap, AllocError>
     ensures { IfOk result (IsExample component.now) }
 {
     match unknown(component) {

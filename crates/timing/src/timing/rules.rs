@@ -97,7 +97,7 @@ fn compare<R: AllocGlobal + Clock, O: Write>(
     covers.print(out, "covers")?;
     overlaps.print(out, "overlaps")?;
     let start = Instant::now(rt)?;
-    let found = unreachable(rt.alloc(), all)?;
+    let found = unreachable(rt.alloc(), &all.iter().collect(rt.alloc())?)?;
     let taken = start.elapsed(rt)?.as_nanos();
     writeln!(out, "unreachable\t1\t{}\t{taken}\t{taken}", found.len())
 }
