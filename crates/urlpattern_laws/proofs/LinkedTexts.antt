@@ -87,4 +87,4 @@ links_of_captures answer pattern groups url texts captures is answered back =
     let one = has_link answer pattern groups url is in
     same_values (texts_of_url url) texts
     (λ component. text_again answer (eight_view pattern.components component).matcher (manner_in one.parts groups component) (parts_in one.parts component) (at (texts_of_url url) component) (at texts component)
-        (captures component) (one.link.are_written component) (answered component) (back component one.parts one.has))
+    (captures component) (one.link.are_written component) (answered component) (back component one.parts one.has))

@@ -6,8 +6,8 @@ ghost use Rattle.urlpattern_core.specs.Components.{AnswersByItsParts, FailsToRea
 ghost use Rattle.urlpattern_core.specs.Matchers.{engine_view};
 ghost use Rattle.urlpattern_syntax.specs.{Errors.OnlyOutOfMemory, Options.options_view, Parts.parts_view, Reading.encoding_by};
 
-use super::{Component, ComponentWithParts};
 use super::matchers::generate_matcher_knowing;
+use super::{Component, ComponentWithParts};
 use crate::error::{Error, RegExpError};
 use crate::parser::{Options, Part, PartType, RegexSyntax, parse_pattern_string};
 use crate::regexp::RegExp;

@@ -43,11 +43,11 @@ returns-in_err-look-8-clause-none g c =
 pub returns-clause-some : goal.returns-clause-some
 returns-clause-some g c =
     subst (λ pattern. AreLooks g.R.RegExp.answer (pattern_view pattern) (borrowed_texts c.args.texts.now)
-        (record { protocol = c.in_ok-look-3.field-0; username = c.in_ok-look-7.field-0; password = c.in_ok-look-8.field-0; hostname = c.in_ok-look-2.field-0; port = c.in_ok-look-4.field-0; pathname = c.in_ok-look.field-0; search = c.in_ok-look-5.field-0; hash = c.in_ok-look-6.field-0 })) c.self.view_is
+    (record { protocol = c.in_ok-look-3.field-0; username = c.in_ok-look-7.field-0; password = c.in_ok-look-8.field-0; hostname = c.in_ok-look-2.field-0; port = c.in_ok-look-4.field-0; pathname = c.in_ok-look.field-0; search = c.in_ok-look-5.field-0; hash = c.in_ok-look-6.field-0 })) c.self.view_is
     (by_name _ c.in_ok-look-3.ensures.answer c.in_ok-look-7.ensures.answer c.in_ok-look-8.ensures.answer c.in_ok-look-2.ensures.answer c.in_ok-look-4.ensures.answer c.in_ok-look.ensures.answer c.in_ok-look-5.ensures.answer c.in_ok-look-6.ensures.answer)
 
 pub returns-clause-asked : goal.returns-clause-asked
 returns-clause-asked g c =
     subst (λ pattern. AskWithCause (pattern_view pattern) (borrowed_texts c.args.texts.now)
-        (record { protocol = c.in_ok-look-3.field-0; username = c.in_ok-look-7.field-0; password = c.in_ok-look-8.field-0; hostname = c.in_ok-look-2.field-0; port = c.in_ok-look-4.field-0; pathname = c.in_ok-look.field-0; search = c.in_ok-look-5.field-0; hash = c.in_ok-look-6.field-0 })) c.self.view_is
+    (record { protocol = c.in_ok-look-3.field-0; username = c.in_ok-look-7.field-0; password = c.in_ok-look-8.field-0; hostname = c.in_ok-look-2.field-0; port = c.in_ok-look-4.field-0; pathname = c.in_ok-look.field-0; search = c.in_ok-look-5.field-0; hash = c.in_ok-look-6.field-0 })) c.self.view_is
     (by_name _ c.in_ok-look-3.ensures.asked c.in_ok-look-7.ensures.asked c.in_ok-look-8.ensures.asked c.in_ok-look-2.ensures.asked c.in_ok-look-4.ensures.asked c.in_ok-look.ensures.asked c.in_ok-look-5.ensures.asked c.in_ok-look-6.ensures.asked)
