@@ -54,6 +54,7 @@ fn by_hand<R: RegExp>(
 /// A pattern with this component for the path, whose other components take any text.
 fn with_pathname<R: RegExp>(alloc: Global, pathname: Component<R>) -> Result<UrlPattern<R>, Error> {
     let mut pattern = pattern_of(alloc, &[])?;
+    pattern.parts = None;
     pattern.pathname = pathname;
     Ok(pattern)
 }

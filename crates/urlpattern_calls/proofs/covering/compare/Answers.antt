@@ -17,7 +17,7 @@ returns-in-Ok-NotCovered c =
 pub returns-in-Ok-Unknown : goal.returns-in-Ok-Unknown
 returns-in-Ok-Unknown c =
     let name = c.in-Ok-Unknown.name in
-    let reason = c.in-Ok-Unknown.field-1 in
+    let reason = c.in-Ok-Unknown.field-0-1 in
     inl (of_both c.args.pattern.now c.args.asked.now (λ parts others. IsReasonIn parts others name reason) (IsUnknownIn c.component_number-in-Ok-Unknown.result)
     (λ parts others why. (name, reason, why, c.component_number-in-Ok-Unknown.ensures.number)) (rw c.in-Ok-Unknown.field-0-is at c.in-Ok-Unknown.ensures.covering))
 
