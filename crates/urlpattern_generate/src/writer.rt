@@ -34,7 +34,12 @@ impl Writer<'_> {
         ensures canonical { IsTrue result → (manner_of_writer self.now).canonical (chars text.now) ≡ Ok (chars text.now) }
         ensures line { IsTrue result → IsTrue (lacks line_feed (chars text.now)) }
     {
-        keeps(self.component, self.is_hierarchical(), self.is_ipv6_host(), text)
+        keeps(
+            self.component,
+            self.is_hierarchical(),
+            self.is_ipv6_host(),
+            text,
+        )
     }
 
     /// The canonical form of a value of the component, as `url` makes it.
