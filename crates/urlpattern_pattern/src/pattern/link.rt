@@ -116,10 +116,24 @@ fn written_each<'d>(
     ensures written { IfOk result (λ texts. AreWritten parts.now (given_groups groups.now) (cow_texts texts)) }
     ensures refused { IfErr result (IsFirstError (AnswersParts parts.now (given_groups groups.now))) }
 {
-    let text = |component: ComponentName| -> Result<CowStr<'_>, GenerateError>
-        ensures { AnswersParts parts.entry.now (given_groups groups.entry.now) component result }
-    { written(alloc, parts, component, groups) };
-    Eight::try_from_fn(text)
+    let protocol = written(alloc, parts, ComponentName::Protocol, groups)?;
+    let username = written(alloc, parts, ComponentName::Username, groups)?;
+    let password = written(alloc, parts, ComponentName::Password, groups)?;
+    let hostname = written(alloc, parts, ComponentName::Hostname, groups)?;
+    let port = written(alloc, parts, ComponentName::Port, groups)?;
+    let pathname = written(alloc, parts, ComponentName::Pathname, groups)?;
+    let search = written(alloc, parts, ComponentName::Search, groups)?;
+    let hash = written(alloc, parts, ComponentName::Hash, groups)?;
+    Ok(Eight {
+        protocol,
+        username,
+        password,
+        hostname,
+        port,
+        pathname,
+        search,
+        hash,
+    })
 }
 
 /// The text of the parts of a component with these groups.
