@@ -1,5 +1,5 @@
 use Rattle.std.proofs.Common.{◌<◌, ◌≤◌, ◌∙◌, List, ap, arith, length, refl, sym}
-use Rattle.std.proofs.lemmas.Option.{slice_get_read}
+use Rattle.std.proofs.lemmas.Option.{slice_get_past, slice_get_read}
 use Rattle.std.specs.Prelude.{slice_get}
 use Rattle.urlpattern.proofs.FixedLemmas.{indexed-remove, remove-past}
 use Rattle.urlpattern_pattern.specs.UrlPatterns.{UrlPattern}
@@ -9,6 +9,11 @@ pub returns-then-index-len-clause-others : goal.returns-then-index-len-clause-ot
 returns-then-index-len-clause-others g c =
     let past : length c.args.self.now ≤ c.args.index = omega (arith, c.len.ensures, c.if-index-len.true, c.self.inside.patterns.ok, ap length c.self.view_is) in
     sym (remove-past c.args.self.now c.args.index past)
+
+pub returns-then-index-len-clause-removed : goal.returns-then-index-len-clause-removed
+returns-then-index-len-clause-removed g c =
+    let past : length c.args.self.now ≤ c.args.index = omega (arith, c.len.ensures, c.if-index-len.true, c.self.inside.patterns.ok, ap length c.self.view_is) in
+    sym (slice_get_past c.args.self.now c.args.index past)
 
 pub invariant_of-self : goal.invariant_of-self
 invariant_of-self g c =
