@@ -30,3 +30,10 @@ returns-in-Some-words_after-clause-answers g c =
 pub returns-in-Some-words_after-2-clause-answers : goal.returns-in-Some-words_after-2-clause-answers
 returns-in-Some-words_after-2-clause-answers g c =
     λ done. inl (inr (inr (words_view c.in-Some-words_after-2.rest.now, c.in-Some-words_after-2.ensures.after, c.route.ensures.answers done)))
+
+pub returns-clause-quiet : goal.returns-clause-quiet
+returns-clause-quiet g c = λ answered.
+    elim (c.run.ensures.quiet answered) [
+      | inl same ↦ inl same
+      | inr other ↦ inr (elim other [ inl note ↦ inl note | inr lines ↦ inr (inl lines) ])
+    ]
