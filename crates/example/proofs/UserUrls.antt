@@ -27,7 +27,7 @@ use Rattle.urlpattern.specs.GeneratedTexts.{manner_in}
 use Rattle.urlpattern.specs.ComponentParts.{kept_parts}
 use Rattle.urlpattern.specs.PatternParts.{PatternParts}
 use Rattle.urlpattern.specs.Canonical.{canonical_pathname}
-use Rattle.urlpattern.specs.Manners.{GivenView, begins_ipv6, canonical_for, given_groups, is_slash, text_given}
+use Rattle.urlpattern.specs.Manners.{GivenView, begins_ipv6, canonical_for, is_slash, text_given}
 use Rattle.urlpattern.specs.Patterns.{PatternView, pattern_view}
 use Rattle.urlpattern.specs.UrlPatterns.{UrlPattern}
 use Rattle.urlpattern.specs.PatternRegexps.{pattern_answer, pattern_engine}
@@ -159,10 +159,14 @@ none_weaker P Q weaker (Err error) holds = tt
 
 -- ---- links
 
--- what is given for the group `id` of the path alone
-pub given_id : (name text : List ℕ) → name ≡ codes "id" → text_given (given_groups ((Pathname, record { now = name }, record { now = text }) ∷ [])) Pathname (chars (codes "id")) ≡ Some (chars text)
-given_id name text e =
-    ap (λ (same : Bool). if bytes_eq (name_text Pathname) (name_text Pathname) && same then Some (chars text) else None) ((bytes_eq-Decides (chars name) (chars (codes "id"))).1 (ap chars e))
+-- a text is given for the group `id` of the path alone
+abbrev pub id_given : (id : List ℕ) → List GivenView
+id_given id = record { component = Pathname; name = chars (codes "id"); text = chars id } ∷ []
+
+pub given_id : (id : List ℕ) → text_given (id_given id) Pathname (chars (codes "id")) ≡ Some (chars id)
+given_id id =
+    ap (λ (same : Bool). if bytes_eq (name_text Pathname) (name_text Pathname) && same then Some (chars id) else None)
+    ((bytes_eq-Decides (chars (codes "id")) (chars (codes "id"))).1 refl)
 
 -- the link of the pattern with this for the group is the URL of the user whose id is the canonical form
 pub linked_user : (pattern : UrlPattern PatternRegexp) (groups : List GivenView) (text : List ℕ) (url : Parts) → IsPatternOfUsers pattern → IsValid url → EachIsLine (texts_of_url url) →
