@@ -9,7 +9,8 @@
  *   elements.
  * - Each other pointer leads to a value of its type that may be written, and that nothing else uses
  *   during the call; a buffer to as many bytes, and an array to as many elements, as its size says.
- *   Neither pointer is null, even if the size is 0. No two arguments overlap, but for texts.
+ *   Neither pointer is null, even if the size is 0. No two arguments overlap, but for texts and for
+ *   the two handles of `urlpattern_covers`.
  * - A handle holds zeros (`URLPATTERN_EMPTY`) before its first call. After that only these
  *   functions write it, it is not copied, and one call at a time has it. Each call of a handle is
  *   made by the same thread: that another one may make it is not proved.
@@ -31,9 +32,8 @@
  * itself.
  *
  * Bytes. A URL, a base URL, a pattern or JSON that is not UTF-8 gets NOT_UTF8; NO_PATTERN comes
- * before that, and with two patterns a refusal of the first one does. Which status such bytes get
- * is tested, not proved. The text of `urlpattern_link` need not be UTF-8, but each part of it that
- * is given has to be, or the status is NO_PATTERN.
+ * before that. Which status such bytes get is tested, not proved. The text of `urlpattern_link`
+ * need not be UTF-8, but each part of it that is given has to be, or the status is NO_PATTERN.
  *
  * Buffers. A text is written to the start of a buffer, without a byte 0 after it, and the rest of
  * the buffer is as it was; `needed` is how many bytes the text has. For TOO_SMALL `needed` is that
@@ -205,25 +205,30 @@ uint32_t urlpattern_component(urlpattern_list *patterns, size_t index, uint32_t 
  * DONE (it has one), NO_MATCH (it has none), or NO_PATTERN. */
 uint32_t urlpattern_has_regexp_groups(urlpattern_list *patterns, size_t index);
 
-/* Whether a pattern covers the asked one: whether it matches each URL that the asked one
- * matches. Both are constructor strings with base URLs, as `urlpattern_add` takes them, since a
- * pattern in a handle does not keep what patterns are compared by; both ignore case, or neither
- * does. `component` is a number, as of `urlpattern_component`, or 8 if there is none.
+/* Whether the pattern of this index covers the asked one, another pattern of the handle or the
+ * same: whether it matches each URL that the asked one matches. `component` is a number, as of
+ * `urlpattern_component`, or 8 if there is none.
  * DONE (it covers it), NO_MATCH (it does not: it does not match a text of this component that
  * the asked one matches), UNKNOWN (because of this component: it has a custom regular
- * expression, ignores case, or would take too many steps to compare), NOT_UTF8 (a text of one of
- * the two is not), REFUSED (one of the two is refused, and `urlpattern_diagnose` of each says
- * which and why), or OUT_OF_MEMORY. But for NO_MATCH and UNKNOWN `component` is 8. */
-uint32_t urlpattern_covers(const char *text, size_t length, const char *base, size_t base_length,
-                           const char *asked, size_t asked_length,
-                           const char *asked_base, size_t asked_base_length,
-                           bool ignore_case, uint32_t *component);
+ * expression, ignores case, or would take too many steps to compare), OUT_OF_MEMORY, or
+ * NO_PATTERN (of one of the two indices). But for NO_MATCH and UNKNOWN `component` is 8. */
+uint32_t urlpattern_covers_within(urlpattern_list *patterns, size_t index, size_t asked,
+                                  uint32_t *component);
 
-/* The same of inits, objects of JSON, as `urlpattern_add_init` takes them. REFUSED also where
- * one of the two is no such object, or its base URL is refused. */
-uint32_t urlpattern_covers_init(const char *json, size_t length,
-                                const char *asked, size_t asked_length,
-                                bool ignore_case, uint32_t *component);
+/* The same of an asked pattern of another handle. The two are never the same handle: each is
+ * taken for the time of the call, and what the call does with one that is taken twice is not
+ * known. */
+uint32_t urlpattern_covers_between(urlpattern_list *patterns, size_t index,
+                                   urlpattern_list *others, size_t asked, uint32_t *component);
+
+/* The same of an asked pattern of another handle or of the same one. The library has no function
+ * of this name: this one is the header's, and calls the one that is right for the handles. */
+static inline uint32_t urlpattern_covers(urlpattern_list *patterns, size_t index,
+                                         urlpattern_list *others, size_t asked,
+                                         uint32_t *component) {
+    return patterns == others ? urlpattern_covers_within(patterns, index, asked, component)
+                              : urlpattern_covers_between(patterns, index, others, asked, component);
+}
 
 /* The part of a text that is at fault, in bytes. */
 typedef struct urlpattern_place {

@@ -45,7 +45,7 @@ def groups(n):
 
 def asked(module):
     """What threads ask of shared objects, by a number, and what the answer is: of each call."""
-    pattern, dated = module.URLPattern(SOURCES[0]), module.URLPattern(DATED)
+    pattern, dated, wide = map(module.URLPattern, (SOURCES[0], DATED, SOURCES[2]))
     routes = module.URLPatternList(SOURCES)
     is_user = lambda n: route(n) == 0
     name_of = lambda n: urlpattern.COMPONENTS[n % len(urlpattern.COMPONENTS)]
@@ -87,7 +87,12 @@ def asked(module):
             lambda n: routes.component(route(n), "pathname"),
             lambda n: ("/users/:id", "/posts/:id", "/*")[route(n)],
         ),
-        "covers": (lambda n: routes.covers(2, route(n)), lambda n: True),
+        "covers": (
+            lambda n: (wide, pattern)[n % 2].covers((pattern, wide)[n % 2]),
+            lambda n: n % 2 == 0,
+        ),
+        "covers itself": (lambda n: pattern.covers(pattern), lambda n: True),
+        "covers of a list": (lambda n: routes.covers(2, route(n)), lambda n: True),
         "len": (lambda n: len(routes), lambda n: len(SOURCES)),
     }
 
@@ -164,7 +169,7 @@ class Threads(unittest.TestCase):
         self.assertEqual(len(routes), len(SOURCES) + added)
         for index in range(len(routes)):
             source = "https://example.com" + routes.component(index, "pathname")
-            self.assertTrue(URLPattern(source).covers(URLPattern(routes._source(index)[0])))
+            self.assertTrue(URLPattern(source).covers(URLPattern(routes._sources[index][0])))
 
     def test_each_refused_pattern_has_its_own_place(self):
         def call(n):
@@ -374,6 +379,27 @@ class Answers(unittest.TestCase):
         for left in ("//other.com/x", "\\\\other.com\\x", "https://other.com/x"):
             self.assertFalse(pattern.test(left, "https://example.com"))
             self.assertEqual(pattern.mismatch(left, "https://example.com"), "hostname")
+
+    def test_patterns_are_compared_however_they_were_given(self):
+        user, wide = URLPattern(SOURCES[0]), URLPattern(SOURCES[2])
+        named = URLPattern({"pathname": "/users/:name"})
+        folded = URLPattern({"pathname": "/users/me"}, ignore_case=True)
+        for pattern, asked, answer in (
+            (wide, user, True),
+            (user, wide, False),
+            (named, user, True),
+            (user, named, False),
+            (folded, user, None),
+            (folded, folded, True),
+            (folded, copy.copy(folded), True),
+        ):
+            self.assertIs(pattern.covers(asked), answer)
+            self.assertTrue(user.test(url(0)) and wide.test(url(0)) and named.test(url(0)))
+        routes = URLPatternList(SOURCES)
+        found = [[routes.covers(index, asked) for asked in range(3)] for index in range(3)]
+        self.assertEqual(found, [[True, False, False], [False, True, False], [True, True, True]])
+        for index, _ in enumerate(SOURCES):
+            self.assertTrue(routes.test(index, url(index)))
 
     def test_no_url_and_no_match(self):
         pattern = URLPattern("https://example.com/*")

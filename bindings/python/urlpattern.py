@@ -110,17 +110,15 @@ _SPAN = struct.Struct("@IINNN")
 def _declared():
     """The functions that are called by name."""
     handle, text, size = ctypes.POINTER(_Handle), ctypes.c_char_p, ctypes.c_size_t
-    number, ignores = ctypes.POINTER(ctypes.c_uint32), ctypes.c_bool
-    string, init = [text, size, text, size], [text, size]
+    ignores, string, init = ctypes.c_bool, [text, size, text, size], [text, size]
     reason = [text, size, ctypes.POINTER(size), ctypes.POINTER(_Place)]
     matching = ("test", "first", "mismatch", "exec", "captures", "first_captures")
     writing = ("link", "group_name", "component", "has_regexp_groups")
+    comparing = ("covers_within", "covers_between")
     return SimpleNamespace(
-        **{name: _function(name) for name in (*matching, *writing)},
+        **{name: _function(name) for name in (*matching, *writing, *comparing)},
         add=_function("add", [handle, *string, ignores]),
         add_init=_function("add_init", [handle, *init, ignores]),
-        covers=_function("covers", [*string, *string, ignores, number]),
-        covers_init=_function("covers_init", [*init, *init, ignores, number]),
         diagnose=_function("diagnose", [*string, ignores, *reason]),
         diagnose_init=_function("diagnose_init", [*init, ignores, *reason]),
         version=_function("version", []),
@@ -343,17 +341,9 @@ def _indices(text, place):
     return tuple(len(text[:at].decode(errors="ignore")) for at in (place.start, place.end))
 
 
-def _covers(source, asked):
-    """Whether the pattern of a source covers that of the asked one, or None if it is not known."""
-    (pattern, base, ignore_case), (asked_pattern, asked_base, asked_ignore_case) = source, asked
-    is_init = isinstance(pattern, dict)
-    if is_init != isinstance(asked_pattern, dict) or ignore_case != asked_ignore_case:
-        raise ValueError("only strs, or only dicts, are compared, which ignore case alike")
-    function = _calls.covers_init if is_init else _calls.covers
-    texts = (*_pattern_texts(pattern, base), *_pattern_texts(asked_pattern, asked_base))
-    status = function(*texts, ignore_case, ctypes.byref(ctypes.c_uint32()))
-    if status == REFUSED:
-        raise URLPatternError("a pattern is refused")
+def _covers(function, *patterns):
+    """Whether the one of two patterns covers the other, or None if it is not known."""
+    status = function(*patterns, ctypes.byref(ctypes.c_uint32()))
     return None if status == UNKNOWN else _checked(status)
 
 
@@ -509,16 +499,8 @@ class URLPatternList:
 
     def covers(self, index, asked):
         """Whether the pattern of this index matches each URL that the pattern of the asked index
-        matches, or None if it is not known. Both are strs or both are dicts, and both ignore case
-        or neither does."""
-        return _covers(self._source(index), self._source(asked))
-
-    def _source(self, index):
-        """What the pattern of this index was compiled from."""
-        index = operator.index(index)
-        if not 0 <= index < len(self._sources):
-            raise IndexError("no such pattern")
-        return self._sources[index]
+        matches, or None if it is not known."""
+        return _covers(_calls.covers_within, self._address, _SIZE[index], _SIZE[asked])
 
     def component(self, index, name):
         """The pattern text of a component."""
@@ -587,10 +569,12 @@ class URLPattern:
 
     def covers(self, asked):
         """Whether the pattern matches each URL that the asked pattern matches, or None if it is not
-        known. Both are strs or both are dicts, and both ignore case or neither does."""
+        known."""
         if not isinstance(asked, URLPattern):
             raise TypeError(f"what is compared is a URLPattern, not {type(asked).__name__}")
-        return _covers(self._list._source(0), asked._list._source(0))
+        if asked._list is self._list:
+            return self._list.covers(0, 0)
+        return _covers(_calls.covers_between, self._address, _NONE, asked._address, _NONE)
 
     def __repr__(self):
         texts = {name: getattr(self, name) for name in COMPONENTS}

@@ -81,6 +81,7 @@ pub fn is_reason(error: &GenerateError, recorded: &Value) -> Result<bool, Fault>
         GenerateError::ReadOtherwise(component) => {
             Ok(is_refused(recorded, "read otherwise", *component))
         }
+        GenerateError::NoParts => Ok(has_text(recorded, "refused", "no parts")),
         GenerateError::OutOfMemory => Err(Fault::OutOfMemory),
         // docs: end
     }

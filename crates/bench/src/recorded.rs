@@ -5,6 +5,7 @@ use std::alloc::{AllocError, Global};
 use urlpattern_core::RegexSyntax;
 use urlpattern_core::error::OutOfMemory;
 use urlpattern_core::parser::Options;
+use urlpattern_pattern::CompareError;
 
 /// Why nothing comes of a line.
 #[derive(Drop)]
@@ -18,6 +19,15 @@ pub enum Fault {
 impl From<AllocError> for Fault {
     fn from(_: AllocError) -> Fault {
         Fault::OutOfMemory
+    }
+}
+
+impl From<CompareError> for Fault {
+    fn from(error: CompareError) -> Fault {
+        match error {
+            CompareError::NoParts => Fault::NoCase,
+            CompareError::OutOfMemory => Fault::OutOfMemory,
+        }
     }
 }
 

@@ -1,10 +1,11 @@
-//! Compares patterns by their parts.
+//! Compares patterns, and lists and maps of them.
 
 use crate::recorded::{Answer, Fault, field, has_text, list, named, optional_text, text};
 use crate::{Case, given};
 use serde_json::Value;
 use std::alloc::Global;
 use std::cmp::Ordering;
+use urlpattern::{UrlPatternList, UrlPatternMap};
 use urlpattern_core::Error;
 use urlpattern_eight::ComponentName;
 use urlpattern_engine::PatternRegexp;
@@ -12,9 +13,8 @@ use urlpattern_init::UrlPatternInit;
 use urlpattern_inputs::UrlPatternOptions;
 use urlpattern_pattern::UrlPattern;
 use urlpattern_quirks::process_construct_pattern_input;
-use urlpattern_readings::parts_of;
 use urlpattern_rules::{
-    PatternCovering, PatternOverlap, PatternParts, Reason, first_covering, unreachable,
+    PatternCovering, PatternOverlap, PatternParts, Reason, Shadowed, first_covering,
 };
 
 /// The names of the reasons.
@@ -29,13 +29,13 @@ pub fn is_same_order(case: &Case<'_>) -> Result<bool, Fault> {
     let Answer::Ok(recorded) = case.answer else {
         return Ok(false);
     };
-    let left = parts(case.alloc, field(case.question, "left")?)?;
-    let right = parts(case.alloc, field(case.question, "right")?)?;
+    let left = pattern(case.alloc, field(case.question, "left")?)?;
+    let right = pattern(case.alloc, field(case.question, "right")?)?;
     let name = component(case.question)?;
-    let order = PatternParts::compare_component(name, &left, &right);
+    let order = UrlPattern::compare_component(name, &left, &right);
     drop(left);
     drop(right);
-    Ok(recorded.as_i64() == Some(number(order)))
+    Ok(recorded.as_i64() == Some(number(order?)))
 }
 
 /// Whether it is answered as recorded if a pattern covers another, and if they overlap.
@@ -43,11 +43,11 @@ pub fn is_same_covering(case: &Case<'_>) -> Result<bool, Fault> {
     let Answer::Ok(recorded) = case.answer else {
         return Ok(false);
     };
-    let pattern = parts(case.alloc, field(case.question, "pattern")?)?;
-    let asked = parts(case.alloc, field(case.question, "asked")?)?;
-    let covering = pattern.covers(case.alloc, &asked)?;
-    let overlap = pattern.overlaps(case.alloc, &asked)?;
-    drop(pattern);
+    let covers = pattern(case.alloc, field(case.question, "pattern")?)?;
+    let asked = pattern(case.alloc, field(case.question, "asked")?)?;
+    let covering = covers.covers(case.alloc, &asked)?;
+    let overlap = covers.overlaps(case.alloc, &asked)?;
+    drop(covers);
     drop(asked);
     Ok(
         is_covering(covering, field(recorded, "covers")?)?
@@ -55,42 +55,66 @@ pub fn is_same_covering(case: &Case<'_>) -> Result<bool, Fault> {
     )
 }
 
-/// Whether the patterns of a list that one before them covers are those that were recorded, each with the index of that one.
+/// Whether the patterns of a list that one before them covers are those that were recorded, each with the index of that one; and whether
+/// those of a map are.
 pub fn is_same_unreachable(case: &Case<'_>) -> Result<bool, Fault> {
     let Answer::Ok(recorded) = case.answer else {
         return Ok(false);
     };
     let expected = list(recorded, "found")?;
-    let mut patterns = Vec::new(case.alloc);
-    for pattern in list(case.question, "patterns")? {
-        if patterns.push(parts(case.alloc, pattern)?).is_err() {
-            return Err(Fault::OutOfMemory);
-        }
-    }
-    let is_same = are_unreachable(case.alloc, &patterns, expected);
+    let given = list(case.question, "patterns")?;
+    let patterns = listed(case.alloc, given)?;
+    let found = patterns.unreachable(case.alloc)?;
+    let is_same = are_recorded(&found, expected) && are_first(case.alloc, &patterns, &found)?;
     drop(patterns);
-    is_same
+    let map = mapped(case.alloc, given)?;
+    let of_map = map.unreachable(case.alloc);
+    drop(map);
+    Ok(is_same && of_map?.as_slice() == found.as_slice())
 }
 
-/// Whether the patterns that one before them covers are these. The first that covers such a one is the same by `first_covering`.
-fn are_unreachable(
+/// The list of patterns.
+fn listed(alloc: Global, given: &[Value]) -> Result<UrlPatternList<PatternRegexp>, Fault> {
+    let mut patterns = UrlPatternList::new(alloc);
+    for fields in given {
+        made(patterns.try_push(pattern(alloc, fields)?))?;
+    }
+    Ok(patterns)
+}
+
+/// The map of patterns, each with its index.
+fn mapped(alloc: Global, given: &[Value]) -> Result<UrlPatternMap<usize, PatternRegexp>, Fault> {
+    let mut patterns = UrlPatternMap::new(alloc);
+    for (index, fields) in given.iter().enumerate() {
+        made(patterns.try_insert(pattern(alloc, fields)?, index))?;
+    }
+    Ok(patterns)
+}
+
+/// Whether these patterns are recorded, each with the index of the one that covers it.
+fn are_recorded(found: &[Shadowed], expected: &[Value]) -> bool {
+    found.len() == expected.len()
+        && found.iter().zip(expected).all(|(found, expected)| {
+            is_index(expected, "pattern", found.pattern) && is_index(expected, "by", found.by)
+        })
+}
+
+/// Whether `first_covering` finds the same first pattern that covers each of these.
+fn are_first(
     alloc: Global,
-    patterns: &[PatternParts],
-    expected: &[Value],
+    patterns: &UrlPatternList<PatternRegexp>,
+    found: &[Shadowed],
 ) -> Result<bool, Fault> {
-    let found = unreachable(alloc, patterns)?;
-    for (found, expected) in found.iter().zip(expected) {
-        let Some(asked) = patterns.get(found.pattern) else {
+    let parts: Vec<&PatternParts> = patterns.iter().flat_map(UrlPattern::parts).collect(alloc)?;
+    for found in found {
+        let Some(asked) = parts.get(found.pattern) else {
             return Ok(false);
         };
-        if first_covering(alloc, patterns, asked)? != Some(found.by)
-            || !is_index(expected, "pattern", found.pattern)
-            || !is_index(expected, "by", found.by)
-        {
+        if first_covering(alloc, &parts, asked)? != Some(found.by) {
             return Ok(false);
         }
     }
-    Ok(found.len() == expected.len())
+    Ok(true)
 }
 
 /// Whether a field is this index.
@@ -140,27 +164,11 @@ fn is_unknown(name: ComponentName, reason: Reason, recorded: &Value) -> Result<b
     Ok(named(REASONS, expected)? == reason && has_text(recorded, "unknown", name.as_str()))
 }
 
-/// The parts of a pattern.
-fn parts(alloc: Global, fields: &Value) -> Result<PatternParts, Fault> {
+/// The pattern of a question.
+fn pattern(alloc: Global, fields: &Value) -> Result<UrlPattern<PatternRegexp>, Fault> {
     let options = given::options(alloc, fields)?;
     let init = init(alloc, fields)?;
-    let parts = parts_under(alloc, fields, &init, &options);
-    drop(init);
-    parts
-}
-
-/// The parts of the pattern that is compiled of an init.
-fn parts_under(
-    alloc: Global,
-    fields: &Value,
-    values: &UrlPatternInit,
-    options: &UrlPatternOptions,
-) -> Result<PatternParts, Fault> {
-    let same = given::options(alloc, fields)?;
-    let pattern = made(UrlPattern::<PatternRegexp>::parse(alloc, init(alloc, fields)?, same))?;
-    let parts = parts_of(alloc, &pattern, values, options);
-    drop(pattern);
-    made(parts)
+    made(UrlPattern::parse(alloc, init, options))
 }
 
 /// The init of a pattern.

@@ -2,10 +2,12 @@
 use Rattle.std.proofs.Common.{◌≡◌, ℕ, List, [], ◌∷◌, refl, sym, ap, ◌∙◌, subst, inl, inr, None, Some, Ok, Err, arith}
 use Rattle.std.specs.Borrow.{Bor}
 use Rattle.std.specs.Option.{option_flatten}
-use Rattle.std.specs.Prelude.{◌++◌, IfNone, IfOk, IfSome, Option, Result, codes, decimal, option_map, unwrap_or}
+use Rattle.std.specs.Prelude.{◌++◌, ◌&&◌, Bool, IfNone, IfOk, IfSome, MatchOption, Option, Result, bytes_eq, if◌then◌else◌, true, codes, decimal, option_map, unwrap_or}
+use Rattle.std.proofs.lemmas.Slice.Eq.{bytes_eq-Decides}
+use Rattle.std.specs.List.{list_any}
 use Rattle.std.specs.Str.{chars}
 use Rattle.example.specs.NamedUsers.{NamesNone, NamesUser}
-use Rattle.example.specs.Users.{IsNoUser, IsPatternOfUsers, IsUser, IsUserUrl}
+use Rattle.example.specs.Users.{IsNoUser, IsPatternOfUsers, IsUrlOfUser, IsUser, default_asked, users_text}
 use Rattle.url.proofs.OnLiterals.{url_on_literals}
 use Rattle.url.specs.Host.{host_text, parse_special_host}
 use Rattle.url.specs.Parts.{IsValid, Parts, host_or_empty, text_between}
@@ -15,20 +17,28 @@ use Rattle.url.specs.declared.host.Host.TheVariants.{Domain}
 use Rattle.url.specs.declared.scheme.SchemeType.TheVariants.{SpecialNotFile}
 use Rattle.url.specs.declared.slicing.Position.TheVariants.{AfterPort, BeforePort}
 use Rattle.urlpattern.proofs.ReadTexts.{IsTextAndSegment, anything_means, literal_means, text_and_segment_mean}
-use Rattle.urlpattern.proofs.UsersExample.{chars-path, chars-scheme, host_by_text, no_port, users_of_parts, users_options, users_parts}
+use Rattle.urlpattern.proofs.UsersExample.{chars-path, chars-scheme, host_by_text, no_port, users_of_parts, users_options, users_parts, users_path}
 use Rattle.urlpattern.specs.Match.{HasMatch, HasNoMatch, IsMatch}
 use Rattle.urlpattern.specs.ResultViews.{ResultView, group_of}
 use Rattle.urlpattern.specs.MatchInput.{input_texts}
-use Rattle.urlpattern.specs.Patterns.{PatternView}
-use Rattle.urlpattern.specs.PatternRegexps.{pattern_answer}
+use Rattle.urlpattern.specs.FromString.{IsPatternOfText}
+use Rattle.urlpattern.specs.LinkedUrls.{IsCapturedBy, ReturnsGiven}
+use Rattle.urlpattern.specs.GeneratedTexts.{manner_in}
+use Rattle.urlpattern.specs.ComponentParts.{kept_parts}
+use Rattle.urlpattern.specs.PatternParts.{PatternParts}
+use Rattle.urlpattern.specs.Canonical.{canonical_pathname}
+use Rattle.urlpattern.specs.Manners.{GivenView, begins_ipv6, canonical_for, is_slash, text_given}
+use Rattle.urlpattern.specs.Patterns.{PatternView, pattern_view}
+use Rattle.urlpattern.specs.UrlPatterns.{UrlPattern}
+use Rattle.urlpattern.specs.PatternRegexps.{pattern_answer, pattern_engine}
 use Rattle.urlpattern.specs.PatternRegexp.{PatternRegexp}
 use Rattle.urlpattern.specs.Inheritance.{texts_of_url}
 use Rattle.urlpattern.specs.UrlTexts.{EachIsLine}
 use Rattle.urlpattern.specs.UrlPatternMatchInput.TheVariants as inputs
 use Rattle.urlpattern.specs.Matching.{Agrees, Answers}
 use Rattle.urlpattern.specs.PartMeaning.{Captures, PartsMean}
-use Rattle.urlpattern.specs.Eight.{Texts, at}
-use Rattle.urlpattern.specs.Options.{default_options, hostname_options, pathname_options}
+use Rattle.urlpattern.specs.Eight.{Texts, at, name_text}
+use Rattle.urlpattern.specs.Options.{OptionsView, default_options, hostname_options, pathname_options}
 use Rattle.urlpattern.specs.ComponentName.{ComponentName}
 use Rattle.urlpattern.specs.Error.{Error}
 use Rattle.urlpattern.specs.ComponentName.TheVariants.{Protocol, Username, Password, Hostname, Port, Pathname, Search, Hash}
@@ -74,7 +84,7 @@ user_meant url id valid lines user Hash = (_, anything_means default_options _ (
 
 -- ---- what is answered
 
-module _ (pattern : PatternView PatternRegexp) (is : IsPatternOfUsers pattern) (url : Parts) (valid : IsValid url) (lines : EachIsLine (texts_of_url url)) where
+module _ (pattern : PatternView PatternRegexp) (is : IsPatternOfText pattern_engine users_text None default_asked pattern) (url : Parts) (valid : IsValid url) (lines : EachIsLine (texts_of_url url)) where
   agrees : (texts : Texts) (component : ComponentName) (result : Option Captures) → input_texts (inputs.Url url) ≡ Ok texts →
       Answers pattern_answer (pattern component).matcher (at texts component) result →
       Agrees (users_options component) (users_parts component) (at (texts_of_url url) component) result
@@ -105,15 +115,16 @@ module _ (pattern : PatternView PatternRegexp) (is : IsPatternOfUsers pattern) (
   no_user (inr (texts, are_texts, (component, refused))) id user =
       let meant = user_meant url id valid lines user component in agrees texts component None are_texts refused meant.0 meant.1
 
-  -- what is matched is the URL of a user
-  pub user_matched : HasMatch pattern_answer pattern (inputs.Url url) → IsUserUrl url
-  unfolding chars
-  user_matched (texts, are_texts, matched) =
-      let means = λ (component : ComponentName). agrees texts component (Some (matched component).0) are_texts (matched component).1 in
-      let path = (text_and_segment_mean pathname_options (codes "/users") (codes "/") (codes "id") (chars url.path) (matched Pathname).0).0 (means Pathname) in
-      let scheme = ((literal_means default_options (codes "https") _ _).0 (means Protocol)).0 in
-      let host = ((literal_means hostname_options (codes "example.com") _ _).0 (means Hostname)).0 in
-      (path.0, user_of_texts url (matched Pathname).0 valid scheme host (means Port).0 path)
+  -- what is matched, so that the group captures this, is the URL of the user with this id
+  user_captured : (id : List ℕ) → HasMatch pattern_answer pattern (inputs.Url url) →
+      ((result : ComponentName → ResultView) → IsMatch pattern_answer pattern (inputs.Url url) result → (result Pathname).group (chars (codes "id")) ≡ Some (Some id)) → IsUser url id
+  user_captured id (texts, are_texts, matched) captured =
+      let result : ComponentName → ResultView = λ component. record { input = at texts component; group = group_of (pattern component).group_name_list (matched component).0 } in
+      let match : IsMatch pattern_answer pattern (inputs.Url url) result =
+      (texts, are_texts, record { captures = λ component. (matched component).0; are_answers = λ component. (matched component).1; are_results = λ component. record { has_input = refl; has_groups = λ name. refl } }) in
+      let found = user_found result match in
+      let same : found.0 ≡ id = cc (found.2, captured result match) in
+      subst (IsUser url) same found.1
 
   -- what is named is the id of a user
   pub named : (id : List ℕ) → NamesUser pattern_answer pattern url (Some id) → IsUser url id
@@ -145,3 +156,31 @@ pub none_weaker : (P Q : Type 0) → (P → Q) → (result : Found) → IfOk res
 none_weaker P Q weaker (Ok (Some id)) holds = tt
 none_weaker P Q weaker (Ok None) holds = weaker holds
 none_weaker P Q weaker (Err error) holds = tt
+
+-- ---- links
+
+-- a text is given for the group `id` of the path alone
+abbrev pub id_given : (id : List ℕ) → List GivenView
+id_given id = record { component = Pathname; name = chars (codes "id"); text = chars id } ∷ []
+
+pub given_id : (id : List ℕ) → text_given (id_given id) Pathname (chars (codes "id")) ≡ Some (chars id)
+given_id id =
+    ap (λ (same : Bool). if bytes_eq (name_text Pathname) (name_text Pathname) && same then Some (chars id) else None)
+    ((bytes_eq-Decides (chars (codes "id")) (chars (codes "id"))).1 refl)
+
+-- the link of the pattern with this for the group is the URL of the user whose id is the canonical form
+pub linked_user : (pattern : UrlPattern PatternRegexp) (groups : List GivenView) (text : List ℕ) (url : Parts) → IsPatternOfUsers pattern → IsValid url → EachIsLine (texts_of_url url) →
+    text_given groups Pathname (chars (codes "id")) ≡ Some text → HasMatch pattern_answer (pattern_view pattern) (inputs.Url url) → ReturnsGiven pattern_answer pattern groups url → IsUrlOfUser url text
+unfolding chars
+linked_user pattern groups text url is valid lines given matched returns =
+    let kept = is.kept.2 in
+    let names = (users_of_parts (pattern_view pattern) is.compiled Pathname).names in
+    let has : list_any (bytes_eq (chars (codes "id"))) (pattern_view pattern Pathname).group_name_list ≡ true =
+    subst (λ (list : List (List ℕ)). list_any (bytes_eq (chars (codes "id"))) list ≡ true) (sym names) refl in
+    let got =
+    subst (λ (of : Option PatternParts). MatchOption of ⊥ (λ parts. (value : List ℕ) × ((manner_in parts groups Pathname).canonical text ≡ Ok value)
+    × IsCapturedBy pattern_answer (pattern_view pattern) url Pathname (chars (codes "id")) value)) kept.has_parts (returns Pathname (chars (codes "id")) text given has) in
+    let own = kept_parts (at kept.parts.components Pathname) in
+    let canonical : canonical_pathname text ≡ Ok got.0 =
+    subst (λ (options : OptionsView). canonical_for Pathname (is_slash options.delimiter) (begins_ipv6 own) text ≡ Ok got.0) (users_path pattern is.kept) got.1 in
+    (got.0, canonical, user_captured (pattern_view pattern) is.compiled url valid lines got.0 matched got.2)

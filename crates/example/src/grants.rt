@@ -2,7 +2,7 @@
 
 // docs: grants
 ghost use Rattle.example.specs.Grants.{IsGranted};
-ghost use Rattle.std.specs.Prelude.{◌≡◌, ◌++◌, ◌∷◌, [], IfOk, IsTrue, OnOk};
+ghost use Rattle.std.specs.Prelude.{◌≡◌, ◌++◌, ◌∷◌, [], map, IfOk, IsTrue, OnOk};
 
 use std::alloc::{AllocError, Global};
 use urlpattern::rules::{PatternParts, first_covering};
@@ -37,8 +37,16 @@ impl Grants {
     pub fn check(&self, alloc: Global, asked: &PatternParts) -> Result<bool, AllocError>
         ensures { IfOk result (λ permitted. IsTrue permitted → IsGranted self.now.patterns.items asked.now) }
     {
-        let found = first_covering(alloc, &self.patterns, asked)?;
+        let granted = self.granted(alloc)?;
+        let found = first_covering(alloc, &granted, asked)?;
         Ok(found.is_some())
+    }
+
+    /// References to the patterns.
+    fn granted(&self, alloc: Global) -> Result<Vec<&PatternParts>, AllocError>
+        ensures { IfOk result (λ granted. map (λ pattern. pattern.now) granted.items ≡ self.now.patterns.items) }
+    {
+        self.patterns.iter().collect(alloc)
     }
 }
 // docs: end

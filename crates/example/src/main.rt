@@ -23,7 +23,7 @@ use url::Url;
 use urlpattern::component::generate_pattern_string;
 use urlpattern::parser::{Options, parse_pattern_string};
 use urlpattern::regexp::PatternRegexp;
-use urlpattern::rules::{PatternParts, parts_of};
+use urlpattern::rules::PatternParts;
 use urlpattern::{
     Error, NoLink, UrlPattern, UrlPatternInit, UrlPatternList, UrlPatternMap, UrlPatternOptions,
 };
@@ -136,13 +136,11 @@ fn permission_line(alloc: Global, url: &Url) -> Result<String, Error> {
 /// The parts of the pattern of a constructor string.
 fn parts(alloc: Global, text: &str) -> Result<PatternParts, Error> {
     // docs: parts
-    let init = UrlPatternInit::parse_constructor_string::<PatternRegexp>(alloc, text, None)?;
     let options = UrlPatternOptions::default();
-    let pattern = pattern(alloc, text)?;
-    let parts = parts_of(alloc, &pattern, &init, &options);
-    drop(pattern);
-    drop(init);
-    parts
+    match Pattern::from_constructor_string(alloc, text, None, options)?.into_parts() {
+        Some(parts) => Ok(parts),
+        None => unreachable!(),
+    }
     // docs: end
 }
 

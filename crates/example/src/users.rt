@@ -2,7 +2,7 @@
 
 ghost use Rattle.std.specs.Prelude.{IfNone, IfOk, IfSome};
 ghost use Rattle.std.specs.Str.{chars};
-ghost use Rattle.example.specs.Users.{IsNoUser, IsUser, IsUserUrl};
+ghost use Rattle.example.specs.Users.{IsNoUser, IsUrlOfUser, IsUser};
 ghost use Rattle.urlpattern.specs.Errors.{OnlyOutOfMemory};
 
 use crate::router;
@@ -24,13 +24,12 @@ pub struct Users {
 impl Model for Users {
     ghost use Rattle.example.specs.Users.{IsPatternOfUsers};
     ghost use Rattle.std.specs.Prelude.{⊤};
-    ghost use Rattle.urlpattern.specs.Patterns.{pattern_view};
 
     ghost Value = { ⊤ };
 
     ghost view = { λ users. tt };
 
-    ghost invariant = { λ users. IsPatternOfUsers (pattern_view users.pattern) };
+    ghost invariant = { λ users. IsPatternOfUsers users.pattern };
 }
 
 impl Users {
@@ -65,7 +64,7 @@ impl Users {
     ///
     /// The error is that of `UrlPattern::link`. An id that is empty, or has a slash, is that of no user.
     pub fn url(&self, alloc: Global, id: &str) -> Result<Url, NoLink>
-        ensures { IfOk result IsUserUrl }
+        ensures { IfOk result (λ url. IsUrlOfUser url (chars id.now)) }
     {
         // docs: user_link
         let url = match self

@@ -1,7 +1,7 @@
 -- A lemma on what `filter` answers.
 use Rattle.std.proofs.Common.{◌≡◌, ◌∙◌, ℕ, Bool, List, ap, subst}
 use Rattle.std.specs.Prelude.{Option, None, Some, IfSome}
-use Rattle.urlpat_matching.specs.InputUrls.{BaseView, base_view}
+use Rattle.urlpattern_canonical.specs.BaseUrls.{BaseView, base_view}
 use Rattle.urlpat_matching.specs.PatternWords.{base_of}
 use Rattle.urlpat_commands.specs.FilterLines.{FiltersLines, IsAskedPattern, IsFiltered}
 use Rattle.urlpat_matching.specs.Status.{status_of}

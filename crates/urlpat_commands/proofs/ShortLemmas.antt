@@ -4,7 +4,7 @@ use Rattle.std.specs.Prelude.{String, string_bytes}
 use Rattle.std.specs.declared.alloc.Global.{Global}
 use Rattle.urlpat_commands.specs.Answers.{AnswersMatch, IsShortAnswer, IsShortFailure}
 use Rattle.urlpat_matching.specs.MatchTexts.{IsMatchText, IsUnmatched}
-use Rattle.urlpat_matching.specs.InputUrls.{IsRefusedText}
+use Rattle.urlpattern_canonical.specs.BaseUrls.{IsRefusedText}
 use Rattle.urlpat_matching.specs.PatternWords.{RefusesPatternOf, base_of}
 use Rattle.urlpat_words.specs.Words.{words_view}
 use Rattle.urlpat_commands.specs.Notes.{HasRefusedFirstInput, HasRefusedMatchInput, HasRefusedShortInput}

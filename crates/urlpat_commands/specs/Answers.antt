@@ -10,7 +10,7 @@ use Rattle.urlpat_matching.specs.declared.status.Failure.TheVariants as failures
 use Rattle.urlpat_commands.specs.declared.command.Printed.{Printed}
 use Rattle.urlpat_matching.specs.declared.status.TheConstants.{DONE, NO_MATCH}
 use Rattle.urlpat_matching.specs.GroupLines.{AreLines, all_named_results}
-use Rattle.urlpat_matching.specs.InputUrls.{IsUrlOf, base_view}
+use Rattle.urlpattern_canonical.specs.BaseUrls.{IsUrlOf, base_view}
 use Rattle.urlpat_matching.specs.MatchTexts.{IsMatchText, IsUnmatched, IsUnmatchedByAllUnder}
 use Rattle.urlpat_matching.specs.PatternWords.{IsPatternOf, RefusesPatternOf, base_of}
 use Rattle.urlpat_words.specs.Help.{IsHelp}

@@ -4,7 +4,7 @@ use Rattle.std.specs.Borrow.{Bor}
 use Rattle.std.specs.declared.alloc.Global.{Global}
 use Rattle.std.specs.Str.{chars}
 use Rattle.url.specs.Parts.{Parts}
-use Rattle.urlpat_matching.specs.InputUrls.{BaseView, IsUrlUnder, base_view}
+use Rattle.urlpattern_canonical.specs.BaseUrls.{BaseView, IsUrlUnder, base_view}
 use Rattle.urlpat_matching.specs.PatternWords.{IsPatternOf, base_of}
 use Rattle.urlpat_matching.specs.MatchTexts.{IsUnmatchedUnder}
 use Rattle.urlpat_commands.specs.Answers.{AreAnswered, FailsWhere, Prints}

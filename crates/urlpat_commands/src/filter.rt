@@ -3,7 +3,7 @@
 ghost use Rattle.std.specs.Io.KnownBytes.{Appends};
 ghost use Rattle.std.specs.Prelude.{◌≡◌, ◌⊎◌, option_copied, IfNone, IfSome, OnOk};
 ghost use Rattle.urlpat_matching.specs.MatchTexts.{IsUnmatchedUnder};
-ghost use Rattle.urlpat_matching.specs.InputUrls.{kept_base};
+ghost use Rattle.urlpattern_canonical.specs.BaseUrls.{kept_base};
 ghost use Rattle.urlpat_commands.specs.FilterLines.{FilterReplies, HasAskedGroup, HasPiece, IsAskedPattern, IsMissingGroup, IsPieceOf, missing_group_line};
 ghost use Rattle.urlpat_filter.specs.Filters.{GetsPiece};
 ghost use Rattle.urlpattern.specs.BorrowedMatches.{pattern_captures_view};
@@ -14,12 +14,12 @@ use std::io;
 use std::io::{BufRead, Write};
 use urlpat_filter::{LineMatcher, Outcome, filter_lines};
 use urlpat_matching::{
-    BaseUrl, DONE, FAILED, NO_MATCH, base_of, base_url, capture_of, compiled, has_group,
-    match_json, url_under, write_refusal,
+    DONE, FAILED, NO_MATCH, base_of, capture_of, compiled, has_group, match_json, write_refusal,
 };
 use urlpat_words::{Flags, Query, Shape, query_of};
 use urlpattern::regexp::PatternRegexp;
 use urlpattern::{ComponentName, UrlPattern, UrlPatternCaptures};
+use urlpattern_canonical::BaseUrl;
 
 /// The usage of `filter`.
 const FILTER_USAGE: &str = "\
@@ -61,7 +61,7 @@ pub fn filter<In: BufRead, Out: Write, Err: Write>(
     let Some(pattern) = asked_pattern(alloc, query, base, flags.ignore_case, err) else {
         return FAILED;
     };
-    let kept = match base_url(alloc, base) {
+    let kept = match BaseUrl::parse(alloc, base) {
         Ok(kept) => kept,
         Err(error) => return write_refusal(alloc, query.pattern, base, error, err),
     };
@@ -154,7 +154,7 @@ impl LineMatcher for UrlLines<'_> {
         shape: Shape<'_>,
         written: &mut Vec<u8>,
     ) -> Result<Outcome, AllocError> {
-        let Ok(found) = url_under(self.alloc, self.base, text) else {
+        let Ok(found) = self.base.find(self.alloc, text) else {
             return Err(AllocError);
         };
         let Some(url) = found else {

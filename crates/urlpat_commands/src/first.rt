@@ -10,10 +10,11 @@ ghost use Rattle.urlpattern.specs.FirstMatch.{patterns_view};
 
 use crate::json::first_json;
 use std::alloc::{AllocError, Global};
-use urlpat_matching::{base_of, compiled, push_match, url_of};
+use urlpat_matching::{base_of, compiled, push_match};
 use urlpat_words::Flags;
 use urlpattern::regexp::PatternRegexp;
 use urlpattern::{Error, UrlPatternCaptures, UrlPatternList};
+use urlpattern_canonical::find_url;
 
 /// The first match of an input: a line with the index of its pattern and a line for each group, or JSON. `None`: no pattern
 /// matches it.
@@ -73,7 +74,7 @@ fn groups_of_first(
     ensures found { IfOk result (FindsFirstBy json (patterns_view list.now) input.now (option_copied base.entry)) }
     ensures memory { OnlyOutOfMemory result }
 {
-    let Some(url) = url_of(alloc, base, input)? else {
+    let Some(url) = find_url(alloc, input, base)? else {
         return Ok(None);
     };
     let Some((index, found)) = list.first_captures(alloc, &url)? else {

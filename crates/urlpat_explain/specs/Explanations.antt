@@ -4,7 +4,7 @@ use Rattle.std.specs.Io.KnownBytes.{Appends}
 use Rattle.std.specs.Str.{chars}
 use Rattle.url.specs.Parts.{Parts}
 use Rattle.urlpat_matching.specs.PatternWords.{IsPatternOf, base_of}
-use Rattle.urlpat_matching.specs.InputUrls.{IsRefusedText, IsUrlOf}
+use Rattle.urlpattern_canonical.specs.BaseUrls.{IsRefusedText, IsUrlOf}
 use Rattle.urlpat_matching.specs.Status.{status_of}
 use Rattle.urlpat_explain.specs.Explained.{ExplainedView}
 use Rattle.urlpat_explain.specs.declared.explaining.{Asked.Asked, Explanation.Explanation}

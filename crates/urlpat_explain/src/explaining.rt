@@ -14,9 +14,10 @@ use crate::table::{match_table, pattern_table};
 use std::alloc::Global;
 use std::io::Write;
 use urlpat_matching::{
-    DONE, FAILED, Failure, NO_MATCH, base_of, compiled, fail, note_of, print, url_of, write_refusal,
+    DONE, FAILED, Failure, NO_MATCH, base_of, compiled, fail, note_of, print, write_refusal,
 };
 use urlpat_words::Flags;
+use urlpattern_canonical::find_url;
 use urlpattern_create::{init_of_text, pattern_values};
 use urlpattern_eight::Eight;
 use urlpattern_engine::PatternRegexp;
@@ -171,7 +172,7 @@ fn answer(
         let text = shown(alloc, explained, json, None)?;
         return Ok(Explanation { text, status: DONE });
     };
-    let Some(url) = url_of(alloc, base, input)? else {
+    let Some(url) = find_url(alloc, input, base)? else {
         let text = shown(alloc, explained, json, None)?;
         return Ok(Explanation {
             text,

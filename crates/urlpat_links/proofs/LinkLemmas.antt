@@ -10,15 +10,16 @@ use Rattle.urlpat_links.specs.declared.linking.Unlinked.{Unlinked}
 use Rattle.urlpat_links.specs.declared.linking.Unlinked.TheVariants as unlinked
 use Rattle.urlpat_words.specs.Words.{words_view}
 use Rattle.urlpattern_engine.specs.declared.pattern_regexp.PatternRegexp.{PatternRegexp}
-use Rattle.urlpattern_pattern.specs.Patterns.{PatternView}
+use Rattle.urlpattern_pattern.specs.Patterns.{pattern_view}
+use Rattle.urlpattern_pattern.specs.UrlPatterns.{UrlPattern}
 
-module _ (words : List (String Global)) (pattern base : String Global) (given : List (String Global)) (view : PatternView PatternRegexp) (text : List ℕ) (base_text : Option (List ℕ))
-    (are : words ≡ pattern ∷ base ∷ given) (is_text : text ≡ string_bytes pattern) (is_base : base_text ≡ base_of (string_bytes base)) (is : IsPatternOf false text base_text view) where
+module _ (words : List (String Global)) (pattern base : String Global) (given : List (String Global)) (view : UrlPattern PatternRegexp) (text : List ℕ) (base_text : Option (List ℕ))
+    (are : words ≡ pattern ∷ base ∷ given) (is_text : text ≡ string_bytes pattern) (is_base : base_text ≡ base_of (string_bytes base)) (is : IsPatternOf false text base_text (pattern_view view)) where
   -- what is said of the pattern among the words
-  said : (Is : PatternView PatternRegexp → List (List ℕ) → Type 0) → Is view (words_view given) → OfPattern Is (words_view words)
+  said : (Is : UrlPattern PatternRegexp → List (List ℕ) → Type 0) → Is view (words_view given) → OfPattern Is (words_view words)
   said Is holds =
       subst (λ (ws : List (String Global)). OfPattern Is (words_view ws)) (sym are)
-      (view, subst (λ (b : Option (List ℕ)). IsPatternOf false (string_bytes pattern) b view) is_base (subst (λ (t : List ℕ). IsPatternOf false t base_text view) is_text is), holds)
+      (view, subst (λ (b : Option (List ℕ)). IsPatternOf false (string_bytes pattern) b (pattern_view view)) is_base (subst (λ (t : List ℕ). IsPatternOf false t base_text (pattern_view view)) is_text is), holds)
 
   pub writes : (url : Parts) (old new : Option (List ℕ)) → IsLinkBy view (words_view given) url → Appends old new (serialize url ++ codes "\n") → WritesLink (words_view words) old new
   writes url old new linked appends =

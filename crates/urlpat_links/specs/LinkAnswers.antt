@@ -10,29 +10,30 @@ use Rattle.urlpattern_engine.specs.PatternRegexps.{pattern_answer}
 use Rattle.urlpattern_engine.specs.declared.pattern_regexp.PatternRegexp.{PatternRegexp}
 use Rattle.urlpattern_generate.specs.Manners.{given_groups}
 use Rattle.urlpattern_pattern.specs.LinkedUrls.{IsLink, RefusesLink}
-use Rattle.urlpattern_pattern.specs.Patterns.{PatternView}
+use Rattle.urlpattern_pattern.specs.Patterns.{pattern_view}
+use Rattle.urlpattern_pattern.specs.UrlPatterns.{UrlPattern}
 use Rattle.urlpattern_url.specs.declared.error.NoLink.{NoLink}
 use Rattle.urlpattern_url.specs.declared.error.NoLink.TheVariants as no_link
 
 -- the URL is that of the pattern with the groups that the words give
-abbrev pub IsLinkBy : PatternView PatternRegexp → (words : List (List ℕ)) → Parts → Type 0
-IsLinkBy pattern words url = (groups : List Given) × AreGiven pattern words groups × IsLink pattern_answer pattern (given_groups groups) url
+abbrev pub IsLinkBy : UrlPattern PatternRegexp → (words : List (List ℕ)) → Parts → Type 0
+IsLinkBy pattern words url = (groups : List Given) × AreGiven (pattern_view pattern) words groups × IsLink pattern_answer pattern (given_groups groups) url
 
 -- the pattern has no URL with these groups, for this reason
-abbrev pub RefusesLinkBy : PatternView PatternRegexp → (words : List (List ℕ)) → NoLink → Type 0
-RefusesLinkBy pattern words error = (groups : List Given) × AreGiven pattern words groups × RefusesLink pattern_answer pattern (given_groups groups) error
+abbrev pub RefusesLinkBy : UrlPattern PatternRegexp → (words : List (List ℕ)) → NoLink → Type 0
+RefusesLinkBy pattern words error = (groups : List Given) × AreGiven (pattern_view pattern) words groups × RefusesLink pattern_answer pattern (given_groups groups) error
 
 -- why there is no URL: a word gives nothing, the pattern has none, or memory ran out
-abbrev pub LacksUrl : PatternView PatternRegexp → (words : List (List ℕ)) → Unlinked → Type 0
-LacksUrl pattern words (unlinked.Word word) = Any (WordGivesNothing pattern) words
+abbrev pub LacksUrl : UrlPattern PatternRegexp → (words : List (List ℕ)) → Unlinked → Type 0
+LacksUrl pattern words (unlinked.Word word) = Any (WordGivesNothing (pattern_view pattern)) words
 LacksUrl pattern words (unlinked.NoLink error) = (error ≢ no_link.OutOfMemory) × RefusesLinkBy pattern words error
 LacksUrl pattern words unlinked.OutOfMemory = Unit {0}
 
 -- ---- what is printed
 
 -- this is said of the pattern among the words after `link`, and of the words after its base
-abbrev pub OfPattern : (Is : PatternView PatternRegexp → List (List ℕ) → Type 0) → (words : List (List ℕ)) → Type 0
-OfPattern Is (pattern ∷ base ∷ words) = (compiled : PatternView PatternRegexp) × IsPatternOf false pattern (base_of base) compiled × Is compiled words
+abbrev pub OfPattern : (Is : UrlPattern PatternRegexp → List (List ℕ) → Type 0) → (words : List (List ℕ)) → Type 0
+OfPattern Is (pattern ∷ base ∷ words) = (compiled : UrlPattern PatternRegexp) × IsPatternOf false pattern (base_of base) (pattern_view compiled) × Is compiled words
 OfPattern Is words = ⊥
 
 -- the URL is written, and a line end

@@ -6,7 +6,6 @@ ghost use Rattle.url.specs.Parts.{serialize};
 ghost use Rattle.urlpat_links.specs.LinkAnswers.{HasNoLink, IsLinkBy, LacksUrl, WritesLink};
 ghost use Rattle.urlpat_links.specs.declared.linking.Unlinked.TheVariants as all_unlinked;
 ghost use Rattle.urlpat_words.specs.Words.{words_view};
-ghost use Rattle.urlpattern_pattern.specs.Patterns.{pattern_view};
 
 use crate::given::{Misgiven, given_by};
 use crate::reason::write_reason;
@@ -83,8 +82,8 @@ fn linked<'w>(
     pattern: &UrlPattern<PatternRegexp>,
     words: &'w [String],
 ) -> Result<Url, Unlinked<'w>>
-    ensures linked { IfOk result (IsLinkBy (pattern_view pattern.now) (words_view words.now)) }
-    ensures refused { IfErr result (LacksUrl (pattern_view pattern.now) (words_view words.now)) }
+    ensures linked { IfOk result (IsLinkBy pattern.now (words_view words.now)) }
+    ensures refused { IfErr result (LacksUrl pattern.now (words_view words.now)) }
 {
     let groups = match given_by(alloc, pattern, words) {
         Ok(groups) => groups,

@@ -1,6 +1,5 @@
 pub mod GroupLines
 pub mod Groups
-pub mod InputUrls
 pub mod MatchJson
 pub mod MatchTexts
 pub mod PatternWords

@@ -3,7 +3,7 @@ use Rattle.std.specs.Prelude.{◌⊎◌, ℕ, All, Bool, true, false, List, Opti
 use Rattle.std.specs.declared.alloc.Global.{Global}
 use Rattle.url.specs.Parts.{Parts}
 use Rattle.urlpat_matching.specs.GroupLines.{AreLines, all_named_results}
-use Rattle.urlpat_matching.specs.InputUrls.{BaseView, IsRefusedUnder, IsUrlOf, IsUrlUnder, base_view}
+use Rattle.urlpattern_canonical.specs.BaseUrls.{BaseView, IsRefusedUnder, IsUrlOf, IsUrlUnder, base_view}
 use Rattle.urlpat_matching.specs.MatchJson.{IsMatchJson}
 use Rattle.urlpat_matching.specs.PatternWords.{IsPatternOf}
 use Rattle.urlpat_words.specs.declared.flags.Flags.{Flags}

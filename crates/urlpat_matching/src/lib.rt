@@ -3,16 +3,14 @@
 //! pattern or an input is refused.
 #![tactic(auto)]
 
-mod base;
 mod groups;
 mod json;
 mod matching;
 mod notes;
 mod status;
 
-pub use base::{BaseUrl, base_url, url_under};
 pub use groups::has_group;
 pub use json::{json_line, match_json, match_tree};
-pub use matching::{NO_BASE, base_of, capture_of, compiled, matched_groups, push_match, url_of};
+pub use matching::{NO_BASE, base_of, capture_of, compiled, matched_groups, push_match};
 pub use notes::{first_diagnosis, match_diagnosis, note_of, write_refusal};
 pub use status::{DONE, FAILED, Failure, NO_MATCH, fail, print, report};

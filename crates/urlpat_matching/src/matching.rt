@@ -5,7 +5,6 @@ ghost use Rattle.std.specs.Prelude.{◌≡◌, ◌++◌, ◌∷◌, [], ℕ, Lis
 ghost use Rattle.std.specs.Str.{chars};
 ghost use Rattle.urlpat_matching.specs.GroupLines.{AreGroupLines, AreLines, AreNames, GetsLines, group_bytes, all_named_results, group_line};
 ghost use Rattle.urlpat_matching.specs.MatchTexts.{FindsMatch, FindsMatchBy, ShowsMatch};
-ghost use Rattle.urlpat_matching.specs.InputUrls.{FindsUrl};
 ghost use Rattle.urlpat_matching.specs.PatternWords.{IsPatternOf, RefusesPatternOf, base_of};
 ghost use Rattle.urlpattern_matches.specs.BorrowedMatches.{pattern_captures_view, groups_view};
 ghost use Rattle.urlpattern_eight.specs.Eight.{name_text};
@@ -15,16 +14,13 @@ ghost use Rattle.urlpattern_syntax.specs.Text.{text_of};
 
 use crate::json::match_json;
 use std::alloc::{AllocError, Global};
-use std::borrow::CowStr;
-use url::Url;
 use urlpat_words::Flags;
+use urlpattern_canonical::find_url;
 use urlpattern_eight::ComponentName;
 use urlpattern_engine::PatternRegexp;
-use urlpattern_init::UrlPatternMatchInput;
-use urlpattern_inputs::{StringOrInit, UrlPatternOptions};
+use urlpattern_inputs::UrlPatternOptions;
 use urlpattern_matches::UrlPatternCaptures;
 use urlpattern_pattern::UrlPattern;
-use urlpattern_quirks::process_match_input;
 use urlpattern_syntax::{Error, RegexSyntax};
 
 /// The word that stands for no base URL.
@@ -89,7 +85,7 @@ fn groups_of_match(
     ensures found { IfOk result (FindsMatchBy json (pattern_view pattern.now) input.now (option_copied base.entry)) }
     ensures memory { OnlyOutOfMemory result }
 {
-    let Some(url) = url_of(alloc, base, input)? else {
+    let Some(url) = find_url(alloc, input, base)? else {
         return Ok(None);
     };
     let Some(found) = pattern.captures(alloc, &url)? else {
@@ -114,26 +110,6 @@ fn match_text(
     let mut text = String::new(alloc);
     push_match(alloc, &mut text, found)?;
     Ok(text)
-}
-
-/// What an input is matched as: its URL. `None`: `url` refuses it.
-///
-/// The error is that memory ran out.
-pub fn url_of(alloc: Global, base: Option<&str>, input: &str) -> Result<Option<Url>, Error>
-    ensures found { IfOk result (FindsUrl input.now (option_copied base.entry)) }
-    ensures memory { OnlyOutOfMemory result }
-{
-    let input = StringOrInit::String(CowStr::Borrowed(input));
-    match process_match_input(alloc, input, base)? {
-        Some((found, inputs)) => {
-            drop(inputs);
-            match found {
-                UrlPatternMatchInput::Url(url) => Ok(Some(url)),
-                UrlPatternMatchInput::Init(_) => Ok(None),
-            }
-        }
-        None => Ok(None),
-    }
 }
 
 /// Appends a line for each group of a match.

@@ -1,13 +1,13 @@
 //! What goes to standard error beside an answer: what is wrong with a pattern that is refused, and that an input is no URL.
 
 ghost use Rattle.std.specs.Prelude.{◌≡◌, option_copied, IfOk, IfSome};
-ghost use Rattle.urlpat_matching.specs.InputUrls.{IsRefusedText};
+ghost use Rattle.urlpattern_canonical.specs.BaseUrls.{IsRefusedText};
 
-use crate::matching::url_of;
 use crate::status::FAILED;
 use std::alloc::Global;
 use std::io::Write;
 use url::{ParseError, Url};
+use urlpattern_canonical::find_url;
 use urlpattern_diagnosis::{Diagnosis, Subject};
 use urlpattern_engine::PatternRegexp;
 use urlpattern_inputs::UrlPatternOptions;
@@ -21,7 +21,7 @@ use urlpattern_syntax::error::OutOfMemory;
 pub fn note_of(alloc: Global, base: Option<&str>, input: &str) -> Result<Option<String>, Error>
     ensures { IfOk result (λ note. IfSome note (λ text. IsRefusedText input.now (option_copied base.entry))) }
 {
-    match url_of(alloc, base, input)? {
+    match find_url(alloc, input, base)? {
         Some(url) => {
             drop(url);
             Ok(None)

@@ -9,7 +9,7 @@ use Rattle.std.specs.Prelude.{IfSome, Option, None, Some}
 use Rattle.serde_json.specs.Data.{Data, no_members, number, put, string, unsigned}
 use Rattle.serde_json.specs.Written.{has_float}
 use Rattle.urlpat_matching.proofs.JsonLemmas.{put-none}
-use Rattle.urlpat_matching.specs.InputUrls.{BaseView, base_view}
+use Rattle.urlpattern_canonical.specs.BaseUrls.{BaseView, base_view}
 use Rattle.urlpat_matching.specs.PatternWords.{IsPatternOf}
 use Rattle.urlpat_matching.specs.Status.{status_of}
 use Rattle.urlpat_filter.specs.Filters.{FiltersText}

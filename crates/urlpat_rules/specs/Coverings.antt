@@ -3,16 +3,14 @@ use Rattle.std.specs.Prelude.{◌≡◌, ℕ, false, List, [], ◌∷◌, ◌++�
 use Rattle.std.specs.List.{flat_map}
 use Rattle.std.specs.Io.KnownBytes.{Appends}
 use Rattle.std.specs.declared.alloc.Global.{Global}
-use Rattle.urlpat_matching.specs.PatternWords.{IsPatternOf, default_pattern_options}
-use Rattle.urlpattern_create.specs.Compiled.{IsPatternOfInit}
+use Rattle.urlpat_matching.specs.PatternWords.{IsPatternOf}
 use Rattle.urlpattern_eight.specs.Eight.{at, components, name_text}
 use Rattle.urlpattern_eight.specs.declared.eight.ComponentName.{ComponentName}
 use Rattle.urlpattern_eight.specs.declared.eight.Eight.{Eight}
 use Rattle.urlpattern_engine.specs.PatternRegexps.{pattern_engine}
 use Rattle.urlpattern_engine.specs.declared.pattern_regexp.PatternRegexp.{PatternRegexp}
-use Rattle.urlpattern_init.specs.declared.init.UrlPatternInit.{UrlPatternInit}
 use Rattle.urlpattern_pattern.specs.Patterns.{PatternView}
-use Rattle.urlpattern_readings.specs.Readings.{ArePartsBy}
+use Rattle.urlpattern_pattern.specs.UrlPatterns.{AreMadeOfParts}
 use Rattle.urlpattern_rules.specs.Comparing.{IsPatternCovering}
 use Rattle.urlpattern_rules.specs.declared.pattern.{Parting.Parting, PatternCovering.PatternCovering, PatternParts.PatternParts}
 use Rattle.urlpattern_rules.specs.declared.pattern.PatternCovering.TheVariants.{Covered, NotCovered, Unknown}
@@ -21,12 +19,7 @@ use Rattle.urlpattern_rules.specs.declared.pattern.PatternCovering.TheVariants.{
 
 -- the parts are those of the pattern that the constructor string with this base URL is compiled to
 abbrev pub ArePartsOf : (text : List ℕ) → (base : Option (List ℕ)) → PatternParts → Type 0
-ArePartsOf text base parts = (compiled : PatternView PatternRegexp) × IsPatternOf false text base compiled × ArePartsBy pattern_engine compiled parts
-
--- the same of an init
-abbrev pub ArePartsOfInit : UrlPatternInit → PatternParts → Type 0
-ArePartsOfInit init parts =
-    (compiled : PatternView PatternRegexp) × IsPatternOfInit pattern_engine init default_pattern_options compiled × ArePartsBy pattern_engine compiled parts
+ArePartsOf text base parts = (compiled : PatternView PatternRegexp) × IsPatternOf false text base compiled × AreMadeOfParts pattern_engine parts compiled
 
 -- whether the pattern of the first constructor string covers that of the asked one
 abbrev pub ComparesWith : (pattern asked : List ℕ) → PatternCovering → Type 0

@@ -8,7 +8,7 @@ use Rattle.bstr.specs.Text.{lines_of, without_terminator}
 use Rattle.serde_json.specs.Data.{Data, number, string, unsigned}
 use Rattle.url.specs.Parts.{Parts}
 use Rattle.urlpat_matching.specs.GroupLines.{AreLines, all_named_results}
-use Rattle.urlpat_matching.specs.InputUrls.{BaseView, IsUrlUnder, base_view}
+use Rattle.urlpattern_canonical.specs.BaseUrls.{BaseView, IsUrlUnder, base_view}
 use Rattle.urlpat_matching.specs.PatternWords.{IsPatternOf}
 use Rattle.urlpat_matching.specs.MatchTexts.{IsUnmatchedByAllUnder}
 use Rattle.urlpat_words.specs.Words.{words_view}

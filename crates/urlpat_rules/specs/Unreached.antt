@@ -1,12 +1,12 @@
 -- Which patterns of a table one before them covers, and what is printed of them. Words and texts are bytes.
-use Rattle.std.specs.Prelude.{◌≡◌, ℕ, All, List, ◌++◌, codes, decimal, length, nat_lt, Option, Some, option_map, slice_get, unwrap_or}
+use Rattle.std.specs.Prelude.{◌≡◌, ℕ, List, ◌++◌, codes, decimal, length, nat_lt, Option, Some, option_map, slice_get, unwrap_or}
 use Rattle.std.specs.List.{AllZip, flat_map}
 use Rattle.std.specs.Io.KnownBytes.{Appends}
 use Rattle.urlpat_matching.specs.Status.{status_of}
 use Rattle.urlpat_rules.specs.Coverings.{ArePartsOf}
 use Rattle.urlpat_rules.specs.TableWords.{NameTable}
 use Rattle.urlpat_tables.specs.Tables.{EntryView, table_entries}
-use Rattle.urlpattern_rules.specs.Comparing.{AreInOrder, IsListed, IsShadowed}
+use Rattle.urlpattern_rules.specs.Comparing.{AreUnreachable}
 use Rattle.urlpattern_rules.specs.declared.list.Shadowed.{Shadowed}
 use Rattle.urlpattern_rules.specs.declared.pattern.PatternParts.{PatternParts}
 
@@ -26,9 +26,7 @@ unreached_line entries shadowed =
 -- a line for each pattern that one before it is known to cover, in their order, by the first such one, and for no other
 abbrev pub AreUnreached : List PatternParts → List EntryView → (text : List ℕ) → Type 0
 AreUnreached patterns entries text =
-    (found : List Shadowed) × All (IsShadowed patterns) found × AreInOrder found
-    × ((index : ℕ) (asked : PatternParts) → slice_get patterns index ≡ Some asked → IsListed patterns found index asked)
-    × (text ≡ flat_map (unreached_line entries) found)
+    (found : List Shadowed) × AreUnreachable patterns found × (text ≡ flat_map (unreached_line entries) found)
 
 -- what is printed of a table: these lines, with the status 1 if there are none
 abbrev pub ListsOf : (table : List ℕ) → (base : Option (List ℕ)) → (status : ℕ) → (old new : Option (List ℕ)) → Type 0

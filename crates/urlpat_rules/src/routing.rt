@@ -1,7 +1,7 @@
 //! The command `route`: the first pattern of a table that matches the URL of each line.
 
 ghost use Rattle.std.specs.Prelude.{◌≡◌, ◌⊎◌, option_copied, IfSome};
-ghost use Rattle.urlpat_matching.specs.InputUrls.{kept_base};
+ghost use Rattle.urlpattern_canonical.specs.BaseUrls.{kept_base};
 ghost use Rattle.urlpat_rules.specs.Routes.{AreRoutesOf, IsLineAnswered, Replies, RoutesTable, unmatched_text};
 ghost use Rattle.urlpat_tables.specs.Tables.{entries_view};
 
@@ -11,13 +11,12 @@ use std::alloc::{AllocError, Global};
 use std::io::{BufRead, Write};
 use urlpat_filter::write_answers;
 use urlpat_lines::{Rule, Verdict};
-use urlpat_matching::{
-    BaseUrl, DONE, FAILED, Failure, NO_MATCH, base_url, compiled, fail, url_under,
-};
+use urlpat_matching::{DONE, FAILED, Failure, NO_MATCH, compiled, fail};
 use urlpat_tables::Entry;
 use urlpat_words::{Flags, Shape};
 use urlpattern::UrlPatternMap;
 use urlpattern::regexp::PatternRegexp;
+use urlpattern_canonical::BaseUrl;
 
 /// The usage of `route`.
 const ROUTE_USAGE: &str = "\
@@ -78,7 +77,7 @@ fn route_by<In: BufRead, Out: Write, Err: Write>(
     let Some(routes) = routes_of(alloc, &entries, base, flags.ignore_case, err) else {
         return FAILED;
     };
-    let kept = match base_url(alloc, base) {
+    let kept = match BaseUrl::parse(alloc, base) {
         Ok(kept) => kept,
         Err(error) => return fail(&Failure::from(error), err),
     };
@@ -140,7 +139,7 @@ impl Rule for Router<'_, '_> {
         _line: &[u8],
         written: &mut Vec<u8>,
     ) -> Result<Verdict, AllocError> {
-        let Ok(found) = url_under(self.alloc, self.base, text) else {
+        let Ok(found) = self.base.find(self.alloc, text) else {
             return Err(AllocError);
         };
         let Some(url) = found else {

@@ -1,7 +1,7 @@
 //! The command `unreachable`: the patterns of a table that one before them covers.
 
 ghost use Rattle.std.specs.Io.KnownBytes.{Appends};
-ghost use Rattle.std.specs.Prelude.{◌≡◌, ◌≢◌, ◌⊎◌, ◌++◌, length, nat_lt, string_bytes, option_copied, IfOk, IfSome, OnOk};
+ghost use Rattle.std.specs.Prelude.{◌≡◌, ◌≢◌, ◌⊎◌, ◌++◌, length, map, nat_lt, string_bytes, option_copied, IfOk, IfSome, OnOk};
 ghost use Rattle.urlpat_words.specs.Words.{words_view};
 ghost use Rattle.urlpat_matching.specs.Status.{status_of};
 ghost use Rattle.urlpat_rules.specs.Doubts.{HasDoubts, LeaveDoubts, TellsDoubts};
@@ -143,12 +143,20 @@ fn unreached_text(
 ) -> Result<String, AllocError>
     ensures { IfOk result (λ text. AreUnreached patterns.now (entries_view entries.now) (string_bytes text)) }
 {
-    let found = unreachable(alloc, patterns)?;
+    let all = references(alloc, patterns)?;
+    let found = unreachable(alloc, &all)?;
     let mut text = String::new(alloc);
     for shadowed in &found {
         push_shadowed(alloc, &mut text, entries, *shadowed)?;
     }
     Ok(text)
+}
+
+/// References to the parts of each pattern.
+fn references(alloc: Global, patterns: &[PatternParts]) -> Result<Vec<&PatternParts>, AllocError>
+    ensures { IfOk result (λ all. map (λ parts. parts.now) all.items ≡ patterns.now) }
+{
+    patterns.iter().collect(alloc)
 }
 
 /// Appends a line with the number of the line of a pattern, and that of the one that covers it.

@@ -1,25 +1,22 @@
 -- Lemmas on the patterns that a list does not ask.
-use Rattle.std.proofs.Common.{◌≡◌, ℕ, zero, suc, ◌+◌, ◌<◌, ◌≤◌, ◌⊎◌, Bool, true, false, List, [], ◌∷◌, ◌++◌, ap, append_assoc, arith, get_or, inl, inr, length, refl, replicate, subst, sym, take, ◌∙◌}
+use Rattle.std.proofs.Common.{◌≡◌, ℕ, zero, suc, ◌+◌, ◌<◌, ◌≤◌, ◌⊎◌, Bool, true, false, List, [], ◌∷◌, ◌++◌, ap, arith, get_or, inl, inr, length, refl, replicate, subst, sym, take, ◌∙◌}
 use Rattle.std.proofs.lemmas.Bool.{cases_lt}
-use Rattle.std.proofs.lemmas.List.{append-nil, get_or-take, length_push, map-append, take_more}
+use Rattle.std.proofs.lemmas.List.{get_or-take, length_push}
 use Rattle.std.proofs.lemmas.List.Edits.{length-remove}
 use Rattle.std.proofs.lemmas.Option.{same_Some, slice_get-get_or, slice_get_within}
 use Rattle.std.proofs.lemmas.Slice.Eq.{bytes_eq-Decides}
 use Rattle.std.specs.List.{remove}
 use Rattle.std.specs.Prelude.{All, Err, IfOk, Ok, Option, None, Result, Some, bytes_eq, slice_get}
-use Rattle.urlpattern_meaning.specs.declared.outline.OutlineItem.{OutlineItem}
-use Rattle.urlpattern_meaning.specs.declared.outline.OutlineItem.TheVariants.{Character}
-use Rattle.urlpattern_meaning.specs.Outlines.{HasOutline, IsTextFor}
 use Rattle.urlpattern_index.specs.FixedTexts.{FixedTexts, HasTexts, IsText}
 use Rattle.urlpattern_index.specs.Keys.{Hashes, form_key, hashes_of}
 use Rattle.urlpattern_index.specs.Listed.{Finds, GetsPattern, Listing}
 use Rattle.urlpattern_eight.specs.declared.eight.ComponentName.TheVariants.{Hostname, Pathname, Protocol}
-use Rattle.urlpattern_meaning.specs.Matching.{Accepts, Answers, InnerView, IsMatched, Literal, MatcherView, folded}
+use Rattle.urlpattern_meaning.specs.Matching.{Answers, IsMatched, MatcherView}
 use Rattle.urlpattern_meaning.specs.PartMeaning.{Captures}
 use Rattle.urlpattern_pattern.specs.Match.{IsRefused}
 use Rattle.urlpattern_pattern.specs.Patterns.{PatternView, pattern_view}
-use Rattle.urlpattern_pattern.specs.declared.pattern.UrlPattern.{UrlPattern}
-use Rattle.urlpattern.specs.PatternKeys.{AreFixed, AreIndexed, IsFixedText, address_of, characters, text_matcher}
+use Rattle.urlpattern_pattern.specs.UrlPatterns.{UrlPattern}
+use Rattle.urlpattern.specs.PatternKeys.{AreFixed, AreIndexed, address_of}
 use Rattle.urlpattern_eight.specs.Eight.{Texts}
 
 -- ---- texts
@@ -32,21 +29,12 @@ same_or_not : (xs ys : List ℕ) → (xs ≡ ys) ⊎ ¬ (xs ≡ ys)
 same_or_not xs ys = same_cases xs ys (bytes_eq xs ys) refl
 
 module _ {E : Type 0} (answer : E → List ℕ → Option Captures) where
-  -- a matcher of one text matches no other
-  other-refused : (matcher : MatcherView E) (text given : List ℕ) → matcher ≡ text_matcher text → ¬ (given ≡ text) → Answers answer matcher given None
-  other-refused matcher text given is other =
-      let P : MatcherView E → Type 0 = λ m. Answers answer m given None in
-      subst P (sym is) (λ captures (middle, (front, back, cut, same_front, same_back), accepts).
-      let front_nil : front ≡ [] = same_front in
-      let back_nil : back ≡ [] = same_back in
-      let middle_is : middle ≡ text = accepts.0 in
-      let whole : given ≡ text = cut ∙ ap (λ f. (f ++ middle) ++ back) front_nil ∙ ap (λ b. middle ++ b) back_nil ∙ append-nil middle ∙ middle_is in
-      other whole)
-
-  text-cases : (matcher : MatcherView E) (fixed : Option (List ℕ)) (given : List ℕ) → IsFixedText matcher fixed → IsText fixed given ⊎ Answers answer matcher given None
-  text-cases matcher None given is = inl tt
-  text-cases matcher (Some text) given is =
-      elim (same_or_not given text) [ inl same ↦ inl same | inr other ↦ inr (other-refused matcher text given is other) ]
+  -- what a matcher matches is the fixed text, if there is one
+  text-cases : (matcher : MatcherView E) (fixed : Option (List ℕ)) (given : List ℕ) → ((text : List ℕ) → IsMatched answer matcher text → IsText fixed text)
+      → IsText fixed given ⊎ Answers answer matcher given None
+  text-cases matcher None given are = inl tt
+  text-cases matcher (Some text) given are =
+      elim (same_or_not given text) [ inl same ↦ inl same | inr other ↦ inr (λ captures matches. other (are given (captures, matches))) ]
 
   -- the pattern does not match where what is fixed is not there
   fixed-refused : (pattern : PatternView E) (fixed : FixedTexts) (texts : Texts) → AreFixed answer pattern fixed → ¬ HasTexts fixed (address_of texts) → IsRefused answer pattern texts
@@ -158,57 +146,6 @@ All-passed P xs from n before passed = λ k d within.
       | inl lt ↦ subst P (get_or-take from xs k d lt) (before k d (take_within xs from k lt inside.1))
       | inr le ↦ passed k (get_or xs k d) le inside.0 (slice_get-get_or xs k d inside.1)
     ])
-
--- ---- what is fixed of a matcher
-
-pub nil_from_length : (xs : List ℕ) → length xs ≡ 0 → xs ≡ []
-nil_from_length [] is = refl
-nil_from_length (x ∷ xs) is = absurd (omega arith)
-
-pub matcher_of_text : {E : Type 0} (prefix suffix : List ℕ) (inner : InnerView E) (ignore_case : Bool) (text : List ℕ) → prefix ≡ [] → suffix ≡ [] → inner ≡ Literal text → ignore_case ≡ false
-    → ◌≡◌ {A = MatcherView E} record { prefix = prefix; suffix = suffix; inner = inner; ignore_case = ignore_case } (text_matcher text)
-matcher_of_text prefix suffix inner ignore_case text no_prefix no_suffix is_text kept = cc
-
--- ---- outlines
-
--- each text has the outline of its characters
-characters-outline : (text : List ℕ) → HasOutline (characters text) text
-characters-outline [] = refl
-characters-outline (c ∷ text) = (c ∷ [], text, refl, refl, characters-outline text)
-
--- one more character that is read
-pub characters-more : (items : List OutlineItem) (text : List ℕ) (index c : ℕ) → (index < length text) × (c ≡ get_or text index c) → items ≡ characters (take index text)
-    → items ++ Character c ∷ [] ≡ characters (take (index + 1) text)
-characters-more items text index c is_next are =
-    ap (λ i. i ++ Character c ∷ []) are
-    ∙ sym (ap characters (take_more text index c is_next.0 ∙ ap (λ x. take index text ++ x ∷ []) (sym is_next.1)) ∙ map-append (λ c. Character c) (take index text) (c ∷ []))
-
--- the outlines of two texts are one of both together
-outline-append : (xs ys : List OutlineItem) (text other : List ℕ) → HasOutline xs text → HasOutline ys other → HasOutline (xs ++ ys) (text ++ other)
-outline-append [] ys text other is more = subst (λ t. HasOutline ys (t ++ other)) (sym is) more
-outline-append (x ∷ xs) ys text other (front, rest, cut, is_front, has) more =
-    (front, rest ++ other, ap (λ t. t ++ other) cut ∙ append_assoc front rest other, is_front, outline-append xs ys rest other has more)
-
--- the outline of prefix, inner text and suffix
-pub matched-outline : {E : Type 0} (answer : E → List ℕ → Option Captures) (matcher : MatcherView E) (inner : List OutlineItem) → matcher.ignore_case ≡ false
-    → ((text : List ℕ) (captures : Captures) → Accepts answer false matcher.inner text captures → HasOutline inner text)
-    → (text : List ℕ) → IsMatched answer matcher text → HasOutline ((characters matcher.prefix ++ inner) ++ characters matcher.suffix) text
-matched-outline answer matcher inner kept is_inner text (captures, (middle, (front, back, cut, same_front, same_back), accepts)) =
-    let same : (one other : List ℕ) → folded matcher.ignore_case one ≡ folded matcher.ignore_case other → one ≡ other =
-    λ one other is. subst (λ ignore_case. folded ignore_case one ≡ folded ignore_case other) kept is in
-    let begins : HasOutline (characters matcher.prefix) front = subst (HasOutline (characters matcher.prefix)) (sym (same front matcher.prefix same_front)) (characters-outline matcher.prefix) in
-    let ends : HasOutline (characters matcher.suffix) back = subst (HasOutline (characters matcher.suffix)) (sym (same back matcher.suffix same_back)) (characters-outline matcher.suffix) in
-    let between : HasOutline inner middle = is_inner middle captures (subst (λ ignore_case. Accepts answer ignore_case matcher.inner middle captures) kept accepts) in
-    subst (HasOutline ((characters matcher.prefix ++ inner) ++ characters matcher.suffix)) (sym cut)
-    (outline-append (characters matcher.prefix ++ inner) (characters matcher.suffix) (front ++ middle) back (outline-append (characters matcher.prefix) inner front middle begins between) ends)
-
--- the outline of a text that is the same as a literal
-pub literal-outline : (literal text : List ℕ) (items : List OutlineItem) → items ≡ characters literal → text ≡ literal → HasOutline items text
-literal-outline literal text items are same = subst (λ i. HasOutline i text) (sym are) (subst (HasOutline (characters literal)) (sym same) (characters-outline literal))
-
--- the outline of one run
-pub item-outline : (item : OutlineItem) (text : List ℕ) (items : List OutlineItem) → items ≡ item ∷ [] → IsTextFor item text → HasOutline items text
-item-outline item text items are is = subst (λ i. HasOutline i text) (sym are) (text, [], sym (append-nil text), is, refl)
 
 -- ---- results
 

@@ -4,3 +4,4 @@ pub mod FixedLemmas
 pub mod ListLemmas
 pub mod NextLemmas
 pub mod PatternMapLemmas
+pub mod UnreachedLemmas

@@ -45,7 +45,11 @@ pub use Rattle.urlpattern_pattern.specs.Match
 pub use Rattle.urlpattern_matches.specs.MatchInput
 pub use Rattle.urlpattern_pattern.specs.Meaning
 pub use Rattle.urlpattern_pattern.specs.Mismatch
+pub use Rattle.urlpattern_pattern.specs.GeneratedTexts
+pub use Rattle.urlpattern_pattern.specs.KeptParts
+pub use Rattle.urlpattern_pattern.specs.LinkedUrls
 pub use Rattle.urlpattern_pattern.specs.Patterns
+pub use Rattle.urlpattern_pattern.specs.UrlPatterns
 pub use Rattle.urlpattern_matches.specs.GroupTexts
 pub use Rattle.urlpattern_matches.specs.ResultJson
 pub use Rattle.urlpattern_matches.specs.ResultViews
@@ -56,6 +60,7 @@ pub use Rattle.urlpattern_rules.specs.Comparing
 pub use Rattle.urlpattern_rules.specs.Order
 pub use Rattle.urlpattern_rules.specs.declared.pattern.PatternParts
 pub use Rattle.urlpattern_eight.specs.Eight
+pub use Rattle.urlpattern_syntax.specs.ComponentParts
 pub use Rattle.urlpattern_syntax.specs.ErrorText
 pub use Rattle.urlpattern_syntax.specs.Errors
 pub use Rattle.urlpattern_eight.specs.NamedValues
@@ -70,6 +75,7 @@ pub use Rattle.urlpattern_syntax.specs.Stops
 pub use Rattle.urlpattern_syntax.specs.Text
 pub use Rattle.urlpattern_syntax.specs.Tokens
 pub use Rattle.urlpattern_generate.specs.GenerateErrorText
+pub use Rattle.urlpattern_generate.specs.Manners
 pub use Rattle.urlpattern_url.specs.NoLinkText
 pub use Rattle.urlpattern_engine.specs.EcmaRegexps
 pub use Rattle.urlpattern_engine.specs.PatternRegexps
@@ -92,3 +98,4 @@ pub mod NextMatch
 pub mod PatternKeys
 pub mod PatternMaps
 pub mod Theorem
+pub mod Unreached

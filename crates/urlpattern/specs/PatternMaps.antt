@@ -2,7 +2,7 @@
 use Rattle.std.specs.Prelude.{◌≡◌, ℕ, List, Option, Some, IfSome, option_map, slice_get}
 use Rattle.std.specs.Borrow.{Bor}
 use Rattle.std.specs.Map.{keys_of, values_of}
-use Rattle.urlpattern_pattern.specs.declared.pattern.UrlPattern.{UrlPattern}
+use Rattle.urlpattern_pattern.specs.UrlPatterns.{UrlPattern}
 use Rattle.urlpattern_matches.specs.declared.captures.UrlPatternCaptures.{UrlPatternCaptures}
 use Rattle.urlpattern_matches.specs.BorrowedMatches.{pattern_captures_view}
 use Rattle.urlpattern_pattern.specs.Patterns.{PatternView}

@@ -27,5 +27,5 @@ pub use urlpattern_matches::{
     UrlPatternCaptures, UrlPatternCapturesIter, UrlPatternComponentResult, UrlPatternGroups,
     UrlPatternResult, pathname_texts, url_texts,
 };
-pub use urlpattern_pattern::UrlPattern;
+pub use urlpattern_pattern::{CompareError, UrlPattern};
 pub use urlpattern_url::NoLink;

@@ -16,14 +16,15 @@ ghost use Rattle.urlpattern_index.specs.Keys.{hashes_of, hashes_view};
 ghost use Rattle.urlpattern.specs.NextMatch.{matches_left, AsksBeforeMatchFrom, IsFirstCapturedFrom};
 ghost use Rattle.urlpattern_pattern.specs.Match.{IfUrl};
 ghost use Rattle.urlpattern_matches.specs.MatchInput.{texts_view};
-ghost use Rattle.urlpattern_pattern.specs.declared.pattern.UrlPattern.{UrlPattern};
+ghost use Rattle.urlpattern_pattern.specs.UrlPatterns.{UrlPattern};
 ghost use Rattle.urlpattern_syntax.specs.Errors.{OnlyOutOfMemory};
 
 mod finding;
 mod fixed;
 mod matches;
+mod unreached;
 
-use fixed::{fixed_text, outline_of};
+use fixed::fixed_of;
 pub use matches::UrlPatternMatches;
 use std::alloc::Global;
 use std::marker::Model;
@@ -31,7 +32,7 @@ use std::slice;
 use url::{Url, quirks};
 use urlpattern_core::Error;
 use urlpattern_core::regexp::RegExp;
-use urlpattern_index::{Address, AddressHashes, Fixed, Index};
+use urlpattern_index::{Address, AddressHashes, Index};
 use urlpattern_init::UrlPatternMatchInput;
 use urlpattern_inputs::MatchInput;
 use urlpattern_matches::{
@@ -71,7 +72,7 @@ impl<R: RegExp> Drop for UrlPatternList<R> {
 impl<R: RegExp> Model for UrlPatternList<R> {
     ghost use Rattle.std.specs.Prelude.{List};
     ghost use Rattle.urlpattern.specs.PatternKeys.{AreIndexed};
-    ghost use Rattle.urlpattern_pattern.specs.declared.pattern.UrlPattern.{UrlPattern};
+    ghost use Rattle.urlpattern_pattern.specs.UrlPatterns.{UrlPattern};
 
     ghost Value = { List (UrlPattern R) };
 
@@ -115,16 +116,7 @@ impl<R: RegExp> UrlPatternList<R> {
         let Ok(()) = self.patterns.reserve(1) else {
             return Err(pattern);
         };
-        let alloc = *self.patterns.allocator();
-        let Ok(outline) = outline_of(alloc, &pattern.pathname.matcher) else {
-            return Err(pattern);
-        };
-        let Ok(()) = self.index.push(Fixed {
-            protocol: fixed_text(&pattern.protocol.matcher),
-            hostname: fixed_text(&pattern.hostname.matcher),
-            pathname: &outline,
-        })
-        else {
+        let Ok(()) = self.index.push(fixed_of(&pattern)) else {
             return Err(pattern);
         };
         match self.patterns.push(pattern) {

@@ -2,13 +2,15 @@
 //!
 //! The patterns are a list, whose index finds those that can match, and the values lie beside them.
 ghost use Rattle.std.specs.List.{remove};
+ghost use Rattle.std.specs.Map.{keys_of};
 ghost use Rattle.std.specs.Map.Iter.{deref_pair, ShowsInOrder};
 ghost use Rattle.std.specs.Prelude.{◌≡◌, ◌==◌, ◌++◌, [], ◌∷◌, ℕ, length, option_map, slice_get, take, IfErr, IfOk, OnErr, OnOk};
 ghost use Rattle.urlpattern_init.specs.Inheritance.{texts_of_url};
 ghost use Rattle.urlpattern_init.specs.declared.init.UrlPatternMatchInput.TheVariants as inputs;
 ghost use Rattle.urlpattern.specs.FirstMatch.{AsksBeforeMatch, HasGroupsInOrder, IsFirstMatch};
 ghost use Rattle.urlpattern.specs.PatternMaps.{entry_patterns, first_entry_view, HasValueAt, without_value};
-ghost use Rattle.urlpattern_pattern.specs.declared.pattern.UrlPattern.{UrlPattern};
+ghost use Rattle.urlpattern.specs.Unreached.{AreUnreached, LacksParts};
+ghost use Rattle.urlpattern_pattern.specs.UrlPatterns.{UrlPattern};
 ghost use Rattle.urlpattern_syntax.specs.Errors.{OnlyOutOfMemory};
 
 mod iter;
@@ -21,7 +23,8 @@ use url::Url;
 use urlpattern_core::Error;
 use urlpattern_core::regexp::RegExp;
 use urlpattern_matches::UrlPatternCaptures;
-use urlpattern_pattern::UrlPattern;
+use urlpattern_pattern::{CompareError, UrlPattern};
+use urlpattern_rules::Shadowed;
 
 /// Patterns in their order, each with a value, as the routes of a router with their handlers.
 ///
@@ -48,7 +51,7 @@ pub struct UrlPatternMap<T, R: RegExp = regex::Regex> {
 
 impl<T, R: RegExp> Model for UrlPatternMap<T, R> {
     ghost use Rattle.std.specs.Prelude.{◌≡◌, List, length, zip};
-    ghost use Rattle.urlpattern_pattern.specs.declared.pattern.UrlPattern.{UrlPattern};
+    ghost use Rattle.urlpattern_pattern.specs.UrlPatterns.{UrlPattern};
 
     ghost Value = { List (UrlPattern R × T) };
 
@@ -176,6 +179,16 @@ impl<T, R: RegExp> UrlPatternMap<T, R> {
             Some((index, captures)) => Ok(Some((index, &self.values[index], captures))),
             None => Ok(None),
         }
+    }
+
+    /// Lists each pattern that one before it is known to cover, as `UrlPatternList::unreachable` does.
+    ///
+    /// The error is that a pattern has no parts, or that memory ran out.
+    pub fn unreachable(&self, alloc: Global) -> Result<Vec<Shadowed>, CompareError>
+        ensures found { IfOk result (λ found. AreUnreached (keys_of self.now) found.items) }
+        ensures missing { IfErr result (LacksParts (keys_of self.now)) }
+    {
+        self.patterns.unreachable(alloc)
     }
 }
 

@@ -1,12 +1,11 @@
 //! Patterns compared by their parts: which is more specific, which covers another, and which overlap.
 //!
-//! [`parts_of`] gives the parts of a compiled pattern. No URL is needed.
+//! A compiled pattern keeps its parts: `UrlPattern::parts` borrows them, `UrlPattern::into_parts` moves them out. No URL is needed.
 
 pub use urlpattern_readings::laws::{
     covered_patterns_by_these_engines_match, covered_patterns_match, overlapping_patterns_match,
-    patterns_covered_by_meaning_match,
+    patterns_covered_by_meaning_match, patterns_match_what_their_parts_mean,
 };
-pub use urlpattern_readings::parts_of;
 pub use urlpattern_rules::laws::parts_are_in_order;
 pub use urlpattern_rules::{
     ComponentParts, Parting, PatternCovering, PatternOverlap, PatternParts, Reason, Shadowed,

@@ -3,7 +3,7 @@ ghost use Rattle.std.specs.Prelude.{◌≡◌, None};
 ghost use Rattle.urlpattern_c.specs.Handles.{patterns_in};
 ghost use Rattle.urlpattern_c.specs.Returns.{GivesCaptures, GivesFirst, GivesGroupName, GivesLink};
 ghost use Rattle.urlpattern_calls.specs.Calls.{IsAdded, IsFirstReported, IsTested, ReturnsStatus};
-ghost use Rattle.urlpattern_calls.specs.Coverings.{IsInitCovering, IsTextCovering};
+ghost use Rattle.urlpattern_calls.specs.Coverings.{IsCoveringReported};
 ghost use Rattle.urlpattern_calls.specs.Diagnoses.{IsDiagnosed, IsInitDiagnosed};
 ghost use Rattle.urlpattern_calls.specs.Inits.{IsInitAdded};
 ghost use Rattle.urlpattern_calls.specs.Mismatches.{IsCustomReported, IsMismatchReported};
@@ -12,9 +12,9 @@ ghost use Rattle.urlpattern_calls.specs.Texts.{IsComponentWritten, IsExecReporte
 use crate::patterns::Patterns;
 use std::alloc::Global;
 use urlpattern_calls::{
-    Given, Place, Sizes, Span, add, add_init, captures, covers, covers_init, diagnose,
-    diagnose_init, execute, first, first_captures, has_regexp_groups, link, mismatch, test,
-    version, write_component, write_group_name,
+    Given, Place, Sizes, Span, add, add_init, captures, covers, diagnose, diagnose_init, execute,
+    first, first_captures, has_regexp_groups, link, mismatch, test, version, write_component,
+    write_group_name,
 };
 
 /// Compiles a constructor string, with a base URL unless that is empty, and appends the pattern.
@@ -250,34 +250,44 @@ pub extern "C" fn urlpattern_has_regexp_groups(
     status.number()
 }
 
-/// Whether the pattern of a constructor string covers that of the asked one.
+/// Whether a pattern covers the asked one, which the same handle has.
 #[unsafe(no_mangle)]
-pub extern "C" fn urlpattern_covers(
+pub extern "C" fn urlpattern_covers_within(
     alloc: Global,
-    text: &[u8],
-    base: &[u8],
-    asked: &[u8],
-    asked_base: &[u8],
-    ignore_case: bool,
+    patterns: &mut Patterns,
+    index: usize,
+    asked: usize,
     component: &mut u32,
 ) -> u32
-    ensures { ReturnsStatus (IsTextCovering text.now base.now asked.now asked_base.now ignore_case component.new) result }
+    ensures answer { ReturnsStatus (IsCoveringReported (patterns_in patterns.old) index (patterns_in patterns.old) asked component.new) result }
+    ensures unchanged { patterns_in patterns.new ≡ patterns_in patterns.old }
 {
-    covers(alloc, text, base, asked, asked_base, ignore_case, component).number()
+    let kept = patterns.take(alloc);
+    let status = covers(alloc, &kept, index, &kept, asked, component);
+    patterns.put(kept);
+    status.number()
 }
 
-/// Whether the pattern of an init covers that of the asked one.
+/// Whether a pattern covers the asked one, which another handle has.
 #[unsafe(no_mangle)]
-pub extern "C" fn urlpattern_covers_init(
+pub extern "C" fn urlpattern_covers_between(
     alloc: Global,
-    json: &[u8],
-    asked: &[u8],
-    ignore_case: bool,
+    patterns: &mut Patterns,
+    index: usize,
+    others: &mut Patterns,
+    asked: usize,
     component: &mut u32,
 ) -> u32
-    ensures { ReturnsStatus (IsInitCovering json.now asked.now ignore_case component.new) result }
+    ensures answer { ReturnsStatus (IsCoveringReported (patterns_in patterns.old) index (patterns_in others.old) asked component.new) result }
+    ensures unchanged { patterns_in patterns.new ≡ patterns_in patterns.old }
+    ensures others_unchanged { patterns_in others.new ≡ patterns_in others.old }
 {
-    covers_init(alloc, json, asked, ignore_case, component).number()
+    let kept = patterns.take(alloc);
+    let other_kept = others.take(alloc);
+    let status = covers(alloc, &kept, index, &other_kept, asked, component);
+    others.put(other_kept);
+    patterns.put(kept);
+    status.number()
 }
 
 /// Writes why a constructor string is refused, and where it is at fault.

@@ -5,7 +5,7 @@ use Rattle.urlpattern.specs.Errors.{ErrorView, MemoryOr, error_view}
 use Rattle.urlpattern.specs.Errors.{ErrorView as views}
 use Rattle.urlpattern.specs.FromString.{IsPatternOfText, RefusesPatternOfText}
 use Rattle.urlpattern.specs.Patterns.{pattern_view}
-use Rattle.std.specs.Prelude.{slice_get, Some}
+use Rattle.std.specs.Prelude.{slice_get, Some, is_some, IsTrue}
 use Rattle.urlpattern.specs.Eight.{components}
 use Rattle.urlpattern_calls.specs.Calls.{given_base, c_options, error_status, IsAdded, IsPushed, IsTested, IsUrlTested}
 use Rattle.urlpattern_calls.specs.Diagnoses.{IsDiagnosed, IsDiagnosisOfInit, IsDiagnosisOfText, IsInitDiagnosed}
@@ -17,15 +17,16 @@ use Rattle.urlpattern_calls.specs.declared.status.Status.{Status}
 use Rattle.urlpattern_calls.specs.declared.status.Status.TheVariants as statuses
 use Rattle.urlpattern_engine.specs.PatternRegexps.{pattern_engine}
 use Rattle.urlpattern_engine.specs.declared.pattern_regexp.PatternRegexp.{PatternRegexp}
-use Rattle.urlpattern_pattern.specs.declared.pattern.UrlPattern.{UrlPattern}
+use Rattle.urlpattern_pattern.specs.UrlPatterns.{UrlPattern}
 use Rattle.urlpattern_syntax.specs.declared.error.Error.{Error}
 
 -- a pattern that is compiled and pushed is added
 pub added : (old : List (UrlPattern PatternRegexp)) (text base : List ℕ) (ignores : Bool) (pattern : UrlPattern PatternRegexp) (new : List (UrlPattern PatternRegexp)) (status : Status)
-    → IsPatternOfText pattern_engine (chars text) (given_base base) (c_options ignores) (pattern_view pattern) → IsPushed old pattern new status → IsAdded old text base ignores new status
-added old text base ignores pattern new statuses.Done is pushed = (pattern, is, pushed)
-added old text base ignores pattern new statuses.OutOfMemory is pushed = pushed
-added old text base ignores pattern new status is pushed = absurd pushed
+    → IsPatternOfText pattern_engine (chars text) (given_base base) (c_options ignores) (pattern_view pattern) → IsTrue (is_some pattern.parts) → IsPushed old pattern new status
+    → IsAdded old text base ignores new status
+added old text base ignores pattern new statuses.Done is parted pushed = (pattern, is, parted, pushed)
+added old text base ignores pattern new statuses.OutOfMemory is parted pushed = pushed
+added old text base ignores pattern new status is parted pushed = absurd pushed
 
 -- an error is reported in one of two ways
 two_statuses : (error : ErrorView) → (error_status error ≡ statuses.OutOfMemory) ⊎ (error_status error ≡ statuses.Refused)

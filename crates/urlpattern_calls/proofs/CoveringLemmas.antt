@@ -1,34 +1,29 @@
--- Lemmas on the parts of patterns that are compared.
-use Rattle.std.proofs.Common.{◌≡◌, ℕ, Bool, List, inl, inr, sym, ◌∙◌}
-use Rattle.std.specs.Str.{chars}
-use Rattle.urlpattern.specs.Errors.{MemoryOr, error_view}
-use Rattle.urlpattern_calls.proofs.CallLemmas.{reported}
-use Rattle.urlpattern_calls.specs.Calls.{c_options, error_status, given_base}
-use Rattle.urlpattern_calls.specs.Coverings.{IsNoPatternOfInit, IsNoPatternOfText}
+-- Lemmas on patterns that are compared.
+use Rattle.std.proofs.Common.{◌≡◌, ℕ}
+use Rattle.std.specs.Prelude.{Option, None, Some, IsSomeAnd, slice_get}
+use Rattle.urlpattern_calls.specs.Coverings.{AreCompared, IsCoveringReported}
+use Rattle.urlpattern_calls.specs.Kept.{PatternList}
 use Rattle.urlpattern_calls.specs.declared.status.Status.{Status}
 use Rattle.urlpattern_calls.specs.declared.status.Status.TheVariants as statuses
-use Rattle.urlpattern_create.specs.Compiled.{RefusesInit, pattern_values}
-use Rattle.urlpattern_create.specs.FromString.{IsInitOfText, RefusesText}
-use Rattle.urlpattern_engine.specs.PatternRegexps.{pattern_engine}
-use Rattle.urlpattern_init.specs.declared.init.UrlPatternInit.{UrlPatternInit}
-use Rattle.urlpattern_syntax.specs.declared.error.Error.{Error}
+use Rattle.urlpattern_engine.specs.declared.pattern_regexp.PatternRegexp.{PatternRegexp}
+use Rattle.urlpattern_pattern.specs.Comparing.{OfBoth}
+use Rattle.urlpattern_pattern.specs.UrlPatterns.{UrlPattern}
+use Rattle.urlpattern_rules.specs.declared.pattern.PatternParts.{PatternParts}
 
--- an init with the same values is refused with the same errors
-pub same_refusal : (init copy : UrlPatternInit) (ignores : Bool) (error : Error) → pattern_values copy ≡ pattern_values init
-    → MemoryOr (RefusesInit pattern_engine copy (c_options ignores)) error → IsNoPatternOfInit init ignores (error_status (error_view error))
-same_refusal init copy ignores error same why =
-    reported (IsNoPatternOfInit init ignores) (RefusesInit pattern_engine copy (c_options ignores)) error tt
-    (λ reason. (error_view error, (reason.0, sym same ∙ reason.1, reason.2))) why
+some_and : {X : Type 0} (found : Option X) (P Q : X → Type 0) → ((x : X) → P x → Q x) → IsSomeAnd found P → IsSomeAnd found Q
+some_and None P Q weaker is = absurd is
+some_and (Some x) P Q weaker is = weaker x is
 
--- ---- why there is no pattern
+-- what holds of the parts of both, and follows from that
+pub of_both : {E : Type 0} (pattern other : UrlPattern E) (P Q : (parts others : PatternParts) → Type 0)
+    → ((parts others : PatternParts) → P parts others → Q parts others) → OfBoth pattern other P → OfBoth pattern other Q
+of_both pattern other P Q weaker =
+    some_and pattern.parts (λ parts. IsSomeAnd other.parts (P parts)) (λ parts. IsSomeAnd other.parts (Q parts))
+    (λ parts. some_and other.parts (P parts) (Q parts) (weaker parts))
 
-pub text_refused : (text base : List ℕ) (ignores : Bool) (error : Error)
-    → MemoryOr (RefusesText (chars text) (given_base base)) error → IsNoPatternOfText text base ignores (error_status (error_view error))
-text_refused text base ignores error why =
-    reported (IsNoPatternOfText text base ignores) (RefusesText (chars text) (given_base base)) error tt (λ reason. (error_view error, inl reason)) why
-
-pub init_of_text_refused : (text base : List ℕ) (ignores : Bool) (init : UrlPatternInit) (status : Status)
-    → IsInitOfText pattern_engine (chars text) (given_base base) init → IsNoPatternOfInit init ignores status → IsNoPatternOfText text base ignores status
-init_of_text_refused text base ignores init statuses.Refused is none = (none.0, inr (init, is, none.1))
-init_of_text_refused text base ignores init statuses.OutOfMemory is none = tt
-init_of_text_refused text base ignores init status is none = absurd none
+-- what is reported of two patterns is that of the patterns at their indices
+pub covering_reported : (patterns : PatternList) (index : ℕ) (others : PatternList) (asked : ℕ) (pattern other : UrlPattern PatternRegexp) (number : ℕ) (status : Status)
+    → slice_get patterns index ≡ Some pattern → slice_get others asked ≡ Some other → AreCompared pattern other number status
+    → IsCoveringReported patterns index others asked number status
+covering_reported patterns index others asked pattern other number statuses.NoPattern is other_is compared = absurd compared
+covering_reported patterns index others asked pattern other number status is other_is compared = (pattern, other, is, other_is, compared)

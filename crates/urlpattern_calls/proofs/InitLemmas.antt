@@ -1,5 +1,6 @@
 -- Lemmas on inits.
 use Rattle.std.proofs.Common.{ℕ, Bool, List, refl, inl, inr}
+use Rattle.std.specs.Prelude.{is_some, IsTrue}
 use Rattle.urlpattern.specs.Errors.{MemoryOr, error_view}
 use Rattle.urlpattern.specs.Patterns.{pattern_view}
 use Rattle.urlpattern_calls.proofs.CallLemmas.{reported}
@@ -12,14 +13,14 @@ use Rattle.urlpattern_create.specs.Compiled.{IsPatternOfInit, RefusesInit}
 use Rattle.urlpattern_engine.specs.PatternRegexps.{pattern_engine}
 use Rattle.urlpattern_engine.specs.declared.pattern_regexp.PatternRegexp.{PatternRegexp}
 use Rattle.urlpattern_init.specs.declared.init.UrlPatternInit.{UrlPatternInit}
-use Rattle.urlpattern_pattern.specs.declared.pattern.UrlPattern.{UrlPattern}
+use Rattle.urlpattern_pattern.specs.UrlPatterns.{UrlPattern}
 use Rattle.urlpattern_syntax.specs.declared.error.Error.{Error}
 
 pub init_added : (old : PatternList) (json : List ℕ) (ignores : Bool) (init : UrlPatternInit) (pattern : UrlPattern PatternRegexp) (new : PatternList) (status : Status)
-    → IsInitOfJson json init → IsPatternOfInit pattern_engine init (c_options ignores) (pattern_view pattern) → IsPushed old pattern new status → IsInitAdded old json ignores new status
-init_added old json ignores init pattern new statuses.Done is compiled pushed = (init, pattern, is, compiled, pushed)
-init_added old json ignores init pattern new statuses.OutOfMemory is compiled pushed = pushed
-init_added old json ignores init pattern new status is compiled pushed = absurd pushed
+    → IsInitOfJson json init → IsPatternOfInit pattern_engine init (c_options ignores) (pattern_view pattern) → IsTrue (is_some pattern.parts) → IsPushed old pattern new status → IsInitAdded old json ignores new status
+init_added old json ignores init pattern new statuses.Done is compiled parted pushed = (init, pattern, is, compiled, parted, pushed)
+init_added old json ignores init pattern new statuses.OutOfMemory is compiled parted pushed = pushed
+init_added old json ignores init pattern new status is compiled parted pushed = absurd pushed
 
 -- where there is no init, the patterns are as they were
 pub no_init : (old : PatternList) (json : List ℕ) (ignores : Bool) (status : Status) → IsNoInit json status → IsInitAdded old json ignores old status

@@ -2,7 +2,6 @@
 use Rattle.std.proofs.Common.{◌≡◌, ℕ, List, length, inl, inr}
 use Rattle.std.specs.Prelude.{slice_get, Some}
 use Rattle.url.specs.Parts.{Parts, serialize}
-use Rattle.urlpattern.specs.Patterns.{PatternView, pattern_view}
 use Rattle.urlpattern_calls.specs.Kept.{PatternList}
 use Rattle.urlpattern_calls.specs.Links.{IsLinkReported, IsReasonWritten, IsUrlLinked}
 use Rattle.urlpattern_calls.specs.Texts.{IsWritten}
@@ -11,10 +10,10 @@ use Rattle.urlpattern_calls.specs.declared.status.Status.TheVariants as statuses
 use Rattle.urlpattern_engine.specs.declared.pattern_regexp.PatternRegexp.{PatternRegexp}
 use Rattle.urlpattern_linking.specs.Links.{IsLinkOf, RefusesLinkOf}
 use Rattle.urlpattern_linking.specs.declared.given.Given.{Given}
-use Rattle.urlpattern_pattern.specs.declared.pattern.UrlPattern.{UrlPattern}
+use Rattle.urlpattern_pattern.specs.UrlPatterns.{UrlPattern}
 use Rattle.urlpattern_url.specs.declared.error.NoLink.{NoLink}
 
-module _ (pattern : PatternView PatternRegexp) (text : List ℕ) (given : List Given) (old new : List ℕ) (needed : ℕ) where
+module _ (pattern : UrlPattern PatternRegexp) (text : List ℕ) (given : List Given) (old new : List ℕ) (needed : ℕ) where
   pub link_written : (url : Parts) (bytes : List ℕ) (status : Status) → IsLinkOf pattern text given url → bytes ≡ serialize url → needed ≡ length bytes → IsWritten bytes old new status
       → IsUrlLinked pattern text given old new needed status
   link_written url bytes statuses.Done is same counted written = (bytes, (url, is, same), counted, written)
@@ -28,6 +27,6 @@ module _ (pattern : PatternView PatternRegexp) (text : List ℕ) (given : List G
   reason_written reason status refused written = absurd written
 
 pub linked : (patterns : PatternList) (index : ℕ) (pattern : UrlPattern PatternRegexp) (text : List ℕ) (given : List Given) (old new : List ℕ) (needed : ℕ) (status : Status)
-    → slice_get patterns index ≡ Some pattern → IsUrlLinked (pattern_view pattern) text given old new needed status → IsLinkReported patterns index text given old new needed status
+    → slice_get patterns index ≡ Some pattern → IsUrlLinked pattern text given old new needed status → IsLinkReported patterns index text given old new needed status
 linked patterns index pattern text given old new needed statuses.NoPattern is answer = (inr answer.0, answer.1)
 linked patterns index pattern text given old new needed status is answer = (pattern, is, answer)

@@ -1,12 +1,10 @@
 -- What calls report, of texts that are bytes.
-use Rattle.std.specs.Prelude.{◌≡◌, ◌⊎◌, ◌++◌, ℕ, Bool, List, [], ◌∷◌, length, max, slice_get, MatchOption, Option, None, Some, Ok}
+use Rattle.std.specs.Prelude.{◌≡◌, ◌⊎◌, ◌++◌, ℕ, Bool, List, [], ◌∷◌, slice_get, Option, None, Some, is_some, IsTrue}
 use Rattle.std.specs.Str.{chars, IsUtf8}
 use Rattle.url.specs.Parts.{Parts}
-use Rattle.url.specs.declared.Url.{Url}
-use Rattle.urlpattern.specs.Canonical.{IsRefusedByUrl, Reports}
 use Rattle.urlpattern.specs.Errors.{ErrorView}
 use Rattle.urlpattern.specs.Errors.{ErrorView as views}
-use Rattle.urlpattern.specs.Inputs.{longer_bytes, parsed_text, text_bytes}
+use Rattle.urlpattern_canonical.specs.BaseUrls.{IsRefusedText, IsUrlOf}
 use Rattle.urlpattern.specs.FromString.{IsPatternOfText, RefusesPatternOfText}
 use Rattle.urlpattern.specs.FirstMatch.{IsFirstMatch, patterns_view}
 use Rattle.urlpattern.specs.Match.{HasMatch, HasNoMatch}
@@ -20,7 +18,7 @@ use Rattle.urlpattern_engine.specs.PatternRegexps.{pattern_answer, pattern_engin
 use Rattle.urlpattern_engine.specs.declared.pattern_regexp.PatternRegexp.{PatternRegexp}
 use Rattle.urlpattern_init.specs.declared.init.UrlPatternMatchInput.TheVariants as match_inputs
 use Rattle.urlpattern_inputs.specs.declared.options.UrlPatternOptions.{UrlPatternOptions}
-use Rattle.urlpattern_pattern.specs.declared.pattern.UrlPattern.{UrlPattern}
+use Rattle.urlpattern_pattern.specs.UrlPatterns.{UrlPattern}
 use Rattle.urlpattern_syntax.specs.declared.parser.RegexSyntax.TheVariants.{Rust}
 
 -- the number is that of a status of which this holds
@@ -56,10 +54,11 @@ IsPushed old pattern new statuses.Done = new ≡ old ++ pattern ∷ []
 IsPushed old pattern new statuses.OutOfMemory = new ≡ old
 IsPushed old pattern new status = ⊥
 
--- the constructor string with this base URL is compiled, and its pattern appended; else the patterns are as they were
+-- the constructor string with this base URL is compiled, and its pattern, which has parts, appended; else the patterns are as they were
 abbrev pub IsAdded : (old : List (UrlPattern PatternRegexp)) → (text base : List ℕ) → (ignore_case : Bool) → (new : List (UrlPattern PatternRegexp)) → Status → Type 0
 IsAdded old text base ignores new statuses.Done =
-    (pattern : UrlPattern PatternRegexp) × IsCompiledFromText text (given_base base) ignores pattern × (new ≡ old ++ pattern ∷ [])
+    (pattern : UrlPattern PatternRegexp) × IsCompiledFromText text (given_base base) ignores pattern × IsTrue (is_some pattern.parts)
+    × (new ≡ old ++ pattern ∷ [])
 IsAdded old text base ignores new statuses.Refused =
     (error : ErrorView) × RefusesToCompile text (given_base base) ignores error × (new ≡ old)
 IsAdded old text base ignores new statuses.NotUtf8 = ((¬ IsUtf8 text) ⊎ (¬ IsUtf8 base)) × (new ≡ old)
@@ -68,26 +67,14 @@ IsAdded old text base ignores new status = ⊥
 
 -- ---- URLs
 
--- `url` refuses the text or the base URL, or they are too long
-abbrev pub RefusesUrlText : (text : List ℕ) → (base : Option (List ℕ)) → Type 0
-RefusesUrlText text base = IsRefusedByUrl (parsed_text base text) (max (length text) (text_bytes base))
-
--- with this error `url` refuses them
-abbrev pub ReportsUrlText : (text : List ℕ) → (base : Option (List ℕ)) → ErrorView → Type 0
-ReportsUrlText text base = Reports (parsed_text base text) (longer_bytes base text)
-
--- what is found is the URL of the text; None where it has none
-abbrev pub ParsesUrl : (text : List ℕ) → (base : Option (List ℕ)) → Option Url → Type 0
-ParsesUrl text base found = MatchOption found (RefusesUrlText text base) (λ url. parsed_text base text ≡ Ok url)
-
 -- the text is this URL, under the base URL unless that is empty
 abbrev pub IsUrlUnderBase : (text base : List ℕ) → Parts → Type 0
-IsUrlUnderBase text base url = parsed_text (given_base base) text ≡ Ok url
+IsUrlUnderBase text base url = IsUrlOf text (given_base base) url
 
 -- why the text is no URL
 abbrev pub IsNoUrl : (text base : List ℕ) → Status → Type 0
 IsNoUrl text base statuses.NotUtf8 = (¬ IsUtf8 text) ⊎ (¬ IsUtf8 base)
-IsNoUrl text base statuses.NoMatch = RefusesUrlText text (given_base base)
+IsNoUrl text base statuses.NoMatch = IsRefusedText text (given_base base)
 IsNoUrl text base statuses.OutOfMemory = Unit {0}
 IsNoUrl text base status = ⊥
 

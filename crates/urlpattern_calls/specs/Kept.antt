@@ -4,7 +4,7 @@ use Rattle.std.specs.Global.{Global}
 use Rattle.std.specs.declared.boxed.Box.{Box}
 use Rattle.urlpattern_calls.specs.declared.kept.Kept.{Kept}
 use Rattle.urlpattern_engine.specs.declared.pattern_regexp.PatternRegexp.{PatternRegexp}
-use Rattle.urlpattern_pattern.specs.declared.pattern.UrlPattern.{UrlPattern}
+use Rattle.urlpattern_pattern.specs.UrlPatterns.{UrlPattern}
 
 -- patterns in their order
 abbrev pub PatternList : Type 0

@@ -1,7 +1,6 @@
 -- What is written of URLs of patterns whose groups are given.
 use Rattle.std.specs.Prelude.{◌≡◌, ◌⊎◌, ℕ, Any, List, IfSome, None, Some, slice_get}
 use Rattle.url.specs.Parts.{Parts, serialize}
-use Rattle.urlpattern.specs.Patterns.{PatternView, pattern_view}
 use Rattle.urlpattern_calls.specs.Kept.{PatternList}
 use Rattle.urlpattern_calls.specs.Texts.{WritesToBuffer}
 use Rattle.urlpattern_calls.specs.declared.status.Status.{Status}
@@ -10,7 +9,7 @@ use Rattle.urlpattern_engine.specs.declared.pattern_regexp.PatternRegexp.{Patter
 use Rattle.urlpattern_linking.specs.Given.{GivesNothing}
 use Rattle.urlpattern_linking.specs.Links.{IsLinkOf, RefusesLinkOf}
 pub use Rattle.urlpattern_linking.specs.declared.given.Given.{Given}
-use Rattle.urlpattern_pattern.specs.declared.pattern.UrlPattern.{UrlPattern}
+use Rattle.urlpattern_pattern.specs.UrlPatterns.{UrlPattern}
 use Rattle.urlpattern_url.specs.NoLinkText.{no_link_text}
 use Rattle.urlpattern_url.specs.declared.error.NoLink.{NoLink}
 
@@ -26,15 +25,15 @@ IsReasonWritten reason old new needed statuses.OutOfMemory = new ≡ old
 IsReasonWritten reason old new needed status = ⊥
 
 -- the text is that of the pattern's URL
-abbrev pub IsTextOfLink : PatternView PatternRegexp → (text : List ℕ) → List Given → (written : List ℕ) → Type 0
+abbrev pub IsTextOfLink : UrlPattern PatternRegexp → (text : List ℕ) → List Given → (written : List ℕ) → Type 0
 IsTextOfLink pattern text given written = (url : Parts) × IsLinkOf pattern text given url × (written ≡ serialize url)
 
 -- the text says why the pattern has no URL
-abbrev pub IsTextOfNoLink : PatternView PatternRegexp → (text : List ℕ) → List Given → (written : List ℕ) → Type 0
+abbrev pub IsTextOfNoLink : UrlPattern PatternRegexp → (text : List ℕ) → List Given → (written : List ℕ) → Type 0
 IsTextOfNoLink pattern text given written = (reason : NoLink) × RefusesLinkOf pattern text given reason × SaysWhy reason written
 
 -- Done: the URL is written. Refused: why there is none. TooSmall: there is no room for the one or the other.
-abbrev pub IsUrlLinked : PatternView PatternRegexp → (text : List ℕ) → List Given → (old new : List ℕ) → (needed : ℕ) → Status → Type 0
+abbrev pub IsUrlLinked : UrlPattern PatternRegexp → (text : List ℕ) → List Given → (old new : List ℕ) → (needed : ℕ) → Status → Type 0
 IsUrlLinked pattern text given old new needed statuses.Done = WritesToBuffer (IsTextOfLink pattern text given) old new needed statuses.Done
 IsUrlLinked pattern text given old new needed statuses.Refused = WritesToBuffer (IsTextOfNoLink pattern text given) old new needed statuses.Done
 IsUrlLinked pattern text given old new needed statuses.TooSmall =
@@ -49,4 +48,4 @@ IsLinkReported patterns index text given old new needed statuses.NoPattern =
     ((slice_get patterns index ≡ None) ⊎ Any (GivesNothing text) given) × (new ≡ old)
 IsLinkReported patterns index text given old new needed status =
     (pattern : UrlPattern PatternRegexp) × (slice_get patterns index ≡ Some pattern)
-    × IsUrlLinked (pattern_view pattern) text given old new needed status
+    × IsUrlLinked pattern text given old new needed status

@@ -13,7 +13,7 @@ use Rattle.urlpattern_engine.specs.PatternRegexps.{pattern_answer}
 use Rattle.urlpattern_engine.specs.declared.pattern_regexp.PatternRegexp.{PatternRegexp}
 use Rattle.urlpattern_init.specs.Inheritance.{texts_of_url}
 use Rattle.urlpattern_pattern.specs.Mismatch.{FindsMismatch}
-use Rattle.urlpattern_pattern.specs.declared.pattern.UrlPattern.{UrlPattern}
+use Rattle.urlpattern_pattern.specs.UrlPatterns.{UrlPattern}
 
 -- the number that is no component's
 abbrev pub no_component : ℕ

@@ -23,7 +23,7 @@ use Rattle.urlpattern_matches.specs.BorrowedMatches.{groups_view}
 use Rattle.urlpattern_matches.specs.ResultViews.{ResultView}
 use Rattle.urlpattern_matches.specs.declared.captures.UrlPatternCaptures.{UrlPatternCaptures}
 use Rattle.urlpattern_pattern.specs.Match.{AreGroupsInOrder}
-use Rattle.urlpattern_pattern.specs.declared.pattern.UrlPattern.{UrlPattern}
+use Rattle.urlpattern_pattern.specs.UrlPatterns.{UrlPattern}
 
 -- ---- groups
 

@@ -18,7 +18,7 @@ use Rattle.urlpattern_engine.specs.declared.pattern_regexp.PatternRegexp.{Patter
 use Rattle.urlpattern_init.specs.declared.init.UrlPatternMatchInput.TheVariants as match_inputs
 use Rattle.urlpattern_matches.specs.ResultJson.{IsResultTree, plain_results_view}
 use Rattle.urlpattern_matches.specs.declared.result.UrlPatternResult.{UrlPatternResult}
-use Rattle.urlpattern_pattern.specs.declared.pattern.UrlPattern.{UrlPattern}
+use Rattle.urlpattern_pattern.specs.UrlPatterns.{UrlPattern}
 
 -- The buffer begins with the text, and the rest of it is as it was; or the text has more bytes, and the buffer is as it was.
 abbrev pub IsWritten : (text old new : List ℕ) → Status → Type 0

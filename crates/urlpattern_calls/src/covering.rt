@@ -1,65 +1,52 @@
 //! Says whether a pattern covers another one.
-ghost use Rattle.urlpattern_calls.specs.Coverings.{AreCompared, IsInitCovering, IsTextCovering};
+ghost use Rattle.std.specs.Prelude.{◌≡◌};
+ghost use Rattle.urlpattern_calls.specs.Coverings.{AreCompared, IsCoveringReported};
+ghost use Rattle.urlpattern_calls.specs.Kept.{boxed_patterns};
+ghost use Rattle.urlpattern_calls.specs.Mismatches.{no_component};
 
+use crate::kept::{Kept, pattern_at};
 use crate::mismatching::{NO_COMPONENT, component_number};
-use crate::parts::{parts_of_json, parts_of_text};
 use crate::status::Status;
 use std::alloc::Global;
-use urlpattern::rules::{PatternCovering, PatternParts};
+use urlpattern::regexp::PatternRegexp;
+use urlpattern::rules::PatternCovering;
+use urlpattern::{CompareError, UrlPattern};
 
-/// Whether the pattern of a constructor string covers that of the asked one. Writes the number of a component in which they part, or
-/// because of which it is not known, or the number of none.
+/// Whether the pattern at an index covers the one at the asked index, of the same patterns or of others. Writes the number of a
+/// component in which they part, or because of which it is not known, or the number of none.
 pub fn covers(
     alloc: Global,
-    text: &[u8],
-    base: &[u8],
-    asked: &[u8],
-    asked_base: &[u8],
-    ignore_case: bool,
+    kept: &Option<Box<Kept>>,
+    index: usize,
+    others: &Option<Box<Kept>>,
+    asked: usize,
     component: &mut u32,
 ) -> Status
-    ensures { IsTextCovering text.now base.now asked.now asked_base.now ignore_case component.new result }
+    ensures { IsCoveringReported (boxed_patterns kept.now) index (boxed_patterns others.now) asked component.new result }
 {
     *component = NO_COMPONENT;
-    let parts = match parts_of_text(alloc, text, base, ignore_case) {
-        Ok(parts) => parts,
-        Err(status) => return status,
+    let pattern = match pattern_at(kept, index) {
+        Some(pattern) => pattern,
+        None => return Status::NoPattern,
     };
-    let asked_parts = match parts_of_text(alloc, asked, asked_base, ignore_case) {
-        Ok(asked_parts) => asked_parts,
-        Err(status) => return status,
+    let other = match pattern_at(others, asked) {
+        Some(other) => other,
+        None => return Status::NoPattern,
     };
-    compare(alloc, &parts, &asked_parts, component)
+    compare(alloc, pattern, other, component)
 }
 
-/// The same of inits that JSON gives.
-pub fn covers_init(
+/// Whether a pattern covers the asked one. The number of none is written before.
+fn compare(
     alloc: Global,
-    json: &[u8],
-    asked: &[u8],
-    ignore_case: bool,
+    pattern: &UrlPattern<PatternRegexp>,
+    asked: &UrlPattern<PatternRegexp>,
     component: &mut u32,
 ) -> Status
-    ensures { IsInitCovering json.now asked.now ignore_case component.new result }
+    requires { component.old ≡ no_component }
+    ensures { AreCompared pattern.now asked.now component.new result }
 {
-    *component = NO_COMPONENT;
-    let parts = match parts_of_json(alloc, json, ignore_case) {
-        Ok(parts) => parts,
-        Err(status) => return status,
-    };
-    let asked_parts = match parts_of_json(alloc, asked, ignore_case) {
-        Ok(asked_parts) => asked_parts,
-        Err(status) => return status,
-    };
-    compare(alloc, &parts, &asked_parts, component)
-}
-
-/// Whether a pattern with these parts covers one with the asked ones.
-fn compare(alloc: Global, parts: &PatternParts, asked: &PatternParts, component: &mut u32) -> Status
-    ensures { AreCompared parts.now asked.now component.new result }
-{
-    *component = NO_COMPONENT;
-    match parts.covers(alloc, asked) {
+    match pattern.covers(alloc, asked) {
         Ok(PatternCovering::Covered) => Status::Done,
         Ok(PatternCovering::NotCovered(parting)) => {
             *component = component_number(parting.component);
@@ -69,6 +56,7 @@ fn compare(alloc: Global, parts: &PatternParts, asked: &PatternParts, component:
             *component = component_number(name);
             Status::Unknown
         }
-        Err(_) => Status::OutOfMemory,
+        Err(CompareError::NoParts) => Status::Unknown,
+        Err(CompareError::OutOfMemory) => Status::OutOfMemory,
     }
 }

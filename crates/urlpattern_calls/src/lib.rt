@@ -11,7 +11,6 @@ mod inits;
 mod kept;
 mod linking;
 mod mismatching;
-mod parts;
 mod release;
 mod spans;
 mod status;
@@ -21,7 +20,7 @@ mod urls;
 
 pub use adding::add;
 pub use capturing::{captures, first_captures};
-pub use covering::{covers, covers_init};
+pub use covering::covers;
 pub use diagnosing::{Place, diagnose, diagnose_init};
 pub use inits::add_init;
 pub use kept::Kept;

@@ -1,6 +1,5 @@
 //! Writes URLs of patterns whose groups are given.
 ghost use Rattle.std.specs.Prelude.{◌≡◌, length, string_bytes};
-ghost use Rattle.urlpattern.specs.Patterns.{pattern_view};
 ghost use Rattle.urlpattern_calls.specs.Kept.{boxed_patterns};
 ghost use Rattle.urlpattern_calls.specs.Links.{IsLinkReported, IsReasonWritten, IsUrlLinked};
 
@@ -39,7 +38,7 @@ fn link_pattern(
     buffer: &mut [u8],
     needed: &mut usize,
 ) -> Status
-    ensures { IsUrlLinked (pattern_view pattern.now) text.now given.now buffer.old buffer.new needed.new result }
+    ensures { IsUrlLinked pattern.now text.now given.now buffer.old buffer.new needed.new result }
 {
     match urlpattern_linking::link(alloc, pattern, text, given) {
         Ok(url) => write(url.as_str(), buffer, needed),

@@ -14,7 +14,7 @@ use Rattle.url.specs.declared.error.ParseError.TheVariants.{Overflow, OutOfMemor
 use Rattle.url.specs.Parser.{Gives, GivesBy, IsOutOfRoom, Parsed, and_then, parse_url}
 use Rattle.url.specs.Parts.{Parts}
 use Rattle.urlpattern_canonical.specs.Asking.{IsRefusedAs, reported_as}
-use Rattle.urlpattern_canonical.specs.Canonical.{IsAnswer, IsReported, Reports, after, canonical, dummy_url, long_text, path_of, pathname_of, reported_error, scheme_for_port, refused_as, without_guard}
+use Rattle.urlpattern_canonical.specs.Canonical.{IsRefusedByUrl, IsAnswer, IsReported, Reports, after, canonical, dummy_url, long_text, path_of, pathname_of, reported_error, scheme_for_port, refused_as, without_guard}
 use Rattle.urlpattern_syntax.proofs.TextLemmas.{chars-empty}
 use Rattle.urlpattern_syntax.specs.declared.error.Error.{Error}
 use Rattle.urlpattern_syntax.specs.declared.error.Error.TheVariants as errors
@@ -135,6 +135,18 @@ pub reported_parse : (answer : Parsed Parts) (asked : Parsed Parts) (bytes : ℕ
 reported_parse answer asked bytes (Ok url) gives reported = (reported-ok (λ x. x) answer asked bytes (Ok url) url gives reported refl, tt)
 reported_parse answer asked bytes (Err error) gives reported =
     (tt, reported-err (λ x. x) answer asked asked bytes (Err error) error gives reported refl (λ reason e. e))
+
+-- a refusal that is told is one of `url`
+pub refused_by_url : {T : Type 0} (asked : Parsed T) (bytes : ℕ) (error : Error) (reason : ParseError) → error ≡ errors.Url reason
+    → MemoryOr (Reports asked bytes) error → IsRefusedByUrl asked bytes
+refused_by_url asked bytes error reason is reported =
+    elim (rw is at reported) [
+      | inl memory ↦ absurd cc
+      | inr refused ↦ elim refused.1 [
+        | inl same ↦ inl (reason, same)
+        | inr long ↦ inr long.1
+      ]
+    ]
 
 -- ---- the steps of a question
 

@@ -1,3 +1,4 @@
+pub mod BaseUrlLemmas
 pub mod CanonicalLemmas
 pub mod SettingLemmas
 pub mod MarkLemmas

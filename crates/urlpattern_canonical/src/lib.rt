@@ -1,4 +1,8 @@
-//! Canonical values of the components of a URL, as `url` answers them, and the values of an init.
+//! Canonical values of the components of a URL, as `url` answers them, the values of an init, and the
+//! URLs of texts.
 #![tactic(auto)]
 
+mod base_url;
 pub mod canonicalize_and_process;
+
+pub use base_url::{BaseUrl, find_url, parse_base};

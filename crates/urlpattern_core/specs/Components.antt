@@ -1,7 +1,7 @@
 -- What a component is that is compiled from a pattern text.
 use Rattle.std.specs.Prelude.{◌≡◌, ◌⊎◌, ℕ, Bool, true, false, not, List, map, codes, Option, Some, None, Result, Ok, Err, IsTrue, if◌then◌else◌}
 use Rattle.std.specs.{Borrow.Bor, List.list_any}
-use Rattle.urlpattern_core.specs.declared.component.Component.{Component}
+use Rattle.urlpattern_core.specs.declared.component.{Component.Component, ComponentWithParts.ComponentWithParts}
 use Rattle.urlpattern_core.specs.declared.regexp.RegExp.{Ghosts as Engine}
 use Rattle.urlpattern_core.specs.Matchers.{engine_view, matcher_view}
 use Rattle.urlpattern_meaning.specs.Matching.{AnswersByMeaning, IsMadeOf, MatcherView}
@@ -9,7 +9,7 @@ use Rattle.urlpattern_meaning.specs.Printing.{printed}
 use Rattle.urlpattern_syntax.specs.declared.error.Error.{Error}
 use Rattle.urlpattern_syntax.specs.Errors.{ErrorView, MemoryOr}
 use Rattle.urlpattern_syntax.specs.declared.parser.{RegexSyntax.RegexSyntax, PartType.PartType}
-use Rattle.urlpattern_syntax.specs.{Options.OptionsView, Parts.PartView}
+use Rattle.urlpattern_syntax.specs.{ComponentParts.kept_options, ComponentParts.kept_parts, Options.OptionsView, Parts.PartView}
 use Rattle.urlpattern_syntax.specs.Reading.{Encoding, Reads, Refuses}
 use Rattle.urlpattern_syntax.specs.RegexpText.{group_names, regexp_text}
 use Rattle.urlpattern_syntax.specs.Text.{chars, lacks, text_of}
@@ -84,6 +84,13 @@ pub record IsComponentOf {E : Type 0} (engine : Engine E) (options : OptionsView
 abbrev pub IsCompiledFrom : {E : Type 0} → Engine E → (text : List ℕ) → OptionsView → Encoding → ComponentView E → Type 0
 IsCompiledFrom engine text options encoding component =
     (parts : List PartView) × Reads text options encoding parts × IsComponentOf engine options parts component
+
+-- The component is compiled from the text, and the parts that are kept beside it are those that the text means: its five fields are
+-- made of them.
+pub record IsCompiledKeeping {E : Type 0} (engine : Engine E) (text : List ℕ) (options : OptionsView) (encoding : Encoding) (made : ComponentWithParts E) : Type 0 where
+  pub options_are : kept_options made.kept ≡ options
+  pub reads : Reads text options encoding (kept_parts made.kept)
+  pub is_made : IsComponentOf engine options (kept_parts made.kept) (component_view made.component)
 
 -- the error is one with which the text is refused, or that memory ran out
 abbrev pub FailsToRead : (text : List ℕ) → OptionsView → Encoding → Error → Type 0

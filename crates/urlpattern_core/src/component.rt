@@ -10,10 +10,11 @@ mod normal;
 
 use crate::error::Error;
 use crate::matcher::Matcher;
-pub use matchers::generate_matcher;
+pub use matchers::{generate_matcher, is_plain};
 pub use normal::normalize_part_list;
 use std::fmt;
 pub use urlpattern_printing::{generate_pattern_string, generate_regular_expression_and_name_list};
+use urlpattern_syntax::ComponentParts;
 
 /// What a pattern text is compiled to.
 ///
@@ -61,6 +62,37 @@ impl<R: Drop> Component<R> {
             matcher,
             has_regexp_group,
         )
+    }
+}
+
+/// A component, and the parts that it was made of.
+///
+/// It has a `Drop` of its own, so its fields are moved out together, by `into_fields`.
+#[derive(Debug)]
+pub struct ComponentWithParts<R> {
+    /// The component.
+    pub component: Component<R>,
+    /// The parts that its pattern text read as, with their options.
+    pub kept: ComponentParts,
+}
+
+impl<R: Drop> ComponentWithParts<R> {
+    /// The component and its parts.
+    pub fn into_fields(self) -> (Component<R>, ComponentParts)
+        ensures { result ≡ (self.component, self.kept) }
+    {
+        let Self { component, kept } = self;
+        (component, kept)
+    }
+}
+
+impl<R: Drop> Drop for ComponentWithParts<R> {
+    /// Drops the fields. Where they go out of scope, the prover handles one call in place of two.
+    fn drop(self) {
+        let Self {
+            component: _component,
+            kept: _kept,
+        } = self;
     }
 }
 

@@ -7,6 +7,5 @@ pub mod component;
 pub mod matcher;
 pub mod regexp;
 
-pub use urlpattern_meaning::outline;
 pub use urlpattern_parser::{parser, tokenizer};
 pub use urlpattern_syntax::{Error, RegexSyntax, error};

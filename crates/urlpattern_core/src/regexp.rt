@@ -2,16 +2,15 @@
 
 mod rust;
 
-ghost use Rattle.std.specs.Prelude.{◌≡◌, ◌≢◌, Bool, ℕ, List, Option, Err, IfOk, None};
+ghost use Rattle.std.specs.Prelude.{◌≡◌, Bool, ℕ, List, Option, Err, IfOk, IsTrue};
 ghost use Rattle.std.specs.Str.{chars};
 ghost use Rattle.urlpattern_meaning.specs.CaptureTexts.{captures_view};
-ghost use Rattle.urlpattern_meaning.specs.Outlines.{HasOutline};
+ghost use Rattle.urlpattern_meaning.specs.Matching.{ValuesAgreeWithParts};
 ghost use Rattle.urlpattern_meaning.specs.PartMeaning.{Captures};
 ghost use Rattle.urlpattern_syntax.specs.declared.error.RegExpError.TheVariants.{Pattern};
 ghost use Rattle.urlpattern_syntax.specs.declared.parser.RegexSyntax.{RegexSyntax};
 
 use crate::error::{OutOfMemory, RegExpError};
-use crate::outline::OutlineItem;
 use crate::parser::RegexSyntax;
 use regex::Regex;
 use std::alloc::Global;
@@ -78,14 +77,12 @@ pub trait RegExp: Sized + Drop {
     fn pattern_string(&self) -> &str
         ensures { chars result.now ≡ text_made_of self.now };
 
-    /// What is known of each text that is matched: an outline that it has. An engine that knows nothing keeps this body, by
-    /// which it is any text.
-    ///
-    /// The error is that memory ran out.
-    fn outline(&self, alloc: Global) -> Result<Vec<OutlineItem>, OutOfMemory>
-        ensures { IfOk result (λ outline. (text : List ℕ) → answer self.now text ≢ None → HasOutline outline.items text) }
+    /// Whether it is known that each value that was made of parts, none of them custom, with the flag `u` alone, answers what
+    /// the parts mean. An engine of which it is not keeps this body.
+    fn agrees_with_parts() -> bool
+        ensures { IsTrue result → ValuesAgreeWithParts IsMade answer }
     {
-        Ok(vec![in alloc; OutlineItem::Anything]?)
+        false
     }
 }
 

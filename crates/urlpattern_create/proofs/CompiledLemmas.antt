@@ -9,8 +9,9 @@ use Rattle.std.specs.Str.{chars, IsAscii, IsUtf8}
 use Rattle.std.specs.declared.alloc.Global.{Global}
 use Rattle.std.proofs.lemmas.Str.{IsUtf8-string_bytes}
 use Rattle.urlpattern_meaning.proofs.Encodings.{Weakens, reads_weaker, refuses_weaker}
-use Rattle.urlpattern_create.specs.Compiled.{AreCompiled, EachIsCompiled, FirstRefused, HasEngine, IsComponentCompiled, IsPathKind, IsComponentRefused, IsPatternOfInit, IsRefusedFrom, Manner, RefusesInit, RefusesValues, after_protocol, has_default_port, is_ipv6_pattern, is_mark, is_same, manner_of, pattern_values, without_default_port}
-use Rattle.urlpattern_create.specs.PatternViews.{IfComponents}
+use Rattle.urlpattern_create.specs.Compiled.{AreCompiled, FirstRefused, HasEngine, IsComponentCompiled, IsPathKind, IsComponentRefused, IsRefusedFrom, Manner, RefusesInit, RefusesValues, after_protocol, canonical_encoding, has_default_port, is_ipv6_pattern, is_mark, is_same, manner_of, pattern_values, without_default_port}
+use Rattle.urlpattern_create.specs.Kept.{AreCompiledKeeping, EachIsKept, IsKept, IsKeptOfInit}
+use Rattle.urlpattern_create.specs.PatternViews.{PatternView}
 use Rattle.urlpattern_eight.specs.declared.eight.ComponentName.{ComponentName as Names}
 use Rattle.urlpattern_eight.specs.declared.eight.ComponentName.TheVariants.{Protocol}
 use Rattle.urlpattern_init.specs.declared.init.UrlPatternInit.{UrlPatternInit}
@@ -18,16 +19,17 @@ use Rattle.urlpattern_eight.specs.declared.eight.Eight.{Eight}
 use Rattle.urlpattern_inputs.specs.declared.options.UrlPatternOptions.{UrlPatternOptions}
 use Rattle.urlpattern_canonical.proofs.MarkLemmas.{bytes_eq-chars}
 use Rattle.urlpattern_canonical.specs.Canonical.{default_port, is_special, without_first}
-use Rattle.urlpattern_core.specs.Components.{ComponentView, IsCompiledFrom, component_view}
-use Rattle.urlpattern_core.specs.declared.component.Component.{Component}
+use Rattle.urlpattern_core.specs.Components.{ComponentView, IsCompiledKeeping, IsComponentOf, component_view}
+use Rattle.urlpattern_core.specs.declared.component.ComponentWithParts.{ComponentWithParts}
 use Rattle.urlpattern_core.specs.declared.regexp.RegExp.{Ghosts as Engine}
 use Rattle.urlpattern_syntax.specs.declared.error.Error.{Error}
 use Rattle.urlpattern_syntax.specs.Errors.{ErrorView, MemoryOr}
 use Rattle.urlpattern_syntax.specs.Options.{OptionsView}
-use Rattle.urlpattern_syntax.specs.Reading.{Encoding}
+use Rattle.urlpattern_syntax.specs.ComponentParts.{kept_parts}
+use Rattle.urlpattern_syntax.specs.Reading.{Encoding, Reads}
 use Rattle.urlpattern_syntax.specs.RegexpText.{is_empty}
 use Rattle.urlpattern_syntax.specs.Text.{begins_with, text_of}
-use Rattle.urlpattern_eight.specs.Eight.{Values}
+use Rattle.urlpattern_eight.specs.Eight.{Values, at}
 
 -- ---- ports
 
@@ -84,6 +86,28 @@ pub there_and_empty : (text : List ℕ) (tested : Bool) → tested ≡ is_empty 
 there_and_empty [] tested e = ((λ is. refl), (λ is. e))
 there_and_empty (c ∷ text) tested e = ((λ is. absurd (false≢true (sym e ∙ is))), (λ is. absurd cc))
 
+-- ---- components with their parts
+
+pub kept_compiled : {E : Type 0} (engine : Engine E) (manner : Manner) (made : ComponentWithParts E) → IsKept engine manner made
+    → IsComponentCompiled engine manner (component_view made.component)
+kept_compiled engine manner made kept = ((kept_parts made.kept, kept.reads, kept.is_made), kept.has_engine)
+
+pub one_compiled : {E : Type 0} (engine : Engine E) (manner : Manner) (made : ComponentWithParts E) → IsKept engine manner made
+    → (compiled : ComponentView E) × IsComponentCompiled engine manner compiled
+one_compiled engine manner made kept = (component_view made.component, kept_compiled engine manner made kept)
+
+-- the components of a pattern that was compiled with its parts
+abbrev pub made_view : {E : Type 0} → Eight (ComponentWithParts E) → PatternView E
+made_view made name = component_view (at made name).component
+
+pub kept_are_compiled : {E : Type 0} (engine : Engine E) (asked : UrlPatternOptions) (values : Values) (made : Eight (ComponentWithParts E))
+    → AreCompiledKeeping engine asked values made → AreCompiled engine asked values (made_view made)
+kept_are_compiled engine asked values made kept = record {
+  hierarchical = kept.hierarchical;
+  path_kind = kept.path_kind;
+  are_compiled = λ name. kept_compiled engine (manner_of asked values kept.hierarchical name) (at made name) (kept.are_kept name);
+}
+
 -- ---- errors
 
 pub memory_or-map : (P Q : ErrorView → Type 0) (error : Error) → ((view : ErrorView) → P view → Q view) → MemoryOr P error → MemoryOr Q error
@@ -120,19 +144,21 @@ refused_after engine manner result error before after component same reported co
 
 -- ---- a component under an encoding that answers no less
 
-pub compiled_weaker : {E : Type 0} (engine : Engine E)
-    (strong weak : Encoding) → Weakens strong weak → (text pattern : List ℕ) (options manner : OptionsView) (result : Result (Component E) Error)
-    → text ≡ pattern → options ≡ manner
-    → IfOk result (λ compiled. IsCompiledFrom engine text options strong (component_view compiled))
-    → IfOk result (λ compiled. HasEngine (component_view compiled))
-    → IfOk result (λ compiled. IsCompiledFrom engine pattern manner weak (component_view compiled) × HasEngine (component_view compiled))
-compiled_weaker engine strong weak h text pattern options manner (Err error) e f compiled taken = tt
-compiled_weaker engine strong weak h text pattern options manner (Ok made) e f compiled taken = (
-  subst (λ o. IsCompiledFrom engine pattern o weak (component_view made)) f
-      (subst (λ t. IsCompiledFrom engine t options weak (component_view made)) e
-      (compiled.0, reads_weaker strong weak h text options compiled.0 compiled.1, compiled.2)),
-  taken,
-)
+pub kept_weaker : {E : Type 0} (engine : Engine E)
+    (strong : Encoding) (manner : Manner) → Weakens strong (canonical_encoding manner.canonical) → (text : List ℕ) (options : OptionsView) (result : Result (ComponentWithParts E) Error)
+    → text ≡ manner.text → options ≡ manner.options
+    → IfOk result (IsCompiledKeeping engine text options strong)
+    → IfOk result (λ made. HasEngine (component_view made.component))
+    → IfOk result (IsKept engine manner)
+kept_weaker engine strong manner h text options (Err error) e f compiled taken = tt
+kept_weaker engine strong manner h text options (Ok made) e f compiled taken = record {
+  options_are = compiled.options_are ∙ f;
+  reads = subst (λ o. Reads manner.text o (canonical_encoding manner.canonical) (kept_parts made.kept)) f
+      (subst (λ t. Reads t options (canonical_encoding manner.canonical) (kept_parts made.kept)) e
+      (reads_weaker strong (canonical_encoding manner.canonical) h text options (kept_parts made.kept) compiled.reads));
+  is_made = subst (λ o. IsComponentOf engine o (kept_parts made.kept) (component_view made.component)) f compiled.is_made;
+  has_engine = taken;
+}
 
 refused_weaker-view : {E : Type 0} (engine : Engine E)
     (strong weak : Encoding) → Weakens strong weak → (text pattern : List ℕ) (options manner : OptionsView) (error : ErrorView)
@@ -181,17 +207,17 @@ or-second first second tested later e none is = is ∙ ap (λ test. test || seco
 
 -- ---- the pattern after its protocol
 
-pub are_compiled : {E : Type 0} (engine : Engine E) (asked : UrlPatternOptions) (values : Values) (hierarchical : Bool)
-    (protocol : ComponentView E) (result : Result (Eight (Component E)) Error)
+pub are_kept : {E : Type 0} (engine : Engine E) (asked : UrlPatternOptions) (values : Values) (hierarchical : Bool)
+    (protocol : ComponentView E) (result : Result (Eight (ComponentWithParts E)) Error)
     → IsPathKind engine.answer values protocol.matcher hierarchical
-    → IfOk result (λ pattern. component_view pattern.protocol ≡ protocol)
-    → IfComponents result (EachIsCompiled engine (manner_of asked values hierarchical))
-    → IfComponents result (AreCompiled engine asked values)
-are_compiled engine asked values hierarchical protocol (Err error) reports same compiled = tt
-are_compiled {E} engine asked values hierarchical protocol (Ok pattern) reports same compiled = record {
+    → IfOk result (λ made. component_view made.protocol.component ≡ protocol)
+    → IfOk result (EachIsKept engine (manner_of asked values hierarchical))
+    → IfOk result (AreCompiledKeeping engine asked values)
+are_kept engine asked values hierarchical protocol (Err error) reports same compiled = tt
+are_kept {E} engine asked values hierarchical protocol (Ok made) reports same compiled = record {
   hierarchical = hierarchical;
   path_kind = subst (λ (view : ComponentView E). IsPathKind engine.answer values view.matcher hierarchical) (sym same) reports;
-  are_compiled = compiled;
+  are_kept = compiled;
 }
 
 pub refused_behind : {E T : Type 0} (engine : Engine E) (asked : UrlPatternOptions) (values : Values) (hierarchical : Bool)
@@ -207,12 +233,12 @@ refused_behind engine asked values hierarchical protocol (Err error) compiled re
 
 -- ---- the pattern of an init
 
-pub is_compiled : {E : Type 0} (engine : Engine E) (init : UrlPatternInit) (asked : UrlPatternOptions) (values : Values)
-    (result : Result (Eight (Component E)) Error) → pattern_values init ≡ Ok values
-    → IfComponents result (AreCompiled engine asked values)
-    → IfComponents result (IsPatternOfInit engine init asked)
-is_compiled engine init asked values (Err error) are compiled = tt
-is_compiled engine init asked values (Ok pattern) are compiled = (values, are, compiled)
+pub is_kept : {E : Type 0} (engine : Engine E) (init : UrlPatternInit) (asked : UrlPatternOptions) (values : Values)
+    (result : Result (Eight (ComponentWithParts E)) Error) → pattern_values init ≡ Ok values
+    → IfOk result (AreCompiledKeeping engine asked values)
+    → IfOk result (IsKeptOfInit engine init asked)
+is_kept engine init asked values (Err error) are compiled = tt
+is_kept engine init asked values (Ok made) are compiled = (values, are, compiled)
 
 pub is_refused : {E T : Type 0} (engine : Engine E) (init : UrlPatternInit) (asked : UrlPatternOptions) (values : Values)
     (result : Result T Error) → pattern_values init ≡ Ok values

@@ -1,6 +1,6 @@
 -- What a pattern is that is compiled from an init and options, after the URLPattern Standard, section "The URLPattern
 -- class", at "create a URL pattern".
-use Rattle.std.specs.Prelude.{◌≡◌, ◌↔◌, ◌⊎◌, ℕ, Bool, true, false, not, ◌&&◌, ◌||◌, ◌==◌, List, [], ◌∷◌, bytes_eq, codes, length, slice_index, Option, Some, None, unwrap_or, Ok, Err, IsOk, IsTrue, if◌then◌else◌}
+use Rattle.std.specs.Prelude.{◌≡◌, ◌↔◌, ◌⊎◌, ⊤, ℕ, Bool, true, false, not, ◌&&◌, ◌||◌, ◌==◌, List, [], ◌∷◌, bytes_eq, codes, length, slice_index, Option, Some, None, unwrap_or, Ok, IsOk, IsTrue, if◌then◌else◌}
 use Rattle.std.specs.Str.{chars}
 use Rattle.url.specs.Parser.{Parsed, and_then}
 use Rattle.urlpattern_init.specs.{Inheritance.init_values, SpecialProtocol.AcceptsSpecialScheme}
@@ -13,10 +13,11 @@ use Rattle.urlpattern_canonical.specs.Canonical.{IsAnswer, canonical_hash, canon
 use Rattle.urlpattern_core.specs.Components.{ComponentView, IsCompiledFrom}
 use Rattle.urlpattern_core.specs.declared.regexp.RegExp.{Ghosts as Engine}
 use Rattle.urlpattern_canonical.specs.declared.canonicalize_and_process.ProcessType.TheVariants.{Pattern}
-use Rattle.urlpattern_meaning.specs.{Matching.MatcherView, PartMeaning.Captures}
+use Rattle.urlpattern_meaning.specs.{FirstAnswers.TookText, Matching.MatcherView, PartMeaning.Captures}
 use Rattle.urlpattern_syntax.specs.Errors.{ErrorView, ErrorView as views}
 use Rattle.urlpattern_syntax.specs.Options.{OptionsView, default_options, hostname_options, pathname_options}
-use Rattle.urlpattern_syntax.specs.Reading.{Encoding, Refuses, encoding_of}
+use Rattle.urlpattern_syntax.specs.Parts.{PartView}
+use Rattle.urlpattern_syntax.specs.Reading.{Encoding, Reads, Refuses, encoding_of}
 use Rattle.urlpattern_syntax.specs.Text.{begins_with}
 use Rattle.urlpattern_eight.specs.Eight.{Values, at}
 
@@ -100,17 +101,22 @@ canonical_encoding canonical = encoding_of (λ bytes returned. IsAnswer (canonic
 
 -- ---- one component
 
--- the engine took the component's regular expression
-abbrev pub HasEngine : {E : Type 0} → ComponentView E → Type 0
-HasEngine compiled = IsOk compiled.regexp
+-- The engine took the component's regular expression, and that which the component's matcher needs, if it needs one.
+pub record HasEngine {E : Type 0} (compiled : ComponentView E) : Type 0 where
+  pub whole : IsOk compiled.regexp
+  pub of_matcher : TookText (λ value. ⊤) compiled.matcher.inner
 
--- the text is refused with this error, or its regular expression is, by the engine
+-- the text is refused with this error, or one of its regular expressions is, by the engine
 abbrev pub IsRefusedFrom : {E : Type 0} → Engine E → (text : List ℕ) → OptionsView → Encoding → ErrorView → Type 0
 IsRefusedFrom {E} engine text options encoding error =
     Refuses text options encoding error
-    ⊎ ((compiled : ComponentView E) × IsCompiledFrom engine text options encoding compiled × (compiled.regexp ≡ Err views.RegExp) × (error ≡ views.RegExp))
+    ⊎ ((compiled : ComponentView E) × IsCompiledFrom engine text options encoding compiled × (¬ HasEngine compiled) × (error ≡ views.RegExp))
 
--- a component is compiled in this manner, and the engine took its regular expression
+-- the pattern text reads as these parts
+abbrev pub ReadsAs : Manner → List PartView → Type 0
+ReadsAs manner parts = Reads manner.text manner.options (canonical_encoding manner.canonical) parts
+
+-- a component is compiled in this manner, and the engine took what it needs
 abbrev pub IsComponentCompiled : {E : Type 0} → Engine E → Manner → ComponentView E → Type 0
 IsComponentCompiled engine manner compiled =
     IsCompiledFrom engine manner.text manner.options (canonical_encoding manner.canonical) compiled × HasEngine compiled

@@ -1,8 +1,8 @@
 -- How the components of a pattern are compiled: the values of an init, and the manner in which each is read.
 use Rattle.std.specs.Prelude.{Bool, List, Option, ℕ}
 use Rattle.std.specs.Borrow.{Bor}
-use Rattle.urlpattern_core.specs.Components.{IsCompiledFrom, component_view, pattern_text}
-use Rattle.urlpattern_core.specs.declared.component.Component.{Component}
+use Rattle.urlpattern_core.specs.Components.{IsCompiledKeeping, pattern_text}
+use Rattle.urlpattern_core.specs.declared.component.ComponentWithParts.{ComponentWithParts}
 use Rattle.urlpattern_core.specs.declared.regexp.RegExp.{Ghosts as Engine}
 use Rattle.urlpattern_init.specs.Inheritance.{values_view}
 use Rattle.urlpattern_create.specs.declared.compile.Compiler.{Compiler}
@@ -22,9 +22,9 @@ compiled_values compiler = values_view compiler.values.now
 abbrev pub manner_by : Compiler → (hierarchical : Bool) → ComponentName → Manner
 manner_by compiler = manner_of compiler.options.now (compiled_values compiler)
 
--- the component is compiled from a pattern as it is passed in, or the pattern is refused with this error
-abbrev pub IsCompiledWith : {E : Type 0} → Engine E → Option (Bor (List ℕ)) → Options → Encoding → Component E → Type 0
-IsCompiledWith engine pattern options encoding component = IsCompiledFrom engine (pattern_text pattern) (options_view options) encoding (component_view component)
+-- the component is compiled from a pattern as it is passed in, with its parts, or the pattern is refused with this error
+abbrev pub IsCompiledWith : {E : Type 0} → Engine E → Option (Bor (List ℕ)) → Options → Encoding → ComponentWithParts E → Type 0
+IsCompiledWith engine pattern options encoding made = IsCompiledKeeping engine (pattern_text pattern) (options_view options) encoding made
 
 abbrev pub IsRefusedWith : {E : Type 0} → Engine E → Option (Bor (List ℕ)) → Options → Encoding → ErrorView → Type 0
 IsRefusedWith engine pattern options encoding error = IsRefusedFrom engine (pattern_text pattern) (options_view options) encoding error

@@ -13,7 +13,8 @@ use Rattle.urlpattern_split.specs.Split.{HasProtocol}
 use Rattle.urlpattern_init.specs.declared.init.UrlPatternInit.{UrlPatternInit}
 use Rattle.urlpattern_inputs.specs.declared.options.UrlPatternOptions.{UrlPatternOptions}
 use Rattle.urlpattern_create.specs.Compiled.{AreCompiled, FirstRefused, IsComponentCompiled, IsComponentRefused, IsPatternOfInit, Manner, RefusesValues, manner_of, pattern_values}
-use Rattle.urlpattern_create.specs.FromString.{IsInitOfText, IsPatternOfText, RefusesSplit, parsed_base, text_bytes}
+use Rattle.urlpattern_canonical.specs.BaseUrls.{parsed_base, text_bytes}
+use Rattle.urlpattern_create.specs.FromString.{IsInitOfText, IsPatternOfText, RefusesSplit}
 use Rattle.urlpattern_create.specs.PatternViews.{PatternView}
 use Rattle.urlpattern_create.specs.declared.refusal.Refusal.{Refusal}
 use Rattle.urlpattern_eight.specs.declared.eight.ComponentName.{ComponentName}

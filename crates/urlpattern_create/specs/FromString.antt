@@ -1,8 +1,8 @@
 -- What a pattern is that is compiled from a constructor string, after the URLPattern Standard, section "The URLPattern
 -- class", at "create a URL pattern".
-use Rattle.std.specs.Prelude.{◌≡◌, ◌⊎◌, ℕ, List, [], length, Option, None, Some, Ok, unwrap_or}
-use Rattle.url.specs.Parser.{Parsed, and_then, parse_url}
+use Rattle.std.specs.Prelude.{◌≡◌, ◌⊎◌, ℕ, List, Option, Ok}
 use Rattle.url.specs.Parts.{Parts}
+use Rattle.urlpattern_canonical.specs.BaseUrls.{parsed_base, text_bytes}
 use Rattle.urlpattern_canonical.specs.Canonical.{Reports}
 use Rattle.urlpattern_core.specs.declared.regexp.RegExp.{Ghosts as Engine}
 use Rattle.urlpattern_init.specs.ConstructorString.{HasProtocolOrBase, RefusesString, SplitsInto}
@@ -12,16 +12,6 @@ use Rattle.urlpattern_inputs.specs.declared.options.UrlPatternOptions.{UrlPatter
 use Rattle.urlpattern_create.specs.PatternViews.{PatternView}
 use Rattle.urlpattern_create.specs.{Compiled.IsPatternOfInit, Compiled.RefusesInit}
 use Rattle.urlpattern_syntax.specs.Errors.{ErrorView}
-
--- ---- base URLs: texts are their bytes
-
--- the URL of a text that may be missing
-abbrev pub parsed_base : Option (List ℕ) → Parsed (Option Parts)
-parsed_base None = Ok None
-parsed_base (Some text) = and_then (parse_url None text) (λ url. Ok (Some url))
-
-abbrev pub text_bytes : Option (List ℕ) → ℕ
-text_bytes text = length (unwrap_or text [])
 
 -- ---- inits
 

@@ -1,13 +1,15 @@
 //! Compiles a pattern from an init.
 
-ghost use Rattle.std.specs.Prelude.{◌≡◌, ◌↔◌, [], codes, false, is_err, length, option_copied, option_map, unwrap_or, IfErr, IfOk, IfSome, IsAscii, IsTrue, Some};
+ghost use Rattle.std.specs.Prelude.{◌≡◌, ◌↔◌, ⊤, [], codes, false, length, option_copied, option_map, unwrap_or, IfErr, IfOk, IfSome, IsAscii, IsTrue, MatchBool, Some};
 ghost use Rattle.std.specs.Str.{chars};
 ghost use Rattle.urlpattern_canonical.specs.Canonical.{IsAnswer};
 ghost use Rattle.urlpattern_core.specs.Components.{component_view, pattern_text};
+ghost use Rattle.urlpattern_core.specs.Matchers.{matcher_view};
+ghost use Rattle.urlpattern_meaning.specs.FirstAnswers.{TookText};
 ghost use Rattle.urlpattern_init.specs.Inheritance.{values_view};
-ghost use Rattle.urlpattern_create.specs.Compiled.{AreCompiled, EachIsCompiled, FirstRefused, HasEngine, IsComponentCompiled, IsComponentRefused, IsPathKind, IsPatternOfInit, RefusesInit, RefusesValues, after_protocol, canonical_in_hostname, has_default_port, is_ipv6_pattern, is_mark, is_same, pattern_of, pattern_values, without_default_port};
+ghost use Rattle.urlpattern_create.specs.Compiled.{FirstRefused, HasEngine, IsComponentRefused, IsPathKind, RefusesInit, RefusesValues, after_protocol, canonical_in_hostname, has_default_port, is_ipv6_pattern, is_mark, is_same, pattern_of, pattern_values, without_default_port};
 ghost use Rattle.urlpattern_create.specs.CompilerSteps.{IsCompiledWith, IsRefusedWith, compiled_values, manner_by};
-ghost use Rattle.urlpattern_create.specs.PatternViews.{IfComponents};
+ghost use Rattle.urlpattern_create.specs.Kept.{AreCompiledKeeping, EachIsKept, IsKept, IsKeptOfInit};
 ghost use Rattle.urlpattern_eight.specs.declared.eight.ComponentName.{ComponentName};
 ghost use Rattle.urlpattern_syntax.specs.Errors.{MemoryOr, OnlyOutOfMemory};
 ghost use Rattle.urlpattern_syntax.specs.Options.{options_view};
@@ -20,7 +22,8 @@ use urlpattern_canonical::canonicalize_and_process::{
     special_scheme_default_port, without_first,
 };
 use urlpattern_core::Error;
-use urlpattern_core::component::Component;
+use urlpattern_core::component::{Component, ComponentWithParts};
+use urlpattern_core::matcher::{InnerMatcher, Matcher};
 use urlpattern_core::parser::Options;
 use urlpattern_core::regexp::RegExp;
 use urlpattern_eight::{ComponentName, Eight};
@@ -38,8 +41,8 @@ pub fn compile_init<R: RegExp>(
     alloc: Global,
     init: UrlPatternInit,
     options: UrlPatternOptions,
-) -> Result<Eight<Component<R>>, Error>
-    ensures compiled { IfComponents result (IsPatternOfInit R.RegExp init options) }
+) -> Result<Eight<ComponentWithParts<R>>, Error>
+    ensures compiled { IfOk result (IsKeptOfInit R.RegExp init options) }
     ensures refused { IfErr result (MemoryOr (RefusesInit R.RegExp init options)) }
 {
     let values = pattern_values(alloc, &init);
@@ -57,8 +60,8 @@ fn compile_values<R: RegExp>(
     alloc: Global,
     values: &UrlPatternInit,
     options: &UrlPatternOptions,
-) -> Result<Eight<Component<R>>, Error>
-    ensures compiled { IfComponents result (AreCompiled R.RegExp options.now (values_view values.now)) }
+) -> Result<Eight<ComponentWithParts<R>>, Error>
+    ensures compiled { IfOk result (AreCompiledKeeping R.RegExp options.now (values_view values.now)) }
     ensures refused { IfErr result (MemoryOr (RefusesValues R.RegExp options.now (values_view values.now))) }
 {
     let canonicalizer = Canonicalizer::shared(alloc)?;
@@ -142,20 +145,21 @@ pub fn pattern_of(values: &UrlPatternInit, component: ComponentName) -> Option<&
     values.get(component)
 }
 
-/// The component of a pattern text. A regular expression that the engine refuses is an error.
+/// The component of a pattern text, with its parts. A regular expression that the engine refuses is an error, the whole one or that of
+/// the matcher.
 #[inline(always)]
 fn compile_component<R: RegExp, F: Fn(&str) -> Result<String, Error> + Drop>(
     alloc: Global,
     pattern: Option<&str>,
     encoding_callback: F,
     options: Options,
-) -> Result<Component<R>, Error>
+) -> Result<ComponentWithParts<R>, Error>
     requires { F.IsAlwaysCallable encoding_callback }
     ensures compiled { IfOk result (IsCompiledWith R.RegExp pattern.entry options (encoding_by F.Fn encoding_callback)) }
-    ensures engine { IfOk result (λ compiled. HasEngine (component_view compiled)) }
+    ensures engine { IfOk result (λ made. HasEngine (component_view made.component)) }
     ensures refused { IfErr result (MemoryOr (IsRefusedWith R.RegExp pattern.entry options (encoding_by F.Fn encoding_callback))) }
 {
-    let compiled = Component::compile(alloc, pattern, encoding_callback, options);
+    let compiled = Component::compile_with_parts(alloc, pattern, encoding_callback, options);
     if lacks_engine(&compiled) {
         drop(compiled);
         return Err(Error::RegExp(()));
@@ -163,15 +167,26 @@ fn compile_component<R: RegExp, F: Fn(&str) -> Result<String, Error> + Drop>(
     compiled
 }
 
-/// Whether a component was compiled whose regular expression the engine refused.
+/// Whether a component was compiled of which the engine refused a regular expression.
 #[inline(always)]
-fn lacks_engine<R: RegExp>(compiled: &Result<Component<R>, Error>) -> bool
-    ensures compiled { IfOk compiled.now (λ component. result ≡ is_err component.regexp) }
+fn lacks_engine<R: RegExp>(compiled: &Result<ComponentWithParts<R>, Error>) -> bool
+    ensures compiled { IfOk compiled.now (λ made. MatchBool result (¬ HasEngine (component_view made.component)) (HasEngine (component_view made.component))) }
     ensures refused { IfErr compiled.now (λ _. result ≡ false) }
 {
     match compiled {
-        Ok(component) => component.regexp.is_err(),
+        Ok(made) => made.component.regexp.is_err() || holds_error(&made.component.matcher),
         Err(_) => false,
+    }
+}
+
+/// Whether a matcher holds an error in place of the engine that it needs.
+#[inline(always)]
+fn holds_error<R: RegExp>(matcher: &Matcher<R>) -> bool
+    ensures { MatchBool result (¬ TookText (λ value. ⊤) (matcher_view matcher.now).inner) (TookText (λ value. ⊤) (matcher_view matcher.now).inner) }
+{
+    match &matcher.inner {
+        InnerMatcher::RegExp { regexp } => regexp.is_err(),
+        _ => false,
     }
 }
 
@@ -192,12 +207,12 @@ impl Compiler<'_> {
     /// The components: the protocol is compiled first, since it decides whether the pathname is hierarchical.
     ///
     /// The error is that of the first component that is refused, or that memory ran out.
-    pub(crate) fn components<R: RegExp>(&self) -> Result<Eight<Component<R>>, Error>
-        ensures compiled { IfComponents result (AreCompiled R.RegExp self.now.options.now (compiled_values self.now)) }
+    pub(crate) fn components<R: RegExp>(&self) -> Result<Eight<ComponentWithParts<R>>, Error>
+        ensures compiled { IfOk result (AreCompiledKeeping R.RegExp self.now.options.now (compiled_values self.now)) }
         ensures refused { IfErr result (MemoryOr (RefusesValues R.RegExp self.now.options.now (compiled_values self.now))) }
     {
         let protocol = self.component(ComponentName::Protocol, false)?;
-        let hierarchical = self.is_hierarchical(&protocol)?;
+        let hierarchical = self.is_hierarchical(&protocol.component)?;
         self.after_protocol(protocol, hierarchical)
     }
 
@@ -206,12 +221,12 @@ impl Compiler<'_> {
     /// The error is that of the first component that is refused, or that memory ran out.
     fn after_protocol<R: RegExp>(
         &self,
-        protocol: Component<R>,
+        protocol: ComponentWithParts<R>,
         hierarchical: bool,
-    ) -> Result<Eight<Component<R>>, Error>
-        requires { IsComponentCompiled R.RegExp (manner_by self.now hierarchical ComponentName.Protocol) (component_view protocol) }
-        ensures protocol { IfOk result (λ made. component_view made.protocol ≡ component_view protocol) }
-        ensures compiled { IfComponents result (EachIsCompiled R.RegExp (manner_by self.now hierarchical)) }
+    ) -> Result<Eight<ComponentWithParts<R>>, Error>
+        requires { IsKept R.RegExp (manner_by self.now hierarchical ComponentName.Protocol) protocol }
+        ensures protocol { IfOk result (λ made. component_view made.protocol.component ≡ component_view protocol.component) }
+        ensures compiled { IfOk result (EachIsKept R.RegExp (manner_by self.now hierarchical)) }
         ensures refused { IfErr result (MemoryOr (FirstRefused R.RegExp (manner_by self.now hierarchical) after_protocol)) }
     {
         Ok(Eight {
@@ -233,8 +248,8 @@ impl Compiler<'_> {
         &self,
         component: ComponentName,
         hierarchical: bool,
-    ) -> Result<Component<R>, Error>
-        ensures compiled { IfOk result (λ made. IsComponentCompiled R.RegExp (manner_by self.now hierarchical component) (component_view made)) }
+    ) -> Result<ComponentWithParts<R>, Error>
+        ensures compiled { IfOk result (IsKept R.RegExp (manner_by self.now hierarchical component)) }
         ensures refused { IfErr result (MemoryOr (IsComponentRefused R.RegExp (manner_by self.now hierarchical component))) }
     {
         let options = self.options_of(component, hierarchical)?;

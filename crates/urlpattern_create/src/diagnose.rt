@@ -12,10 +12,10 @@ ghost use Rattle.urlpattern_create.specs.FromString.{RefusesPatternOfText};
 ghost use Rattle.urlpattern_syntax.specs.Errors.{error_view};
 
 use crate::compile::{Compiler, pattern_of, pattern_values};
-use crate::from_string::parse_base;
 use crate::refusal::{Refusal, not_memory};
 use std::alloc::Global;
 use urlpattern_canonical::canonicalize_and_process::Canonicalizer;
+use urlpattern_canonical::parse_base;
 use urlpattern_core::Error;
 use urlpattern_core::error::{OutOfMemory, RegExpError};
 use urlpattern_core::regexp::RegExp;

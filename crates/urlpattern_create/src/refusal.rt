@@ -1,16 +1,15 @@
 //! The component for which a pattern is refused.
 
 ghost use Rattle.std.specs.Prelude.{◌≡◌, ◌≢◌, false, IfNone, IfOk, IfSome};
-ghost use Rattle.urlpattern_core.specs.Components.{component_view};
-ghost use Rattle.urlpattern_create.specs.Compiled.{IsComponentCompiled};
 ghost use Rattle.urlpattern_create.specs.CompilerSteps.{compiled_values, manner_by};
 ghost use Rattle.urlpattern_create.specs.Diagnoses.{AcceptsComponent, IsFirstRefusal, IsRefusalOf, RefusesComponent};
+ghost use Rattle.urlpattern_create.specs.Kept.{IsKept};
 ghost use Rattle.urlpattern_eight.specs.declared.eight.ComponentName.TheVariants as names;
 ghost use Rattle.urlpattern_syntax.specs.Errors.{ErrorView as views, error_view};
 
 use crate::compile::Compiler;
 use urlpattern_core::Error;
-use urlpattern_core::component::Component;
+use urlpattern_core::component::ComponentWithParts;
 use urlpattern_core::error::OutOfMemory;
 use urlpattern_core::regexp::RegExp;
 use urlpattern_eight::ComponentName;
@@ -62,12 +61,12 @@ impl Compiler<'_> {
     /// The error is that memory ran out.
     fn first_refused_after<R: RegExp>(
         &self,
-        protocol: Component<R>,
+        protocol: ComponentWithParts<R>,
     ) -> Result<Option<Refusal>, OutOfMemory>
-        requires { IsComponentCompiled R.RegExp (manner_by self.now false names.Protocol) (component_view protocol) }
+        requires { IsKept R.RegExp (manner_by self.now false names.Protocol) protocol }
         ensures { IfOk result (λ found. IfSome found (IsRefusalOf R.RegExp self.now.options.now (compiled_values self.now))) }
     {
-        match self.is_hierarchical(&protocol) {
+        match self.is_hierarchical(&protocol.component) {
             Ok(hierarchical) => self.first_refused_of::<R>(hierarchical, &AFTER_PROTOCOL),
             Err(_) => Err(OutOfMemory),
         }

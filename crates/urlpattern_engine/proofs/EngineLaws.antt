@@ -1,5 +1,5 @@
 -- A value of the engine answers the first way, and what `regex::Regex` answers.
-use Rattle.std.proofs.Common.{◌≡◌, ℕ, Bool, false, true, List, Option, Some, None, length, refl, sym, ap, ◌∙◌, subst, inl, inr}
+use Rattle.std.proofs.Common.{◌≡◌, ℕ, Bool, false, true, List, Option, Some, None, codes, length, refl, sym, ap, ◌∙◌, subst, inl, inr}
 use Rattle.std.proofs.lemmas.Str.{IsUtf8-string_bytes}
 use Rattle.std.specs.Prelude.{⊤, IfSome, IsOk, IsTrue, Ok, Err, Result, string_bytes}
 use Rattle.std.specs.Str.{all_scalars}
@@ -18,6 +18,9 @@ use Rattle.urlpattern_meaning.specs.Dialect.{IsTreeOf, Items}
 use Rattle.urlpattern_meaning.specs.FirstAnswers.{AnswersFirst}
 use Rattle.urlpattern_meaning.specs.Ways.{first_way, first_way_by}
 use Rattle.urlpattern_meaning.proofs.DialectUnique.{trees_are_one}
+use Rattle.urlpattern_meaning.proofs.OneMeaning.{is_tree_of}
+use Rattle.urlpattern_meaning.proofs.PartTrees.{tree_of}
+use Rattle.urlpattern_meaning.specs.Matching.{ValuesAgreeWithParts}
 use Rattle.urlpattern_core.specs.Components.{FlagsAgree, IsEngineOf, IsWholeEngineOf, engine_flags, has_regexp, ignores_case}
 use Rattle.urlpattern_syntax.specs.declared.parser.RegexSyntax.{RegexSyntax}
 use Rattle.urlpattern_syntax.specs.Errors.{ErrorView}
@@ -33,7 +36,7 @@ use Rattle.urlpattern_engine.specs.Automatons.{IsRegexReadAs, config_for, names_
 use Rattle.urlpattern_walk.specs.ReadSteps.{AreStepsOf, IsGenerated}
 use Rattle.urlpattern_engine.specs.Readings.{ValuesAnswerAsRead, re_answer}
 use Rattle.urlpattern_steps.specs.Walk.{walk}
-use Rattle.urlpattern_meaning.proofs.FirstAnswers.{took_all}
+use Rattle.urlpattern_meaning.proofs.FirstAnswers.{first_agrees, took_all}
 use Rattle.urlpattern_engine.proofs.AutomatonLemmas.{answers_as_tree, automaton_first, automaton_same}
 use Rattle.urlpattern_engine.proofs.TwoReadings.{default_read, first_is_read, read_by_default, regex_read, regexes_same, tree_is_read, tree_same}
 
@@ -81,6 +84,17 @@ unfolding pattern_answer
 values_by_flags options flags parts tree value generated is made = λ text.
     expression_generated value.ignore_case (regexp_text options parts) tree value.expression text (options, parts, generated, refl) is made.of_text
     ∙ ap (λ b. first_way_by b tree text) made.by_flags
+
+-- so it answers what such parts mean, if case is kept
+pub values_agree : ValuesAgreeWithParts pattern_engine.IsMade pattern_engine.answer
+values_agree options parts value generated made text =
+    let is = is_tree_of options parts generated in
+    first_agrees options parts text (pattern_answer value text) generated record {
+      tree = tree_of options parts;
+      is_tree = is;
+      is_first = values_by_flags options (codes "u") parts (tree_of options parts) value generated is
+          made text;
+    }
 
 expression_same : (ignore_case : Bool) (regexp : List ℕ) (expression : Expression) (regex : Regex) (text : List ℕ) → ignore_case ≡ false → IsExpressionOf ignore_case regexp expression → IsRegexOf regexp regex
     → IsTrue (all_scalars text) → expression_answer ignore_case expression text ≡ regex_answer regex text
@@ -137,7 +151,7 @@ regex_values_read regexp flags regex any made = if_some (read default_config reg
 
 -- no value is missing for a text of parts of which none is custom
 takes_generated : (force_eval : Bool) (flags : List ℕ) (options : OptionsView) (parts : List PartView) (error : ErrorView) → AreGenerated parts → ¬ IsEngineOf pattern_engine force_eval flags (regexp_text options parts) (Err error)
-takes_generated force_eval flags options parts error generated (of_regexp, may) = may (options, parts, generated, refl)
+takes_generated force_eval flags options parts error generated (of_regexp, may) = may.0 (options, parts, generated, refl)
 
 pub matcher_takes : MatchersTakeGenerated pattern_engine
 matcher_takes options flags parts matcher made generated =

@@ -4,3 +4,5 @@ pub mod AutomatonLemmas
 pub mod TrialLemmas
 pub mod EngineLaws
 pub mod AlikeLaws
+pub mod LargeLemmas
+pub mod RefusalLemmas

@@ -4,6 +4,7 @@ use Rattle.urlpattern_core.specs.declared.regexp.RegExp.{Ghosts as Engine}
 use Rattle.urlpattern_core.specs.Components.{ignores_case}
 use Rattle.urlpattern_core.specs.Regexes.{regex_answer, regex_text}
 use Rattle.urlpattern_engine.specs.Automatons.{IsNfaOf, IsReadAtStart, IsRegexReadAs, automaton_answer, names_of, tree_answer}
+use Rattle.urlpattern_engine.specs.Refusals.{HasFault}
 use Rattle.urlpattern_engine.specs.declared.pattern_regexp.Expression.{Expression}
 use Rattle.urlpattern_engine.specs.declared.pattern_regexp.Expression.TheVariants.{Own, Compiled, Kept, Other}
 use Rattle.urlpattern_engine.specs.declared.pattern_regexp.PatternRegexp.{PatternRegexp}
@@ -48,12 +49,12 @@ pub record IsPatternRegexpOf (regexp flags : List ℕ) (value : PatternRegexp) :
   pub by_flags : value.ignore_case ≡ ignores_case flags
   pub of_text : IsExpressionOf value.ignore_case regexp value.expression
 
--- What the engine means: it ignores case where the flags have an `i`, and refuses no generated text.
+-- What the engine means: it ignores case where the flags have an `i`, and refuses no generated text, and others for a cause.
 abbrev pub pattern_engine : Engine PatternRegexp
 pattern_engine = record {
   syntax_of = Rust;
   IsMade = λ value regexp flags. IsPatternRegexpOf regexp flags value;
-  MayRefuse = λ regexp flags force_eval. ¬ IsGenerated regexp;
+  MayRefuse = λ regexp flags force_eval. (¬ IsGenerated regexp) × HasFault (ignores_case flags) regexp;
   answer = pattern_answer;
   text_made_of = pattern_regexp_text;
 }

@@ -1,15 +1,20 @@
 //! Matches a text by an automaton.
 
-ghost use Rattle.std.specs.Prelude.{◌≡◌, ◌-◌, ◌*◌, ◌/◌, ◌≤◌, is_some, length, map, option_and_then, string_bytes, IfOk, IfSome, OnOk};
+ghost use Rattle.std.specs.Prelude.{◌≡◌, ◌-◌, ◌*◌, ◌/◌, ◌≤◌, true, is_some, length, map, option_and_then, string_bytes, Err, IfOk, IfSome, OnOk};
 ghost use Rattle.std.specs.Str.{chars};
 ghost use Rattle.regex.specs.Writes.{both};
 ghost use Rattle.regex_compile.specs.Implements.{Implements};
 ghost use Rattle.regex_hir.specs.Meaning.{meaning};
+ghost use Rattle.regex_syntax.specs.Verdict.{Reads};
+ghost use Rattle.regex_syntax.specs.WellFormed.{IsWellFormed};
 ghost use Rattle.regex_vm.specs.Found.{group_cells};
 ghost use Rattle.urlpattern_meaning.specs.CaptureTexts.{captures_view};
-ghost use Rattle.urlpattern_engine.specs.Automatons.{IsNfaOf, IsRegexReadAs, config_for, automaton_answer, cell_texts, match_at_start, place_of, text_cut};
+ghost use Rattle.urlpattern_engine.specs.Automatons.{IsNfaOf, IsRegexReadAs, config_for, automaton_answer, cell_texts, match_at_start, names_of, place_of, text_cut};
+ghost use Rattle.urlpattern_engine.specs.Refusals.{HasFault, IsLarge, IsUnreadable};
+ghost use Rattle.urlpattern_syntax.specs.declared.error.RegExpError.TheVariants.{Pattern};
 ghost use Rattle.urlpattern_syntax.specs.Text.{option_text};
 
+use crate::large::is_large;
 use crate::trial::{FEW, GivenUp, Trial};
 use regex::{Regex, RegexBuilder};
 use regex_compile::compile;
@@ -50,21 +55,13 @@ impl Automaton {
     ) -> Result<Option<Automaton>, RegExpError>
         ensures text { IfOk result (λ made. IfSome made (λ automaton. string_bytes automaton.text ≡ regexp.now)) }
         ensures made { IfOk result (λ made. IfSome made (λ automaton. IsNfaOf ignore_case regexp.now automaton.nfa)) }
+        ensures refused { result ≡ Err Pattern → HasFault ignore_case (chars regexp.now) }
     {
-        let config = config_for(ignore_case);
-        let Parsed { hir, names } = match regex_syntax::parse(alloc, regexp, &config) {
-            Ok(parsed) => parsed,
-            Err(error) => {
-                return Err(match error.kind {
-                    ErrorKind::OutOfMemory => RegExpError::OutOfMemory,
-                    _ => RegExpError::Pattern,
-                });
-            }
-        };
+        let Parsed { hir, names } = read_expression(alloc, regexp, ignore_case)?;
         if !is_anchored_start(&hir) {
             return Ok(None);
         }
-        let nfa = nfa_of(alloc, &hir, names.len())?;
+        let nfa = nfa_of(alloc, regexp, &hir, names.len())?;
         let text = String::from_str(alloc, regexp)?;
         Ok(Some(Automaton {
             text,
@@ -192,6 +189,28 @@ impl Automaton {
     }
 }
 
+/// The tree that the grammar of `regex` reads in an expression, and the names of its groups.
+///
+/// The error says whether it reads none or memory ran out.
+pub(crate) fn read_expression(
+    alloc: Global,
+    regexp: &str,
+    ignore_case: bool,
+) -> Result<Parsed, RegExpError>
+    ensures read { IfOk result (λ parsed. Reads (config_for ignore_case) regexp.now parsed.hir (names_of parsed.names.items)) }
+    ensures formed { IfOk result (λ parsed. IsWellFormed true parsed.hir) }
+    ensures refused { result ≡ Err Pattern → IsUnreadable ignore_case (chars regexp.now) }
+{
+    let config = config_for(ignore_case);
+    match regex_syntax::parse(alloc, regexp, &config) {
+        Ok(parsed) => Ok(parsed),
+        Err(error) => Err(match error.kind {
+            ErrorKind::OutOfMemory => RegExpError::OutOfMemory,
+            _ => RegExpError::Pattern,
+        }),
+    }
+}
+
 /// How `regex_syntax` is to read an expression: by its default options, but that case may be ignored.
 pub(crate) fn config_for(ignore_case: bool) -> Config
     ensures { result ≡ config_for ignore_case }
@@ -205,30 +224,50 @@ pub(crate) fn config_for(ignore_case: bool) -> Config
 ///
 /// The error says whether `regex` refuses the expression or memory ran out.
 pub(crate) fn regex_of(alloc: Global, regexp: &str, ignore_case: bool) -> Result<Regex, RegExpError>
-    ensures { IfOk result (IsRegexReadAs ignore_case (chars regexp.now)) }
+    ensures made { IfOk result (IsRegexReadAs ignore_case (chars regexp.now)) }
+    ensures refused { result ≡ Err Pattern → HasFault ignore_case (chars regexp.now) }
 {
     let builder = RegexBuilder::new(regexp).case_insensitive(ignore_case);
     match builder.build(alloc) {
         Ok(regex) => Ok(regex),
-        Err(regex::Error::OutOfMemory) => Err(RegExpError::OutOfMemory),
-        Err(_) => Err(RegExpError::Pattern),
+        Err(regex::Error::Syntax(_)) => Err(RegExpError::Pattern),
+        Err(regex::Error::CompiledTooBig) => Err(past_limit(regexp)),
+        Err(_) => Err(RegExpError::OutOfMemory),
     }
 }
 
-/// The automaton of a tree with so many groups, the whole match among them.
+/// The automaton of the tree of an expression with so many groups, the whole match among them.
 ///
 /// The error says whether it would be too large or memory ran out.
-pub(crate) fn nfa_of(alloc: Global, hir: &Hir, groups: usize) -> Result<Nfa, RegExpError>
+pub(crate) fn nfa_of(
+    alloc: Global,
+    regexp: &str,
+    hir: &Hir,
+    groups: usize,
+) -> Result<Nfa, RegExpError>
     ensures implements { IfOk result (λ nfa. Implements nfa (meaning hir.now)) }
     ensures slots { IfOk result (λ nfa. nfa.slot_count ≡ 2 * groups) }
+    ensures refused { result ≡ Err Pattern → IsLarge (chars regexp.now) }
 {
     let Ok(groups) = u32::try_from(groups) else {
-        return Err(RegExpError::Pattern);
+        return Err(past_limit(regexp));
     };
     match compile(alloc, hir, groups, SIZE_LIMIT) {
         Ok(nfa) => Ok(nfa),
-        Err(regex_compile::Error::OutOfMemory) => Err(RegExpError::OutOfMemory),
-        Err(_) => Err(RegExpError::Pattern),
+        Err(regex_compile::Error::TooBig) => Err(past_limit(regexp)),
+        Err(_) => Err(RegExpError::OutOfMemory),
+    }
+}
+
+/// The error for an expression whose automaton has no room: it is refused if it is large. Of no
+/// other the compiler promises that it fits; there memory ran out.
+fn past_limit(regexp: &str) -> RegExpError
+    ensures { result ≡ Pattern → IsLarge (chars regexp.now) }
+{
+    if is_large(regexp) {
+        RegExpError::Pattern
+    } else {
+        RegExpError::OutOfMemory
     }
 }
 

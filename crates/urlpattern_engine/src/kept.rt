@@ -64,7 +64,7 @@ impl Kept {
     ) -> Result<Option<Vec<Option<&'t str>>>, OutOfMemory>
         ensures { IfOk result (λ found. captures_view found ≡ tree_answer self.now.hir (names_of self.now.names.items) (chars text.now)) }
     {
-        let Ok(nfa) = nfa_of(alloc, &self.hir, self.names.len()) else {
+        let Ok(nfa) = nfa_of(alloc, &self.text, &self.hir, self.names.len()) else {
             return Err(OutOfMemory);
         };
         let automaton = Automaton {

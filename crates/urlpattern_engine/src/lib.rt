@@ -13,6 +13,7 @@ mod choices;
 mod cost;
 mod ecma_regexp;
 mod kept;
+mod large;
 pub mod laws;
 mod pattern_regexp;
 mod trial;

@@ -1,12 +1,14 @@
 //! The engine.
 
-ghost use Rattle.std.specs.Prelude.{◌≡◌, IfOk};
+ghost use Rattle.std.specs.Prelude.{◌≡◌, Err, IfOk};
 ghost use Rattle.std.specs.Str.{chars};
 ghost use Rattle.urlpattern_meaning.specs.CaptureTexts.{captures_view};
 ghost use Rattle.urlpattern_core.specs.Components.{ignores_case};
 ghost use Rattle.urlpattern_engine.specs.PatternRegexps.{IsExpressionOf, pattern_engine};
+ghost use Rattle.urlpattern_engine.specs.Refusals.{HasFault};
 ghost use Rattle.urlpattern_walk.specs.ReadSteps.{IsGenerated};
 ghost use Rattle.urlpattern_steps.specs.Walk.{walk};
+ghost use Rattle.urlpattern_syntax.specs.declared.error.RegExpError.TheVariants.{Pattern};
 ghost use Rattle.urlpattern_syntax.specs.Text.{text_of};
 
 use crate::automaton::{Automaton, regex_of};
@@ -15,11 +17,9 @@ use regex::Regex;
 use std::alloc::{AllocError, Global};
 use urlpattern_core::RegexSyntax;
 use urlpattern_core::error::{OutOfMemory, RegExpError};
-use urlpattern_core::outline::OutlineItem;
 use urlpattern_core::regexp::RegExp;
 use urlpattern_steps::step::Step;
 use urlpattern_walk::choices::{Strategy, strategy_of};
-use urlpattern_walk::outline::{outline_of, outline_of_any};
 use urlpattern_walk::reading::read_steps;
 use urlpattern_walk::walk::walk;
 use urlpattern_walk::walk_by_table;
@@ -73,8 +73,9 @@ struct Steps {
     strategy: Strategy,
 }
 
-/// It ignores case where the flags have an `i`, takes no notice of others, and reads each text at once. It refuses none that is
-/// generated of parts, none of them custom.
+/// It ignores case where the flags have an `i`, takes no notice of others, and reads each text at
+/// once. It refuses none that is generated of parts, none of them custom; and another only if the
+/// grammar of `regex` does not read it, or it is nested too deep or large.
 ///
 /// Where case is ignored, its own steps compare ASCII letters by their lower case, and any other character as it is. What the
 /// crate `regex` matches ignores case as that does, by Unicode.
@@ -158,14 +159,8 @@ impl RegExp for PatternRegexp {
         }
     }
 
-    fn outline(&self, alloc: Global) -> Result<Vec<OutlineItem>, OutOfMemory> {
-        if self.ignore_case {
-            return Ok(outline_of_any(alloc)?);
-        }
-        match &self.expression {
-            Expression::Own(own) => Ok(outline_of(alloc, &own.steps)?),
-            _ => Ok(outline_of_any(alloc)?),
-        }
+    fn agrees_with_parts() -> bool {
+        true
     }
 }
 
@@ -195,7 +190,8 @@ fn own(alloc: Global, pattern: &str, steps: Vec<Step>) -> Result<Steps, AllocErr
 ///
 /// The error says whether `regex` rejects it or memory ran out.
 fn compiled(alloc: Global, pattern: &str, ignore_case: bool) -> Result<Expression, RegExpError>
-    ensures { IfOk result (λ made. ¬ IsGenerated (chars pattern.now) → IsExpressionOf ignore_case (chars pattern.now) made) }
+    ensures refused { result ≡ Err Pattern → HasFault ignore_case (chars pattern.now) }
+    ensures made { IfOk result (λ made. ¬ IsGenerated (chars pattern.now) → IsExpressionOf ignore_case (chars pattern.now) made) }
 {
     match Automaton::new(alloc, pattern, ignore_case)? {
         Some(automaton) => Ok(Expression::Compiled(boxed(alloc, automaton)?)),

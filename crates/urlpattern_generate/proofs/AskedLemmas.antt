@@ -1,75 +1,141 @@
 -- What the groups of parts are to capture, part by part.
-use Rattle.std.proofs.Common.{◌≡◌, ℕ, suc, Bool, true, false, List, [], ◌∷◌, ◌++◌, append_assoc, ap, refl, sym, subst, length, ◌∙◌, Option, Some, None, String, map, string_bytes}
-use Rattle.std.specs.Char.{is_ascii_digit}
-use Rattle.std.specs.Prelude.{◌&&◌, filter, not, if◌then◌else◌}
-use Rattle.std.specs.declared.alloc.Global.{Global}
-use Rattle.urlpattern_generate.specs.Asked.{AreAsked, IsAsked, capture_by_modifier, capture_not_given, empty_or_none}
-use Rattle.urlpattern_generate.specs.Manners.{WritingManner}
-use Rattle.urlpattern_generate.specs.Writers.{AddsAsked}
-use Rattle.urlpattern_links.specs.Links.{OfEachGroup, OfFirst, captures_after}
+use Rattle.std.proofs.Common.{◌≡◌, ◌⊎◌, ◌∙◌, ℕ, Bool, true, false, List, [], ◌∷◌, ◌++◌, append-nil, append_assoc, ap, inl, inr, refl, sym, subst, Option, Some, None}
+use Rattle.std.specs.Prelude.{◌&&◌}
+use Rattle.urlpattern_generate.specs.Asked.{capture_by_modifier, capture_not_given, empty_if, is_nameless}
+use Rattle.urlpattern_links.specs.Links.{OfEachGroup, OfFirst, captures_after, fewest_copies, text_of_group, text_of_part, text_of_parts}
 use Rattle.urlpattern_meaning.specs.PartMeaning.{Captures, capture_of_none}
+use Rattle.urlpattern_syntax.specs.declared.parser.PartModifier.{PartModifier}
+use Rattle.urlpattern_syntax.specs.declared.parser.PartModifier.TheVariants as modifiers
 use Rattle.urlpattern_syntax.specs.declared.parser.PartType.{PartType}
 use Rattle.urlpattern_syntax.specs.declared.parser.PartType.TheVariants.{FixedText, FullWildcard, Regexp, SegmentWildcard}
+use Rattle.std.specs.Char.{is_ascii_digit}
 use Rattle.urlpattern_syntax.specs.Parts.{PartView}
-use Rattle.urlpattern_syntax.specs.declared.parser.PartModifier.TheVariants.{ZeroOrMore}
-use Rattle.urlpattern_syntax.specs.RegexpText.{group_names, is_empty, is_fixed_text}
-use Rattle.urlpattern_syntax.proofs.StringTexts.{text-nil}
-use Rattle.urlpattern_syntax.specs.Text.{begins_with, text_of}
-
--- ---- how many captures there are
-
-names_if : (group : Bool) (part : PartView) (parts : List PartView) → map (λ (p : PartView). p.name) (if group then part ∷ parts else parts) ≡ (if group then part.name ∷ map (λ (p : PartView). p.name) parts else map (λ (p : PartView). p.name) parts)
-names_if true part parts = refl
-names_if false part parts = refl
-
-first_counted : (Is : PartView → Option (List ℕ) → Type 0) (kind : PartType) (part : PartView) (name : List ℕ) (names : List (List ℕ)) (captures : Captures) → OfFirst Is kind part captures →
-    length (captures_after kind captures) ≡ length names → length captures ≡ length (if not (is_fixed_text kind) then name ∷ names else names)
-first_counted Is FixedText part name names captures first e = e
-first_counted Is Regexp part name names [] first e = absurd first
-first_counted Is Regexp part name names (capture ∷ captures) first e = ap (λ n. suc n) e
-first_counted Is SegmentWildcard part name names [] first e = absurd first
-first_counted Is SegmentWildcard part name names (capture ∷ captures) first e = ap (λ n. suc n) e
-first_counted Is FullWildcard part name names [] first e = absurd first
-first_counted Is FullWildcard part name names (capture ∷ captures) first e = ap (λ n. suc n) e
-
--- there is one for each group
-pub each_counted : (Is : PartView → Option (List ℕ) → Type 0) (parts : List PartView) (captures : Captures) → OfEachGroup Is parts captures → length captures ≡ length (group_names parts)
-each_counted Is [] captures h = ap length h
-each_counted Is (part ∷ parts) captures h =
-    first_counted Is part.kind part part.name (group_names parts) captures h.0 (each_counted Is parts (captures_after part.kind captures) h.1)
-    ∙ ap length (sym (names_if (not (is_fixed_text part.kind)) part (filter (λ (p : PartView). not (is_fixed_text p.kind)) parts)))
+use Rattle.urlpattern_syntax.specs.Text.{begins_with}
+use Rattle.urlpattern_syntax.specs.RegexpText.{is_empty}
 
 -- ---- one part more
 
-pub adds_fixed : (manner : WritingManner) (part : PartView) (captures : Captures) → part.kind ≡ FixedText → AddsAsked manner part captures captures
-adds_fixed manner part captures e parts rest h = (
-  rest,
-  refl,
-  subst (λ kind. OfFirst (IsAsked manner) kind part rest × OfEachGroup (IsAsked manner) parts (captures_after kind rest)) (sym e) (tt, h),
+after_more : (kind : PartType) (part : PartView) (Is : PartView → Option (List ℕ) → Type 0) (captures more : Captures) → OfFirst Is kind part captures →
+    captures_after kind (captures ++ more) ≡ captures_after kind captures ++ more
+after_more FixedText part Is captures more first = refl
+after_more Regexp part Is [] more first = absurd first
+after_more Regexp part Is (capture ∷ captures) more first = refl
+after_more SegmentWildcard part Is [] more first = absurd first
+after_more SegmentWildcard part Is (capture ∷ captures) more first = refl
+after_more FullWildcard part Is [] more first = absurd first
+after_more FullWildcard part Is (capture ∷ captures) more first = refl
+
+first_more : (kind : PartType) (part : PartView) (Is : PartView → Option (List ℕ) → Type 0) (captures more : Captures) → OfFirst Is kind part captures → OfFirst Is kind part (captures ++ more)
+first_more FixedText part Is captures more first = tt
+first_more Regexp part Is [] more first = absurd first
+first_more Regexp part Is (capture ∷ captures) more first = first
+first_more SegmentWildcard part Is [] more first = absurd first
+first_more SegmentWildcard part Is (capture ∷ captures) more first = first
+first_more FullWildcard part Is [] more first = absurd first
+first_more FullWildcard part Is (capture ∷ captures) more first = first
+
+-- what is said of parts and of others is said of both
+pub each_joined : (Is : PartView → Option (List ℕ) → Type 0) (parts others : List PartView) (captures more : Captures) → OfEachGroup Is parts captures → OfEachGroup Is others more →
+    OfEachGroup Is (parts ++ others) (captures ++ more)
+each_joined Is [] others captures more h also = subst (λ own. OfEachGroup Is others (own ++ more)) (sym h) also
+each_joined Is (part ∷ parts) others captures more (first, rest) also = (
+  first_more part.kind part Is captures more first,
+  subst (OfEachGroup Is (parts ++ others)) (sym (after_more part.kind part Is captures more first)) (each_joined Is parts others (captures_after part.kind captures) more rest also),
 )
 
-group_asked : (manner : WritingManner) (kind : PartType) (part : PartView) (capture : Option (List ℕ)) (parts : List PartView) (rest : Captures) → ¬ (kind ≡ FixedText) →
-    IsAsked manner part capture → AreAsked manner parts rest → OfFirst (IsAsked manner) kind part (capture ∷ rest) × OfEachGroup (IsAsked manner) parts (captures_after kind (capture ∷ rest))
-group_asked manner FixedText part capture parts rest group is h = absurd (group refl)
-group_asked manner Regexp part capture parts rest group is h = (is, h)
-group_asked manner SegmentWildcard part capture parts rest group is h = (is, h)
-group_asked manner FullWildcard part capture parts rest group is h = (is, h)
+own_more : (kind : PartType) (part : PartView) (Is : PartView → Option (List ℕ) → Type 0) (captures more : Captures) → OfFirst Is kind part captures →
+    text_of_part kind part (captures ++ more) ≡ text_of_part kind part captures
+own_more FixedText part Is captures more first = refl
+own_more Regexp part Is [] more first = absurd first
+own_more Regexp part Is (capture ∷ captures) more first = refl
+own_more SegmentWildcard part Is [] more first = absurd first
+own_more SegmentWildcard part Is (capture ∷ captures) more first = refl
+own_more FullWildcard part Is [] more first = absurd first
+own_more FullWildcard part Is (capture ∷ captures) more first = refl
 
-pub adds_group : (manner : WritingManner) (part : PartView) (capture : Option (List ℕ)) (before after : Captures) → ¬ (part.kind ≡ FixedText) → IsAsked manner part capture →
-    after ≡ before ++ capture ∷ [] → AddsAsked manner part before after
-adds_group manner part capture before after group is e parts rest h = (
-  capture ∷ rest,
-  ap (λ captures. captures ++ rest) e ∙ append_assoc before (capture ∷ []) rest,
-  group_asked manner part.kind part capture parts rest group is h,
-)
+-- their texts stand end to end
+pub texts_joined : (Is : PartView → Option (List ℕ) → Type 0) (parts others : List PartView) (captures more : Captures) → OfEachGroup Is parts captures →
+    text_of_parts (parts ++ others) (captures ++ more) ≡ text_of_parts parts captures ++ text_of_parts others more
+texts_joined Is [] others captures more h = ap (λ own. text_of_parts others (own ++ more)) h
+texts_joined Is (part ∷ parts) others captures more (first, rest) =
+    ap (λ own. own ++ text_of_parts (parts ++ others) (captures_after part.kind (captures ++ more))) (own_more part.kind part Is captures more first)
+    ∙ ap (λ left. text_of_part part.kind part captures ++ text_of_parts (parts ++ others) left) (after_more part.kind part Is captures more first)
+    ∙ ap (λ text. text_of_part part.kind part captures ++ text) (texts_joined Is parts others (captures_after part.kind captures) more rest)
+    ∙ sym (append_assoc (text_of_part part.kind part captures) (text_of_parts parts (captures_after part.kind captures)) (text_of_parts others more))
+
+-- ---- one part
+
+group_alone : (Is : PartView → Option (List ℕ) → Type 0) (kind : PartType) (part : PartView) (capture : Option (List ℕ)) → ¬ (kind ≡ FixedText) → Is part capture →
+    OfFirst Is kind part (capture ∷ []) × (captures_after kind (capture ∷ []) ≡ [])
+group_alone Is FixedText part capture group is = absurd (group refl)
+group_alone Is Regexp part capture group is = (is, refl)
+group_alone Is SegmentWildcard part capture group is = (is, refl)
+group_alone Is FullWildcard part capture group is = (is, refl)
+
+pub each_alone : (Is : PartView → Option (List ℕ) → Type 0) (part : PartView) (capture : Option (List ℕ)) → ¬ (part.kind ≡ FixedText) → Is part capture → OfEachGroup Is (part ∷ []) (capture ∷ [])
+each_alone Is part capture group is = group_alone Is part.kind part capture group is
+
+group_text : (kind : PartType) (part : PartView) (capture : Option (List ℕ)) → ¬ (kind ≡ FixedText) → text_of_part kind part (capture ∷ []) ≡ text_of_group part capture
+group_text FixedText part capture group = absurd (group refl)
+group_text Regexp part capture group = refl
+group_text SegmentWildcard part capture group = refl
+group_text FullWildcard part capture group = refl
+
+pub text_alone : (part : PartView) (capture : Option (List ℕ)) → ¬ (part.kind ≡ FixedText) → text_of_parts (part ∷ []) (capture ∷ []) ≡ text_of_group part capture
+text_alone part capture group = append-nil _ ∙ group_text part.kind part capture group
+
+pub fixed_alone : (Is : PartView → Option (List ℕ) → Type 0) (kind : PartType) (part : PartView) → kind ≡ FixedText → OfFirst Is kind part [] × (captures_after kind [] ≡ [])
+fixed_alone Is kind part e = subst (λ k. OfFirst Is k part [] × (captures_after k [] ≡ [])) (sym e) (tt, refl)
+
+pub fixed_text_alone : (part : PartView) → part.kind ≡ FixedText → text_of_parts (part ∷ []) [] ≡ fewest_copies part.modifier part.value
+fixed_text_alone part e = append-nil _ ∙ ap (λ kind. text_of_part kind part []) e
+
+-- ---- what is not given
+
+pub zero_or_more : (part : PartView) (bare : Bool) → part.modifier ≡ modifiers.ZeroOrMore → bare ≡ (is_empty part.prefix && is_empty part.suffix) → empty_if bare ≡ capture_not_given part
+zero_or_more part bare e f =
+    by_bare bare ∙ ap (λ is. capture_of_none modifiers.ZeroOrMore is) f
+    ∙ sym (ap (λ modifier. capture_by_modifier modifier part) e ∙ ap (λ modifier. capture_of_none modifier (is_empty part.prefix && is_empty part.suffix)) e)
+  where
+    by_bare : (is : Bool) → empty_if is ≡ capture_of_none modifiers.ZeroOrMore is
+    by_bare true = refl
+    by_bare false = refl
+
+none_or_more : (modifier : PartModifier) (part : PartView) → (modifier ≡ modifiers.None) ⊎ (modifier ≡ modifiers.OneOrMore) → empty_if (is_nameless part.kind part.name) ≡ capture_by_modifier modifier part
+none_or_more modifier part (inl e) = sym (ap (λ m. capture_by_modifier m part) e)
+none_or_more modifier part (inr e) = sym (ap (λ m. capture_by_modifier m part) e)
+
+pub other_modifier : (part : PartView) → (part.modifier ≡ modifiers.None) ⊎ (part.modifier ≡ modifiers.OneOrMore) → empty_if (is_nameless part.kind part.name) ≡ capture_not_given part
+other_modifier part e = none_or_more part.modifier part e
+
+-- where something is captured that is not given, it is empty
+pub empty_by : (is : Bool) (text : List ℕ) → empty_if is ≡ Some text → text ≡ []
+empty_by true text e = cc
+empty_by false text e = cc
+
+no_copies_empty : (modifier : PartModifier) (bare : Bool) (text : List ℕ) → capture_of_none modifier bare ≡ Some text → text ≡ []
+no_copies_empty modifiers.ZeroOrMore true text e = cc
+no_copies_empty modifiers.ZeroOrMore false text e = cc
+no_copies_empty modifiers.None bare text e = cc
+no_copies_empty modifiers.Optional bare text e = cc
+no_copies_empty modifiers.OneOrMore bare text e = cc
+
+not_given_by : (modifier : PartModifier) (part : PartView) (text : List ℕ) → capture_by_modifier modifier part ≡ Some text → text ≡ []
+not_given_by modifiers.Optional part text e = cc
+not_given_by modifiers.ZeroOrMore part text e = no_copies_empty part.modifier (is_empty part.prefix && is_empty part.suffix) text e
+not_given_by modifiers.None part text e = empty_by (is_nameless part.kind part.name) text e
+not_given_by modifiers.OneOrMore part text e = empty_by (is_nameless part.kind part.name) text e
+
+pub not_given_empty : (part : PartView) (text : List ℕ) → capture_not_given part ≡ Some text → text ≡ []
+not_given_empty part text e = not_given_by part.modifier part text e
 
 -- ---- wildcards without name
 
-pub empty_wildcard : (kind : PartType) (name : List ℕ) (string : String Global) → kind ≡ FullWildcard → begins_with is_ascii_digit name ≡ true → string_bytes string ≡ [] →
-    Some (text_of string) ≡ empty_or_none kind name
-empty_wildcard kind name string e digit empty =
-    ap (λ text. Some text) (text-nil string empty) ∙ sym (ap (λ k. empty_or_none k name) e ∙ ap (λ (is : Bool). if is then Some [] else None) digit)
+pub full_nameless : (kind : PartType) (name : List ℕ) (digit : Bool) → kind ≡ FullWildcard → digit ≡ begins_with is_ascii_digit name → digit ≡ is_nameless kind name
+full_nameless kind name digit e is = is ∙ sym (ap (λ k. is_nameless k name) e)
 
-pub zero_or_more : (part : PartView) → part.modifier ≡ ZeroOrMore → capture_not_given part ≡ capture_of_none ZeroOrMore (is_empty part.prefix && is_empty part.suffix)
-zero_or_more part e =
-    ap (λ modifier. capture_by_modifier modifier part) e ∙ ap (λ modifier. capture_of_none modifier (is_empty part.prefix && is_empty part.suffix)) e
+pub other_nameless : (kind : PartType) (name : List ℕ) → ¬ (kind ≡ FullWildcard) → false ≡ is_nameless kind name
+other_nameless FullWildcard name other = absurd (other refl)
+other_nameless FixedText name other = refl
+other_nameless Regexp name other = refl
+other_nameless SegmentWildcard name other = refl

@@ -1,5 +1,5 @@
 -- Values that are canonical as they are.
-use Rattle.std.proofs.Common.{◌≡◌, ◌∙◌, ◌+◌, ◌<◌, ◌≤◌, ℕ, add-one, drop, get_or, Bool, true, false, not, ◌&&◌, ◌==◌, List, [], ◌∷◌, ◌++◌, append_assoc, ◌⊎◌, length, All, Some, Ok, ap, arith, inl, inr, refl, subst, sym}
+use Rattle.std.proofs.Common.{◌≡◌, ◌∙◌, ◌+◌, ◌<◌, ◌≤◌, ℕ, add-one, drop, get_or, Bool, true, false, not, ◌&&◌, ◌==◌, List, [], ◌∷◌, ◌++◌, append_assoc, ◌⊎◌, length, All, None, Some, Ok, ap, arith, inl, inr, refl, subst, sym}
 use Rattle.std.proofs.lemmas.Bool.{and_from, and_parts, cond-false, eqb-true, false≢true, not-true}
 use Rattle.std.proofs.lemmas.Bool.Decides.{nat_tests}
 use Rattle.std.proofs.Math.Seq.{drop-cons}
@@ -13,13 +13,13 @@ use Rattle.std.specs.Prelude.{IsAscii, IsTrue, Option, ◌||◌, codes, if◌the
 use Rattle.std.specs.Str.{chars}
 use Rattle.percent_encoding.specs.Percent.{IsKept}
 use Rattle.percent_encoding.specs.declared.ascii_set.AsciiSet.{AsciiSet}
-use Rattle.url.proofs.InputLemmas.{All_from_list_all, IsNot, Passes, is_empty_nonempty, rsplit_once_none}
+use Rattle.url.proofs.InputLemmas.{All_from_list_all, Passes, is_empty_nonempty}
 use Rattle.url.proofs.OnLiterals.{url_on_literals}
 use Rattle.url.proofs.PathLemmas.{no_segments, push_valid}
 use Rattle.url.proofs.SetLemmas.{kept_from_passes, passes_from_kept, passing_outside}
 use Rattle.url.specs.Ascii.{dot, lower_x, slash, upper_x}
 use Rattle.url.specs.Host.{IsHostOf}
-use Rattle.url.specs.Input.{is_empty, lowercase}
+use Rattle.url.specs.Input.{is_empty, lowercase, rsplit_once, rsplit_step}
 use Rattle.url.specs.Ipv4.{ends_in_a_number, is_number, last_label_of, number_of, parse_number, split_radix}
 use Rattle.url.specs.Parser.{and_then}
 use Rattle.url.specs.Path.{IsSegment, IsSegmentList, dot_count}
@@ -34,12 +34,12 @@ use Rattle.urlpattern_eight.specs.declared.eight.ComponentName.{ComponentName}
 use Rattle.urlpattern_eight.specs.declared.eight.ComponentName.TheVariants.{Protocol, Username, Password, Hostname, Port, Pathname, Search, Hash}
 use Rattle.urlpattern_generate.proofs.HostTexts.{host_visible, hostname_kept}
 use Rattle.urlpattern_generate.proofs.OpaquePaths.{path_canonical}
-use Rattle.urlpattern_generate.proofs.PlainReadings.{empty_canonical}
+use Rattle.urlpattern_generate.proofs.PortTexts.{port_digits, port_kept}
 use Rattle.urlpattern_generate.proofs.SetTexts.{AreVisible, by_bytes, hash_kept, is_visible, path_stays, pathname_kept, search_kept}
 use Rattle.urlpattern_generate.specs.Manners.{canonical_for}
 use Rattle.urlpattern_syntax.proofs.TextLemmas.{chars_nothing}
 use Rattle.urlpattern_syntax.specs.Text.{lacks, line_feed}
-use Rattle.urlpattern_generate.specs.Kept.{is_dot_mark, is_kept_character, is_kept_opaque, is_kept_path, is_kept_value, is_label_character}
+use Rattle.urlpattern_generate.specs.Kept.{is_dot_mark, is_host_character, is_kept_character, is_kept_host, is_kept_opaque, is_kept_path, is_kept_value, is_label_character}
 
 -- ---- characters that are kept
 
@@ -149,19 +149,25 @@ path_kept (b ∷ bytes) kept = by_slash (b == slash) refl
 
 -- ---- a label of a host
 
-label_ascii : (b : ℕ) → Passes is_label_character b → b < 128
-label_ascii b passes = grind (arith, nat_tests)
+host_ascii : (b : ℕ) → Passes is_host_character b → b < 128
+host_ascii b passes = grind (arith, nat_tests)
 
-label_no_dot : (b : ℕ) → Passes is_label_character b → IsNot dot b
-label_no_dot b passes same = grind (arith, nat_tests)
+own_label : (b : ℕ) → Passes is_host_character b → (b == dot) ≡ false → Passes is_label_character b
+own_label b passes other = grind (arith, nat_tests)
 
-lower_one : (b : ℕ) → Passes is_label_character b → to_ascii_lowercase b ≡ b
+lower_one : (b : ℕ) → Passes is_host_character b → to_ascii_lowercase b ≡ b
 lower_one b passes = grind (arith, nat_tests)
 
-lower_all : (bytes : List ℕ) → All (Passes is_label_character) bytes → lowercase bytes ≡ bytes
+lower_all : (bytes : List ℕ) → All (Passes is_host_character) bytes → lowercase bytes ≡ bytes
 lower_all [] all = refl
 lower_all (b ∷ bytes) all =
-    (λ i. lower_one b (All-head (Passes is_label_character) b bytes all) i ∷ lower_all bytes (All-tail (Passes is_label_character) b bytes all) i)
+    (λ i. lower_one b (All-head (Passes is_host_character) b bytes all) i ∷ lower_all bytes (All-tail (Passes is_host_character) b bytes all) i)
+
+host_characters : (dotted : Bool) (bytes : List ℕ) → is_kept_host dotted bytes ≡ true → All (Passes is_host_character) bytes
+host_characters dotted [] kept = All-nil (Passes is_host_character)
+host_characters dotted (b ∷ bytes) kept =
+    let both = and_parts (is_host_character b) (is_kept_host (b == dot) bytes) kept in
+    All-cons (Passes is_host_character) b bytes both.0 (host_characters (b == dot) bytes both.1)
 
 -- what tells a number, of the last label
 abbrev is_last_number : List ℕ → Bool
@@ -184,27 +190,63 @@ no_number b bytes passes =
     let no : is_number (number_of 10 (b ∷ bytes)) ≡ false = ap is_number (cond-false _ _ _ none) in
     (λ i. (not (some i) && digits i) || is_number (parsed i)) ∙ no
 
-label_named : (b : ℕ) (bytes : List ℕ) → All (Passes is_label_character) (b ∷ bytes) → ends_in_a_number (b ∷ bytes) ≡ false
+-- The last label begins with a letter or a hyphen.
+record IsNamed (cut : Option (List ℕ) × List ℕ) : Type 0 where
+  first : ℕ
+  rest : List ℕ
+  is_last : cut.1 ≡ first ∷ rest
+  is_label : Passes is_label_character first
+
+one_more : (b : ℕ) (front : Option (List ℕ)) (back : List ℕ) → Passes is_host_character b → IsNamed (front, back) → IsNamed (rsplit_step dot b front back)
+one_more b (Some front) back passes named = record { first = named.first; rest = named.rest; is_last = named.is_last; is_label = named.is_label }
+one_more b None back passes named = by_test (b == dot) refl
+  where
+    by_test : (is : Bool) → (b == dot) ≡ is → IsNamed (if is then (Some [], back) else (None, b ∷ back))
+    by_test true e = record { first = named.first; rest = named.rest; is_last = named.is_last; is_label = named.is_label }
+    by_test false e = record { first = b; rest = back; is_last = refl; is_label = own_label b passes e }
+
+last_one : (b : ℕ) → Passes is_host_character b → not (b == dot) ≡ true → IsNamed (rsplit_step dot b None [])
+last_one b passes other = by_test (b == dot) refl
+  where
+    by_test : (is : Bool) → (b == dot) ≡ is → IsNamed (if is then (Some [], []) else (None, b ∷ []))
+    by_test true e = absurd (false≢true (sym (ap not e) ∙ other))
+    by_test false e = record { first = b; rest = []; is_last = refl; is_label = own_label b passes e }
+
+last_named : (b : ℕ) (bytes : List ℕ) (dotted : Bool) → is_kept_host dotted (b ∷ bytes) ≡ true → IsNamed (rsplit_once dot (b ∷ bytes))
+unfolding rsplit_once
+last_named b [] dotted kept = let both = and_parts (is_host_character b) (not (b == dot)) kept in last_one b both.0 both.1
+last_named b (c ∷ bytes) dotted kept =
+    let both = and_parts (is_host_character b) (is_kept_host (b == dot) (c ∷ bytes)) kept in
+    let later = rsplit_once dot (c ∷ bytes) in
+    one_more b later.0 later.1 both.0 (last_named c bytes (b == dot) both.1)
+
+no_last_number : (front : Option (List ℕ)) (back : List ℕ) → IsNamed (front, back) → is_last_number (last_label_of front back) ≡ false
+no_last_number None back named = ap is_last_number named.is_last ∙ no_number named.first named.rest named.is_label
+no_last_number (Some front) back named =
+    let last = named.first ∷ named.rest in
+    ap (λ label. is_last_number (last_label_of (Some front) label)) named.is_last
+    ∙ ap is_last_number (cond-false _ _ _ (is_empty_nonempty last (omega arith))) ∙ no_number named.first named.rest named.is_label
+
+host_named : (b : ℕ) (bytes : List ℕ) → is_kept_host false (b ∷ bytes) ≡ true → ends_in_a_number (b ∷ bytes) ≡ false
 unfolding ends_in_a_number
-label_named b bytes all =
-    let cut = rsplit_once_none dot (b ∷ bytes) (All-weaker (Passes is_label_character) (IsNot dot) label_no_dot (b ∷ bytes) all) in
-    ap (λ (parts : Option (List ℕ) × List ℕ). is_last_number (last_label_of parts.0 parts.1)) cut ∙ no_number b bytes (All-head (Passes is_label_character) b bytes all)
+host_named b bytes kept = let cut = rsplit_once dot (b ∷ bytes) in no_last_number cut.0 cut.1 (last_named b bytes false kept)
 
-label_host : (b : ℕ) (bytes : List ℕ) → All (Passes is_label_character) (b ∷ bytes) → IsHostOf SpecialNotFile (Domain (b ∷ bytes))
-label_host b bytes all = (
-  record {
-    allowed = All-weaker (Passes is_label_character) (IsKept FORBIDDEN_DOMAIN) (λ c passes. kept_from_passes is_label_character FORBIDDEN_DOMAIN refl c (label_ascii c passes) passes) (b ∷ bytes) all;
-    lower = lower_all (b ∷ bytes) all;
-    named = label_named b bytes all;
-  },
-  omega arith,
-)
+named_host : (b : ℕ) (bytes : List ℕ) → is_kept_host false (b ∷ bytes) ≡ true → IsHostOf SpecialNotFile (Domain (b ∷ bytes))
+named_host b bytes kept =
+    let all = host_characters false (b ∷ bytes) kept in (
+      record {
+        allowed = All-weaker (Passes is_host_character) (IsKept FORBIDDEN_DOMAIN) (λ c passes. kept_from_passes is_host_character FORBIDDEN_DOMAIN refl c (host_ascii c passes) passes) (b ∷ bytes) all;
+        lower = lower_all (b ∷ bytes) all;
+        named = host_named b bytes kept;
+      },
+      omega arith,
+    )
 
-label_kept : (bytes : List ℕ) → list_all is_label_character bytes ≡ true → canonical_hostname (chars bytes) ≡ Ok (chars bytes)
+host_kept : (bytes : List ℕ) → is_kept_host false bytes ≡ true → canonical_hostname (chars bytes) ≡ Ok (chars bytes)
 unfolding chars
-label_kept [] all = refl
-label_kept (b ∷ bytes) all =
-    let host = label_host b bytes (All_from_list_all is_label_character (b ∷ bytes) all) in
+host_kept [] all = refl
+host_kept (b ∷ bytes) all =
+    let host = named_host b bytes all in
     by_bytes hostname_of (b ∷ bytes) (host_visible (Domain (b ∷ bytes)) host) (hostname_kept (Domain (b ∷ bytes)) host)
 
 -- ---- byte by byte
@@ -223,6 +265,19 @@ module _ (begins : Bool) (bytes : List ℕ) (i other : ℕ) (within : i < length
 
 pub path_ends : (begins : Bool) (bytes : List ℕ) (i : ℕ) → length bytes ≤ i → true ≡ is_kept_path begins (drop i bytes)
 path_ends begins bytes i past = sym (ap (is_kept_path begins) (drop_all i bytes past))
+
+module _ (dotted : Bool) (bytes : List ℕ) (i other : ℕ) (within : i < length bytes) where
+  host_step : is_kept_host dotted (drop i bytes) ≡ (is_host_character (get_or bytes i other) && is_kept_host (get_or bytes i other == dot) (drop (i + 1) bytes))
+  host_step = ap (is_kept_host dotted) (drop-cons bytes i other within ∙ ap (λ n. get_or bytes i other ∷ drop n bytes) (sym (add-one i)))
+
+  pub host_goes_on : is_host_character (get_or bytes i other) ≡ true → is_kept_host (get_or bytes i other == dot) (drop (i + 1) bytes) ≡ is_kept_host dotted (drop i bytes)
+  host_goes_on kept = sym (host_step ∙ ap (λ (is : Bool). is && is_kept_host (get_or bytes i other == dot) (drop (i + 1) bytes)) kept)
+
+  pub host_stops : is_host_character (get_or bytes i other) ≡ false → false ≡ is_kept_host dotted (drop i bytes)
+  host_stops kept = sym (host_step ∙ ap (λ (is : Bool). is && is_kept_host (get_or bytes i other == dot) (drop (i + 1) bytes)) kept)
+
+pub host_ends : (dotted : Bool) (bytes : List ℕ) (i : ℕ) → length bytes ≤ i → not dotted ≡ is_kept_host dotted (drop i bytes)
+host_ends dotted bytes i past = sym (ap (is_kept_host dotted) (drop_all i bytes past))
 
 -- ---- an opaque path
 
@@ -261,6 +316,18 @@ protocol_line text (inr (inr (inr e))) = subst (λ of. IsTrue (lacks line_feed (
 
 -- ---- any component
 
+empty_canonical : (component : ComponentName) (hierarchical is_ipv6 : Bool) → canonical_for component hierarchical is_ipv6 [] ≡ Ok []
+empty_canonical Protocol hierarchical is_ipv6 = refl
+empty_canonical Username hierarchical is_ipv6 = refl
+empty_canonical Password hierarchical is_ipv6 = refl
+empty_canonical Hostname hierarchical true = refl
+empty_canonical Hostname hierarchical false = refl
+empty_canonical Port hierarchical is_ipv6 = refl
+empty_canonical Pathname true is_ipv6 = refl
+empty_canonical Pathname false is_ipv6 = refl
+empty_canonical Search hierarchical is_ipv6 = refl
+empty_canonical Hash hierarchical is_ipv6 = refl
+
 empty_kept : (component : ComponentName) (hierarchical : Bool) (bytes : List ℕ) → (length bytes == 0) ≡ true → canonical_for component hierarchical false (chars bytes) ≡ Ok (chars bytes)
 empty_kept component hierarchical [] e = subst (λ text. canonical_for component hierarchical false text ≡ Ok text) (sym chars_nothing) (empty_canonical component hierarchical false)
 empty_kept component hierarchical (b ∷ bytes) e = absurd (let some = eqb-true (length (b ∷ bytes)) 0 e in omega arith)
@@ -269,8 +336,8 @@ kept_for : (component : ComponentName) (hierarchical : Bool) (bytes : List ℕ) 
 kept_for Protocol hierarchical bytes e = empty_kept Protocol hierarchical bytes e
 kept_for Username hierarchical bytes e = empty_kept Username hierarchical bytes e
 kept_for Password hierarchical bytes e = empty_kept Password hierarchical bytes e
-kept_for Hostname hierarchical bytes e = label_kept bytes e
-kept_for Port hierarchical bytes e = empty_kept Port hierarchical bytes e
+kept_for Hostname hierarchical bytes e = host_kept bytes e
+kept_for Port hierarchical bytes e = port_kept bytes e
 kept_for Pathname true bytes e = by_bytes pathname_of bytes (are_visible bytes (path_characters false bytes e)) (path_kept bytes e)
 kept_for Pathname false bytes e = opaque_kept bytes e
 kept_for Search hierarchical bytes e =
@@ -313,10 +380,12 @@ pub kept_line : (component : ComponentName) (hierarchical : Bool) (bytes : List 
 kept_line Protocol hierarchical bytes kept = empty_line bytes kept
 kept_line Username hierarchical bytes kept = empty_line bytes kept
 kept_line Password hierarchical bytes kept = empty_line bytes kept
-kept_line Port hierarchical bytes kept = empty_line bytes kept
+kept_line Port hierarchical bytes kept =
+    let all = port_digits bytes kept in
+    lines is_ascii_digit refl bytes (IsAscii-from_all bytes (All-weaker (Passes is_ascii_digit) (λ b. b < 128) (λ b passes. grind (arith, nat_tests)) bytes all)) all
 kept_line Hostname hierarchical bytes kept =
-    let all = All_from_list_all is_label_character bytes kept in
-    lines is_label_character refl bytes (IsAscii-from_all bytes (All-weaker (Passes is_label_character) (λ b. b < 128) label_ascii bytes all)) all
+    let all = host_characters false bytes kept in
+    lines is_host_character refl bytes (IsAscii-from_all bytes (All-weaker (Passes is_host_character) (λ b. b < 128) host_ascii bytes all)) all
 kept_line Pathname true bytes kept = text_lines bytes (path_characters false bytes kept)
 kept_line Pathname false bytes kept = text_lines bytes (All_from_list_all is_kept_character bytes (and_parts (not (slice_index bytes 0 == slash)) (list_all is_kept_character bytes) kept).1)
 kept_line Search hierarchical bytes kept = text_lines bytes (All_from_list_all is_kept_character bytes kept)

@@ -1,5 +1,5 @@
 -- What the groups of parts are to capture.
-use Rattle.std.specs.Prelude.{◌≡◌, ◌⊎◌, ◌&&◌, ℕ, Bool, List, [], ◌∷◌, Option, Some, None, Ok, length, if◌then◌else◌}
+use Rattle.std.specs.Prelude.{◌≡◌, ◌&&◌, ℕ, Bool, false, List, [], ◌∷◌, Option, Some, None, Ok, length, if◌then◌else◌}
 use Rattle.std.specs.{Char.is_ascii_digit, Str.chars}
 use Rattle.url.specs.Parser.{Parsed}
 use Rattle.urlpattern_canonical.specs.Canonical.{IsRefusedByUrl}
@@ -9,20 +9,20 @@ use Rattle.urlpattern_meaning.specs.PartMeaning.{Captures, capture_of_no_copies}
 use Rattle.urlpattern_syntax.specs.declared.parser.{PartModifier.PartModifier, PartType.PartType}
 use Rattle.urlpattern_syntax.specs.{Parts.PartView, RegexpText.is_empty, Text.begins_with}
 
--- the part has neither prefix nor suffix
-abbrev pub is_bare : PartView → Bool
-is_bare part = is_empty part.prefix && is_empty part.suffix
+-- a wildcard without name, whose name is a number then
+abbrev pub is_nameless : PartType → (name : List ℕ) → Bool
+is_nameless PartType.FullWildcard name = begins_with is_ascii_digit name
+is_nameless kind name = false
 
--- a wildcard without name, whose name is a number then, is empty; any other group captures nothing
-abbrev pub empty_or_none : PartType → (name : List ℕ) → Option (List ℕ)
-empty_or_none PartType.FullWildcard name = if begins_with is_ascii_digit name then Some [] else None
-empty_or_none kind name = None
+-- the empty text, or nothing
+abbrev pub empty_if : Bool → Option (List ℕ)
+empty_if is = if is then Some [] else None
 
--- what a group captures that is not given, by its modifier: it takes no part if it may
+-- what a group captures that is not given, by its modifier: it takes no part if it may; otherwise a wildcard without name is empty
 abbrev pub capture_by_modifier : PartModifier → PartView → Option (List ℕ)
 capture_by_modifier PartModifier.Optional part = None
 capture_by_modifier PartModifier.ZeroOrMore part = capture_of_no_copies part
-capture_by_modifier modifier part = empty_or_none part.kind part.name
+capture_by_modifier modifier part = empty_if (is_nameless part.kind part.name)
 
 abbrev pub capture_not_given : PartView → Option (List ℕ)
 capture_not_given part = capture_by_modifier part.modifier part
@@ -42,9 +42,3 @@ AreAsked manner = OfEachGroup (IsAsked manner)
 -- `url` refuses the text that is given for this group, or the text may be too long
 abbrev pub RefusesGiven : WritingManner → (name : List ℕ) → Type 0
 RefusesGiven manner name = (bytes : List ℕ) × (manner.given name ≡ Some (chars bytes)) × IsRefusedByUrl (manner.canonical (chars bytes)) (length bytes)
-
--- the same of one of the groups, which has this name
-abbrev pub RefusesSomeGiven : WritingManner → List PartView → (name : List ℕ) → Type 0
-RefusesSomeGiven manner [] name = ⊥
-RefusesSomeGiven manner (part ∷ parts) name =
-    ((part.name ≡ name) × (¬ (part.kind ≡ PartType.FixedText)) × RefusesGiven manner name) ⊎ RefusesSomeGiven manner parts name

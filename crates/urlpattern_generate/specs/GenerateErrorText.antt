@@ -12,4 +12,5 @@ generate_error_text (errors.NotCaptured component name) =
     codes "the group `" ++ name_text component ++ (codes "." ++ string_bytes name ++ codes "` cannot capture what is given for it")
 generate_error_text (errors.ReadOtherwise component) =
     codes "the " ++ name_text component ++ codes " would be read with other groups, or no URL has it"
+generate_error_text errors.NoParts = codes "the pattern was put together by hand, so that its parts are not known"
 generate_error_text errors.OutOfMemory = codes "out of memory"

@@ -1,123 +1,74 @@
--- The text of a component whose groups capture what is given, and why there is none.
-use Rattle.std.specs.Prelude.{◌≡◌, ◌≢◌, ◌⊎◌, ◌≤◌, ℕ, Bool, IsTrue, List, length, MatchBool, Option, Some, None, Ok}
-use Rattle.std.specs.Str.{chars}
+-- The text of a component that its matcher matches with what is given, and why there is none.
+use Rattle.std.specs.Prelude.{◌≡◌, ◌≢◌, ◌⊎◌, ◌≤◌, ◌||◌, ℕ, Bool, true, not, List, length, IsTrue, MatchBool, Option, Some, None, Ok}
+use Rattle.std.specs.{Char.is_ascii_alphabetic, Str.chars}
 use Rattle.url.specs.Parser.{Parsed}
 use Rattle.urlpattern_canonical.specs.Canonical.{long_text}
-use Rattle.urlpattern_core.specs.Components.{ComponentView}
-use Rattle.urlpattern_generate.specs.Asked.{AreAsked, RefusesSomeGiven}
-use Rattle.urlpattern_generate.specs.Manners.{GivenView, WritingManner, manner_for, unchanged}
-use Rattle.urlpattern_generate.specs.declared.error.GenerateError.{GenerateError}
-use Rattle.urlpattern_generate.specs.declared.error.GenerateError.TheVariants.{Missing, NotCaptured, ReadOtherwise, OutOfMemory}
-use Rattle.urlpattern_links.specs.Links.{MayCaptureAll, RefusesCapture, text_of_parts}
-use Rattle.urlpattern_meaning.specs.Matching.{Answers, MatcherView}
-use Rattle.urlpattern_meaning.specs.PartMeaning.{Captures}
 use Rattle.urlpattern_eight.specs.declared.eight.ComponentName.{ComponentName}
-use Rattle.urlpattern_syntax.specs.Errors.{ErrorView}
+use Rattle.urlpattern_generate.specs.Asked.{AreAsked}
+use Rattle.urlpattern_generate.specs.Manners.{WritingManner}
+use Rattle.urlpattern_generate.specs.Writing.{CannotWrite, IsWritten}
+use Rattle.urlpattern_generate.specs.declared.error.GenerateError.{GenerateError}
+use Rattle.urlpattern_generate.specs.declared.error.GenerateError.TheVariants.{ReadOtherwise}
+use Rattle.urlpattern_meaning.specs.Matching.{Answers, InnerView, Literal, MatcherView, RegExp, SingleCapture}
+use Rattle.urlpattern_meaning.specs.PartMeaning.{Captures}
 use Rattle.urlpattern_syntax.specs.Parts.{PartView}
-use Rattle.urlpattern_syntax.specs.Reading.{Reads, Refuses}
-use Rattle.urlpattern_syntax.specs.Text.{text_of}
 
--- The pattern text means these parts, and their groups are to capture this.
-pub record AsksFor (manner : WritingManner) (pattern : List ℕ) (parts : List PartView) (captures : Captures) : Type 0 where
-  pub reads : Reads pattern manner.options unchanged parts
-  pub are_asked : AreAsked manner parts captures
+-- ---- what a matcher finds
+
+-- the matcher finds in the text what is asked of the groups
+abbrev pub FindsAsked : {E : Type 0} → (answer : E → List ℕ → Option Captures) → MatcherView E → WritingManner → List PartView → (text : List ℕ) → Type 0
+FindsAsked answer matcher manner parts text = (captures : Captures) × AreAsked manner parts captures × Answers answer matcher text (Some captures)
+
+-- it finds something else, or does not match the text
+abbrev pub FindsOther : {E : Type 0} → (answer : E → List ℕ → Option Captures) → MatcherView E → WritingManner → List PartView → (text : List ℕ) → Type 0
+FindsOther answer matcher manner parts text =
+    (found : Option Captures) × Answers answer matcher text found × ((captures : Captures) → AreAsked manner parts captures → found ≢ Some captures)
+
+-- whether it finds that
+abbrev pub TellsFound : {E : Type 0} → Bool → (answer : E → List ℕ → Option Captures) → MatcherView E → WritingManner → List PartView → (text : List ℕ) → Type 0
+TellsFound is answer matcher manner parts text = MatchBool is (FindsAsked answer matcher manner parts text) (FindsOther answer matcher manner parts text)
+
+-- the filter's character is the same in both cases, as it is no ASCII letter
+abbrev pub has_one_case : (filter : Option ℕ) → Bool
+has_one_case None = true
+has_one_case (Some c) = not (is_ascii_alphabetic c)
+
+-- A matcher of this is sure to find what was written of the parts that it was made of: it has no engine, and if case is ignored, its
+-- filter has one case.
+abbrev pub ReadsWritten : {E : Type 0} → (ignore_case : Bool) → InnerView E → Type 0
+ReadsWritten ignore_case (Literal literal) = Unit {0}
+ReadsWritten ignore_case (SingleCapture filter allow_empty) = IsTrue (not ignore_case || has_one_case filter)
+ReadsWritten ignore_case (RegExp engine) = ⊥
+
+-- ---- canonical texts
 
 -- the text is its own canonical form
 abbrev pub IsCanonical : (List ℕ → Parsed (List ℕ)) → (text : List ℕ) → Type 0
 IsCanonical canonical text = canonical text ≡ Ok text
 
--- The matcher matches the text, and its groups capture this; and the text is canonical, as that of a URL is.
-pub record IsReadWith {E : Type 0} (answer : E → List ℕ → Option Captures) (matcher : MatcherView E) (canonical : List ℕ → Parsed (List ℕ)) (text : List ℕ) (captures : Captures) : Type 0 where
-  pub is_matched : Answers answer matcher text (Some captures)
-  pub is_canonical : IsCanonical canonical text
-
--- the text of these bytes is not canonical, or too long to tell
+-- the text of these bytes is not, or is too long to tell
 abbrev pub IsNotCanonical : (List ℕ → Parsed (List ℕ)) → (bytes : List ℕ) → Type 0
 IsNotCanonical canonical bytes = (¬ IsCanonical canonical (chars bytes)) ⊎ (long_text ≤ length bytes)
 
--- the matcher answers the text otherwise
-abbrev pub AnswersOtherwise : {E : Type 0} → (answer : E → List ℕ → Option Captures) → MatcherView E → (text : List ℕ) → Captures → Type 0
-AnswersOtherwise answer matcher text captures = (found : Option Captures) × Answers answer matcher text found × (found ≢ Some captures)
-
--- the matcher answers the text otherwise, or it is not canonical
-abbrev pub IsReadOtherwise : {E : Type 0} → (answer : E → List ℕ → Option Captures) → MatcherView E → (List ℕ → Parsed (List ℕ)) → (bytes : List ℕ) → Captures → Type 0
-IsReadOtherwise answer matcher canonical bytes captures = AnswersOtherwise answer matcher (chars bytes) captures ⊎ IsNotCanonical canonical bytes
-
--- whether the matcher finds these captures in the text
-abbrev pub IsAnswered : {E : Type 0} → Bool → (answer : E → List ℕ → Option Captures) → MatcherView E → (text : List ℕ) → Captures → Type 0
-IsAnswered is answer matcher text captures =
-    MatchBool is (Answers answer matcher text (Some captures)) (AnswersOtherwise answer matcher text captures)
-
--- if this says so, the matcher finds these captures in the text
-abbrev pub IsConfirmed : {E : Type 0} → Bool → (answer : E → List ℕ → Option Captures) → MatcherView E → (text : List ℕ) → Captures → Type 0
-IsConfirmed is answer matcher text captures = IsTrue is → Answers answer matcher text (Some captures)
-
--- whether the text of these bytes is canonical
+-- whether it is
 abbrev pub TellsCanonical : Bool → (List ℕ → Parsed (List ℕ)) → (bytes : List ℕ) → Type 0
 TellsCanonical is canonical bytes = MatchBool is (IsCanonical canonical (chars bytes)) (IsNotCanonical canonical bytes)
 
--- The text is that of the parts of the pattern text, and is read back with what is asked for.
-pub record IsTextWithGroups {E : Type 0} (answer : E → List ℕ → Option Captures) (matcher : MatcherView E) (manner : WritingManner) (pattern text : List ℕ) : Type 0 where
-  pub parts : List PartView
-  pub captures : Captures
-  pub is_asked : AsksFor manner pattern parts captures
-  pub may_capture : MayCaptureAll manner.options parts captures
-  pub is_written : text ≡ text_of_parts parts captures
-  pub is_read_back : IsReadWith answer matcher manner.canonical text captures
+-- ---- the text of a component
 
--- if the text is canonical, it is that of the parts and is read back with what is asked for
-abbrev pub IsDraft : {E : Type 0} → (answer : E → List ℕ → Option Captures) → MatcherView E → WritingManner → (pattern text : List ℕ) → Type 0
-IsDraft answer matcher manner pattern text = IsCanonical manner.canonical text → IsTextWithGroups answer matcher manner pattern text
+-- The text is that of the parts, the matcher finds in it what is asked of the groups, and it is canonical, as that of a URL is.
+pub record HasText {E : Type 0} (answer : E → List ℕ → Option Captures) (matcher : MatcherView E) (manner : WritingManner) (parts : List PartView) (text : List ℕ) : Type 0 where
+  pub is_written : IsWritten manner parts text
+  pub is_found : FindsAsked answer matcher manner parts text
+  pub is_canonical : IsCanonical manner.canonical text
 
--- The text is that of the parts, and is matched with what is asked for. It need not be canonical.
-pub record IsWrittenText {E : Type 0} (answer : E → List ℕ → Option Captures) (matcher : MatcherView E) (manner : WritingManner) (pattern text : List ℕ) : Type 0 where
-  pub parts : List PartView
-  pub captures : Captures
-  pub is_asked : AsksFor manner pattern parts captures
-  pub may_capture : MayCaptureAll manner.options parts captures
-  pub is_written : text ≡ text_of_parts parts captures
-  pub is_matched : Answers answer matcher text (Some captures)
+-- the text of the parts is one in which the matcher finds something else, or not canonical
+abbrev pub IsReadOtherwise : {E : Type 0} → (answer : E → List ℕ → Option Captures) → MatcherView E → WritingManner → List PartView → Type 0
+IsReadOtherwise answer matcher manner parts =
+    (bytes : List ℕ) × IsWritten manner parts (chars bytes)
+    × (FindsOther answer matcher manner parts (chars bytes) ⊎ IsNotCanonical manner.canonical bytes)
 
--- ---- errors
-
--- a group of this name may not capture what it is to, which is this
-abbrev pub RefusesAsked : WritingManner → (pattern : List ℕ) → (name : List ℕ) → (refused : Option (List ℕ)) → Type 0
-RefusesAsked manner pattern name refused =
-    (parts : List PartView) × (captures : Captures) × AsksFor manner pattern parts captures × RefusesCapture manner.options parts captures name refused
-
--- it is given a text that `url` refuses
-abbrev pub GivesRefused : WritingManner → (pattern : List ℕ) → (name : List ℕ) → Type 0
-GivesRefused manner pattern name = (parts : List PartView) × Reads pattern manner.options unchanged parts × RefusesSomeGiven manner parts name
-
--- the groups may capture what they are to, and the text that is written is read otherwise; or the pattern text means no parts
-abbrev pub HasNoText : {E : Type 0} → (answer : E → List ℕ → Option Captures) → MatcherView E → WritingManner → (pattern : List ℕ) → Type 0
-HasNoText answer matcher manner pattern =
-    ((error : ErrorView) × Refuses pattern manner.options unchanged error)
-    ⊎ ((parts : List PartView) × (captures : Captures) × (bytes : List ℕ) × AsksFor manner pattern parts captures
-    × MayCaptureAll manner.options parts captures × (chars bytes ≡ text_of_parts parts captures)
-    × IsReadOtherwise answer matcher manner.canonical bytes captures)
-
--- why the component has no text: the error
-abbrev pub RefusesGroups : {E : Type 0} → (answer : E → List ℕ → Option Captures) → MatcherView E → ComponentName → WritingManner → (pattern : List ℕ) → GenerateError → Type 0
-RefusesGroups answer matcher component manner pattern (Missing of name) = (of ≡ component) × RefusesAsked manner pattern (text_of name) None
-RefusesGroups answer matcher component manner pattern (NotCaptured of name) =
-    (of ≡ component) × (GivesRefused manner pattern (text_of name) ⊎ ((text : List ℕ) × RefusesAsked manner pattern (text_of name) (Some text)))
-RefusesGroups answer matcher component manner pattern (ReadOtherwise of) = (of ≡ component) × HasNoText answer matcher manner pattern
-RefusesGroups answer matcher component manner pattern OutOfMemory = Unit {0}
-
--- ---- components by their names
-
--- the text is that of a component with these groups
-abbrev pub HasText : {E : Type 0} → (answer : E → List ℕ → Option Captures) → ComponentView E → ComponentName → (hierarchical : Bool) → List GivenView → (text : List ℕ) → Type 0
-HasText answer component name hierarchical groups text =
-    IsTextWithGroups answer component.matcher (manner_for name hierarchical component.pattern_string groups) component.pattern_string text
-
--- the text is that of the component with these groups if it is canonical
-abbrev pub HasDraft : {E : Type 0} → (answer : E → List ℕ → Option Captures) → ComponentView E → ComponentName → (hierarchical : Bool) → List GivenView → (text : List ℕ) → Type 0
-HasDraft answer component name hierarchical groups text =
-    IsDraft answer component.matcher (manner_for name hierarchical component.pattern_string groups) component.pattern_string text
-
--- why it has none: the error
-abbrev pub LacksText : {E : Type 0} → (answer : E → List ℕ → Option Captures) → ComponentView E → ComponentName → (hierarchical : Bool) → List GivenView → GenerateError → Type 0
-LacksText answer component name hierarchical groups error =
-    RefusesGroups answer component.matcher name (manner_for name hierarchical component.pattern_string groups) component.pattern_string error
+-- why there is no such text: the error
+abbrev pub LacksText : {E : Type 0} → (answer : E → List ℕ → Option Captures) → MatcherView E → ComponentName → WritingManner → List PartView → GenerateError → Type 0
+LacksText answer matcher component manner parts (ReadOtherwise of) = (of ≡ component) × IsReadOtherwise answer matcher manner parts
+LacksText answer matcher component manner parts error = CannotWrite component manner parts error

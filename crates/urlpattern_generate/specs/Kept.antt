@@ -1,10 +1,10 @@
 -- Values that are canonical as they are.
-use Rattle.std.specs.Prelude.{ℕ, Bool, List, [], ◌∷◌, false, true, not, ◌==◌, ◌&&◌, ◌||◌, codes, length, slice_index}
-use Rattle.std.specs.Char.{is_ascii_alphanumeric, is_ascii_lowercase}
+use Rattle.std.specs.Prelude.{ℕ, Bool, List, [], ◌∷◌, false, true, not, ◌==◌, ◌&&◌, ◌||◌, codes, leb, length, slice_index}
+use Rattle.std.specs.Char.{is_ascii_alphanumeric, is_ascii_digit, is_ascii_lowercase}
 use Rattle.std.specs.List.{list_all}
-use Rattle.url.specs.Ascii.{slash}
+use Rattle.url.specs.Ascii.{digit_zero, dot, slash}
 use Rattle.urlpattern_eight.specs.declared.eight.ComponentName.{ComponentName}
-use Rattle.urlpattern_eight.specs.declared.eight.ComponentName.TheVariants.{Hostname, Pathname, Search, Hash}
+use Rattle.urlpattern_eight.specs.declared.eight.ComponentName.TheVariants.{Hostname, Pathname, Port, Search, Hash}
 use Rattle.urlpattern_syntax.specs.Text.{is_among}
 
 -- no path, search or hash escapes the character
@@ -24,15 +24,29 @@ is_kept_path begins (c ∷ text) = (is_kept_character c && not (begins && is_dot
 abbrev pub is_label_character : ℕ → Bool
 is_label_character c = is_ascii_lowercase c || is_among (codes "-") c
 
+-- a character of a label, or a dot
+abbrev pub is_host_character : ℕ → Bool
+is_host_character c = is_label_character c || c == dot
+
+-- each character is one of those, and the last is no dot; `dotted`: the text follows a dot
+abbrev pub is_kept_host : (dotted : Bool) → List ℕ → Bool
+is_kept_host dotted [] = not dotted
+is_kept_host dotted (c ∷ text) = is_host_character c && is_kept_host (c == dot) text
+
 -- each character is kept, and the first is no slash
 abbrev pub is_kept_opaque : List ℕ → Bool
 is_kept_opaque value = not (slice_index value 0 == slash) && list_all is_kept_character value
 
+-- at most four digits, the first of which is not 0
+abbrev pub is_kept_port : List ℕ → Bool
+is_kept_port value = not (slice_index value 0 == digit_zero) && (leb (length value) 4 && list_all is_ascii_digit value)
+
 -- the value is known to be canonical in the component, where a pathname is a path of segments or opaque and a hostname is no IPv6 address
 abbrev pub is_kept_value : ComponentName → (hierarchical : Bool) → List ℕ → Bool
-is_kept_value Hostname hierarchical value = list_all is_label_character value
+is_kept_value Hostname hierarchical value = is_kept_host false value
 is_kept_value Pathname true value = is_kept_path false value
 is_kept_value Pathname false value = is_kept_opaque value
 is_kept_value Search hierarchical value = list_all is_kept_character value
 is_kept_value Hash hierarchical value = list_all is_kept_character value
+is_kept_value Port hierarchical value = is_kept_port value
 is_kept_value component hierarchical value = length value == 0

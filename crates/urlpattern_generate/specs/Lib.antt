@@ -3,6 +3,4 @@ pub mod GenerateErrorText
 pub mod Generating
 pub mod Kept
 pub mod Manners
-pub mod Passing
-pub mod PlainPatterns
-pub mod Writers
+pub mod Writing

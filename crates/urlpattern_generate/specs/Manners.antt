@@ -1,16 +1,15 @@
--- How the text of a component is written: the groups that are given, the options of its pattern, and canonical values.
-use Rattle.std.specs.Prelude.{◌≡◌, ◌&&◌, ◌==◌, ℕ, Bool, List, [], ◌∷◌, bytes_eq, codes, map, slice_index, Option, Some, None, Result, Ok, Err, String, string_bytes, if◌then◌else◌}
+-- How the text of a component is written: the groups that are given, the options of its parts, and canonical values.
+use Rattle.std.specs.Prelude.{◌&&◌, ◌==◌, ℕ, Bool, false, List, [], ◌∷◌, bytes_eq, codes, map, slice_index, Option, Some, None, if◌then◌else◌}
 use Rattle.std.specs.{Borrow.Bor, Str.chars}
-use Rattle.std.specs.declared.alloc.Global.{Global}
+use Rattle.url.specs.Ascii.{slash}
 use Rattle.url.specs.Parser.{Parsed}
 use Rattle.urlpattern_canonical.specs.Canonical.{canonical_hash, canonical_hostname, canonical_ipv6_hostname, canonical_opaque_pathname, canonical_password, canonical_pathname, canonical_port, canonical_protocol, canonical_search, canonical_username}
 use Rattle.urlpattern_eight.specs.declared.eight.ComponentName.{ComponentName}
 use Rattle.urlpattern_eight.specs.declared.eight.ComponentName.TheVariants.{Protocol, Username, Password, Hostname, Port, Pathname, Search, Hash}
-use Rattle.urlpattern_syntax.specs.declared.error.Error.{Error}
-use Rattle.urlpattern_syntax.specs.declared.error.Error.TheVariants as errors
 use Rattle.urlpattern_eight.specs.Eight.{name_text}
-use Rattle.urlpattern_syntax.specs.Options.{OptionsView, default_options, hostname_options, pathname_options}
-use Rattle.urlpattern_syntax.specs.Reading.{Encoding, encoding_of}
+use Rattle.urlpattern_syntax.specs.declared.parser.PartType.{PartType}
+use Rattle.urlpattern_syntax.specs.Options.{OptionsView}
+use Rattle.urlpattern_syntax.specs.Parts.{PartView}
 use Rattle.urlpattern_syntax.specs.Text.{begins_with}
 
 -- ---- the groups that are given
@@ -38,16 +37,11 @@ text_given (given ∷ others) component name = if is_given_for component name gi
 
 -- ---- a component
 
--- The options under which its pattern text is read, the canonical form of its values, and the texts that are given for its groups.
+-- The options of its parts, the canonical form of its values, and the texts that are given for its groups.
 pub record WritingManner : Type 0 where
   pub options : OptionsView
   pub canonical : List ℕ → Parsed (List ℕ)
   pub given : (name : List ℕ) → Option (List ℕ)
-
-abbrev pub options_for : ComponentName → (hierarchical : Bool) → OptionsView
-options_for Hostname hierarchical = hostname_options
-options_for Pathname hierarchical = if hierarchical then pathname_options else default_options
-options_for component hierarchical = default_options
 
 -- the canonical form of a value, where the pathname is hierarchical or not and the hostname is an IPv6 address or not
 abbrev pub canonical_for : ComponentName → (hierarchical is_ipv6 : Bool) → List ℕ → Parsed (List ℕ)
@@ -60,24 +54,30 @@ canonical_for Pathname hierarchical is_ipv6 text = if hierarchical then canonica
 canonical_for Search hierarchical is_ipv6 text = canonical_search text
 canonical_for Hash hierarchical is_ipv6 text = canonical_hash text
 
--- the pattern text begins as that of an IPv6 address does
-abbrev pub begins_ipv6 : (pattern : List ℕ) → Bool
-begins_ipv6 pattern = begins_with (λ c. c == slice_index (codes "[") 0) pattern
+-- the delimiter is a slash, as that of a path of segments
+abbrev pub is_slash : (delimiter : Option ℕ) → Bool
+is_slash None = false
+is_slash (Some c) = c == slash
 
--- the manner in which a component of this pattern text is written
-abbrev pub manner_for : ComponentName → (hierarchical : Bool) → (pattern : List ℕ) → List GivenView → WritingManner
-manner_for component hierarchical pattern groups = record {
-  options = options_for component hierarchical;
-  canonical = canonical_for component hierarchical (begins_ipv6 pattern);
+-- what a part of this kind begins with: its text if it is a fixed text, and else its prefix
+abbrev pub front_of : PartType → PartView → List ℕ
+front_of PartType.FixedText part = part.value
+front_of kind part = part.prefix
+
+-- the first part begins with a bracket, as an IPv6 address does
+abbrev pub begins_ipv6 : List PartView → Bool
+begins_ipv6 [] = false
+begins_ipv6 (part ∷ parts) = begins_with (λ c. c == slice_index (codes "[") 0) (front_of part.kind part)
+
+-- the component is a host that is an IPv6 address
+abbrev pub is_ipv6_host : ComponentName → List PartView → Bool
+is_ipv6_host Hostname parts = begins_ipv6 parts
+is_ipv6_host component parts = false
+
+-- the manner in which a component of these parts is written with these groups
+abbrev pub manner_for : ComponentName → OptionsView → List PartView → List GivenView → WritingManner
+manner_for component options parts groups = record {
+  options = options;
+  canonical = canonical_for component (is_slash options.delimiter) (begins_ipv6 parts);
   given = text_given groups component;
 }
-
--- ---- the texts of a pattern that is read again, which are canonical already
-
--- the text as it is, or memory ran out
-abbrev pub IsUnchanged : (bytes : List ℕ) → Result (String Global) Error → Type 0
-IsUnchanged bytes (Ok copy) = string_bytes copy ≡ bytes
-IsUnchanged bytes (Err error) = error ≡ errors.OutOfMemory
-
-abbrev pub unchanged : Encoding
-unchanged = encoding_of IsUnchanged

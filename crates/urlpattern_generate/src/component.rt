@@ -1,27 +1,27 @@
 //! The text of a component.
 
-ghost use Rattle.std.specs.Prelude.{◌≡◌, IfErr, IfOk, IfSome};
+ghost use Rattle.std.specs.Prelude.{IfErr, IfOk, false};
 ghost use Rattle.std.specs.Str.{chars};
-ghost use Rattle.urlpattern_core.specs.Components.{component_view};
-ghost use Rattle.urlpattern_generate.specs.Generating.{HasDraft, HasText, LacksText};
-ghost use Rattle.urlpattern_generate.specs.Manners.{given_groups, unchanged};
-ghost use Rattle.urlpattern_generate.specs.Writers.{AsksByWriter, CannotWrite, Drafts, Writes, WritesCanonical, cow_text, manner_of_writer};
-ghost use Rattle.urlpattern_links.specs.Refused.{given_captures};
-ghost use Rattle.urlpattern_syntax.specs.{Options.options_view, Parts.parts_view, Reading.Reads, Text.text_of};
+ghost use Rattle.urlpattern_core.specs.Components.{IsEngineOf, engine_flags};
+ghost use Rattle.urlpattern_core.specs.Matchers.{matcher_view};
+ghost use Rattle.urlpattern_generate.specs.Generating.{HasText, LacksText, TellsFound};
+ghost use Rattle.urlpattern_generate.specs.Manners.{given_groups, manner_for};
+ghost use Rattle.urlpattern_generate.specs.Writing.{CannotWrite, IsWritten, cow_text};
+ghost use Rattle.urlpattern_meaning.specs.Matching.{IsMadeOf};
+ghost use Rattle.urlpattern_syntax.specs.ComponentParts.{kept_options, kept_parts};
+ghost use Rattle.urlpattern_syntax.specs.Text.{text_of};
 
 use crate::error::GenerateError;
 use crate::groups::GivenGroup;
-use crate::plain::is_plain;
 use crate::writer::Writer;
-use std::alloc::Global;
+use std::alloc::{AllocError, Global};
 use std::borrow::CowStr;
-use urlpattern_core::component::Component;
+use urlpattern_core::matcher::Matcher;
 use urlpattern_core::regexp::RegExp;
 use urlpattern_eight::ComponentName;
-use urlpattern_syntax::parser::{Options, Part};
+use urlpattern_syntax::parts::ComponentParts;
 
-/// The text of a component whose groups capture the canonical forms of what they are given. `hierarchical` says whether a
-/// pathname is a path of segments.
+/// The text of a component, of its parts and its matcher: the groups capture the canonical forms of what they are given.
 ///
 /// A group that is not given takes no part if it may; otherwise a wildcard without name is empty. Texts for other components, and
 /// for groups that the component does not have, are ignored.
@@ -29,225 +29,82 @@ use urlpattern_syntax::parser::{Options, Part};
 /// The error says why there is no such text, or that memory ran out.
 pub fn generate_component<R: RegExp>(
     alloc: Global,
-    component: &Component<R>,
-    name: ComponentName,
-    hierarchical: bool,
+    kept: &ComponentParts,
+    matcher: &Matcher<R>,
+    component: ComponentName,
     groups: &[GivenGroup<'_>],
 ) -> Result<String, GenerateError>
-    ensures generated { IfOk result (λ text. HasText R.answer (component_view component.now) name hierarchical (given_groups groups.now) (text_of text)) }
-    ensures refused { IfErr result (LacksText R.answer (component_view component.now) name hierarchical (given_groups groups.now)) }
+    requires { IsMadeOf (IsEngineOf R.RegExp false (engine_flags (kept_options kept.now))) (kept_options kept.now) (kept_parts kept.now) (matcher_view matcher.now) }
+    ensures generated { IfOk result (λ text. HasText R.answer (matcher_view matcher.now)
+        (manner_for component (kept_options kept.now) (kept_parts kept.now) (given_groups groups.now)) (kept_parts kept.now) (text_of text)) }
+    ensures refused { IfErr result (LacksText R.answer (matcher_view matcher.now) component
+        (manner_for component (kept_options kept.now) (kept_parts kept.now) (given_groups groups.now)) (kept_parts kept.now)) }
 {
-    let writer = Writer::new(alloc, &component.pattern_string, name, hierarchical, groups);
-    writer.canonical_text(component)
+    let writer = Writer {
+        alloc,
+        kept,
+        component,
+        groups,
+    };
+    let text = match writer.text() {
+        Ok(text) => text.into_owned(alloc)?,
+        Err(error) => return Err(error),
+    };
+    if writer.confirms(matcher, &text)? && writer.is_canonical(&text)? {
+        Ok(text)
+    } else {
+        Err(GenerateError::ReadOtherwise(component))
+    }
 }
 
-/// A draft of that text: it is the text if it is canonical. Where it is the pattern text, or what is given, it is borrowed. `None`: there
-/// is no such text, or memory ran out.
+/// The text of the parts of a component, whose groups are to capture the canonical forms of what they are given. It is borrowed where it
+/// is a fixed text, or what is given. The text need not be canonical, nor does a matcher have to find in it what is asked.
 ///
-/// If eight drafts are the texts of a URL, and each text is canonical, none has to be tested again.
+/// The error says why there is no such text, or that memory ran out.
 #[inline(always)]
-pub fn draft_component<'d, R: RegExp>(
+pub fn written_component<'d>(
     alloc: Global,
-    component: &'d Component<R>,
-    name: ComponentName,
-    hierarchical: bool,
+    kept: &'d ComponentParts,
+    component: ComponentName,
     groups: &'d [GivenGroup<'d>],
-) -> Option<CowStr<'d>>
-    ensures { IfSome result (λ text. HasDraft R.answer (component_view component.now) name hierarchical (given_groups groups.now) (cow_text text)) }
+) -> Result<CowStr<'d>, GenerateError>
+    ensures written { IfOk result (λ text. IsWritten
+        (manner_for component (kept_options kept.now) (kept_parts kept.now) (given_groups groups.now)) (kept_parts kept.now) (cow_text text)) }
+    ensures refused { IfErr result (CannotWrite component
+        (manner_for component (kept_options kept.now) (kept_parts kept.now) (given_groups groups.now)) (kept_parts kept.now)) }
 {
-    match given_draft(alloc, component, name, hierarchical, groups) {
-        Some(text) => Some(CowStr::Borrowed(text)),
-        None => other_draft(alloc, component, name, hierarchical, groups),
-    }
+    let writer = Writer {
+        alloc,
+        kept,
+        component,
+        groups,
+    };
+    writer.text()
 }
 
-/// The same where the pattern text is an asterisk, and what is given for it is the draft. `None`: it is another.
+/// Whether the matcher of a component finds in a text that was written of its parts what is asked of the groups.
+///
+/// The error is that memory ran out.
 #[inline(always)]
-fn given_draft<'d, R: RegExp>(
+pub fn confirms<R: RegExp>(
     alloc: Global,
-    component: &'d Component<R>,
-    name: ComponentName,
-    hierarchical: bool,
-    groups: &'d [GivenGroup<'d>],
-) -> Option<&'d str>
-    ensures { IfSome result (λ text. HasDraft R.answer (component_view component.now) name hierarchical (given_groups groups.now) (chars text.now)) }
+    kept: &ComponentParts,
+    matcher: &Matcher<R>,
+    component: ComponentName,
+    text: &str,
+    groups: &[GivenGroup<'_>],
+) -> Result<bool, AllocError>
+    requires made { IsMadeOf (IsEngineOf R.RegExp false (engine_flags (kept_options kept.now))) (kept_options kept.now) (kept_parts kept.now) (matcher_view matcher.now) }
+    requires written { IsWritten
+        (manner_for component (kept_options kept.now) (kept_parts kept.now) (given_groups groups.now)) (kept_parts kept.now) (chars text.now) }
+    ensures { IfOk result (λ is. TellsFound is R.answer (matcher_view matcher.now)
+        (manner_for component (kept_options kept.now) (kept_parts kept.now) (given_groups groups.now)) (kept_parts kept.now) (chars text.now)) }
 {
-    let writer = Writer::new(alloc, &component.pattern_string, name, hierarchical, groups);
-    writer.whole_draft(component)
-}
-
-/// The same where the pattern text is another one.
-#[inline(never)]
-fn other_draft<'d, R: RegExp>(
-    alloc: Global,
-    component: &'d Component<R>,
-    name: ComponentName,
-    hierarchical: bool,
-    groups: &'d [GivenGroup<'d>],
-) -> Option<CowStr<'d>>
-    ensures { IfSome result (λ text. HasDraft R.answer (component_view component.now) name hierarchical (given_groups groups.now) (cow_text text)) }
-{
-    let writer = Writer::new(alloc, &component.pattern_string, name, hierarchical, groups);
-    writer.other_draft(component)
-}
-
-impl Writer<'_> {
-    /// The text of a component, which is canonical.
-    fn canonical_text<R: RegExp>(&self, component: &Component<R>) -> Result<String, GenerateError>
-        ensures generated { IfOk result (λ text. WritesCanonical R.answer component.now self.now (text_of text)) }
-        ensures refused { IfErr result (CannotWrite R.answer component.now self.now) }
-    {
-        if let Some(text) = self.kept_text(component) {
-            return Ok(text);
-        }
-        self.tested_text(component)
-    }
-
-    /// The text of a component, after a test that it is canonical.
-    #[inline(never)]
-    fn tested_text<R: RegExp>(&self, component: &Component<R>) -> Result<String, GenerateError>
-        ensures generated { IfOk result (λ text. WritesCanonical R.answer component.now self.now (text_of text)) }
-        ensures refused { IfErr result (CannotWrite R.answer component.now self.now) }
-    {
-        let text = match self.text(component) {
-            Ok(text) => text,
-            Err(error) => return Err(error),
-        };
-        if self.is_canonical(&text)? {
-            Ok(text)
-        } else {
-            Err(GenerateError::ReadOtherwise(self.component))
-        }
-    }
-
-    /// The draft of the text of a component, if it is known to be canonical.
-    fn kept_text<R: RegExp>(&self, component: &Component<R>) -> Option<String>
-        ensures { IfSome result (λ text. WritesCanonical R.answer component.now self.now (text_of text)) }
-    {
-        let text = self.draft(component)?;
-        if !self.keeps(&text) {
-            return None;
-        }
-        let Ok(owned) = text.into_owned(self.alloc) else {
-            return None;
-        };
-        Some(owned)
-    }
-}
-
-impl<'d> Writer<'d> {
-    /// A draft of the text of a component.
-    fn draft<R: RegExp>(&self, component: &'d Component<R>) -> Option<CowStr<'d>>
-        ensures { IfSome result (λ text. Drafts R.answer component.now self.now (cow_text text)) }
-    {
-        match self.whole_draft(component) {
-            Some(text) => Some(CowStr::Borrowed(text)),
-            None => self.other_draft(component),
-        }
-    }
-
-    /// A draft of the text of a component that is not what is given for an asterisk.
-    #[inline(always)]
-    fn other_draft<R: RegExp>(&self, component: &'d Component<R>) -> Option<CowStr<'d>>
-        ensures { IfSome result (λ text. Drafts R.answer component.now self.now (cow_text text)) }
-    {
-        if let Some(text) = self.plain_draft(component) {
-            return Some(CowStr::Borrowed(text));
-        }
-        Some(CowStr::Owned(self.own_draft(component)?))
-    }
-}
-
-impl Writer<'_> {
-    /// A draft of the text of a component that has to be written.
-    #[inline(never)]
-    fn own_draft<R: RegExp>(&self, component: &Component<R>) -> Option<String>
-        ensures { IfSome result (λ text. Drafts R.answer component.now self.now (text_of text)) }
-    {
-        if let Some(text) = self.ended_draft(component) {
-            return Some(text);
-        }
-        let Ok(draft) = self.passed_draft(component) else {
-            return None;
-        };
-        if let Some(text) = draft {
-            return Some(text);
-        }
-        let Ok(text) = self.text(component) else {
-            return None;
-        };
-        Some(text)
-    }
-
-    /// The text of a component.
-    fn text<R: RegExp>(&self, component: &Component<R>) -> Result<String, GenerateError>
-        ensures written { IfOk result (λ text. Writes R.answer component.now self.now (text_of text)) }
-        ensures refused { IfErr result (CannotWrite R.answer component.now self.now) }
-    {
-        let pattern = component.pattern_string.as_str();
-        if is_plain(pattern) {
-            return self.plain_text(component);
-        }
-        if self.is_open(pattern) {
-            return self.open_text(component);
-        }
-        self.text_by_parts(component)
-    }
-
-    /// The text of a component whose pattern text has to be parsed.
-    #[inline(never)]
-    fn text_by_parts<R: RegExp>(&self, component: &Component<R>) -> Result<String, GenerateError>
-        ensures written { IfOk result (λ text. Writes R.answer component.now self.now (text_of text)) }
-        ensures refused { IfErr result (CannotWrite R.answer component.now self.now) }
-    {
-        let Ok(options) = self.options() else {
-            return Err(GenerateError::OutOfMemory);
-        };
-        match self.parts(&component.pattern_string, &options) {
-            Ok(parts) => self.text_of_read(component, &options, &parts),
-            Err(error) => Err(error),
-        }
-    }
-
-    /// The text of a component whose pattern text means these parts.
-    fn text_of_read<R: RegExp>(
-        &self,
-        component: &Component<R>,
-        options: &Options,
-        parts: &[Part],
-    ) -> Result<String, GenerateError>
-        requires options { options_view options.now ≡ (manner_of_writer self.now).options }
-        requires reads { Reads (text_of component.now.pattern_string) (manner_of_writer self.now).options unchanged (parts_view parts.now) }
-        ensures written { IfOk result (λ text. Writes R.answer component.now self.now (text_of text)) }
-        ensures refused { IfErr result (CannotWrite R.answer component.now self.now) }
-    {
-        match self.captures(parts) {
-            Ok(captures) => self.text_with(component, options, parts, &captures),
-            Err(error) => Err(error),
-        }
-    }
-
-    /// The text of a component whose pattern text means these parts, which are to capture this.
-    fn text_with<R: RegExp>(
-        &self,
-        component: &Component<R>,
-        options: &Options,
-        parts: &[Part],
-        captures: &[Option<String>],
-    ) -> Result<String, GenerateError>
-        requires options { options_view options.now ≡ (manner_of_writer self.now).options }
-        requires asked { AsksByWriter self.now (text_of component.now.pattern_string) (parts_view parts.now) (given_captures captures.now) }
-        ensures written { IfOk result (λ text. Writes R.answer component.now self.now (text_of text)) }
-        ensures refused { IfErr result (CannotWrite R.answer component.now self.now) }
-    {
-        let text = match self.written(options, parts, captures) {
-            Ok(text) => text,
-            Err(error) => return Err(error),
-        };
-        if self.is_read_back(&component.matcher, &text, captures)? {
-            Ok(text)
-        } else {
-            Err(GenerateError::ReadOtherwise(self.component))
-        }
-    }
+    let writer = Writer {
+        alloc,
+        kept,
+        component,
+        groups,
+    };
+    writer.confirms(matcher, text)
 }

@@ -19,6 +19,7 @@ use urlpattern_eight::ComponentName;
 /// GenerateError::ReadOtherwise(component) => {
 ///     Ok(is_refused(recorded, "read otherwise", *component))
 /// }
+/// GenerateError::NoParts => Ok(has_text(recorded, "refused", "no parts")),
 /// GenerateError::OutOfMemory => Err(Fault::OutOfMemory),
 /// ```
 #[derive(Debug, PartialEq, Eq, Drop)]
@@ -29,6 +30,8 @@ pub enum GenerateError {
     NotCaptured(ComponentName, String),
     /// The text of the component would be read with other groups, or is not canonical, so that no URL has it.
     ReadOtherwise(ComponentName),
+    /// The pattern was put together by hand, so that its parts are not known.
+    NoParts,
     /// The allocator had no memory.
     OutOfMemory,
 }
@@ -49,6 +52,9 @@ impl fmt::Display for GenerateError {
             Self::ReadOtherwise(component) => write!(
                 f,
                 "the {component} would be read with other groups, or no URL has it"
+            ),
+            Self::NoParts => f.write_str(
+                "the pattern was put together by hand, so that its parts are not known",
             ),
             Self::OutOfMemory => f.write_str("out of memory"),
         }

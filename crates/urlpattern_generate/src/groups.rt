@@ -24,6 +24,7 @@ use urlpattern_eight::ComponentName;
 pub type GivenGroup<'g> = (ComponentName, &'g str, &'g str);
 
 /// The first text that is given for the group of a name. `None`: there is none.
+#[inline(always)]
 pub(crate) fn given_text<'g>(
     groups: &[GivenGroup<'g>],
     component: ComponentName,

@@ -1,15 +1,14 @@
 //! Values that are canonical as they are.
 
 ghost use Rattle.std.specs.List.{list_all};
-ghost use Rattle.std.specs.Prelude.{◌≡◌, ◌&&◌, IsTrue, Ok, false, not};
+ghost use Rattle.std.specs.Prelude.{◌≡◌, ◌&&◌, IsTrue, Ok, false, leb, length, not};
+ghost use Rattle.std.specs.Char.{is_ascii_digit};
 ghost use Rattle.std.specs.Str.{chars};
 ghost use Rattle.urlpattern_canonical.specs.Canonical.{canonical_protocol};
 ghost use Rattle.urlpattern_generate.specs.Manners.{canonical_for};
-ghost use Rattle.urlpattern_generate.specs.Kept.{is_dot_mark, is_kept_character, is_kept_opaque, is_kept_path, is_kept_value, is_label_character};
-ghost use Rattle.urlpattern_generate.specs.Writers.{manner_of_writer};
+ghost use Rattle.urlpattern_generate.specs.Kept.{is_dot_mark, is_host_character, is_kept_character, is_kept_host, is_kept_opaque, is_kept_path, is_kept_port, is_kept_value};
 ghost use Rattle.urlpattern_syntax.specs.Text.{lacks, line_feed};
 
-use crate::writer::Writer;
 use percent_encoding::{AsciiSet, CONTROLS, ascii_set};
 use urlpattern_eight::ComponentName;
 
@@ -33,19 +32,12 @@ const ESCAPED: AsciiSet = ascii_set!(
         .add(b'}')
 );
 
-impl Writer<'_> {
-    /// Whether a value is known to be canonical in the component.
-    pub(crate) fn keeps(&self, text: &str) -> bool
-        ensures canonical { IsTrue result → (manner_of_writer self.now).canonical (chars text.now) ≡ Ok (chars text.now) }
-        ensures line { IsTrue result → IsTrue (lacks line_feed (chars text.now)) }
-    {
-        keeps(self.component, self.hierarchical, self.is_ipv6, text)
-    }
-}
+/// So many digits are a port whatever they are.
+const SHORT_PORT: usize = 4;
 
-/// Whether a text is known to be canonical in a component, where a pathname is hierarchical or not and a hostname is an IPv6 address or
-/// not.
-pub fn keeps(component: ComponentName, hierarchical: bool, is_ipv6: bool, text: &str) -> bool
+/// Whether a text is known to be canonical in a component by its characters, where a pathname is hierarchical or not and a hostname is
+/// an IPv6 address or not.
+pub(crate) fn keeps(component: ComponentName, hierarchical: bool, is_ipv6: bool, text: &str) -> bool
     ensures canonical { IsTrue result → canonical_for component hierarchical is_ipv6 (chars text.now) ≡ Ok (chars text.now) }
     ensures line { IsTrue result → IsTrue (lacks line_feed (chars text.now)) }
 {
@@ -78,15 +70,36 @@ fn is_kept_value(component: ComponentName, hierarchical: bool, value: &[u8]) -> 
     ensures { result ≡ is_kept_value component hierarchical value.now }
 {
     match component {
-        ComponentName::Hostname => is_label(value),
+        ComponentName::Hostname => is_kept_host(value),
         ComponentName::Pathname if hierarchical => is_kept_path(value),
         ComponentName::Pathname => is_kept_opaque(value),
         ComponentName::Search | ComponentName::Hash => is_kept_text(value),
-        ComponentName::Protocol
-        | ComponentName::Username
-        | ComponentName::Password
-        | ComponentName::Port => value.is_empty(),
+        ComponentName::Port => is_kept_port(value),
+        ComponentName::Protocol | ComponentName::Username | ComponentName::Password => {
+            value.is_empty()
+        }
     }
+}
+
+/// Whether a port has at most four digits, the first of which is not 0.
+fn is_kept_port(value: &[u8]) -> bool
+    ensures { result ≡ is_kept_port value.now }
+{
+    !matches!(value, [b'0', ..]) && is_short(value) && are_digits(value)
+}
+
+/// Whether a value is no longer than that.
+fn is_short(value: &[u8]) -> bool
+    ensures { result ≡ leb (length value.now) 4 }
+{
+    value.len() <= SHORT_PORT
+}
+
+/// Whether a value has no other characters than digits.
+fn are_digits(value: &[u8]) -> bool
+    ensures { result ≡ list_all is_ascii_digit value.now }
+{
+    value.iter().all(|&b| b.is_ascii_digit())
 }
 
 /// Whether an opaque path escapes no character of a value, and the value does not begin with a slash.
@@ -138,16 +151,23 @@ fn is_unescaped(b: u8) -> bool
     !ESCAPED.should_percent_encode(b)
 }
 
-/// Whether a value is a label of a host in lower case without digits.
-fn is_label(value: &[u8]) -> bool
-    ensures { result ≡ list_all is_label_character value.now }
+/// Whether a value is a host of labels in lower case without digits, and does not end with a dot.
+fn is_kept_host(value: &[u8]) -> bool
+    ensures { result ≡ is_kept_host false value.now }
 {
-    value.iter().all(|&b| is_label_byte(b))
+    let mut dotted = false;
+    for b in value {
+        if !is_host_byte(*b) {
+            return false;
+        }
+        dotted = *b == b'.';
+    }
+    !dotted
 }
 
-/// Whether a character is a letter in lower case or a hyphen.
-fn is_label_byte(b: u8) -> bool
-    ensures { result ≡ is_label_character b }
+/// Whether a character is a letter in lower case, a hyphen or a dot.
+fn is_host_byte(b: u8) -> bool
+    ensures { result ≡ is_host_character b }
 {
-    b.is_ascii_lowercase() || b == b'-'
+    b.is_ascii_lowercase() || b == b'-' || b == b'.'
 }

@@ -3,19 +3,13 @@
 
 mod captures;
 mod component;
-mod ended;
+mod confirm;
 mod error;
-mod expression;
-mod front;
 mod groups;
 mod kept;
-mod pass;
-mod plain;
-mod read_back;
+mod text;
 mod writer;
 
-pub use component::{draft_component, generate_component};
+pub use component::{confirms, generate_component, written_component};
 pub use error::GenerateError;
 pub use groups::GivenGroup;
-pub use kept::keeps;
-pub use writer::begins_ipv6;

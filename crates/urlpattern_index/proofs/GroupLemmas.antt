@@ -1,5 +1,5 @@
 -- Lemmas on the groups of forms by which an index lists patterns.
-use Rattle.std.proofs.Common.{◌≡◌, ℕ, zero, suc, ◌+◌, ◌<◌, ◌≤◌, ◌≢◌, List, [], ◌∷◌, ◌++◌, length, get_or, refl, sym, ap, subst, ◌∙◌, cond, inl, inr, arith, ◌-◌, Bool, eqb, map, not, replicate, set, true, false}
+use Rattle.std.proofs.Common.{◌≡◌, ℕ, zero, suc, ◌<◌, ◌≤◌, ◌≢◌, List, [], ◌∷◌, ◌++◌, length, get_or, refl, sym, ap, subst, ◌∙◌, cond, inl, inr, arith, Bool, eqb, map, not, replicate, set, true, false}
 use Rattle.std.proofs.lemmas.Bool.Decides.{nat_tests}
 use Rattle.std.proofs.lemmas.List.{get_or-set_other, get_or-set_same, get_or_past, length_push, map-append}
 use Rattle.std.proofs.lemmas.List.Elements.{Contains-append_cases, Contains-append_left, Contains-append_right, Contains-push}
@@ -7,7 +7,7 @@ use Rattle.std.specs.Prelude.{Contains, IsTrue, OnErr, Some, Result, Ok, Err, Ve
 use Rattle.urlpattern_index.specs.FixedTexts.{AddressTexts, FixedTexts, HasTexts}
 use Rattle.urlpattern_index.specs.Keys.{AreEnough, Fits, FormView, form_key, form_view, forms_for, group, group_of_form, hashes_of}
 use Rattle.urlpattern_index.specs.declared.form.Form.{Form}
-use Rattle.urlpattern_index.specs.Listed.{GetsPattern, Listing, without}
+use Rattle.urlpattern_index.specs.Listed.{GetsPattern, Listing}
 
 -- ---- groups of forms
 

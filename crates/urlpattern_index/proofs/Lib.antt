@@ -1,3 +1,4 @@
 pub mod GroupLemmas
+pub mod KnownLemmas
 pub mod NumberLemmas
 pub mod SegmentLemmas

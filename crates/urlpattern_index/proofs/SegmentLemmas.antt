@@ -5,13 +5,12 @@ use Rattle.std.proofs.lemmas.Bool.Decides.{nat_tests}
 use Rattle.std.proofs.lemmas.List.{append_assoc, at_drop_all, at_drop_more, length_push, length-take, length-append}
 use Rattle.std.specs.Borrow.{Bor}
 use Rattle.std.specs.Prelude.{Option, Some, None, chars, fold, is_some, option_map, unwrap_or, IsTrue}
-use Rattle.urlpattern_meaning.specs.declared.outline.OutlineItem.{OutlineItem}
-use Rattle.urlpattern_meaning.specs.declared.outline.OutlineItem.TheVariants.{Character, Run}
-use Rattle.urlpattern_meaning.specs.Outlines.{HasOutline}
 use Rattle.urlpattern_index.specs.FixedTexts.{IsText}
 use Rattle.urlpattern_index.specs.Keys.{AreEnough, mixed, mixed_segments, option_hash, segment_hashes, text_hash}
-use Rattle.urlpattern_index.specs.Segments.{AddsSegment, AreSegmentsOf, CountAlike}
+use Rattle.urlpattern_index.specs.Paths.{FitsParts, FitsPath, PathView}
+use Rattle.urlpattern_index.specs.Segments.{AddsSegment, AreNone, AreOpen, AreSegmentsOf, CountAlike, IsCurrent, IsReadTo, ReadsTo}
 use Rattle.urlpattern_index.specs.declared.reading.Segments.{Segments}
+use Rattle.urlpattern_syntax.specs.Parts.{PartView}
 use Rattle.urlpattern_syntax.specs.Text.{lacks}
 
 -- ---- hashes of segments
@@ -112,146 +111,141 @@ mixed_segments-push hash [] (x ∷ own) b o same = absurd (omega arith)
 mixed_segments-push hash (t ∷ have_texts) [] b o same = absurd (omega arith)
 mixed_segments-push hash (t ∷ have_texts) (x ∷ own) b o same = mixed_segments-push (mixed hash (cond t x 1)) have_texts own b o (omega arith)
 
--- ---- what was read of an outline
+-- ---- what was read of a path
 
-abbrev IsCurrent : Option ℕ → (own : ℕ) → Type 0
-IsCurrent (Some hash) own = own ≡ hash
-IsCurrent None own = Unit {0}
+pub read_none : (segments : Segments) (path : List ℕ) → AreNone segments → IsReadTo segments path path
+read_none segments path none = record {
+  done = [];
+  own = 0;
+  cut = refl;
+  as_many = sym (ap length none.texts);
+  alike = λ hash. rw none.texts refl;
+  is_current = rw none.current refl;
+}
 
--- Some segments of a path were read, with these hashes, and of the next one what has this hash, if it has a fixed text.
-pub record IsReadTo (have_texts : List Bool) (hashes : List ℕ) (current : Option ℕ) (items : List OutlineItem) (path : List ℕ) : Type 0 where
-  pub done : List ℕ
-  pub own : ℕ
-  pub rest : List ℕ
-  pub cut : segment_hashes 0 path ≡ done ++ segment_hashes own rest
-  pub as_many : length done ≡ length have_texts
-  pub alike : CountAlike have_texts hashes done
-  pub is_current : IsCurrent current own
-  pub outline : HasOutline items rest
-
-pub read_none : (items : List OutlineItem) (path : List ℕ) → HasOutline items path → IsReadTo [] [] (Some 0) items path
-read_none items path has = record { done = []; own = 0; rest = path; cut = refl; as_many = refl; alike = λ hash. refl; is_current = refl; outline = has }
-
-same_current : (current : Option ℕ) (own hash : ℕ) → IsCurrent current own → mixed hash (cond (is_some current) own 1) ≡ mixed hash (cond (is_some current) (unwrap_or current 0) 1)
+same_current : (current : Option ℕ) (own hash : ℕ) → IsCurrent current own
+    → mixed hash (cond (is_some current) own 1) ≡ mixed hash (cond (is_some current) (unwrap_or current 0) 1)
 same_current (Some h) own hash is = ap (mixed hash) is
 same_current None own hash is = refl
 
-module _ (have_texts : List Bool) (hashes : List ℕ) (current : Option ℕ) (items : List OutlineItem) (path : List ℕ) (as_many : length hashes ≡ length have_texts) where
+module _ (segments : Segments) (path : List ℕ) (as_many : length segments.hashes.items ≡ length segments.have_texts.items) where
   -- the segment that was read is the last of some
-  alike-push : (item : List OutlineItem) (is : IsReadTo have_texts hashes current item path) → CountAlike (have_texts ++ is_some current ∷ []) (hashes ++ unwrap_or current 0 ∷ []) (is.done ++ is.own ∷ [])
-  alike-push item is = λ hash.
-      mixed_segments-push hash have_texts is.done (is_some current) is.own is.as_many
-      ∙ ap (λ h. mixed h (cond (is_some current) is.own 1)) (is.alike hash)
-      ∙ same_current current is.own (mixed_segments hash have_texts hashes) is.is_current
-      ∙ sym (mixed_segments-push hash have_texts hashes (is_some current) (unwrap_or current 0) as_many)
+  alike-push : (rest : List ℕ) (is : IsReadTo segments path rest)
+      → CountAlike (segments.have_texts.items ++ is_some segments.current ∷ []) (segments.hashes.items ++ unwrap_or segments.current 0 ∷ []) (is.done ++ is.own ∷ [])
+  alike-push rest is = λ hash.
+      mixed_segments-push hash segments.have_texts.items is.done (is_some segments.current) is.own is.as_many
+      ∙ ap (λ h. mixed h (cond (is_some segments.current) is.own 1)) (is.alike hash)
+      ∙ same_current segments.current is.own (mixed_segments hash segments.have_texts.items segments.hashes.items) is.is_current
+      ∙ sym (mixed_segments-push hash segments.have_texts.items segments.hashes.items (is_some segments.current) (unwrap_or segments.current 0) as_many)
 
-  pub read_slash : (c : ℕ) → c ≡ 47 → IsReadTo have_texts hashes current (Character c ∷ items) path
-      → IsReadTo (have_texts ++ is_some current ∷ []) (hashes ++ unwrap_or current 0 ∷ []) (Some 0) items path
-  read_slash c is_slash is =
-      let (front, rest, cut, is_front, has) = is.outline in
-      let whole : is.rest ≡ c ∷ rest = cut ∙ ap (λ f. f ++ rest) is_front in
-      record {
-        done = is.done ++ is.own ∷ [];
-        own = 0;
-        rest = rest;
-        cut = is.cut ∙ ap (λ r. is.done ++ segment_hashes is.own r) whole ∙ ap (λ h. is.done ++ h) (next_segment is.own c rest is_slash) ∙ sym (append_assoc is.done (is.own ∷ []) (segment_hashes 0 rest));
-        as_many = length_push is.done is.own ∙ ap (λ n. n + 1) is.as_many ∙ sym (length_push have_texts (is_some current));
-        alike = alike-push (Character c ∷ items) is;
-        is_current = refl;
-        outline = has;
-      }
+  pub read_slash : (more : Segments) (c : ℕ) (rest : List ℕ) → AddsSegment segments more → c ≡ 47
+      → IsReadTo segments path (c ∷ rest) → IsReadTo more path rest
+  read_slash more c rest adds is_slash is = record {
+    done = is.done ++ is.own ∷ [];
+    own = 0;
+    cut = is.cut ∙ ap (λ h. is.done ++ h) (next_segment is.own c rest is_slash) ∙ sym (append_assoc is.done (is.own ∷ []) (segment_hashes 0 rest));
+    as_many = length_push is.done is.own ∙ ap (λ n. n + 1) is.as_many ∙ sym (length_push segments.have_texts.items (is_some segments.current)) ∙ sym (ap length adds.texts);
+    alike = rw (adds.texts, adds.hashes) (alike-push (c ∷ rest) is);
+    is_current = rw adds.current refl;
+  }
 
-  -- some segment ends where the outline is left
-  pub enough_at_stop : (more : List OutlineItem) → IsReadTo have_texts hashes current more path → AreEnough false (length have_texts) (length (segment_hashes 0 path))
-  enough_at_stop more is =
-      let some = some_segment is.own is.rest in
-      let count : length (segment_hashes 0 path) ≡ length is.done + length (segment_hashes is.own is.rest) = ap length is.cut ∙ length-append is.done (segment_hashes is.own is.rest) in
+  -- some segment ends where reading stops
+  pub enough_at_stop : (rest : List ℕ) → IsReadTo segments path rest
+      → AreEnough false (length segments.have_texts.items) (length (segment_hashes 0 path))
+  enough_at_stop rest is =
+      let some = some_segment is.own rest in
+      let count : length (segment_hashes 0 path) ≡ length is.done + length (segment_hashes is.own rest) =
+      ap length is.cut ∙ length-append is.done (segment_hashes is.own rest) in
       omega (arith, is.as_many)
 
-  pub alike_at_stop : (more : List OutlineItem) → IsReadTo have_texts hashes current more path → CountAlike have_texts hashes (segment_hashes 0 path)
-  alike_at_stop more is = λ hash.
-      ap (mixed_segments hash have_texts) is.cut ∙ mixed_segments-append hash have_texts is.done (segment_hashes is.own is.rest) is.as_many ∙ is.alike hash
+  pub alike_at_stop : (rest : List ℕ) → IsReadTo segments path rest
+      → CountAlike segments.have_texts.items segments.hashes.items (segment_hashes 0 path)
+  alike_at_stop rest is = λ hash.
+      ap (mixed_segments hash segments.have_texts.items) is.cut
+      ∙ mixed_segments-append hash segments.have_texts.items is.done (segment_hashes is.own rest) is.as_many ∙ is.alike hash
 
   -- the last segment ends with the path
-  whole_at_end : (is : IsReadTo have_texts hashes current [] path) → segment_hashes 0 path ≡ is.done ++ is.own ∷ []
-  whole_at_end is = is.cut ∙ ap (λ r. is.done ++ segment_hashes is.own r) is.outline
+  pub enough_at_end : (more : Segments) → AddsSegment segments more → IsReadTo segments path []
+      → AreEnough true (length more.have_texts.items) (length (segment_hashes 0 path))
+  enough_at_end more adds is =
+      ap length is.cut ∙ length_push is.done is.own ∙ ap (λ n. n + 1) is.as_many
+      ∙ sym (length_push segments.have_texts.items (is_some segments.current)) ∙ sym (ap length adds.texts)
 
-  pub enough_at_end : IsReadTo have_texts hashes current [] path → AreEnough true (length (have_texts ++ is_some current ∷ [])) (length (segment_hashes 0 path))
-  enough_at_end is = ap length (whole_at_end is) ∙ length_push is.done is.own ∙ ap (λ n. n + 1) is.as_many ∙ sym (length_push have_texts (is_some current))
-
-  pub alike_at_end : IsReadTo have_texts hashes current [] path → CountAlike (have_texts ++ is_some current ∷ []) (hashes ++ unwrap_or current 0 ∷ []) (segment_hashes 0 path)
-  alike_at_end is = λ hash. ap (mixed_segments hash (have_texts ++ is_some current ∷ [])) (whole_at_end is) ∙ alike-push [] is hash
+  pub alike_at_end : (more : Segments) → AddsSegment segments more → IsReadTo segments path []
+      → CountAlike more.have_texts.items more.hashes.items (segment_hashes 0 path)
+  alike_at_end more adds is = λ hash.
+      ap (mixed_segments hash more.have_texts.items) is.cut ∙ rw (adds.texts, adds.hashes) (alike-push [] is hash)
 
 goes_on : (current : Option ℕ) (own c : ℕ) → IsCurrent current own → IsCurrent (option_map (λ hash. mixed hash c) current) (mixed own c)
 goes_on (Some hash) own c is = ap (λ h. mixed h c) is
 goes_on None own c is = tt
 
-module _ (have_texts : List Bool) (hashes : List ℕ) (items : List OutlineItem) (path : List ℕ) where
-  pub read_run : (current : Option ℕ) (c : ℕ) → c ≡ 47 → IsReadTo have_texts hashes current (Run c ∷ items) path → IsReadTo have_texts hashes None items path
-  read_run current c is_slash is =
-      let (run, rest, cut, without, has) = is.outline in
-      record {
-        done = is.done;
-        own = fold mixed is.own run;
-        rest = rest;
-        cut = is.cut ∙ ap (λ r. is.done ++ segment_hashes is.own r) cut ∙ ap (λ h. is.done ++ h) (within_segment is.own run rest (subst (λ s. IsTrue (lacks s run)) is_slash without));
-        as_many = is.as_many;
-        alike = is.alike;
-        is_current = tt;
-        outline = has;
-      }
+-- a run without a slash
+pub read_run : (segments : Segments) (path run rest : List ℕ) → IsTrue (lacks 47 run) → IsReadTo segments path (run ++ rest)
+    → IsReadTo (record segments { current = None }) path rest
+read_run segments path run rest without is = record {
+  done = is.done;
+  own = fold mixed is.own run;
+  cut = is.cut ∙ ap (λ h. is.done ++ h) (within_segment is.own run rest without);
+  as_many = is.as_many;
+  alike = is.alike;
+  is_current = tt;
+}
 
-  pub read_other : (current : Option ℕ) (c : ℕ) → c ≢ 47 → IsReadTo have_texts hashes current (Character c ∷ items) path
-      → IsReadTo have_texts hashes (option_map (λ hash. mixed hash c) current) items path
-  read_other current c other is =
-      let (front, rest, cut, is_front, has) = is.outline in
-      let whole : is.rest ≡ c ∷ rest = cut ∙ ap (λ f. f ++ rest) is_front in
-      record {
-        done = is.done;
-        own = mixed is.own c;
-        rest = rest;
-        cut = is.cut ∙ ap (λ r. is.done ++ segment_hashes is.own r) whole ∙ ap (λ h. is.done ++ h) (same_segment is.own c rest other);
-        as_many = is.as_many;
-        alike = is.alike;
-        is_current = goes_on current is.own c is.is_current;
-        outline = has;
-      }
+-- another character
+pub read_other : (segments : Segments) (path : List ℕ) (c : ℕ) (rest : List ℕ) → c ≢ 47 → IsReadTo segments path (c ∷ rest)
+    → IsReadTo (record segments { current = option_map (λ hash. mixed hash c) segments.current }) path rest
+read_other segments path c rest other is = record {
+  done = is.done;
+  own = mixed is.own c;
+  cut = is.cut ∙ ap (λ h. is.done ++ h) (same_segment is.own c rest other);
+  as_many = is.as_many;
+  alike = is.alike;
+  is_current = goes_on segments.current is.own c is.is_current;
+}
 
--- the item that is read next
-pub next_item : (outline : List OutlineItem) (index : ℕ) (item d : OutlineItem) → index < length outline → get_or outline index d ≡ item → drop index outline ≡ item ∷ drop (index + 1) outline
-next_item outline index item d within is = at_drop_more (λ items. items) outline index d within ∙ ap (λ x. x ∷ drop (index + 1) outline) is
+-- what is read to the end is read up to some rest
+pub reads_some : (to_end : Bool) (segments : Segments) (path rest : List ℕ) → ReadsTo to_end segments path rest → ReadsTo false segments path rest
+reads_some true segments path rest is = (rest, is)
+reads_some false segments path rest is = is
+
+-- the parts of a text
+pub next_text : (text : List ℕ) (read : ℕ) (c : ℕ) → (read < length text) × (c ≡ get_or text read c) → drop read text ≡ c ∷ drop (read + 1) text
+next_text text read c is_next = at_drop_more (λ text. text) text read c is_next.0 ∙ ap (λ x. x ∷ drop (read + 1) text) (sym is_next.1)
 
 -- ---- segments that are read
 
--- what was read of an outline, of each path that has it
-abbrev pub AreReadTo : (outline : List OutlineItem) → Segments → (current : Option ℕ) → (items : List OutlineItem) → Type 0
-AreReadTo outline segments current items = (path : List ℕ) → HasOutline outline path → IsReadTo segments.have_texts.items segments.hashes.items current items path
+-- what was read, of each text that fits the path, and what of the parts is left
+abbrev pub AreReadTo : PathView → Segments → (parts : List PartView) → Type 0
+AreReadTo path segments parts =
+    (text : List ℕ) → FitsPath path text → (rest : List ℕ) × IsReadTo segments text rest × FitsParts path.is_whole path.delimiter parts rest
 
--- the rest of the outline is left
-pub left_segments : (outline items : List OutlineItem) (segments : Segments) (current : Option ℕ)
-    → length segments.have_texts.items ≤ 12 → length segments.hashes.items ≡ length segments.have_texts.items → segments.is_whole ≡ false
-    → AreReadTo outline segments current items → AreSegmentsOf outline segments
-left_segments outline items segments current few as_many goes_on are_read = record {
-  few = few;
-  as_many = as_many;
-  enough = λ path has. subst (λ whole. AreEnough whole (length segments.have_texts.items) (length (segment_hashes 0 path))) (sym goes_on)
-      (enough_at_stop _ _ _ items path as_many _ (are_read path has));
-  alike = λ path has. alike_at_stop _ _ _ items path as_many _ (are_read path has);
+-- the rest of the parts is left
+pub left_segments : (path : PathView) (segments : Segments) → AreOpen segments
+    → ((text : List ℕ) → FitsPath path text → ReadsTo false segments text []) → AreSegmentsOf path segments
+left_segments path segments are are_read = record {
+  few = are.few;
+  as_many = are.as_many;
+  enough = λ text fits. subst (λ whole. AreEnough whole (length segments.have_texts.items) (length (segment_hashes 0 text))) (sym are.goes_on)
+      (let (rest, read) = are_read text fits in enough_at_stop segments text are.as_many rest read);
+  alike = λ text fits. let (rest, read) = are_read text fits in alike_at_stop segments text are.as_many rest read;
 }
 
--- the outline ends, and its last segment is added, or there is no room for it
-pub all_segments : (outline : List OutlineItem) (segments more : Segments) (current : Option ℕ) (added : Bool)
-    → length segments.have_texts.items ≤ 12 → length segments.hashes.items ≡ length segments.have_texts.items
-    → AreReadTo outline segments current [] → (IsTrue added → AddsSegment segments more current) → (¬ IsTrue added → more ≡ segments)
-    → AreSegmentsOf outline (record { have_texts = more.have_texts; hashes = more.hashes; is_whole = added })
-all_segments outline segments more current true few as_many are_read adds full =
+-- the path ends, and its last segment is added, or there is no room for it
+pub all_segments : (path : PathView) (segments more : Segments) (added : Bool) → AreOpen segments → IsTrue path.is_whole
+    → AreReadTo path segments [] → (IsTrue added → AddsSegment segments more) → (¬ IsTrue added → more ≡ segments)
+    → AreSegmentsOf path (record more { is_whole = added })
+all_segments path segments more true are whole are_read adds full =
     let is = adds refl in
+    let ends : (text : List ℕ) → FitsPath path text → IsReadTo segments text [] =
+    λ text fits. (let (rest, read, none) = are_read text fits in subst (IsReadTo segments text) (none whole) read) in
     record {
-      few = is.few;
-      as_many = is.as_many;
-      enough = λ path has. rw is.texts (enough_at_end _ _ _ [] path as_many (are_read path has));
-      alike = λ path has. rw (is.texts, is.hashes) (alike_at_end _ _ _ [] path as_many (are_read path has));
+      few = is.are_open.few;
+      as_many = is.are_open.as_many;
+      enough = λ text fits. enough_at_end segments text are.as_many more is (ends text fits);
+      alike = λ text fits. alike_at_end segments text are.as_many more is (ends text fits);
     }
-all_segments outline segments more current false few as_many are_read adds full =
-    subst (λ (s : Segments). AreSegmentsOf outline (record { have_texts = s.have_texts; hashes = s.hashes; is_whole = false })) (sym (full (λ is. true≢false (sym is))))
-    (left_segments outline [] (record { have_texts = segments.have_texts; hashes = segments.hashes; is_whole = false }) current few as_many refl are_read)
+all_segments path segments more false are whole are_read adds full =
+    subst (λ (s : Segments). AreSegmentsOf path (record s { is_whole = false })) (sym (full (λ is. true≢false (sym is))))
+    (subst (λ (b : Bool). AreSegmentsOf path (record segments { is_whole = b })) are.goes_on
+    (left_segments path segments are (λ text fits. let (rest, read, none) = are_read text fits in (rest, read))))

@@ -1,14 +1,14 @@
 -- What is fixed of the inputs that a pattern matches, and the texts of an input.
 use Rattle.std.specs.Prelude.{◌≡◌, ℕ, List, Option, None, Some, chars, option_map}
-use Rattle.urlpattern_meaning.specs.declared.outline.OutlineItem.{OutlineItem}
-use Rattle.urlpattern_meaning.specs.Outlines.{HasOutline}
-use Rattle.urlpattern_index.specs.declared.fixed.{Address.Address, Fixed.Fixed}
+use Rattle.urlpattern_index.specs.Paths.{FitsPath, PathView}
+use Rattle.urlpattern_index.specs.declared.fixed.{Address.Address, Fixed.Fixed, KnownPath.KnownPath}
+use Rattle.urlpattern_syntax.specs.Parts.{parts_view}
 
--- A protocol and a hostname, where they are fixed, and an outline of the pathname.
+-- A protocol and a hostname, where they are fixed, and what is known of the pathname.
 pub record FixedTexts : Type 0 where
   pub protocol : Option (List ℕ)
   pub hostname : Option (List ℕ)
-  pub pathname : List OutlineItem
+  pub pathname : PathView
 
 -- The texts of an input by which patterns are looked up.
 pub record AddressTexts : Type 0 where
@@ -24,14 +24,21 @@ IsText None given = Unit {0}
 pub record HasTexts (fixed : FixedTexts) (address : AddressTexts) : Type 0 where
   pub protocol : IsText fixed.protocol address.protocol
   pub hostname : IsText fixed.hostname address.hostname
-  pub pathname : HasOutline fixed.pathname address.pathname
+  pub pathname : FitsPath fixed.pathname address.pathname
 
--- what contracts see of fixed texts and of addresses
+-- what contracts see of paths, fixed texts and addresses
+abbrev pub path_view : KnownPath → PathView
+path_view path = record {
+  parts = parts_view path.parts.now;
+  delimiter = path.delimiter;
+  is_whole = path.is_whole;
+}
+
 abbrev pub fixed_texts : Fixed → FixedTexts
 fixed_texts fixed = record {
   protocol = option_map (λ text. chars text.now) fixed.protocol;
   hostname = option_map (λ text. chars text.now) fixed.hostname;
-  pathname = fixed.pathname.now;
+  pathname = path_view fixed.pathname;
 }
 
 abbrev pub address_texts : Address → AddressTexts

@@ -1,4 +1,6 @@
 pub mod FixedTexts
 pub mod Keys
+pub mod Known
 pub mod Listed
+pub mod Paths
 pub mod Segments

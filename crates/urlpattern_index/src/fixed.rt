@@ -1,6 +1,7 @@
 //! What is fixed of the inputs that a pattern matches, and the texts of an input.
+ghost use Rattle.urlpattern_index.specs.FixedTexts.{AddressTexts, HasTexts, fixed_texts};
 
-use urlpattern_meaning::outline::OutlineItem;
+use urlpattern_syntax::parser::Part;
 
 /// What is fixed of the inputs that a pattern matches.
 #[derive(Debug, Clone, Copy, Drop)]
@@ -9,8 +10,36 @@ pub struct Fixed<'a> {
     pub protocol: Option<&'a str>,
     /// The hostname. `None`: it can be any.
     pub hostname: Option<&'a str>,
-    /// An outline of the pathname.
-    pub pathname: &'a [OutlineItem],
+    /// What is known of the pathname.
+    pub pathname: KnownPath<'a>,
+}
+
+impl Fixed<'_> {
+    /// Nothing is fixed.
+    pub fn nothing() -> Self
+        ensures { (address : AddressTexts) → HasTexts (fixed_texts result) address }
+    {
+        Fixed {
+            protocol: None,
+            hostname: None,
+            pathname: KnownPath {
+                parts: &[],
+                delimiter: None,
+                is_whole: false,
+            },
+        }
+    }
+}
+
+/// The parts that a pathname is made up of, or those that it begins with.
+#[derive(Debug, Clone, Copy, Drop)]
+pub struct KnownPath<'a> {
+    /// The parts.
+    pub parts: &'a [Part],
+    /// The character that ends a segment.
+    pub delimiter: Option<char>,
+    /// Whether nothing follows the parts. Any text can if not.
+    pub is_whole: bool,
 }
 
 /// The texts of an input by which patterns are looked up.

@@ -11,9 +11,11 @@ mod fixed;
 mod form;
 mod hashes;
 mod index;
+mod known;
 mod numbers;
 mod reading;
 
 pub use address::AddressHashes;
-pub use fixed::{Address, Fixed};
+pub use fixed::{Address, Fixed, KnownPath};
 pub use index::Index;
+pub use known::{fixed_text, known_path};

@@ -1,21 +1,28 @@
-//! Reads an outline of a path as segments.
-ghost use Rattle.std.specs.Prelude.{◌≡◌, ◌≤◌, [], false, length, option_map, IsTrue};
+//! Reads the parts of a path as segments.
+ghost use Rattle.std.specs.Prelude.{◌≡◌, ◌++◌, ℕ, List, option_map, IsTrue};
+ghost use Rattle.std.specs.Str.{chars};
+ghost use Rattle.urlpattern_index.specs.FixedTexts.{path_view};
 ghost use Rattle.urlpattern_index.specs.Keys.{mixed};
-ghost use Rattle.urlpattern_index.specs.Segments.{AddsSegment, AreSegmentsOf};
+ghost use Rattle.urlpattern_index.specs.Paths.{FitsPart};
+ghost use Rattle.urlpattern_index.specs.Segments.{AddsSegment, AreNone, AreOpen, AreSegmentsOf, IsReadTo, ReadsTo};
+ghost use Rattle.urlpattern_syntax.specs.Parts.{part_view};
 
 use crate::address::SEGMENTS;
+use crate::fixed::KnownPath;
 use crate::form::DEPTH;
 use crate::hashes::mixed;
 use arrayvec::ArrayVec;
-use urlpattern_meaning::outline::OutlineItem;
+use urlpattern_syntax::parser::{Part, PartModifier, PartType};
 
-/// The first segments of an outline.
+/// The first segments of a path.
 #[derive(Drop)]
 pub(crate) struct Segments {
     /// Whether each segment has a fixed text. It can be any if not.
     pub(crate) have_texts: ArrayVec<bool, DEPTH>,
     /// The hashes of the texts, and some number for each other segment.
     pub(crate) hashes: ArrayVec<u64, SEGMENTS>,
+    /// The hash of the segment that is read. `None`: it can be any.
+    current: Option<u64>,
     /// Whether there are no more segments. There are some if not.
     pub(crate) is_whole: bool,
 }
@@ -23,54 +30,87 @@ pub(crate) struct Segments {
 impl Segments {
     /// No segments yet, and maybe more to come.
     fn new() -> Segments
-        ensures texts { result.have_texts.items ≡ [] }
-        ensures hashes { result.hashes.items ≡ [] }
-        ensures whole { result.is_whole ≡ false }
+        ensures { AreNone result }
     {
         Segments {
             have_texts: ArrayVec::new(),
             hashes: ArrayVec::new(),
+            current: Some(0),
             is_whole: false,
         }
     }
 
-    /// Adds a segment with this hash of its text, or, without one, a segment that can be any. Returns whether there was room.
-    fn push(&mut self, hash: Option<u64>) -> bool
-        requires few { length self.old.have_texts.items ≤ 12 }
-        requires as_many { length self.old.hashes.items ≡ length self.old.have_texts.items }
-        ensures added { IsTrue result → AddsSegment self.old self.new hash }
+    /// Ends the segment that is read. Returns whether there was room for it.
+    fn push(&mut self) -> bool
+        requires { AreOpen self.old }
+        ensures added { IsTrue result → AddsSegment self.old self.new }
         ensures full { ¬ IsTrue result → self.new ≡ self.old }
     {
         if self.have_texts.is_full() {
             return false;
         }
-        self.have_texts.push(hash.is_some());
-        self.hashes.push(hash.unwrap_or(0));
+        self.have_texts.push(self.current.is_some());
+        self.hashes.push(self.current.unwrap_or(0));
+        self.current = Some(0);
         true
+    }
+
+    /// Reads a text. Returns whether it was read to its end, as there may be no room for its segments.
+    fn read_text(&mut self, text: &str) -> bool
+        requires { AreOpen self.old }
+        ensures open { AreOpen self.new }
+        ensures read { (path rest : List ℕ) → IsReadTo self.old path (chars text.now ++ rest) →
+            ReadsTo result self.new path rest }
+    {
+        for c in text.chars() {
+            if c != '/' {
+                self.current = mixed_in(self.current, c);
+                continue;
+            }
+            if !self.push() {
+                return false;
+            }
+        }
+        true
+    }
+
+    /// Reads a part. Returns whether it was read to its end, as it may not be known where that is.
+    fn read_part(&mut self, part: &Part, delimiter: Option<char>) -> bool
+        requires { AreOpen self.old }
+        ensures open { AreOpen self.new }
+        ensures read { (path text rest : List ℕ) → FitsPart delimiter (part_view part.now) text →
+            IsReadTo self.old path (text ++ rest) → ReadsTo result self.new path rest }
+    {
+        if part.modifier != PartModifier::None {
+            return false;
+        }
+        if part.kind == PartType::FixedText {
+            return self.read_text(&part.value);
+        }
+        if !self.read_text(&part.prefix) {
+            return false;
+        }
+        if part.kind != PartType::SegmentWildcard || delimiter != Some('/') {
+            return false;
+        }
+        self.current = None;
+        self.read_text(&part.suffix)
     }
 }
 
-/// The first segments of an outline, up to one of which it is not known where it ends.
-pub(crate) fn read_segments(outline: &[OutlineItem]) -> Segments
-    ensures { AreSegmentsOf outline.now result }
+/// The first segments of a path, up to one of which it is not known where it ends.
+pub(crate) fn read_segments(path: KnownPath<'_>) -> Segments
+    ensures { AreSegmentsOf (path_view path.entry) result }
 {
     let mut segments = Segments::new();
-    // The hash of the segment that is read. `None`: it can be any.
-    let mut current = Some(0);
-    for item in outline {
-        match *item {
-            OutlineItem::Character('/') => {
-                if !segments.push(current) {
-                    return segments;
-                }
-                current = Some(0);
-            }
-            OutlineItem::Character(c) => current = mixed_in(current, c),
-            OutlineItem::Run('/') => current = None,
-            OutlineItem::Run(_) | OutlineItem::Anything => return segments,
+    for part in path.parts {
+        if !segments.read_part(part, path.delimiter) {
+            return segments;
         }
     }
-    segments.is_whole = segments.push(current);
+    if path.is_whole {
+        segments.is_whole = segments.push();
+    }
     segments
 }
 

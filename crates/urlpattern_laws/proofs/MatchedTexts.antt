@@ -12,7 +12,7 @@ use Rattle.std.specs.declared.alloc.Global.{Global}
 use Rattle.urlpattern_core.specs.declared.regexp.RegExp.{Ghosts as Engine}
 use Rattle.urlpattern_eight.specs.declared.eight.ComponentName.{ComponentName}
 use Rattle.urlpattern_eight.specs.Eight.{at}
-use Rattle.urlpattern_generate.specs.Manners.{GivenView, manner_for, text_given, unchanged}
+use Rattle.urlpattern_generate.specs.Manners.{GivenView, text_given}
 use Rattle.urlpattern_laws.proofs.GivenGroups.{Distinct, Groups, captured_again, first_found, found_reversed, given_first, keys_of_zip, zip_distinct}
 use Rattle.urlpattern_laws.proofs.LinkedTexts.{links_of_captures}
 use Rattle.urlpattern_laws.specs.LinkLaws.{IsWrittenBack}
@@ -25,7 +25,8 @@ use Rattle.urlpattern_meaning.proofs.NameLaws.{names_distinct}
 use Rattle.urlpattern_meaning.specs.PartMeaning.{Captures}
 use Rattle.urlpattern_create.specs.Compiled.{canonical_encoding, manner_of}
 use Rattle.urlpattern_pattern.specs.Match.{IsMatchOf}
-use Rattle.urlpattern_pattern.specs.Patterns.{PatternView}
+use Rattle.urlpattern_pattern.specs.GeneratedTexts.{manner_in, parts_in}
+use Rattle.urlpattern_pattern.specs.Patterns.{PatternView, pattern_view}
 use Rattle.urlpattern_syntax.specs.{Parts.PartView, RegexpText.group_names, Text.text_of}
 
 -- ---- what groups are given
@@ -94,16 +95,16 @@ given_back result given names others captures many differ same groups are =
 
 pub links_of_matches : {E : Type 0} (answer : E → List ℕ → Option Captures) → LinksOfMatchesAreTheTexts answer
 links_of_matches {E} answer pattern groups url texts result link found are back =
-    links_of_captures answer pattern groups url texts found.captures link found.are_answers (λ component hierarchical parts reads.
-    let it = back component hierarchical parts reads in
-    let manner = manner_for component hierarchical (pattern component).pattern_string groups in
+    links_of_captures answer pattern groups url texts found.captures link found.are_answers (λ component parts has.
+    let it = back component parts has in
+    let manner = manner_in parts groups component in
+    let own = parts_in parts component in
     let captures = found.captures component in
     let means = it.means (found.are_answers component) in
     record {
       plain = it.plain;
       means = it.means;
-      are_given = given_back (result component) (text_given groups component) (group_names parts) (pattern component).group_name_list captures
-          (captures_counted manner.options parts (at texts component) captures means) (names_distinct (pattern component).pattern_string manner.options unchanged parts reads.1)
-          it.has_names (found.are_results component).has_groups (are component);
+      are_given = given_back (result component) (text_given groups component) (group_names own) (pattern_view pattern component).group_name_list captures
+          (captures_counted manner.options own (at texts component) captures means) it.names_differ it.has_names (found.are_results component).has_groups (are component);
       are_canonical = it.are_canonical;
     })

@@ -3,9 +3,9 @@ use Rattle.std.proofs.Common.{◌≡◌, ℕ, ◌⊎◌, Bool, true, false, List
 use Rattle.std.proofs.lemmas.List.{append-nil}
 use Rattle.std.proofs.lemmas.List.Folds.{Any-from_list_any, list_any-from_Any}
 use Rattle.std.specs.List.{list_any}
-use Rattle.std.specs.Prelude.{Option, Some, None, Result, Ok, Err, IsTrue, codes, is_some, option_to_list, unwrap_or}
+use Rattle.std.specs.Prelude.{⊤, Option, Some, None, Result, Ok, Err, IsOk, IsTrue, codes, is_some, option_to_list, unwrap_or}
 use Rattle.urlpattern_canonical.specs.Canonical.{special_schemes}
-use Rattle.urlpattern_core.specs.Components.{ComponentView, IsEngineOf, engine_flags, has_regexp}
+use Rattle.urlpattern_core.specs.Components.{ComponentView, IsComponentOf, IsEngineOf, engine_flags, has_regexp}
 use Rattle.urlpattern_core.specs.declared.regexp.RegExp.{Ghosts as Engine}
 use Rattle.urlpattern_init.proofs.InheritanceLemmas.{pattern-processed}
 use Rattle.urlpattern_init.specs.Inheritance.{values_view}
@@ -15,11 +15,12 @@ use Rattle.urlpattern_inputs.specs.declared.options.UrlPatternOptions.{UrlPatter
 use Rattle.urlpattern_meaning.proofs.Encodings.{reads_weaker, refuses_weaker}
 use Rattle.urlpattern_meaning.proofs.OutcomesExist.{outcome_answered}
 use Rattle.urlpattern_meaning.specs.Laws.{AnswersAsked, HasSomeOutcome}
-use Rattle.urlpattern_meaning.specs.Matching.{Answers, ArePeeled, EndsPlain, IsMadeBetween, IsMadeByEngine, IsMadeOf, IsMadeOfOne, IsMatched, IsRemoved, Literal, MatcherView, RegExp, end_text, single_capture_matcher}
+use Rattle.urlpattern_meaning.specs.FirstAnswers.{TookText}
+use Rattle.urlpattern_meaning.specs.Matching.{Answers, ArePeeled, EndsPlain, InnerView, IsMadeBetween, IsMadeByEngine, IsMadeOf, IsMadeOfOne, IsMatched, IsRemoved, Literal, MatcherView, RegExp, SingleCapture, end_text, single_capture_matcher}
 use Rattle.urlpattern_meaning.specs.PartMeaning.{Captures}
 use Rattle.urlpattern_meaning.specs.Printing.{printed}
 use Rattle.urlpattern_pattern.proofs.MatchersDecide.{Decided, answered, bool_decided, text_decided}
-use Rattle.urlpattern_create.specs.Compiled.{FirstRefused, HasHierarchicalPath, IsComponentCompiled, IsComponentRefused, IsPathKind, IsPatternOfInit, Manner, RefusesInit, after_protocol, canonical_encoding, is_mark, manner_of, pattern_values, without_default_port}
+use Rattle.urlpattern_create.specs.Compiled.{FirstRefused, HasEngine, HasHierarchicalPath, IsComponentCompiled, IsComponentRefused, IsPathKind, IsPatternOfInit, Manner, RefusesInit, after_protocol, canonical_encoding, is_mark, manner_of, pattern_values, without_default_port}
 use Rattle.urlpattern_pattern.specs.Meaning.{ReadsAs}
 use Rattle.urlpattern_laws.specs.Outcomes.{EngineAnswers, InitsHaveOutcomes, InitsHaveValues, IsOfTexts, UrlAnswers, of_texts}
 use Rattle.urlpattern_pattern.specs.Patterns.{PatternView}
@@ -127,22 +128,29 @@ AnswersParts {E} engine manner = (parts before middle after : List PartView) →
     (made : Result E ErrorView) × IsEngineOf engine false (engine_flags manner.options) (regexp_text manner.options middle) made
 
 module _ {E : Type 0} (engine : Engine E) (manner : Manner) (every : AnswersParts engine manner) where
+  of_component : (parts : List PartView) (component : ComponentView E) → ReadsAs manner parts → IsComponentOf engine manner.options parts component →
+      Decided (HasEngine component) → Outcome engine manner
+  of_component parts component reads is (inl has) = inl (component, ((parts, reads, is), has))
+  of_component parts component reads is (inr lacks) = inr (views.RegExp, (λ same. cc, λ same. cc), inr (component, (parts, reads, is), lacks, refl))
+
+  took_decided : (inner : InnerView E) → Decided (TookText (λ value. ⊤) inner)
+  took_decided (RegExp (Ok value)) = inl tt
+  took_decided (RegExp (Err error)) = inr (λ took. took)
+  took_decided (Literal text) = inl tt
+  took_decided (SingleCapture filter allow_empty) = inl tt
+
+  engine_decided : (component : ComponentView E) (made : Result E ErrorView) → component.regexp ≡ made → Decided (TookText (λ value. ⊤) component.matcher.inner) → Decided (HasEngine component)
+  engine_decided component (Ok value) same (inl took) = inl (record { whole = subst IsOk (sym same) refl; of_matcher = took })
+  engine_decided component (Ok value) same (inr lacks) = inr (λ has. lacks has.of_matcher)
+  engine_decided component (Err error) same took = inr (λ has. let never : false ≡ true = subst IsOk same has.whole in cc never)
+
   of_made : (parts : List PartView) (matcher : MatcherView E) (made : Result E ErrorView) → ReadsAs manner parts → IsMadeOf (IsEngineOf engine false (engine_flags manner.options)) manner.options parts matcher →
       IsEngineOf engine false (engine_flags manner.options) (regexp_text manner.options parts) made → Outcome engine manner
-  of_made parts matcher (Ok value) reads is_made is = inl (
-    record { pattern_string = printed manner.options parts; regexp = Ok value; group_name_list = group_names parts; matcher = matcher; has_regexp_group = has_regexp parts },
-    ((parts, reads, record { is_printed = refl; has_engine = inl is; has_names = refl; has_matcher = is_made; regexp_flag = refl }), refl),
-  )
-  of_made parts matcher (Err error) reads is_made (named, may) = inr (
-    views.RegExp,
-    (λ same. cc, λ same. cc),
-    inr (
-      record { pattern_string = printed manner.options parts; regexp = Err error; group_name_list = group_names parts; matcher = matcher; has_regexp_group = has_regexp parts },
-      (parts, reads, record { is_printed = refl; has_engine = inl (named, may); has_names = refl; has_matcher = is_made; regexp_flag = refl }),
-      ap Err named,
-      refl,
-    ),
-  )
+  of_made parts matcher made reads is_made is =
+      let component : ComponentView E =
+      record { pattern_string = printed manner.options parts; regexp = made; group_name_list = group_names parts; matcher = matcher; has_regexp_group = has_regexp parts } in
+      of_component parts component reads (record { is_printed = refl; has_engine = inl is; has_names = refl; has_matcher = is_made; regexp_flag = refl })
+      (engine_decided component made refl (took_decided matcher.inner))
 
   of_reading : HasSomeOutcome manner.text manner.options (of_texts (canonical_encoding manner.canonical)) → Outcome engine manner
   of_reading (Ok parts, strongly) =

@@ -1,13 +1,13 @@
 -- An init is compiled to a pattern or refused, and not both.
 use Rattle.std.proofs.Common.{◌≡◌, ℕ, Bool, true, false, List, [], ◌∷◌, ap, inl, inr, refl, subst, sym, ◌∙◌}
-use Rattle.std.specs.Prelude.{Option, Result, Ok, Err, String, IsOk, encode_utf8_all, length}
+use Rattle.std.specs.Prelude.{Option, Result, Ok, Err, String, IsOk, encode_utf8_all, length, option_to_list}
 use Rattle.std.specs.Str.{chars}
 use Rattle.std.specs.declared.alloc.Global.{Global}
 use Rattle.url.specs.Parser.{Parsed}
 use Rattle.url.specs.declared.error.ParseError.{ParseError}
 use Rattle.urlpattern_canonical.specs.Canonical.{IsAnswer, Reports}
 use Rattle.urlpattern_core.proofs.FirstMatchers.{flags_agree}
-use Rattle.urlpattern_core.specs.Components.{ComponentView, IsWholeEngineOf, engine_flags, has_regexp}
+use Rattle.urlpattern_core.specs.Components.{ComponentView, IsComponentOf, IsEngineOf, IsWholeEngineOf, engine_flags, has_regexp}
 use Rattle.urlpattern_core.specs.declared.regexp.RegExp.{Ghosts as Engine}
 use Rattle.urlpattern_init.specs.SpecialProtocol.{AcceptsSpecialScheme}
 use Rattle.urlpattern_init.specs.declared.init.UrlPatternInit.{UrlPatternInit}
@@ -18,9 +18,10 @@ use Rattle.urlpattern_meaning.specs.Laws.{AnswersOnce}
 use Rattle.urlpattern_meaning.specs.Matching.{MatcherView}
 use Rattle.urlpattern_meaning.specs.PartMeaning.{Captures}
 use Rattle.urlpattern_pattern.proofs.ByTextLemmas.{bool_one, component_by, scheme_accepted, scheme_taken}
+use Rattle.urlpattern_pattern.proofs.MadeAlike.{took_too}
 use Rattle.urlpattern_pattern.proofs.MeaningLemmas.{read_once}
 use Rattle.urlpattern_pattern.specs.ByText.{AnswersByText, HasMeaning, MakesFirstWays}
-use Rattle.urlpattern_create.specs.Compiled.{AreCompiled, FirstRefused, HasHierarchicalPath, IsComponentCompiled, IsComponentRefused, IsPathKind, Manner, RefusesValues, after_protocol, canonical_encoding, manner_of, pattern_values}
+use Rattle.urlpattern_create.specs.Compiled.{AreCompiled, FirstRefused, HasEngine, HasHierarchicalPath, IsComponentCompiled, IsComponentRefused, IsPathKind, Manner, RefusesValues, after_protocol, canonical_encoding, manner_of, pattern_values}
 use Rattle.urlpattern_pattern.specs.Meaning.{ReadsAs}
 use Rattle.urlpattern_laws.specs.Outcomes.{AcceptsAlike, Decides, FirstWaysDecide, InitRefusalsAreOne, IsOfTexts, PatternsExcludeRefusals, TakesOrRefuses, TakesOrRefusesText, of_texts}
 use Rattle.urlpattern_pattern.specs.Patterns.{PatternView}
@@ -89,20 +90,30 @@ refusals_one manner error other of too refuses also =
     (still_refuses Passes texts_pass encoding manner.text manner.options other (error_passes other too) also)
 
 module _ {E : Type 0} (engine : Engine E) (manner : Manner) where
-  not_refused : (has_regexp_group : Bool) (flags regexp : List ℕ) (made refused : Result E ErrorView) → TakesOrRefuses engine has_regexp_group flags regexp →
-      IsWholeEngineOf engine has_regexp_group flags regexp made → IsOk made → IsWholeEngineOf engine has_regexp_group flags regexp refused → refused ≡ Err views.RegExp → ⊥
-  not_refused has flags regexp (Ok value) (Err error) either takes is refuses same = either value error takes refuses
-  not_refused has flags regexp (Ok value) (Ok other) either takes is refuses same = cc same
-  not_refused has flags regexp (Err error) refused either takes is refuses same = let never : false ≡ true = is in cc never
+  whole_too : (has_regexp_group : Bool) (flags regexp : List ℕ) (made other : Result E ErrorView) → TakesOrRefuses engine has_regexp_group flags regexp →
+      IsWholeEngineOf engine has_regexp_group flags regexp made → IsOk made → IsWholeEngineOf engine has_regexp_group flags regexp other → IsOk other
+  whole_too has flags regexp (Ok value) (Err error) either takes is refuses = absurd (either value error takes refuses)
+  whole_too has flags regexp (Ok value) (Ok other) either takes is refuses = refl
+  whole_too has flags regexp (Err error) other either takes is refuses = let never : false ≡ true = is in cc never
+
+  -- an engine that has what a component needs has it for another one of the same parts
+  has_too : (parts : List PartView) (compiled other : ComponentView E) → TakesOrRefusesText engine manner → ReadsAs manner parts →
+      IsComponentOf engine manner.options parts compiled → IsComponentOf engine manner.options parts other → HasEngine compiled → HasEngine other
+  has_too parts compiled other either reads is is_other has = record {
+    whole = whole_too (has_regexp parts) (engine_flags manner.options) (regexp_text manner.options parts) compiled.regexp other.regexp
+        (either.whole parts reads) is.has_engine has.whole is_other.has_engine;
+    of_matcher =
+        let made = is.has_matcher in
+        took_too (IsEngineOf engine false (engine_flags manner.options)) manner.options parts compiled.matcher other.matcher made is_other.has_matcher
+        (either.of_matcher parts (option_to_list made.front) made.middle (option_to_list made.back) reads made.are_peeled.cut) has.of_matcher;
+  }
 
   -- a component is not both compiled and refused
   compiled_or_refused : (compiled : ComponentView E) (error : ErrorView) → TakesOrRefusesText engine manner → IsOfTexts error → IsComponentCompiled engine manner compiled → IsComponentRefused engine manner error → ⊥
   compiled_or_refused compiled error either of ((parts, reads, is), has) (inl refuses) = read_or_refused manner parts error of reads refuses
   compiled_or_refused compiled error either of ((parts, reads, is), has) (inr (refused, (others, also, is_other), refusal, named)) =
       let same : others ≡ parts = read_once manner others parts also reads in
-      let whole : IsWholeEngineOf engine (has_regexp parts) (engine_flags manner.options) (regexp_text manner.options parts) refused.regexp =
-      subst (λ (ps : List PartView). IsWholeEngineOf engine (has_regexp ps) (engine_flags manner.options) (regexp_text manner.options ps) refused.regexp) same is_other.has_engine in
-      not_refused (has_regexp parts) (engine_flags manner.options) (regexp_text manner.options parts) compiled.regexp refused.regexp (either parts reads) is.has_engine has whole refusal
+      refusal (has_too parts compiled refused either reads is (subst (λ (ps : List PartView). IsComponentOf engine manner.options ps refused) same is_other) has)
 
   component_refusal_one : (error other : ErrorView) → IsOfTexts error → IsOfTexts other → IsComponentRefused engine manner error → IsComponentRefused engine manner other → error ≡ other
   component_refusal_one error other of too (inl refuses) (inl also) = refusals_one manner error other of too refuses also

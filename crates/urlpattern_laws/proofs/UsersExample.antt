@@ -1,13 +1,16 @@
 -- Worked example: the components of a pattern of `https://example.com/users/:id`.
-use Rattle.std.proofs.Common.{◌≡◌, true, false, List, [], ◌∷◌, ◌++◌, refl, inr, None, Ok, subst}
+use Rattle.std.proofs.Common.{◌≡◌, ◌∙◌, Bool, true, false, List, [], ◌∷◌, ◌++◌, ap, refl, inr, None, Ok, subst}
 use Rattle.std.specs.Char.{encode_utf8}
 use Rattle.std.specs.Prelude.{codes}
 use Rattle.std.specs.Str.{chars}
 use Rattle.url.proofs.OnLiterals.{url_on_literals}
 use Rattle.urlpattern_laws.proofs.ReadTexts.{IsOfParts, anything, anything_read, canonical_value, literal, literal_read, nothing_read, of_parts, text_and_segment}
-use Rattle.urlpattern_create.specs.Compiled.{AreCompiled, EachIsCompiled, Manner, canonical_encoding, manner_of}
+use Rattle.urlpattern_create.specs.Compiled.{AreCompiled, EachIsCompiled, IsPathKind, Manner, canonical_encoding, manner_of}
 use Rattle.urlpattern_create.specs.FromString.{IsPatternOfText}
-use Rattle.urlpattern_pattern.specs.Patterns.{PatternView}
+use Rattle.urlpattern_pattern.specs.KeptParts.{KeepsPartsOfText}
+use Rattle.urlpattern_pattern.specs.Patterns.{PatternView, pattern_view}
+use Rattle.urlpattern_pattern.specs.UrlPatterns.{UrlPattern}
+use Rattle.urlpattern_syntax.specs.ComponentParts.{kept_options}
 use Rattle.urlpattern_canonical.specs.Canonical.{canonical_hash, canonical_hostname, canonical_password, canonical_pathname, canonical_protocol, canonical_search, canonical_username}
 use Rattle.urlpattern_canonical.specs.declared.canonicalize_and_process.ProcessType.TheVariants.{Pattern}
 use Rattle.urlpattern_engine.specs.PatternRegexps.{pattern_engine}
@@ -22,7 +25,7 @@ use Rattle.urlpattern_syntax.proofs.PieceExamples.{PieceCut, bare, ends, piece, 
 use Rattle.urlpattern_syntax.proofs.ReadingExamples.{named}
 use Rattle.urlpattern_syntax.proofs.RegexpTextExamples.{group}
 use Rattle.urlpattern_syntax.proofs.TokenExamples.{no, token, users_front, users_tokens}
-use Rattle.urlpattern_eight.specs.Eight.{Values}
+use Rattle.urlpattern_eight.specs.Eight.{Values, at}
 use Rattle.urlpattern_syntax.specs.Options.{OptionsView, default_options, hostname_options, pathname_options}
 use Rattle.urlpattern_syntax.specs.Parts.{PartView, fixed_text}
 use Rattle.urlpattern_syntax.specs.Pieces.{Bare, Piece, Stops, Text}
@@ -148,3 +151,17 @@ users_of_parts pattern is =
     let compiled = users_compiled pattern is in
     let hierarchical : compiled.hierarchical ≡ true = compiled.path_kind.1 (inr (inr refl)) in
     each_of_parts pattern (rw hierarchical at compiled.are_compiled)
+
+-- ---- its own parts
+
+-- the parts of its pathname are those of a path of segments
+pub users_path : (pattern : UrlPattern PatternRegexp) → (kept : KeepsPartsOfText pattern_engine users_text None default_asked pattern) → kept_options (at kept.2.parts.components Pathname) ≡ pathname_options
+users_path pattern (init, constructed, kept) =
+    let split = users_split (IsSpecialTo pattern_engine) (values_view init) constructed.is_split in
+    let base : init.base_url ≡ None = cc constructed.has_base in
+    let processed = rw (split, base) at kept.are_values in
+    let same : kept.values ≡ users_values = cc (users_processed, processed) in
+    let kind = subst (λ (of : Values). IsPathKind pattern_engine.answer of (pattern_view pattern Protocol).matcher kept.hierarchical) same kept.path_kind in
+    let hierarchical : kept.hierarchical ≡ true = kind.1 (inr (inr refl)) in
+    (kept.are_read Pathname).options_are ∙ ap (λ (of : Values). (manner_of default_asked of kept.hierarchical Pathname).options) same
+    ∙ ap (λ (is : Bool). (manner_of default_asked users_values is Pathname).options) hierarchical

@@ -1,14 +1,14 @@
 -- The sentences of the laws of links of a match: what its groups are given, and that the link has the matched texts.
-use Rattle.std.specs.Prelude.{◌≡◌, ◌≢◌, ℕ, AllPairs, Bool, List, Option, Some, map}
+use Rattle.std.specs.Prelude.{◌≡◌, ◌≢◌, ℕ, AllPairs, List, Option, Some, map}
 use Rattle.std.specs.{Borrow.Bor, Map.keys_of}
 use Rattle.url.specs.Parts.{Parts}
 use Rattle.urlpattern_core.specs.Components.{ComponentView}
 use Rattle.urlpattern_create.specs.Compiled.{AreCompiled}
 use Rattle.urlpattern_core.specs.declared.regexp.RegExp.{Ghosts as Engine}
-use Rattle.urlpattern_generate.specs.Manners.{GivenView, WritingManner, given_groups, manner_for, text_given, unchanged}
+use Rattle.urlpattern_generate.specs.Manners.{GivenView, WritingManner, given_groups, text_given}
 use Rattle.urlpattern_init.specs.Inheritance.{texts_of_url}
 use Rattle.urlpattern_inputs.specs.declared.options.UrlPatternOptions.{UrlPatternOptions}
-use Rattle.urlpattern_laws.specs.LinkLaws.{AreCanonical, InItsManner}
+use Rattle.urlpattern_laws.specs.LinkLaws.{AreCanonical, OfItsParts}
 use Rattle.urlpattern_links.specs.LawsOfLinks.{HavePlainTexts}
 use Rattle.urlpattern_matches.specs.BorrowedMatches.{HasDistinctGroups, all_groups_view, all_listed_groups, groups_view, lent_group, pattern_captures_view, texts_captured}
 use Rattle.urlpattern_matches.specs.ResultViews.{ResultView, captured_text, result_view}
@@ -18,10 +18,11 @@ use Rattle.urlpattern_meaning.specs.Matching.{Answers}
 use Rattle.urlpattern_meaning.specs.PartMeaning.{Captures, PartsMean}
 use Rattle.urlpattern_pattern.specs.LinkedUrls.{IsLink}
 use Rattle.urlpattern_pattern.specs.Match.{AreGroupsInOrder, IsMatchOf}
-use Rattle.urlpattern_pattern.specs.Patterns.{PatternView}
+use Rattle.urlpattern_pattern.specs.Patterns.{PatternView, pattern_view}
+use Rattle.urlpattern_pattern.specs.UrlPatterns.{UrlPattern}
 use Rattle.urlpattern_eight.specs.declared.eight.ComponentName.{ComponentName}
 use Rattle.urlpattern_eight.specs.Eight.{Texts, Values, at, components}
-use Rattle.urlpattern_syntax.specs.{Parts.PartView, Reading.Reads, RegexpText.group_names}
+use Rattle.urlpattern_syntax.specs.{Parts.PartView, RegexpText.group_names}
 
 -- ---- what the groups of a match are given
 
@@ -62,23 +63,24 @@ GroupsOfMatchesDiffer {E} engine =
 -- ---- links
 
 -- What is asked of parts, of the text that a component's matcher answers by these captures, and of the component: no fixed text has a
--- modifier, the answer is what the parts mean, the names are those of the parts, and the captures are canonical.
+-- modifier, the answer is what the parts mean, the names are those of the parts, of which no two are equal, and the captures are
+-- canonical.
 pub record IsReadBackFrom {E : Type 0} (answer : E → List ℕ → Option Captures) (compiled : ComponentView E) (manner : WritingManner) (parts : List PartView) (text : List ℕ) (captures : Captures) : Type 0 where
   pub plain : HavePlainTexts parts
   pub means : Answers answer compiled.matcher text (Some captures) → PartsMean manner.options parts text captures
   pub has_names : compiled.group_name_list ≡ group_names parts
+  pub names_differ : NamesDiffer (group_names parts)
   pub are_canonical : AreCanonical manner.canonical captures
 
--- this holds of the parts as which the pattern text of a component reads
-abbrev pub TextIsReadBack : {E : Type 0} → (answer : E → List ℕ → Option Captures) → PatternView E → List GivenView → ComponentName → (text : List ℕ) → Captures → Type 0
-TextIsReadBack answer pattern groups component text captures = (hierarchical : Bool) (parts : List PartView) →
-    InItsManner answer pattern groups component (λ manner pattern_text. Reads pattern_text manner.options unchanged parts) hierarchical →
-    IsReadBackFrom answer (pattern component) (manner_for component hierarchical (pattern component).pattern_string groups) parts text captures
+-- this holds of the parts of a component
+abbrev pub TextIsReadBack : {E : Type 0} → (answer : E → List ℕ → Option Captures) → UrlPattern E → List GivenView → ComponentName → (text : List ℕ) → Captures → Type 0
+TextIsReadBack answer pattern groups component text captures =
+    OfItsParts pattern groups component (λ manner parts. IsReadBackFrom answer (pattern_view pattern component) manner parts text captures)
 
 -- A link with the groups of a match of eight texts has these texts.
 abbrev pub LinksOfMatchesAreTheTexts : {E : Type 0} → (answer : E → List ℕ → Option Captures) → Type 0
 LinksOfMatchesAreTheTexts {E} answer =
-    (pattern : PatternView E) (groups : List GivenView) (url : Parts) (texts : Texts) (result : ComponentName → ResultView) →
-    IsLink answer pattern groups url → (found : IsMatchOf answer pattern texts result) → AreGroupsOfResult result groups →
+    (pattern : UrlPattern E) (groups : List GivenView) (url : Parts) (texts : Texts) (result : ComponentName → ResultView) →
+    IsLink answer pattern groups url → (found : IsMatchOf answer (pattern_view pattern) texts result) → AreGroupsOfResult result groups →
     ((component : ComponentName) → TextIsReadBack answer pattern groups component (at texts component) (found.captures component)) →
     texts_of_url url ≡ texts

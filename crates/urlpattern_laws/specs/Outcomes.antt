@@ -35,10 +35,17 @@ TakesOrRefuses {E} engine has_regexp_group flags regexp =
     (value : E) (error : ErrorView) → IsWholeEngineOf engine has_regexp_group flags regexp (Ok value) →
     ¬ IsWholeEngineOf engine has_regexp_group flags regexp (Err error)
 
--- so it is of the parts that the pattern text reads as
-abbrev pub TakesOrRefusesText : {E : Type 0} → Engine E → Manner → Type 0
-TakesOrRefusesText engine manner = (parts : List PartView) → ReadsAs manner parts →
-    TakesOrRefuses engine (has_regexp parts) (engine_flags manner.options) (regexp_text manner.options parts)
+-- nor this one of parts that a matcher leaves to it
+abbrev pub TakesOrRefusesPart : {E : Type 0} → Engine E → (flags regexp : List ℕ) → Type 0
+TakesOrRefusesPart {E} engine flags regexp =
+    (value : E) (error : ErrorView) → IsEngineOf engine false flags regexp (Ok value) → ¬ IsEngineOf engine false flags regexp (Err error)
+
+-- The engine decides so of the parts that the pattern text reads as, and of some of them in a row.
+pub record TakesOrRefusesText {E : Type 0} (engine : Engine E) (manner : Manner) : Type 0 where
+  pub whole : (parts : List PartView) → ReadsAs manner parts →
+      TakesOrRefuses engine (has_regexp parts) (engine_flags manner.options) (regexp_text manner.options parts)
+  pub of_matcher : (parts before middle after : List PartView) → ReadsAs manner parts → parts ≡ before ++ middle ++ after →
+      TakesOrRefusesPart engine (engine_flags manner.options) (regexp_text manner.options middle)
 
 -- of two components compiled in this manner the one accepts a special scheme where the other does
 abbrev pub AcceptsAlike : {E : Type 0} → Engine E → Manner → Type 0

@@ -158,7 +158,7 @@ pub fn links_differ_by_their_groups<R: RegExp>()
 
 /// A link whose groups are given what they captured of eight texts has these texts.
 ///
-/// It is asked of each component that the parts of its pattern text mean its text, with these captures; that no fixed text has a
+/// It is asked of each component that its parts mean its text, with these captures; that no fixed text has a
 /// modifier, since its copies are not captured; and that each text that was captured is its own canonical form.
 pub fn links_of_captures_are_the_texts<R: RegExp>()
     ensures { LinksOfCapturesAreTheTexts R.answer }
@@ -175,7 +175,7 @@ pub fn groups_of_matches_are_given<R: RegExp>()
 
 /// A link whose groups are given what a match captured has the texts that were matched.
 ///
-/// It is asked of each component that its names are those of the parts of its pattern text, and that these mean its text, with what was
+/// It is asked of each component that its names are those of its parts, no two of them equal, and that these mean its text, with what was
 /// captured; that no fixed text has a modifier; and that each text that was captured is its own canonical form.
 pub fn links_of_matches_are_the_texts<R: RegExp>()
     ensures { LinksOfMatchesAreTheTexts R.answer }

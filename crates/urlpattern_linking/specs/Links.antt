@@ -10,23 +10,23 @@ use Rattle.urlpattern_linking.specs.declared.given.Given.{Given}
 use Rattle.urlpattern_linking.specs.declared.linking.Unlinked.{Unlinked}
 use Rattle.urlpattern_linking.specs.declared.linking.Unlinked.TheVariants as unlinked
 use Rattle.urlpattern_pattern.specs.LinkedUrls.{IsLink, RefusesLink}
-use Rattle.urlpattern_pattern.specs.Patterns.{PatternView}
+use Rattle.urlpattern_pattern.specs.UrlPatterns.{UrlPattern}
 use Rattle.urlpattern_url.specs.declared.error.NoLink.{NoLink}
 use Rattle.urlpattern_url.specs.declared.error.NoLink.TheVariants as no_link
 
 -- the URL is that of the pattern with the groups that the parts give
-abbrev pub IsLinkOf : PatternView PatternRegexp → (text : List ℕ) → List Given → Parts → Type 0
+abbrev pub IsLinkOf : UrlPattern PatternRegexp → (text : List ℕ) → List Given → Parts → Type 0
 IsLinkOf pattern text given url =
     (groups : List Group) × AllZip (GivesGroup text) given groups × IsLink pattern_answer pattern (given_groups groups) url
 
 -- the pattern has no URL with them, for this reason
-abbrev pub RefusesLinkOf : PatternView PatternRegexp → (text : List ℕ) → List Given → NoLink → Type 0
+abbrev pub RefusesLinkOf : UrlPattern PatternRegexp → (text : List ℕ) → List Given → NoLink → Type 0
 RefusesLinkOf pattern text given error =
     (error ≢ no_link.OutOfMemory)
     × ((groups : List Group) × AllZip (GivesGroup text) given groups × RefusesLink pattern_answer pattern (given_groups groups) error)
 
 -- why there is no URL
-abbrev pub IsUnlinked : PatternView PatternRegexp → (text : List ℕ) → List Given → Unlinked → Type 0
+abbrev pub IsUnlinked : UrlPattern PatternRegexp → (text : List ℕ) → List Given → Unlinked → Type 0
 IsUnlinked pattern text given unlinked.Given = Any (GivesNothing text) given
 IsUnlinked pattern text given (unlinked.NoLink error) = RefusesLinkOf pattern text given error
 IsUnlinked pattern text given unlinked.OutOfMemory = Unit {0}

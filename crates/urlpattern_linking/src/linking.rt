@@ -1,7 +1,6 @@
 //! The URL of a pattern with groups that are given.
 ghost use Rattle.std.specs.Prelude.{IfErr, IfOk};
 ghost use Rattle.urlpattern_linking.specs.Links.{IsLinkOf, IsUnlinked};
-ghost use Rattle.urlpattern_pattern.specs.Patterns.{pattern_view};
 
 use crate::given::{Given, groups_of};
 use std::alloc::Global;
@@ -30,8 +29,8 @@ pub fn link(
     text: &[u8],
     given: &[Given],
 ) -> Result<Url, Unlinked>
-    ensures linked { IfOk result (IsLinkOf (pattern_view pattern.now) text.now given.now) }
-    ensures refused { IfErr result (IsUnlinked (pattern_view pattern.now) text.now given.now) }
+    ensures linked { IfOk result (IsLinkOf pattern.now text.now given.now) }
+    ensures refused { IfErr result (IsUnlinked pattern.now text.now given.now) }
 {
     let groups = match groups_of(alloc, text, given) {
         Ok(groups) => groups,

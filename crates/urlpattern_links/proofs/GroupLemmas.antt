@@ -4,12 +4,9 @@ use Rattle.std.proofs.lemmas.Bool.{false≢true}
 use Rattle.std.specs.Prelude.{◌&&◌, ◌==◌, IfOk, IsTrue, not, unwrap_or}
 use Rattle.std.specs.Str.{IsUtf8, chars}
 use Rattle.urlpattern_links.specs.CopySearch.{AreSomeWith, IsTextWithout}
-use Rattle.urlpattern_links.specs.Links.{AreTextsWith, IsCopyText, IsOfCopies, RefusesFirst, RefusesGroup, fewest_copies}
-use Rattle.urlpattern_links.specs.Refused.{ReportsCapture}
-use Rattle.urlpattern_links.specs.declared.error.LinkError.{LinkError}
-use Rattle.urlpattern_links.specs.declared.error.LinkError.TheVariants.{Missing, NotCaptured, OutOfMemory}
+use Rattle.urlpattern_links.specs.Links.{AreTextsWith, IsCopyText, IsOfCopies, fewest_copies}
 use Rattle.urlpattern_meaning.specs.Matching.{MayBeEmpty}
-use Rattle.urlpattern_meaning.specs.PartMeaning.{Allows, Captures, capture_of_none}
+use Rattle.urlpattern_meaning.specs.PartMeaning.{Allows, capture_of_none}
 use Rattle.urlpattern_syntax.proofs.StringTexts.{is_empty-str}
 use Rattle.urlpattern_syntax.specs.declared.parser.PartModifier.{PartModifier}
 use Rattle.urlpattern_syntax.specs.declared.parser.PartModifier.TheVariants as modifiers
@@ -18,7 +15,7 @@ use Rattle.urlpattern_syntax.specs.declared.parser.PartType.TheVariants.{FixedTe
 use Rattle.urlpattern_syntax.specs.Options.{OptionsView}
 use Rattle.urlpattern_syntax.specs.Parts.{PartView}
 use Rattle.urlpattern_syntax.specs.RegexpText.{is_empty}
-use Rattle.urlpattern_syntax.specs.Text.{line_feed, text_of}
+use Rattle.urlpattern_syntax.specs.Text.{line_feed}
 
 -- ---- texts that may be empty
 
@@ -113,25 +110,3 @@ pub after_three : (old prefix between suffix first second third : List ℕ) → 
     third ≡ old ++ (prefix ++ between ++ suffix)
 after_three old prefix between suffix first second third e f g =
     g ∙ ap (λ t. t ++ suffix) (f ∙ ap (λ t. t ++ between) e) ∙ (let same : ((old ++ prefix) ++ between) ++ suffix ≡ old ++ (prefix ++ between ++ suffix) = simp append_assoc in same)
-
--- ---- what is refused
-
-pub reports_weaker : (Refuses Also : (name : List ℕ) → Option (List ℕ) → Type 0) (error : LinkError) → ((name : List ℕ) (capture : Option (List ℕ)) → Refuses name capture → Also name capture) →
-    ReportsCapture Refuses error → ReportsCapture Also error
-reports_weaker Refuses Also (Missing name) weaker h = weaker (text_of name) None h
-reports_weaker Refuses Also (NotCaptured name) weaker h = (h.0, weaker (text_of name) (Some h.0) h.1)
-reports_weaker Refuses Also OutOfMemory weaker h = tt
-
-refuses_first : (options : OptionsView) (kind : PartType) (part : PartView) (capture : Option (List ℕ)) (captures : Captures) (name : List ℕ) (refused : Option (List ℕ)) →
-    ¬ (kind ≡ FixedText) → RefusesGroup options part capture name refused → RefusesFirst options kind part (capture ∷ captures) name refused
-refuses_first options FixedText part capture captures name refused group h = absurd (group refl)
-refuses_first options Regexp part capture captures name refused group h = h
-refuses_first options SegmentWildcard part capture captures name refused group h = h
-refuses_first options FullWildcard part capture captures name refused group h = h
-
-pub reports_first : (options : OptionsView) (part : PartView) (capture given : Option (List ℕ)) (captures later : Captures) (error : LinkError) → ¬ (part.kind ≡ FixedText) →
-    given ≡ capture → captures ≡ capture ∷ later → ReportsCapture (RefusesGroup options part given) error → ReportsCapture (RefusesFirst options part.kind part captures) error
-reports_first options part capture given captures later error group e f h =
-    subst (λ c. ReportsCapture (RefusesFirst options part.kind part c) error) (sym f)
-    (reports_weaker (RefusesGroup options part capture) (RefusesFirst options part.kind part (capture ∷ later)) error
-    (λ name refused. refuses_first options part.kind part capture later name refused group) (subst (λ c. ReportsCapture (RefusesGroup options part c) error) e h))

@@ -1,4 +1,4 @@
 pub mod CopySearch
 pub mod LawsOfLinks
 pub mod Links
-pub mod Refused
+pub mod Texts

@@ -87,22 +87,3 @@ text_of_first part captures = text_of_part part.kind part captures
 abbrev pub text_of_parts : List PartView → Captures → List ℕ
 text_of_parts [] captures = []
 text_of_parts (part ∷ parts) captures = text_of_part part.kind part captures ++ text_of_parts parts (captures_after part.kind captures)
-
--- ---- refusals
-
--- the group has this name, and may not capture what it is given, which is this
-abbrev pub RefusesGroup : OptionsView → PartView → (capture : Option (List ℕ)) → (name : List ℕ) → (refused : Option (List ℕ)) → Type 0
-RefusesGroup options part capture name refused = (¬ MayCapture options part capture) × (part.name ≡ name) × (capture ≡ refused)
-
--- a part of this kind is such a group, for the first of these captures
-abbrev pub RefusesFirst : OptionsView → PartType → PartView → Captures → (name : List ℕ) → (refused : Option (List ℕ)) → Type 0
-RefusesFirst options PartType.FixedText part captures name refused = ⊥
-RefusesFirst options kind part [] name refused = ⊥
-RefusesFirst options kind part (capture ∷ captures) name refused = RefusesGroup options part capture name refused
-
--- the first group that may not capture what it is given has this name, and was given this
-abbrev pub RefusesCapture : OptionsView → List PartView → Captures → (name : List ℕ) → (refused : Option (List ℕ)) → Type 0
-RefusesCapture options [] captures name refused = ⊥
-RefusesCapture options (part ∷ parts) captures name refused =
-    RefusesFirst options part.kind part captures name refused
-    ⊎ (OfFirst (MayCapture options) part.kind part captures × RefusesCapture options parts (captures_after part.kind captures) name refused)

@@ -75,7 +75,7 @@ fast_by answer options parts matcher text fast same (Some captures) (Some others
 
 -- ---- the parts between the ends
 
-middle_plain : (parts : List PartView) (front : Option PartView) (middle : List PartView) (back : Option PartView) → ArePeeled parts front middle back → All IsNotCustom parts → All IsNotCustom middle
+pub middle_plain : (parts : List PartView) (front : Option PartView) (middle : List PartView) (back : Option PartView) → ArePeeled parts front middle back → All IsNotCustom parts → All IsNotCustom middle
 middle_plain parts front middle back peeled plain =
     let whole : All IsNotCustom (option_to_list front ++ middle ++ option_to_list back) = subst (λ ps. All IsNotCustom ps) peeled.cut plain in
     all_right (option_to_list front) middle (all_left (option_to_list front ++ middle) (option_to_list back) whole)

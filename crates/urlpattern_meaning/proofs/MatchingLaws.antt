@@ -109,7 +109,7 @@ one_by options kind value name prefix suffix text captures h =
 
 -- ---- a single capture
 
-regrouped : (front prefix piece suffix back : List ℕ) → front ++ prefix ++ piece ++ (suffix ++ back) ≡ front ++ (prefix ++ piece ++ suffix) ++ back
+pub regrouped : (front prefix piece suffix back : List ℕ) → front ++ prefix ++ piece ++ (suffix ++ back) ≡ front ++ (prefix ++ piece ++ suffix) ++ back
 regrouped front prefix piece suffix back =
     sym (append_assoc (front ++ prefix ++ piece) suffix back)
     ∙ ap (λ t. t ++ back) (ap (λ t. t ++ suffix) (append_assoc front prefix piece) ∙ append_assoc front (prefix ++ piece) suffix)

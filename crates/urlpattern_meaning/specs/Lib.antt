@@ -5,7 +5,6 @@ pub mod Laws
 pub mod LawsOfMeaning
 pub mod LawsOfReading
 pub mod Matching
-pub mod Outlines
 pub mod PartMeaning
 pub mod Printing
 pub mod RoundTrip

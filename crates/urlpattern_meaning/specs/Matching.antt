@@ -1,5 +1,5 @@
 -- Which matcher is made of a list of parts, what a matcher answers to a text, and when that is what the parts mean.
-use Rattle.std.specs.Prelude.{◌≡◌, ◌≢◌, ◌⊎◌, ◌==◌, ℕ, Bool, true, false, List, [], ◌∷◌, ◌++◌, map, Option, Some, None, Result, Ok, Err, IsTrue, if◌then◌else◌, option_map, option_to_list}
+use Rattle.std.specs.Prelude.{◌≡◌, ◌≢◌, ◌⊎◌, ◌==◌, ℕ, Bool, true, false, List, [], ◌∷◌, ◌++◌, codes, map, Option, Some, None, Result, Ok, Err, IsTrue, if◌then◌else◌, option_map, option_to_list}
 use Rattle.std.specs.{Char.to_ascii_lowercase, Str.all_scalars}
 use Rattle.urlpattern_meaning.specs.Dialect.{Follows}
 use Rattle.urlpattern_syntax.specs.{Errors.ErrorView, Options.OptionsView, Parts.PartView}
@@ -176,6 +176,15 @@ MayRunOutOfMemory answer matcher text = AsksEngine matcher text ⊎ (CapturesOne
 abbrev pub Agrees : OptionsView → List PartView → List ℕ → Option Captures → Type 0
 Agrees options parts text (Some captures) = PartsMean options parts text captures
 Agrees options parts text None = (captures : Captures) → ¬ PartsMean options parts text captures
+
+-- each value that was made of the regular expression of parts, none of them custom, with the flag
+-- `u` alone, answers what the parts mean
+abbrev pub ValuesAgreeWithParts : {E : Type 0} → (IsMade : E → (regexp flags : List ℕ) → Type 0)
+    → (answer : E → List ℕ → Option Captures) → Type 0
+ValuesAgreeWithParts {E} IsMade answer =
+    (options : OptionsView) (parts : List PartView) (value : E) → AreGenerated parts →
+    IsMade value (regexp_text options parts) (codes "u") →
+    (text : List ℕ) → Agrees options parts text (answer value text)
 
 -- where an engine is asked, `Is` holds of its value and the parts left between the ends; an error that is kept fails this
 abbrev pub IsOfMiddle : {E : Type 0} → (Is : E → (middle : List PartView) → Type 0) → List PartView → InnerView E → Type 0

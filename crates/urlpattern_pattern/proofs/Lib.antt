@@ -1,6 +1,8 @@
 pub mod Results
-pub mod GeneratedLemmas
+pub mod GivenCaptures
+pub mod KeptLemmas
 pub mod LinkedLemmas
+pub mod MadeAlike
 pub mod MatchSteps
 pub mod MismatchLemmas
 pub mod MatchLaws

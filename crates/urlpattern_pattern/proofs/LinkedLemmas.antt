@@ -1,149 +1,196 @@
 -- The URL of a pattern, by the texts of its components.
-use Rattle.std.proofs.Common.{◌≡◌, ◌∙◌, ℕ, All, Bool, true, false, List, Option, Result, Ok, Err, String, ap, inl, inr, refl, subst, sym}
-use Rattle.std.proofs.lemmas.Bool.{false≢true, true≢false}
-use Rattle.std.proofs.lemmas.List.Elements.{All-weaker}
-use Rattle.std.specs.Prelude.{IfErr, IfOk, MatchResult}
+use Rattle.std.proofs.Common.{◌≡◌, ◌≢◌, ◌+◌, ◌∙◌, ◌<◌, ℕ, add-one, All, Bool, true, false, List, ◌∷◌, ◌++◌, Option, Some, None, Result, Ok, Err, ap, bytes_eq, drop, get_or, inl, inr, length, refl, subst, sym, take}
+use Rattle.std.proofs.Math.Seq.{drop-cons}
+use Rattle.std.proofs.lemmas.Bool.{false≢true}
+use Rattle.std.proofs.lemmas.List.{take-append-drop}
+use Rattle.std.specs.List.{list_any}
+use Rattle.std.specs.Prelude.{IfErr, IfOk, IfSome, IsTrue, MatchOption}
 use Rattle.std.specs.declared.alloc.Global.{Global}
 use Rattle.std.specs.declared.borrow.CowStr.{CowStr}
-use Rattle.std.specs.Str.{chars}
 use Rattle.url.specs.Parts.{Parts}
-use Rattle.urlpattern_create.specs.Compiled.{IsPathKind}
-use Rattle.urlpattern_generate.specs.Manners.{GivenView, begins_ipv6, canonical_for}
-use Rattle.urlpattern_generate.specs.Writers.{cow_text}
-use Rattle.urlpattern_init.specs.Inheritance.{texts_of_url, url_text}
-use Rattle.urlpattern_init.specs.declared.init.UrlPatternMatchInput.TheVariants as inputs
-use Rattle.urlpattern_meaning.specs.PartMeaning.{Captures}
-use Rattle.urlpattern_pattern.specs.GeneratedTexts.{printed_values}
-use Rattle.urlpattern_pattern.specs.LinkedUrls.{AreCanonicalIn, DraftsTexts, GeneratesTexts, HasPathKind, IsCanonicalIn, IsLink, MakesCanonical, RefusesLink}
-use Rattle.urlpattern_pattern.specs.Match.{HasMatch}
-use Rattle.urlpattern_pattern.specs.Patterns.{PatternView}
+use Rattle.urlpattern_core.proofs.MatcherAnswers.{matches-accepts}
+use Rattle.urlpattern_core.specs.declared.component.Component.{Component}
+use Rattle.urlpattern_core.specs.declared.regexp.RegExp.{Ghosts as Engine}
+use Rattle.urlpattern_core.specs.Matchers.{matcher_view}
+use Rattle.urlpattern_create.specs.PatternViews.{PatternView, eight_view}
 use Rattle.urlpattern_eight.proofs.EightLemmas.{at-each, of_each}
 use Rattle.urlpattern_eight.specs.declared.eight.ComponentName.{ComponentName}
-use Rattle.urlpattern_eight.specs.declared.eight.ComponentName.TheVariants.{Protocol, Username, Password, Hostname, Port, Pathname, Search, Hash}
+use Rattle.urlpattern_eight.specs.declared.eight.ComponentName.TheVariants.{Protocol}
 use Rattle.urlpattern_eight.specs.declared.eight.Eight.{Eight}
 use Rattle.urlpattern_eight.specs.Eight.{IsFirstError, Texts, at, components}
-use Rattle.urlpattern_syntax.specs.Text.{text_of}
-use Rattle.urlpattern_url.proofs.CanonicalTexts.{texts_are_canonical}
-use Rattle.urlpattern_url.specs.OpaqueUrls.{OpaqueTextsAreCanonical}
-use Rattle.urlpattern_url.specs.UrlsOfTexts.{IsReadOfTexts, RefusesTexts, cow_texts, string_texts}
-use Rattle.urlpattern_url.specs.WebUrls.{IsWebUrl}
+use Rattle.urlpattern_generate.specs.Generating.{TellsFound}
+use Rattle.urlpattern_generate.specs.Manners.{GivenView, manner_for, text_given}
+use Rattle.urlpattern_generate.specs.Writing.{CannotWrite, IsWritten, cow_text}
+use Rattle.urlpattern_generate.specs.declared.error.GenerateError.{GenerateError}
+use Rattle.urlpattern_generate.specs.declared.error.GenerateError.TheVariants as generating
+use Rattle.urlpattern_init.specs.Inheritance.{texts_of_url}
+use Rattle.urlpattern_init.specs.declared.init.UrlPatternMatchInput.TheVariants as inputs
+use Rattle.urlpattern_matches.specs.ResultViews.{ResultView, group_of}
+use Rattle.urlpattern_meaning.specs.Matching.{Accepts, Answers, InnerView, Literal, MatcherView, RegExp, SingleCapture}
+use Rattle.urlpattern_meaning.specs.PartMeaning.{Captures}
+use Rattle.urlpattern_pattern.proofs.GivenCaptures.{given_captured}
+use Rattle.urlpattern_pattern.specs.GeneratedTexts.{HasParts, manner_in, parts_in}
+use Rattle.urlpattern_pattern.specs.LinkedUrls.{AnswersParts, AreWritten, IsCapturedBy, IsConfirmed, IsConfirmedBefore, IsLink, IsLinkOf, IsOther, RefusesLink, RefusesLinkOf, ReturnsGiven, TellsConfirmed}
+use Rattle.urlpattern_pattern.specs.Match.{HasMatch, IsMatch}
+use Rattle.urlpattern_pattern.specs.UrlPatterns.{AreMadeOfParts, UrlPattern}
+use Rattle.urlpattern_rules.specs.declared.pattern.PatternParts.{PatternParts}
+use Rattle.urlpattern_syntax.specs.ComponentParts.{kept_options, kept_parts}
+use Rattle.urlpattern_syntax.specs.declared.parts.ComponentParts.{ComponentParts}
+use Rattle.urlpattern_syntax.specs.RegexpText.{group_names}
+use Rattle.urlpattern_url.specs.UrlsOfTexts.{IsReadOfTexts, RefusesTexts, cow_texts}
 use Rattle.urlpattern_url.specs.declared.error.NoLink.{NoLink}
-use Rattle.urlpattern_url.specs.declared.error.NoLink.TheVariants.{Component, OtherText, OutOfMemory, Url}
+use Rattle.urlpattern_url.specs.declared.error.NoLink.TheVariants as links
 
--- what holds of each text under a premise, with something else, holds of the texts
-pub texts_known : {E K : Type 0} (P : ComponentName → List ℕ → Type 0) (result : Result (Eight (String Global)) E) → K →
-    IfOk result (λ texts. (name : ComponentName) → ComponentName × (K → P name (text_of (at texts name)))) → IfOk result (λ texts. (name : ComponentName) → P name (at (string_texts texts) name))
-texts_known P (Ok texts) known h = λ name. subst (P name) (sym (at-each (λ other. text_of (at texts other)) name)) ((h name).1 known)
-texts_known P (Err error) known h = tt
+-- ---- one answer
 
--- the same of the first error
-pub first_answered : {A T E K : Type 0} (result : Result T E) (Answers : ComponentName → Result A E → Type 0) → K →
-    IfErr result (IsFirstError (λ name answer. ComponentName × (K → Answers name answer))) → IfErr result (IsFirstError Answers)
-first_answered (Ok value) Answers known first = tt
-first_answered {A} {K = K} (Err error) Answers known (before, after, name, split, earlier, answers) = (
-  before,
-  after,
-  name,
-  split,
-  All-weaker (λ other. (value : A) × (ComponentName × (K → Answers other (Ok value)))) (λ other. (value : A) × Answers other (Ok value)) (λ other h. (h.0, h.1.1 known)) before earlier,
-  answers.1 known,
-)
+accepted_once : {E : Type 0} (answer : E → List ℕ → Option Captures) (ignore_case : Bool) (inner : InnerView E) (text : List ℕ) (captures others : Captures) →
+    Accepts answer ignore_case inner text captures → Accepts answer ignore_case inner text others → captures ≡ others
+accepted_once answer ignore_case (Literal literal) text captures others is also = is.1 ∙ sym also.1
+accepted_once answer ignore_case (SingleCapture filter allow_empty) text captures others is also = is.2 ∙ sym also.2
+accepted_once answer ignore_case (RegExp (Ok engine)) text captures others is also = cc
+accepted_once answer ignore_case (RegExp (Err error)) text captures others is also = absurd is
 
--- a text or an error is answered
-pub answered_by : {T E : Type 0} (result : Result T E) (P : T → Type 0) (Q : E → Type 0) → IfOk result P → IfErr result Q → MatchResult result P Q
-answered_by (Ok value) P Q is other = is
-answered_by (Err error) P Q is other = other
+-- a matcher answers a text by one list of captures
+pub answered_once : {E : Type 0} (answer : E → List ℕ → Option Captures) (matcher : MatcherView E) (text : List ℕ) (captures others : Captures) →
+    Answers answer matcher text (Some captures) → Answers answer matcher text (Some others) → captures ≡ others
+answered_once answer matcher text captures others (middle, cut, accepts) also =
+    accepted_once answer matcher.ignore_case matcher.inner middle captures others accepts ((matches-accepts answer matcher text middle others cut).0 also)
 
--- the manner of a pattern whose hostname is no IPv6 address makes a text canonical as that of a URL is
-canonical_under : (texts : ComponentName → List ℕ) → begins_ipv6 (texts Hostname) ≡ false → (component : ComponentName) (text : List ℕ) →
-    canonical_for component true false text ≡ Ok text → canonical_for component true (begins_ipv6 (texts component)) text ≡ Ok text
-canonical_under texts no_address Protocol text is = is
-canonical_under texts no_address Username text is = is
-canonical_under texts no_address Password text is = is
-canonical_under texts no_address Hostname text is = ap (λ is_ipv6. canonical_for Hostname true is_ipv6 text) no_address ∙ is
-canonical_under texts no_address Port text is = is
-canonical_under texts no_address Pathname text is = is
-canonical_under texts no_address Search text is = is
-canonical_under texts no_address Hash text is = is
+-- ---- components by their names
 
--- the texts of a URL of the web are canonical
-pub web_canonical : {E : Type 0} (pattern : PatternView E) (hierarchical : Bool) (url : Parts) → hierarchical ≡ true → IsWebUrl url → begins_ipv6 (pattern Hostname).pattern_string ≡ false →
-    AreCanonicalIn pattern hierarchical (texts_of_url url)
-web_canonical pattern true url kind web no_address component =
-    canonical_under (λ name. (pattern name).pattern_string) no_address component (at (texts_of_url url) component)
-    (subst (λ text. canonical_for component true false text ≡ Ok text) (sym (at-each (λ name. url_text name url) component)) (texts_are_canonical url web component))
-web_canonical pattern false url kind web no_address component = absurd (false≢true kind)
+pub cut_at : (i : ℕ) → i < length components → components ≡ take i components ++ get_or components i Protocol ∷ drop (i + 1) components
+cut_at i within =
+    sym (take-append-drop i components) ∙ ap (λ rest. take i components ++ rest) (drop-cons components i Protocol within ∙ ap (λ n. get_or components i Protocol ∷ drop n components) (sym (add-one i)))
 
--- the texts of a URL with an opaque path are canonical
-pub opaque_canonical : {E : Type 0} (pattern : PatternView E) (hierarchical : Bool) (url : Parts) → hierarchical ≡ false → OpaqueTextsAreCanonical url → AreCanonicalIn pattern hierarchical (texts_of_url url)
-opaque_canonical pattern true url kind are component = absurd (true≢false kind)
-opaque_canonical pattern false url kind are component =
-    subst (IsCanonicalIn pattern false component) (sym (at-each (λ name. url_text name url) component)) (are component (begins_ipv6 (pattern component).pattern_string))
+-- ---- texts
 
-module _ {E : Type 0} (pattern : PatternView E) (hierarchical : Bool) (texts : Eight (CowStr Global)) where
-  -- a text that is canonical by the test of its bytes
-  pub text_canonical : (name : ComponentName) (is_ipv6 : Bool) (bytes : List ℕ) → canonical_for name hierarchical is_ipv6 (chars bytes) ≡ Ok (chars bytes) → is_ipv6 ≡ begins_ipv6 (pattern name).pattern_string →
-      chars bytes ≡ cow_text (at texts name) → IsCanonicalIn pattern hierarchical name (cow_text (at texts name))
-  text_canonical name is_ipv6 bytes canonical is same =
-      subst (IsCanonicalIn pattern hierarchical name) same (subst (λ of. canonical_for name hierarchical of (chars bytes) ≡ Ok (chars bytes)) is canonical)
+-- the text of a component of those that are borrowed or owned
+pub own_written : (parts : PatternParts) (groups : List GivenView) (texts : Eight (CowStr Global)) → ((name : ComponentName) → IsWritten (manner_in parts groups name) (parts_in parts name) (cow_text (at texts name))) →
+    AreWritten parts groups (cow_texts texts)
+own_written parts groups texts are name = subst (IsWritten (manner_in parts groups name) (parts_in parts name)) (sym (at-each (λ other. cow_text (at texts other)) name)) (are name)
 
-  -- those of all components
-  pub all_canonical : All (λ name. IsCanonicalIn pattern hierarchical name (cow_text (at texts name))) components → AreCanonicalIn pattern hierarchical (cow_texts texts)
-  all_canonical all component =
-      subst (IsCanonicalIn pattern hierarchical component) (sym (at-each (λ name. cow_text (at texts name)) component)) (of_each (λ name. IsCanonicalIn pattern hierarchical name (cow_text (at texts name))) all component)
+pub text_written : (parts : PatternParts) (groups : List GivenView) (texts : Eight (CowStr Global)) (name : ComponentName) (kept : ComponentParts) (text : List ℕ) → kept ≡ at parts.components name → text ≡ cow_text (at texts name) →
+    AreWritten parts groups (cow_texts texts) → IsWritten (manner_for name (kept_options kept) (kept_parts kept) groups) (kept_parts kept) text
+text_written parts groups texts name kept text e f are =
+    subst (λ (of : ComponentParts). IsWritten (manner_for name (kept_options of) (kept_parts of) groups) (kept_parts of) text) (sym e)
+    (subst (IsWritten (manner_in parts groups name) (parts_in parts name)) (at-each (λ other. cow_text (at texts other)) name ∙ sym f) (are name))
 
--- what was made of canonical texts is a URL
-pub canonical_made : {E : Type 0} (pattern : PatternView E) (hierarchical : Bool) (texts : Texts) (made : Result Parts NoLink) (P : NoLink → Type 0) → MakesCanonical pattern hierarchical texts made → IfErr made P
-canonical_made pattern hierarchical texts (Ok url) P is = tt
-canonical_made pattern hierarchical texts (Err error) P is = absurd is
+module _ {E : Type 0} (answer : E → List ℕ → Option Captures) where
+  -- what a matcher finds in the text of a component
+  pub told_confirmed : {Fault : Type 0} (own : Eight (Component E)) (parts : PatternParts) (groups : List GivenView) (texts : Eight (CowStr Global)) (name : ComponentName) (kept : ComponentParts) (component : Component E) (text : List ℕ)
+      (r : Result Bool Fault) → kept ≡ at parts.components name → component ≡ at own name → text ≡ cow_text (at texts name) →
+      IfOk r (λ is. TellsFound is answer (matcher_view component.matcher) (manner_for name (kept_options kept) (kept_parts kept) groups) (kept_parts kept) text) →
+      IfOk r (λ is. TellsConfirmed is answer (eight_view own) parts groups (cow_texts texts) name)
+  told_confirmed own parts groups texts name kept component text (Err fault) e f g told = tt
+  told_confirmed own parts groups texts name kept component text (Ok is) e f g told =
+      subst (λ of. TellsFound is answer (matcher_view (at own name).matcher) (manner_in parts groups name) (parts_in parts name) of) (g ∙ sym (at-each (λ other. cow_text (at texts other)) name))
+      (subst (λ (of : Component E). TellsFound is answer (matcher_view of.matcher) (manner_in parts groups name) (parts_in parts name) text) f
+      (subst (λ (of : ComponentParts). TellsFound is answer (matcher_view component.matcher) (manner_for name (kept_options of) (kept_parts of) groups) (kept_parts of) text) e told))
 
-module _ {E : Type 0} (answer : E → List ℕ → Option Captures) (pattern : PatternView E) (groups : List GivenView) where
-  -- a URL that has texts with these groups, and is read of them
-  with_texts : (texts : Texts) (url : Parts) → GeneratesTexts answer pattern groups texts → texts_of_url url ≡ texts → IsReadOfTexts texts url → IsLink answer pattern groups url
-  with_texts texts url generated has read =
-      (subst (λ (of : Texts). GeneratesTexts answer pattern groups of) (sym has) generated, subst (λ (of : Texts). IsReadOfTexts of url) (sym has) read)
+  module _ (pattern : PatternView E) (parts : PatternParts) (groups : List GivenView) (texts : Texts) where
+    pub confirmed_if : (is : Bool) (name : ComponentName) → is ≡ true → TellsConfirmed is answer pattern parts groups texts name → IsConfirmed answer pattern parts groups texts name
+    confirmed_if true name e told = told
+    confirmed_if false name e told = absurd (false≢true e)
 
-  linked : (texts : Texts) (result : Result Parts NoLink) → GeneratesTexts answer pattern groups texts → IfOk result (λ url. texts_of_url url ≡ texts) → IfOk result (IsReadOfTexts texts) →
-      IfOk result (IsLink answer pattern groups)
-  linked texts (Ok url) generated has read = with_texts texts url generated has read
-  linked texts (Err error) generated has read = tt
+    pub other_if : (is : Bool) (name : ComponentName) → is ≡ false → TellsConfirmed is answer pattern parts groups texts name → IsOther answer pattern parts groups texts name
+    other_if true name e told = absurd (false≢true (sym e))
+    other_if false name e told = told
 
-  -- a URL that has texts of which each is a draft and canonical
-  drafted : (hierarchical : Bool) → HasPathKind answer pattern hierarchical → (texts : Texts) (url : Parts) → DraftsTexts answer pattern hierarchical groups texts → AreCanonicalIn pattern hierarchical texts →
-      texts_of_url url ≡ texts → IsReadOfTexts texts url → IsLink answer pattern groups url
-  drafted hierarchical kind texts url drafts canonical = with_texts texts url (λ component. (hierarchical, kind, drafts component (canonical component)))
+    pub all_confirmed : All (IsConfirmed answer pattern parts groups texts) components → IsConfirmedBefore answer pattern parts groups texts None
+    all_confirmed all component = of_each (IsConfirmed answer pattern parts groups texts) all component
 
-  pub drafts_linked : (hierarchical : Bool) → HasPathKind answer pattern hierarchical → (texts : Texts) → DraftsTexts answer pattern hierarchical groups texts → (made : Result Parts NoLink) →
-      MakesCanonical pattern hierarchical texts made → IfOk made (λ url. texts_of_url url ≡ texts) → IfOk made (IsReadOfTexts texts) → IfOk made (IsLink answer pattern groups)
-  drafts_linked hierarchical kind texts drafts (Ok url) (inl canonical) has read = drafted hierarchical kind texts url drafts canonical has read
-  drafts_linked hierarchical kind texts drafts (Ok url) (inr canonical) has read =
-      drafted hierarchical kind texts url drafts (subst (λ (of : Texts). AreCanonicalIn pattern hierarchical of) has canonical) has read
-  drafts_linked hierarchical kind texts drafts (Err error) made has read = absurd made
+    pub first_other : (i : ℕ) → i < length components → All (IsConfirmed answer pattern parts groups texts) (take i components) → IsOther answer pattern parts groups texts (get_or components i Protocol) →
+        IsConfirmedBefore answer pattern parts groups texts (Some (get_or components i Protocol))
+    first_other i within all other = (take i components, drop (i + 1) components, cut_at i within, all, other)
 
-  -- what is linked is matched
-  matched : (url : Parts) → IsLink answer pattern groups url → HasMatch answer pattern (inputs.Url url)
-  matched url is = (texts_of_url url, refl, λ component. let text = (is.0 component).2 in (text.captures, text.is_read_back.is_matched))
+  -- ---- links
 
-  pub links_matched : (result : Result Parts NoLink) → IfOk result (IsLink answer pattern groups) → IfOk result (λ url. HasMatch answer pattern (inputs.Url url))
-  links_matched (Ok url) is = matched url is
-  links_matched (Err error) is = tt
+  module _ (pattern : UrlPattern E) (parts : PatternParts) (groups : List GivenView) (has : pattern.parts ≡ Some parts) where
+    abbrev view : PatternView E
+    view = eight_view pattern.components
 
-  refuses : (texts : Texts) (error : NoLink) → GeneratesTexts answer pattern groups texts → RefusesTexts texts error → RefusesLink answer pattern groups error
-  refuses texts (Component error) generated h = absurd h
-  refuses texts (Url reason) generated h = (texts, generated, h)
-  refuses texts (OtherText component) generated h = (texts, generated, h)
-  refuses texts OutOfMemory generated h = tt
+    with_parts : (Holds : PatternParts → Type 0) → Holds parts → HasParts pattern Holds
+    with_parts Holds h = subst (λ (of : Option PatternParts). MatchOption of ⊥ Holds) (sym has) h
 
-  unlinked : (texts : Texts) (result : Result Parts NoLink) → GeneratesTexts answer pattern groups texts → IfErr result (RefusesTexts texts) →
-      IfErr result (RefusesLink answer pattern groups)
-  unlinked texts (Ok url) generated h = tt
-  unlinked texts (Err error) generated h = refuses texts error generated h
+    link_of : (texts : Texts) (url : Parts) → AreWritten parts groups texts → texts_of_url url ≡ texts → IsReadOfTexts texts url → IsConfirmedBefore answer view parts groups texts None → IsLinkOf answer view parts groups url
+    link_of texts url written same read confirmed = record {
+      are_written = subst (λ (of : Texts). AreWritten parts groups of) (sym same) written;
+      are_confirmed = subst (λ (of : Texts). IsConfirmedBefore answer view parts groups of None) (sym same) confirmed;
+      is_read = subst (λ (of : Texts). IsReadOfTexts of url) (sym same) read;
+    }
 
-  -- the same where the texts are handed on as others that are equal
-  pub owned_linked : (texts owned : Texts) → owned ≡ texts → (result : Result Parts NoLink) → GeneratesTexts answer pattern groups texts → IfOk result (λ url. texts_of_url url ≡ owned) →
-      IfOk result (IsReadOfTexts owned) → IfOk result (IsLink answer pattern groups)
-  owned_linked texts owned same result generated has read = linked owned result (subst (λ (of : Texts). GeneratesTexts answer pattern groups of) (sym same) generated) has read
+    pub linked : (texts : Texts) (url : Parts) → AreWritten parts groups texts → texts_of_url url ≡ texts → IsReadOfTexts texts url → IsConfirmedBefore answer view parts groups texts None → IsLink answer pattern groups url
+    linked texts url written same read confirmed = with_parts (λ own. IsLinkOf answer view own groups url) (link_of texts url written same read confirmed)
 
-  pub owned_unlinked : (texts owned : Texts) → owned ≡ texts → (result : Result Parts NoLink) → GeneratesTexts answer pattern groups texts → IfErr result (RefusesTexts owned) →
-      IfErr result (RefusesLink answer pattern groups)
-  owned_unlinked texts owned same result generated h = unlinked owned result (subst (λ (of : Texts). GeneratesTexts answer pattern groups of) (sym same) generated) h
+    -- what is linked is matched
+    pub link_matched : (texts : Texts) (url : Parts) → texts_of_url url ≡ texts → IsConfirmedBefore answer view parts groups texts None → HasMatch answer view (inputs.Url url)
+    link_matched texts url same confirmed =
+        let own : IsConfirmedBefore answer view parts groups (texts_of_url url) None = subst (λ (of : Texts). IsConfirmedBefore answer view parts groups of None) (sym same) confirmed in
+        (texts_of_url url, refl, λ component. let found = own component in (found.0, found.2))
+
+    -- a match of it captures what was asked
+    captured_in : (url : Parts) (component : ComponentName) (name value : List ℕ) (captures : Captures) → Answers answer (view component).matcher (at (texts_of_url url) component) (Some captures) →
+        group_of (view component).group_name_list captures name ≡ Some (Some value) → IsCapturedBy answer view url component name value
+    captured_in url component name value captures answers group result (texts, is, found) =
+        let same : texts ≡ texts_of_url url = cc is in
+        let own : Answers answer (view component).matcher (at (texts_of_url url) component) (Some (found.captures component)) =
+        subst (λ (of : Texts). Answers answer (view component).matcher (at of component) (Some (found.captures component))) same (found.are_answers component) in
+        let one = answered_once answer (view component).matcher (at (texts_of_url url) component) captures (found.captures component) answers own in
+        (found.are_results component).has_groups name ∙ ap (λ of. group_of (view component).group_name_list of name) (sym one) ∙ group
+
+    pub link_returns : (engine : Engine E) (texts : Texts) (url : Parts) → AreMadeOfParts engine parts view → texts_of_url url ≡ texts → IsConfirmedBefore answer view parts groups texts None → ReturnsGiven answer pattern groups url
+    link_returns engine texts url made same confirmed component name text given has_name =
+        let own : IsConfirmedBefore answer view parts groups (texts_of_url url) None = subst (λ (of : Texts). IsConfirmedBefore answer view parts groups of None) (sym same) confirmed in
+        let (captures, are, answers) = own component in
+        let names = (made component).is_component.has_names in
+        let got = given_captured (manner_in parts groups component) name text given (parts_in parts component) captures are (subst (λ list. list_any (bytes_eq name) list ≡ true) names has_name) in
+        with_parts (λ of. (value : List ℕ) × ((manner_in of groups component).canonical text ≡ Ok value) × IsCapturedBy answer view url component name value)
+        (got.0, got.1, captured_in url component name got.0 captures answers (ap (λ list. group_of list captures name) names ∙ got.2))
+
+    -- ---- refusals
+
+    refused_of : (error : NoLink) → RefusesLinkOf answer view parts groups error → RefusesLink answer pattern groups error
+    refused_of error refused =
+        subst (λ (of : Option PatternParts). MatchOption of (error ≡ links.Component generating.NoParts) (λ own. RefusesLinkOf answer view own groups error)) (sym has) refused
+
+    pub refused_memory : RefusesLink answer pattern groups links.OutOfMemory
+    refused_memory = refused_of links.OutOfMemory tt
+
+    never_written : (of : ComponentName) → IsFirstError (AnswersParts parts groups) (generating.ReadOtherwise of) → ⊥
+    never_written of (before, after, name, cut, all, inl never) = cc never
+    never_written of (before, after, name, cut, all, inr (front, back, part, text, split, written, never)) = never
+
+    pub refused_text : (error : GenerateError) → error ≢ generating.OutOfMemory → IsFirstError (AnswersParts parts groups) error → RefusesLink answer pattern groups (links.Component error)
+    refused_text (generating.Missing of name) other first = refused_of (links.Component (generating.Missing of name)) first
+    refused_text (generating.NotCaptured of name) other first = refused_of (links.Component (generating.NotCaptured of name)) first
+    refused_text (generating.ReadOtherwise of) other first = absurd (never_written of first)
+    refused_text generating.NoParts other first = refused_of (links.Component generating.NoParts) first
+    refused_text generating.OutOfMemory other first = absurd (other refl)
+
+    pub refused_url : (texts : Texts) (error : NoLink) → AreWritten parts groups texts → RefusesTexts texts error → RefusesLink answer pattern groups error
+    refused_url texts (links.Component error) written h = absurd h
+    refused_url texts (links.Url reason) written h = refused_of (links.Url reason) (texts, written, h)
+    refused_url texts (links.OtherText component) written h = refused_of (links.OtherText component) (texts, written, h)
+    refused_url texts links.OutOfMemory written h = refused_memory
+
+    pub refused_reading : (texts : Texts) (url : Parts) (component : ComponentName) → AreWritten parts groups texts → texts_of_url url ≡ texts → IsReadOfTexts texts url →
+        IsConfirmedBefore answer view parts groups texts (Some component) → RefusesLink answer pattern groups (links.Component (generating.ReadOtherwise component))
+    refused_reading texts url component written same read before =
+        refused_of (links.Component (generating.ReadOtherwise component)) (
+          url,
+          subst (λ (of : Texts). AreWritten parts groups of) (sym same) written,
+          subst (λ (of : Texts). IsReadOfTexts of url) (sym same) read,
+          subst (λ (of : Texts). IsConfirmedBefore answer view parts groups of (Some component)) (sym same) before,
+        )
+
+  -- a pattern without parts has no link
+  pub refused_by_hand : (pattern : UrlPattern E) (groups : List GivenView) → pattern.parts ≡ None → RefusesLink answer pattern groups (links.Component generating.NoParts)
+  refused_by_hand pattern groups none =
+      subst (λ (of : Option PatternParts). MatchOption of (links.Component generating.NoParts ≡ links.Component generating.NoParts) (λ own. RefusesLinkOf answer (eight_view pattern.components) own groups (links.Component generating.NoParts))) (sym none) refl
+
+-- a text, or why there is none, of the parts of a component
+pub part_answered : (parts : PatternParts) (groups : List GivenView) (name : ComponentName) (kept : ComponentParts) (result : Result (CowStr Global) GenerateError) → kept ≡ at parts.components name →
+    IfOk result (λ text. IsWritten (manner_for name (kept_options kept) (kept_parts kept) groups) (kept_parts kept) (cow_text text)) →
+    IfErr result (CannotWrite name (manner_for name (kept_options kept) (kept_parts kept) groups) (kept_parts kept)) → AnswersParts parts groups name result
+part_answered parts groups name kept (Ok text) e is other = subst (λ (of : ComponentParts). IsWritten (manner_for name (kept_options of) (kept_parts of) groups) (kept_parts of) (cow_text text)) e is
+part_answered parts groups name kept (Err error) e is other = subst (λ (of : ComponentParts). CannotWrite name (manner_for name (kept_options of) (kept_parts of) groups) (kept_parts of) error) e other

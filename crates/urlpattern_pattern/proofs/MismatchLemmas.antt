@@ -12,7 +12,7 @@ use Rattle.urlpattern_pattern.proofs.MatchSteps.{text-at}
 use Rattle.urlpattern_matches.specs.GroupTexts.{borrowed_texts}
 use Rattle.urlpattern_pattern.specs.Mismatch.{MatchesBefore}
 use Rattle.urlpattern_pattern.specs.Patterns.{PatternView, components_of, pattern_view}
-use Rattle.urlpattern_pattern.specs.declared.pattern.UrlPattern.{UrlPattern}
+use Rattle.urlpattern_pattern.specs.UrlPatterns.{UrlPattern}
 use Rattle.urlpattern_eight.proofs.EightLemmas.{by_name}
 use Rattle.urlpattern_eight.specs.declared.eight.ComponentName.{ComponentName}
 use Rattle.urlpattern_eight.specs.declared.eight.Eight.{Eight}

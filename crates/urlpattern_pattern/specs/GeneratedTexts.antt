@@ -1,29 +1,37 @@
 -- The text of a component of a pattern whose groups capture what is given.
-use Rattle.std.specs.Prelude.{◌≡◌, ◌⊎◌, ℕ, Bool, List, Option, Some}
-use Rattle.urlpattern_generate.specs.Generating.{HasText, LacksText}
-use Rattle.urlpattern_generate.specs.Manners.{GivenView}
-use Rattle.urlpattern_generate.specs.declared.error.GenerateError.{GenerateError}
-use Rattle.urlpattern_generate.specs.declared.error.GenerateError.TheVariants.{OutOfMemory}
-use Rattle.urlpattern_meaning.specs.PartMeaning.{Captures}
-use Rattle.urlpattern_create.specs.Compiled.{IsPathKind}
-use Rattle.urlpattern_pattern.specs.Patterns.{PatternView}
+use Rattle.std.specs.Prelude.{◌≡◌, ℕ, List, MatchOption, Option}
+use Rattle.urlpattern_create.specs.PatternViews.{eight_view}
 use Rattle.urlpattern_eight.specs.declared.eight.ComponentName.{ComponentName}
-use Rattle.urlpattern_eight.specs.declared.eight.ComponentName.TheVariants.{Protocol}
-use Rattle.urlpattern_eight.specs.Eight.{Values, each}
+use Rattle.urlpattern_eight.specs.Eight.{at}
+use Rattle.urlpattern_generate.specs.Generating.{HasText, LacksText}
+use Rattle.urlpattern_generate.specs.Manners.{GivenView, WritingManner, manner_for}
+use Rattle.urlpattern_generate.specs.declared.error.GenerateError.{GenerateError}
+use Rattle.urlpattern_generate.specs.declared.error.GenerateError.TheVariants.{NoParts}
+use Rattle.urlpattern_meaning.specs.PartMeaning.{Captures}
+use Rattle.urlpattern_pattern.specs.UrlPatterns.{UrlPattern}
+use Rattle.urlpattern_rules.specs.declared.pattern.PatternParts.{PatternParts}
+use Rattle.urlpattern_syntax.specs.ComponentParts.{kept_options, kept_parts}
+use Rattle.urlpattern_syntax.specs.Parts.{PartView}
 
--- the pattern texts of a pattern, as they are written anew
-abbrev pub printed_values : {E : Type 0} → PatternView E → Values
-printed_values pattern = each (λ component. Some (pattern component).pattern_string)
+-- the parts of one component
+abbrev pub parts_in : PatternParts → ComponentName → List PartView
+parts_in parts component = kept_parts (at parts.components component)
 
--- The pathname is hierarchical or not, and the text is that of the component with these groups.
-abbrev pub GeneratesText : {E : Type 0} → (answer : E → List ℕ → Option Captures) → PatternView E → ComponentName → List GivenView → (text : List ℕ) → Type 0
+-- the manner in which a component of these parts is written with these groups
+abbrev pub manner_in : PatternParts → List GivenView → ComponentName → WritingManner
+manner_in parts groups component = manner_for component (kept_options (at parts.components component)) (parts_in parts component) groups
+
+-- the pattern has parts, and this holds of them
+abbrev pub HasParts : {E : Type 0} → UrlPattern E → (PatternParts → Type 0) → Type 0
+HasParts pattern Holds = MatchOption pattern.parts ⊥ Holds
+
+-- the text is that of the component with these groups
+abbrev pub GeneratesText : {E : Type 0} → (answer : E → List ℕ → Option Captures) → UrlPattern E → ComponentName → List GivenView → (text : List ℕ) → Type 0
 GeneratesText answer pattern component groups text =
-    (hierarchical : Bool) × IsPathKind answer (printed_values pattern) (pattern Protocol).matcher hierarchical
-    × HasText answer (pattern component) component hierarchical groups text
+    HasParts pattern (λ parts. HasText answer (eight_view pattern.components component).matcher (manner_in parts groups component) (parts_in parts component) text)
 
--- memory ran out, or the component has no such text, for this reason
-abbrev pub MayRefuseGroups : {E : Type 0} → (answer : E → List ℕ → Option Captures) → PatternView E → ComponentName → List GivenView → GenerateError → Type 0
-MayRefuseGroups answer pattern component groups error =
-    (error ≡ OutOfMemory)
-    ⊎ ((hierarchical : Bool) × IsPathKind answer (printed_values pattern) (pattern Protocol).matcher hierarchical
-    × LacksText answer (pattern component) component hierarchical groups error)
+-- why it has none: the pattern was put together by hand, or this holds of its parts
+abbrev pub RefusesGroups : {E : Type 0} → (answer : E → List ℕ → Option Captures) → UrlPattern E → ComponentName → List GivenView → GenerateError → Type 0
+RefusesGroups answer pattern component groups error =
+    MatchOption pattern.parts (error ≡ NoParts)
+    (λ parts. LacksText answer (eight_view pattern.components component).matcher component (manner_in parts groups component) (parts_in parts component) error)

@@ -1,9 +1,12 @@
 pub mod ByText
 pub mod ByTextLaws
 pub mod Calls
+pub mod Comparing
 pub mod GeneratedTexts
+pub mod KeptParts
 pub mod LinkedUrls
 pub mod Match
 pub mod Meaning
 pub mod Mismatch
 pub mod Patterns
+pub mod UrlPatterns

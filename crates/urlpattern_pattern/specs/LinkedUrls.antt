@@ -1,64 +1,107 @@
 -- The URL of a pattern whose groups capture what is given, and why there is none.
-use Rattle.std.specs.Prelude.{◌≢◌, ◌⊎◌, ℕ, Bool, List, MatchResult, Ok, Err, Option, Result, String}
+use Rattle.std.specs.Prelude.{◌≡◌, ◌++◌, All, ℕ, Bool, IsTrue, List, ◌∷◌, MatchBool, MatchOption, MatchResult, bytes_eq, Option, Some, None, Result, Ok}
+use Rattle.std.specs.List.{list_any}
 use Rattle.std.specs.declared.alloc.Global.{Global}
+use Rattle.std.specs.declared.borrow.CowStr.{CowStr}
 use Rattle.url.specs.Parts.{Parts}
-use Rattle.urlpattern_create.specs.Compiled.{IsPathKind}
-use Rattle.urlpattern_generate.specs.Generating.{HasDraft, IsCanonical}
-use Rattle.urlpattern_generate.specs.Manners.{GivenView, begins_ipv6, canonical_for}
+use Rattle.urlpattern_create.specs.PatternViews.{PatternView, eight_view}
+use Rattle.urlpattern_eight.specs.declared.eight.ComponentName.{ComponentName}
+use Rattle.urlpattern_eight.specs.Eight.{IsFirstError, Texts, at, components}
+use Rattle.urlpattern_generate.specs.Generating.{FindsAsked, FindsOther}
+use Rattle.urlpattern_generate.specs.Manners.{GivenView, text_given}
+use Rattle.urlpattern_generate.specs.Writing.{CannotWrite, IsWritten, cow_text}
 use Rattle.urlpattern_generate.specs.declared.error.GenerateError.{GenerateError}
 use Rattle.urlpattern_generate.specs.declared.error.GenerateError.TheVariants as generating
 use Rattle.urlpattern_init.specs.Inheritance.{texts_of_url}
+use Rattle.urlpattern_init.specs.declared.init.UrlPatternMatchInput.TheVariants as inputs
+use Rattle.urlpattern_matches.specs.ResultViews.{ResultView}
 use Rattle.urlpattern_meaning.specs.PartMeaning.{Captures}
-use Rattle.urlpattern_pattern.specs.GeneratedTexts.{GeneratesText, MayRefuseGroups, printed_values}
-use Rattle.urlpattern_pattern.specs.Patterns.{PatternView}
-use Rattle.urlpattern_eight.specs.declared.eight.ComponentName.{ComponentName}
-use Rattle.urlpattern_eight.specs.declared.eight.ComponentName.TheVariants.{Protocol}
-use Rattle.urlpattern_eight.specs.Eight.{IsFirstError, Texts, at}
-use Rattle.urlpattern_syntax.specs.Text.{text_of}
+use Rattle.urlpattern_pattern.specs.GeneratedTexts.{HasParts, manner_in, parts_in}
+use Rattle.urlpattern_pattern.specs.Match.{IsMatch}
+use Rattle.urlpattern_pattern.specs.UrlPatterns.{UrlPattern}
+use Rattle.urlpattern_rules.specs.declared.pattern.PatternParts.{PatternParts}
 use Rattle.urlpattern_url.specs.UrlsOfTexts.{IsReadOfTexts, RefusesTexts}
 use Rattle.urlpattern_url.specs.declared.error.NoLink.{NoLink}
 use Rattle.urlpattern_url.specs.declared.error.NoLink.TheVariants.{Component, OutOfMemory}
 
--- each text is that of its component with these groups
-abbrev pub GeneratesTexts : {E : Type 0} → (answer : E → List ℕ → Option Captures) → PatternView E → List GivenView → Texts → Type 0
-GeneratesTexts answer pattern groups texts = (component : ComponentName) → GeneratesText answer pattern component groups (at texts component)
+-- ---- links
 
--- each text of the URL is that of its component with these groups, and the URL is what these texts are read as, put together
-abbrev pub IsLink : {E : Type 0} → (answer : E → List ℕ → Option Captures) → PatternView E → List GivenView → Parts → Type 0
-IsLink answer pattern groups url = GeneratesTexts answer pattern groups (texts_of_url url) × IsReadOfTexts (texts_of_url url) url
+-- each text is that of the parts of its component with these groups
+abbrev pub AreWritten : PatternParts → List GivenView → Texts → Type 0
+AreWritten parts groups texts = (component : ComponentName) → IsWritten (manner_in parts groups component) (parts_in parts component) (at texts component)
 
--- the pathname of the pattern is hierarchical or not, by its pattern texts as they are printed
-abbrev pub HasPathKind : {E : Type 0} → (answer : E → List ℕ → Option Captures) → PatternView E → (hierarchical : Bool) → Type 0
-HasPathKind answer pattern hierarchical = IsPathKind answer (printed_values pattern) (pattern Protocol).matcher hierarchical
+-- a component's matcher finds in its text what is asked of the groups
+abbrev pub IsConfirmed : {E : Type 0} → (answer : E → List ℕ → Option Captures) → PatternView E → PatternParts → List GivenView → Texts → ComponentName → Type 0
+IsConfirmed answer pattern parts groups texts component =
+    FindsAsked answer (pattern component).matcher (manner_in parts groups component) (parts_in parts component) (at texts component)
 
--- each text is that of its component with these groups if it is canonical, where the pathname is hierarchical or not
-abbrev pub DraftsTexts : {E : Type 0} → (answer : E → List ℕ → Option Captures) → PatternView E → (hierarchical : Bool) → List GivenView → Texts → Type 0
-DraftsTexts answer pattern hierarchical groups texts = (component : ComponentName) → HasDraft answer (pattern component) component hierarchical groups (at texts component)
+-- it finds something else
+abbrev pub IsOther : {E : Type 0} → (answer : E → List ℕ → Option Captures) → PatternView E → PatternParts → List GivenView → Texts → ComponentName → Type 0
+IsOther answer pattern parts groups texts component =
+    FindsOther answer (pattern component).matcher (manner_in parts groups component) (parts_in parts component) (at texts component)
 
--- the text is canonical in its component, where the pathname is hierarchical or not
-abbrev pub IsCanonicalIn : {E : Type 0} → PatternView E → (hierarchical : Bool) → ComponentName → (text : List ℕ) → Type 0
-IsCanonicalIn pattern hierarchical component text = IsCanonical (canonical_for component hierarchical (begins_ipv6 (pattern component).pattern_string)) text
+-- whether it finds what is asked
+abbrev pub TellsConfirmed : {E : Type 0} → Bool → (answer : E → List ℕ → Option Captures) → PatternView E → PatternParts → List GivenView → Texts → ComponentName → Type 0
+TellsConfirmed is answer pattern parts groups texts component =
+    MatchBool is (IsConfirmed answer pattern parts groups texts component) (IsOther answer pattern parts groups texts component)
 
--- each text is
-abbrev pub AreCanonicalIn : {E : Type 0} → PatternView E → (hierarchical : Bool) → Texts → Type 0
-AreCanonicalIn pattern hierarchical texts = (component : ComponentName) → IsCanonicalIn pattern hierarchical component (at texts component)
+-- the component is the first whose matcher finds something else, or there is none
+abbrev pub IsConfirmedBefore : {E : Type 0} → (answer : E → List ℕ → Option Captures) → PatternView E → PatternParts → List GivenView → Texts → Option ComponentName → Type 0
+IsConfirmedBefore answer pattern parts groups texts None = (component : ComponentName) → IsConfirmed answer pattern parts groups texts component
+IsConfirmedBefore answer pattern parts groups texts (Some component) =
+    (before after : List ComponentName) × (components ≡ before ++ component ∷ after)
+    × All (IsConfirmed answer pattern parts groups texts) before
+    × IsOther answer pattern parts groups texts component
 
--- a URL was made, and the texts that it was made of are canonical, or its own are
-abbrev pub MakesCanonical : {E : Type 0} → PatternView E → (hierarchical : Bool) → Texts → Result Parts NoLink → Type 0
-MakesCanonical pattern hierarchical texts (Ok url) = AreCanonicalIn pattern hierarchical texts ⊎ AreCanonicalIn pattern hierarchical (texts_of_url url)
-MakesCanonical pattern hierarchical texts (Err error) = ⊥
+-- The URL is the link of a pattern of these parts: each of its texts is that of the parts with these groups, the matchers find in the
+-- texts what is asked, and the URL is what these texts are read as, put together.
+pub record IsLinkOf {E : Type 0} (answer : E → List ℕ → Option Captures) (pattern : PatternView E) (parts : PatternParts) (groups : List GivenView) (url : Parts) : Type 0 where
+  pub are_written : AreWritten parts groups (texts_of_url url)
+  pub are_confirmed : (component : ComponentName) → IsConfirmed answer pattern parts groups (texts_of_url url) component
+  pub is_read : IsReadOfTexts (texts_of_url url) url
 
--- a component is answered by its text, or by why it has none
-abbrev pub AnswersGroups : {E : Type 0} → (answer : E → List ℕ → Option Captures) → PatternView E → List GivenView → ComponentName → Result (String Global) GenerateError → Type 0
-AnswersGroups answer pattern groups component result =
-    MatchResult result (λ text. GeneratesText answer pattern component groups (text_of text)) (MayRefuseGroups answer pattern component groups)
+-- the URL is the link of the pattern with these groups
+abbrev pub IsLink : {E : Type 0} → (answer : E → List ℕ → Option Captures) → UrlPattern E → List GivenView → Parts → Type 0
+IsLink answer pattern groups url = HasParts pattern (λ parts. IsLinkOf answer (eight_view pattern.components) parts groups url)
 
--- a component is so answered where the pathname is hierarchical or not
-abbrev pub AnswersUnder : {E : Type 0} → (answer : E → List ℕ → Option Captures) → PatternView E → List GivenView → (hierarchical : Bool) → ComponentName → Result (String Global) GenerateError → Type 0
-AnswersUnder answer pattern groups hierarchical component result = HasPathKind answer pattern hierarchical → AnswersGroups answer pattern groups component result
+-- ---- what a match of the link gives back
 
--- why there is no link: the first component without text, that the texts of the components are those of no URL, or that memory ran out
-abbrev pub RefusesLink : {E : Type 0} → (answer : E → List ℕ → Option Captures) → PatternView E → List GivenView → NoLink → Type 0
-RefusesLink answer pattern groups (Component error) = (error ≢ generating.OutOfMemory) × IsFirstError (AnswersGroups answer pattern groups) error
-RefusesLink answer pattern groups OutOfMemory = Unit {0}
-RefusesLink answer pattern groups error = (texts : Texts) × GeneratesTexts answer pattern groups texts × RefusesTexts texts error
+-- in each match of the URL the group of this name captures this
+abbrev pub IsCapturedBy : {E : Type 0} → (answer : E → List ℕ → Option Captures) → PatternView E → Parts → ComponentName → (name capture : List ℕ) → Type 0
+IsCapturedBy answer pattern url component name capture =
+    (result : ComponentName → ResultView) → IsMatch answer pattern (inputs.Url url) result → (result component).group name ≡ Some (Some capture)
+
+-- the groups of the pattern to which a text is given: in each match of the URL they capture the canonical form of that text
+abbrev pub ReturnsGiven : {E : Type 0} → (answer : E → List ℕ → Option Captures) → UrlPattern E → List GivenView → Parts → Type 0
+ReturnsGiven answer pattern groups url = (component : ComponentName) (name text : List ℕ) →
+    text_given groups component name ≡ Some text → IsTrue (list_any (bytes_eq name) (eight_view pattern.components component).group_name_list) →
+    HasParts pattern (λ parts. (value : List ℕ) × ((manner_in parts groups component).canonical text ≡ Ok value)
+    × IsCapturedBy answer (eight_view pattern.components) url component name value)
+
+-- ---- refusals
+
+-- a component is answered by the text of its parts with these groups, or by why they have none
+abbrev pub AnswersParts : PatternParts → List GivenView → ComponentName → Result (CowStr Global) GenerateError → Type 0
+AnswersParts parts groups component result =
+    MatchResult result (λ text. IsWritten (manner_in parts groups component) (parts_in parts component) (cow_text text))
+    (CannotWrite component (manner_in parts groups component) (parts_in parts component))
+
+-- these are the texts of a URL, and the component is the first whose matcher finds something else in its text than is asked
+abbrev pub IsReadOtherwise : {E : Type 0} → (answer : E → List ℕ → Option Captures) → PatternView E → PatternParts → List GivenView → ComponentName → Type 0
+IsReadOtherwise answer pattern parts groups component =
+    (url : Parts) × AreWritten parts groups (texts_of_url url) × IsReadOfTexts (texts_of_url url) url
+    × IsConfirmedBefore answer pattern parts groups (texts_of_url url) (Some component)
+
+-- why a pattern of these parts has no link: the first component that has no text, that the texts are those of no URL, the first
+-- component that would be read with other groups, or that memory ran out
+abbrev pub RefusesLinkOf : {E : Type 0} → (answer : E → List ℕ → Option Captures) → PatternView E → PatternParts → List GivenView → NoLink → Type 0
+RefusesLinkOf answer pattern parts groups (Component (generating.ReadOtherwise component)) = IsReadOtherwise answer pattern parts groups component
+RefusesLinkOf answer pattern parts groups (Component generating.OutOfMemory) = ⊥
+RefusesLinkOf answer pattern parts groups (Component error) = IsFirstError (AnswersParts parts groups) error
+RefusesLinkOf answer pattern parts groups OutOfMemory = Unit {0}
+RefusesLinkOf answer pattern parts groups error = (texts : Texts) × AreWritten parts groups texts × RefusesTexts texts error
+
+-- why the pattern has no link: it was put together by hand, or this holds of its parts
+abbrev pub RefusesLink : {E : Type 0} → (answer : E → List ℕ → Option Captures) → UrlPattern E → List GivenView → NoLink → Type 0
+RefusesLink answer pattern groups error =
+    MatchOption pattern.parts (error ≡ Component generating.NoParts) (λ parts. RefusesLinkOf answer (eight_view pattern.components) parts groups error)

@@ -7,18 +7,15 @@ use Rattle.urlpattern_eight.specs.declared.eight.ComponentName.{ComponentName}
 use Rattle.regex.specs.declared.string.regex.Regex.{Regex}
 use Rattle.urlpattern_core.specs.Components.{ComponentView}
 use Rattle.urlpattern_meaning.specs.{FirstAnswers.TookText, Matching.FollowsMiddle, PartMeaning.Captures, PartMeaning.PartsMean}
-use Rattle.urlpattern_create.specs.Compiled.{Manner, canonical_encoding}
+use Rattle.urlpattern_create.specs.Compiled.{Manner}
+pub use Rattle.urlpattern_create.specs.Compiled.{ReadsAs}
 use Rattle.urlpattern_pattern.specs.Match.{HasNoMatch, IsMatch}
 use Rattle.urlpattern_matches.specs.ResultViews.{IsResultOf, ResultView}
 use Rattle.urlpattern_pattern.specs.{Patterns.PatternView}
-use Rattle.urlpattern_syntax.specs.{Parts.PartView, Reading.Reads, RegexpText.group_names, Text.lacks, Text.line_feed}
+use Rattle.urlpattern_syntax.specs.{Parts.PartView, RegexpText.group_names, Text.lacks, Text.line_feed}
 use Rattle.urlpattern_eight.specs.Eight.{Texts, at}
 
 -- ---- what a pattern text means
-
--- the pattern text reads as these parts, in this manner
-abbrev pub ReadsAs : Manner → List PartView → Type 0
-ReadsAs manner parts = Reads manner.text manner.options (canonical_encoding manner.canonical) parts
 
 -- The pattern text means the text: the parts that it reads as mean it, with these captures.
 pub record IsMeant (manner : Manner) (text : List ℕ) : Type 0 where

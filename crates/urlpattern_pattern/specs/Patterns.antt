@@ -6,11 +6,11 @@ use Rattle.urlpattern_core.specs.declared.component.Component.{Component}
 use Rattle.urlpattern_core.specs.Components.{ComponentView}
 use Rattle.urlpattern_create.specs.PatternViews.{eight_view}
 pub use Rattle.urlpattern_create.specs.PatternViews.{PatternView, has_regexp_groups}
-use Rattle.urlpattern_pattern.specs.declared.pattern.UrlPattern.{UrlPattern}
+use Rattle.urlpattern_pattern.specs.UrlPatterns.{UrlPattern}
 
 -- the components of a pattern
 abbrev pub components_of : {E : Type 0} → UrlPattern E → Eight (Component E)
-components_of pattern = record { protocol = pattern.protocol; username = pattern.username; password = pattern.password; hostname = pattern.hostname; port = pattern.port; pathname = pattern.pathname; search = pattern.search; hash = pattern.hash }
+components_of pattern = pattern.components
 
 abbrev pub pattern_view : {E : Type 0} → UrlPattern E → ComponentName → ComponentView E
 pattern_view pattern = eight_view (components_of pattern)

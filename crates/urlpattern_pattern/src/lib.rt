@@ -5,4 +5,4 @@
 
 mod pattern;
 
-pub use pattern::{UrlPattern, captures_of_texts};
+pub use pattern::{CompareError, UrlPattern, captures_of_texts};

@@ -1,10 +1,13 @@
 //! URL patterns: their eight components.
-ghost use Rattle.std.specs.Prelude.{◌≡◌};
+ghost use Rattle.std.specs.Prelude.{◌≡◌, IfSome, None, Some, option_copied};
 ghost use Rattle.std.specs.Str.{chars};
+ghost use Rattle.urlpattern_create.specs.PatternViews.{eight_view};
 ghost use Rattle.urlpattern_pattern.specs.Patterns.{components_of, has_regexp_groups, pattern_view};
+ghost use Rattle.urlpattern_pattern.specs.UrlPatterns.{AreMadeOfParts};
 ghost use Rattle.urlpattern_eight.specs.declared.eight.ComponentName.TheVariants as names;
 ghost use Rattle.urlpattern_eight.specs.Eight.{at};
 
+mod compare;
 mod create;
 mod diagnose;
 mod generate;
@@ -12,14 +15,18 @@ mod link;
 mod matching;
 mod mismatch;
 
+pub use compare::CompareError;
 pub use matching::captures_of_texts;
+use std::marker::Model;
 use urlpattern_core::component::Component;
 use urlpattern_core::regexp::RegExp;
 use urlpattern_eight::{ComponentName, Eight, field_of, with_fields};
+use urlpattern_rules::PatternParts;
 
 /// A pattern that URLs are matched against, compiled component by component.
 ///
-/// Its components may also be put together by hand. It has a `Drop` of its own, so they are moved out together, by `into_eight`.
+/// A pattern that was compiled has the parts that its components were made of. Its components may also be put together by hand, by
+/// `from_eight`; such a pattern has no parts. It has a `Drop` of its own, so the components are moved out together, by `into_eight`.
 ///
 /// A type alias names the engine once:
 ///
@@ -51,14 +58,71 @@ pub struct UrlPattern<R: RegExp = regex::Regex> {
     pub search: Component<R>,
     /// What the fragment is matched with, without its number sign.
     pub hash: Component<R>,
+    /// The parts that the components were made of, with their options. `None`: the pattern was put together by hand.
+    pub parts: Option<PatternParts>,
+}
+
+impl<R: RegExp> Model for UrlPattern<R> {
+    ghost use Rattle.urlpattern_pattern.specs.UrlPatterns.{UrlPattern, HasOwnParts};
+
+    ghost Value = { UrlPattern R };
+
+    ghost view = { λ pattern. record {
+      components = record { protocol = pattern.protocol; username = pattern.username; password = pattern.password; hostname = pattern.hostname; port = pattern.port; pathname = pattern.pathname; search = pattern.search; hash = pattern.hash };
+      parts = pattern.parts;
+    } };
+
+    ghost invariant = { λ pattern. HasOwnParts R.RegExp (record {
+      components = record { protocol = pattern.protocol; username = pattern.username; password = pattern.password; hostname = pattern.hostname; port = pattern.port; pathname = pattern.pathname; search = pattern.search; hash = pattern.hash };
+      parts = pattern.parts;
+    }) };
 }
 
 impl<R: RegExp> UrlPattern<R> {
-    /// The pattern of these components.
+    /// The pattern of these components, put together by hand. It has no parts.
     pub fn from_eight(components: Eight<Component<R>>) -> Self
-        ensures { components_of result ≡ components }
+        ensures components { components_of result ≡ components }
+        ensures parts { result.parts ≡ None }
     {
-        with_fields!(Self, components)
+        let parts = None;
+        with_fields!(Self, components, parts)
+    }
+
+    /// The pattern of components with the parts that they were made of.
+    fn with_parts(components: Eight<Component<R>>, parts: PatternParts) -> Self
+        requires { AreMadeOfParts R.RegExp parts (eight_view components) }
+        ensures components { components_of result ≡ components }
+        ensures parts { result.parts ≡ Some parts }
+    {
+        let parts = Some(parts);
+        with_fields!(Self, components, parts)
+    }
+
+    /// The parts that the components were made of. `None`: the pattern was put together by hand.
+    pub fn parts(&self) -> Option<&PatternParts>
+        ensures parts { option_copied result ≡ self.now.parts }
+        ensures made { IfSome self.now.parts (λ parts. AreMadeOfParts R.RegExp parts (pattern_view self.now)) }
+    {
+        self.parts.as_ref()
+    }
+
+    /// The parts that the components were made of, by value. `None`: the pattern was put together by hand.
+    pub fn into_parts(self) -> Option<PatternParts>
+        ensures parts { result ≡ self.parts }
+        ensures made { IfSome result (λ parts. AreMadeOfParts R.RegExp parts (pattern_view self)) }
+    {
+        let Self {
+            protocol: _protocol,
+            username: _username,
+            password: _password,
+            hostname: _hostname,
+            port: _port,
+            pathname: _pathname,
+            search: _search,
+            hash: _hash,
+            parts,
+        } = self;
+        parts
     }
 
     /// The components.
@@ -74,6 +138,7 @@ impl<R: RegExp> UrlPattern<R> {
             pathname,
             search,
             hash,
+            parts: _parts,
         } = self;
         Eight {
             protocol,
@@ -174,6 +239,7 @@ impl<R: RegExp> Drop for UrlPattern<R> {
             pathname: _pathname,
             search: _search,
             hash: _hash,
+            parts: _parts,
         } = self;
     }
 }

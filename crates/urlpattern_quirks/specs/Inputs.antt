@@ -1,10 +1,8 @@
 -- The inputs of a browser: what a pattern is constructed from, and what it is matched against, after the URLPattern
 -- Standard, sections "Constructor", and "Matching", at "match".
-use Rattle.std.specs.Prelude.{◌≡◌, ⊤, ℕ, List, length, max, Option, None, Some, Result, Ok, IfOk, String, option_map, string_bytes, MatchOption}
+use Rattle.std.specs.Prelude.{◌≡◌, ⊤, ℕ, List, Option, None, Some, Result, Ok, IfOk, String, option_map, string_bytes, MatchOption}
 use Rattle.std.specs.{Cow.cow_str_bytes, Str.chars}
 use Rattle.std.specs.declared.alloc.{AllocError.AllocError, Global.Global}
-use Rattle.url.specs.Parser.{Parsed, and_then, parse_url}
-use Rattle.url.specs.Parts.{Parts}
 use Rattle.urlpattern_init.specs.Inheritance.{values_of, values_view}
 use Rattle.urlpattern_init.specs.declared.init.{UrlPatternInit.UrlPatternInit, UrlPatternMatchInput.UrlPatternMatchInput}
 use Rattle.urlpattern_init.specs.declared.init.UrlPatternMatchInput.TheVariants as match_inputs
@@ -14,17 +12,12 @@ use Rattle.urlpattern_inputs.specs.declared.init.UrlPatternInit.{UrlPatternInit 
 use Rattle.urlpattern_inputs.specs.declared.input.StringOrInit.{StringOrInit}
 use Rattle.urlpattern_inputs.specs.declared.input.StringOrInit.TheVariants as inputs
 use Rattle.urlpattern_inputs.specs.InputValues.{plain_init_texts, input_view}
-pub use Rattle.urlpattern_create.specs.FromString.{RefusesText, parsed_base, text_bytes}
+pub use Rattle.urlpattern_canonical.specs.BaseUrls.{IsRefusedText, parsed_base, parsed_text, text_bytes}
+pub use Rattle.urlpattern_create.specs.FromString.{RefusesText}
 use Rattle.urlpattern_create.specs.FromString.{IsInitOfText}
 use Rattle.urlpattern_syntax.specs.Errors.{ErrorView, ErrorView as views}
 use Rattle.urlpattern_syntax.specs.Text.{text_of}
 use Rattle.urlpattern_eight.specs.Eight.{Values}
-
--- ---- URLs: texts are their bytes
-
--- the URL of a text, under the base URL beside it
-abbrev pub parsed_text : (base : Option (List ℕ)) → (text : List ℕ) → Parsed Parts
-parsed_text base text = and_then (parsed_base base) (λ url. parse_url url text)
 
 -- ---- inits
 
@@ -82,7 +75,7 @@ IsFound input base found = IsMatchInput input base found.0 × AreInputs input ba
 
 -- the input is none that a pattern may be matched against
 abbrev pub IsNoInputOf : StringOrInit → (base : Option (List ℕ)) → Type 0
-IsNoInputOf (inputs.String text) base = IsRefusedByUrl (parsed_text base (cow_str_bytes text)) (max (length (cow_str_bytes text)) (text_bytes base))
+IsNoInputOf (inputs.String text) base = IsRefusedText (cow_str_bytes text) base
 IsNoInputOf (inputs.Init plain) None = IsRefusedByUrl (parsed_base (plain_base plain)) (text_bytes (plain_base plain))
 IsNoInputOf (inputs.Init plain) (Some base) = ⊥
 
@@ -93,11 +86,3 @@ FindsInput input base found = MatchOption found (IsNoInputOf input base) (IsFoun
 -- the error of a base URL beside an init
 abbrev pub RefusesSecondBase : StringOrInit → (base : Option (List ℕ)) → ErrorView → Type 0
 RefusesSecondBase input base error = (error ≡ views.BaseUrlWithInit) × HasInitAndBase input base
-
--- the bytes of the longer text of the two
-abbrev pub longer_bytes : (base : Option (List ℕ)) → (text : List ℕ) → ℕ
-longer_bytes base text = max (length text) (text_bytes base)
-
--- why the text is no URL under the base is reported
-abbrev pub ReportsUrl : (base : Option (List ℕ)) → (text : List ℕ) → ErrorView → Type 0
-ReportsUrl base text = Reports (parsed_text base text) (longer_bytes base text)

@@ -1,8 +1,7 @@
 //! What a pattern is constructed from, and what it is matched against.
 ghost use Rattle.std.specs.Prelude.{◌≡◌, None, Ok, Some, option_copied, IfErr, IfOk};
-ghost use Rattle.url.specs.Parser as url_spec;
 ghost use Rattle.urlpattern_init.specs.Inheritance.{values_view};
-ghost use Rattle.urlpattern_quirks.specs.Inputs.{IsCopyOfText, FindsInput, IsConstructedFrom, IsInitOf, RefusesInput, RefusesSecondBase, ReportsUrl, parsed_base, parsed_text, plain_base, plain_values, text_bytes};
+ghost use Rattle.urlpattern_quirks.specs.Inputs.{IsCopyOfText, FindsInput, IsConstructedFrom, IsInitOf, RefusesInput, RefusesSecondBase, parsed_base, plain_base, plain_values, text_bytes};
 ghost use Rattle.urlpattern_canonical.specs.Canonical.{Reports};
 ghost use Rattle.urlpattern_inputs.specs.declared.input.StringOrInit.TheVariants as plain_inputs;
 ghost use Rattle.urlpattern_eight.specs.Eight.{at};
@@ -13,9 +12,9 @@ use regex::Regex;
 use std::alloc::{AllocError, Global};
 use std::borrow::CowStr;
 use url::Url;
-use urlpattern_canonical::canonicalize_and_process::reported;
+use urlpattern_canonical::{find_url, parse_base};
 use urlpattern_core::Error;
-use urlpattern_create::{init_of_text, parse_base, parse_url};
+use urlpattern_create::init_of_text;
 use urlpattern_eight::{ComponentName, Eight};
 use urlpattern_init as init;
 use urlpattern_init::UrlPatternMatchInput;
@@ -87,15 +86,12 @@ fn match_text<'a>(
     ensures found { IfOk result (FindsInput (plain_inputs.String text.entry) (option_copied base_url.entry)) }
     ensures memory { OnlyOutOfMemory result }
 {
-    match parse_text(alloc, text.as_str(), base_url) {
-        Ok(url) => {
-            let base_url = owned(alloc, base_url)?;
-            let inputs = (StringOrInit::String(text), base_url);
-            Ok(Some((UrlPatternMatchInput::Url(url), inputs)))
-        }
-        Err(Error::Url(_)) => Ok(None),
-        Err(_) => Err(Error::OutOfMemory),
-    }
+    let Some(url) = find_url(alloc, text.as_str(), base_url)? else {
+        return Ok(None);
+    };
+    let base_url = owned(alloc, base_url)?;
+    let inputs = (StringOrInit::String(text), base_url);
+    Ok(Some((UrlPatternMatchInput::Url(url), inputs)))
 }
 
 /// An init with its base URL, and the init again. `None`: `url` refuses the base URL.
@@ -146,30 +142,4 @@ fn owned(alloc: Global, text: Option<&str>) -> Result<Option<String>, AllocError
         Some(text) => Ok(Some(String::from_str(alloc, text)?)),
         None => Ok(None),
     }
-}
-
-/// The URL of a text, under a base URL if there is one.
-///
-/// The error is the refusal of `url`, or that memory ran out.
-fn parse_text(alloc: Global, text: &str, base_url: Option<&str>) -> Result<Url, Error>
-    ensures ok { IfOk result (λ url. parsed_text (option_copied base_url.entry) text.now ≡ Ok url) }
-    ensures err { IfErr result (MemoryOr (ReportsUrl (option_copied base_url.entry) text.now)) }
-{
-    match base_url {
-        Some(base) => {
-            let url = parse_url(alloc, base)?;
-            join(&url, text, text.len().max(base.len()))
-        }
-        None => parse_url(alloc, text),
-    }
-}
-
-/// The URL of a text under a base URL, where neither text has more than so many bytes.
-///
-/// The error is the refusal of `url`, or that memory ran out.
-fn join(base: &Url, text: &str, bytes: usize) -> Result<Url, Error>
-    ensures ok { IfOk result (λ url. url_spec.parse_url (Some base.now) text.now ≡ Ok url) }
-    ensures err { IfErr result (MemoryOr (Reports (url_spec.parse_url (Some base.now) text.now) bytes)) }
-{
-    reported(base.join(text), bytes)
 }

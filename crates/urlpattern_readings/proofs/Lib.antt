@@ -1,3 +1,3 @@
 pub mod SameMatchers
 pub mod MatchingLemmas
-pub mod Copies
+pub mod EngineParts

@@ -1,34 +1,26 @@
 -- What patterns match, by their parts.
-use Rattle.std.proofs.Common.{◌≡◌, ◌≢◌, ◌∙◌, ℕ, Bool, true, false, List, ◌⊎◌, inl, inr, ◌↔◌, refl, sym, subst, ap}
+use Rattle.std.proofs.Common.{◌⊎◌, ℕ, List, inl, inr, sym, subst}
 use Rattle.std.proofs.lemmas.Str.{scalars-chars, IsUtf8-string_bytes}
-use Rattle.std.specs.Prelude.{Err, IfOk, IsTrue, Option, Some, None, Ok, Result, String, string_bytes}
-use Rattle.urlpattern_syntax.specs.declared.error.Error.{Error}
-use Rattle.std.specs.Str.{all_scalars}
+use Rattle.std.specs.Prelude.{⊤, Option, Some, None, String, string_bytes}
 use Rattle.std.specs.declared.alloc.Global.{Global}
 use Rattle.urlpattern_covers.specs.Meaning.{MeansText}
-use Rattle.urlpattern_core.specs.Components.{ComponentView, IsEngineOf, engine_flags}
+use Rattle.urlpattern_core.specs.Components.{engine_flags}
+use Rattle.urlpattern_core.specs.FirstWays.{EachAnswersFirst, Taking}
 use Rattle.urlpattern_core.specs.declared.regexp.RegExp.{Ghosts as Engine}
 use Rattle.urlpattern_init.specs.UrlTexts.{EachIsLine, IsLine}
-use Rattle.urlpattern_inputs.specs.declared.options.UrlPatternOptions.{UrlPatternOptions}
-use Rattle.urlpattern_init.specs.declared.init.UrlPatternInit.{UrlPatternInit}
-use Rattle.urlpattern_meaning.specs.Matching.{Agrees, Answers, IsMadeOf, IsMatched, MatcherView}
-use Rattle.urlpattern_meaning.specs.PartMeaning.{AreGenerated, Captures}
+use Rattle.urlpattern_meaning.specs.FirstAnswers.{TookText}
+use Rattle.urlpattern_meaning.specs.Matching.{Agrees, Answers, InnerView, IsMatched, MatcherView}
+use Rattle.urlpattern_meaning.specs.PartMeaning.{Captures}
 use Rattle.urlpattern_pattern.proofs.MatchersDecide.{answered}
-use Rattle.urlpattern_pattern.proofs.MeaningLemmas.{read_once}
-use Rattle.urlpattern_pattern.specs.ByText.{AnswersByItsText, AnswersByText, HasMeaning}
-use Rattle.urlpattern_create.specs.Compiled.{IsPathKind, IsPatternOfInit, Manner, manner_of, pattern_values}
-use Rattle.urlpattern_pattern.specs.Patterns.{PatternView}
-use Rattle.urlpattern_pattern.specs.{Match.AreMatched, Meaning.ReadsAs}
-use Rattle.urlpattern_readings.specs.Readings.{ApartMatchNothing, AreItsParts, AreMadeOf, AreReadByValues, CommonAreMatched, CoveredAreMatched, CoveredByEngineAreMatched, CoveredByMeaningAreMatched, IsCoveredByMeaning, IsReadInManner, IsReadBeside, KnownAreCoveredByMeaning, PartingsAreMatched, SameAreMatched, eight_texts}
+use Rattle.urlpattern_pattern.specs.{Match.AreMatched, Patterns.PatternView, UrlPatterns.AreMadeOfParts}
+use Rattle.urlpattern_readings.specs.Readings.{ApartMatchNothing, AreItsParts, CommonAreMatched, CoveredAreMatched, CoveredByEngineAreMatched, CoveredByMeaningAreMatched, IsCoveredByMeaning, KnownAreCoveredByMeaning, OwnPartsMean, PartingsAreMatched, SameAreMatched, eight_texts}
 use Rattle.urlpattern_rules.proofs.SameParts.{known_or_not, same_within}
-use Rattle.urlpattern_rules.specs.Comparing.{AreApart, AreSame, IsComponentCovered, IsKnown, IsMeantBy, IsParting, MeansEach, MeansIn, TakesNoLine}
-use Rattle.urlpattern_rules.specs.declared.component.ComponentParts.{ComponentParts}
-use Rattle.urlpattern_rules.specs.declared.pattern.{Parting.Parting, PatternParts.PatternParts}
+use Rattle.urlpattern_rules.specs.Comparing.{AreSame, IsComponentCovered, IsKnown, IsMeantBy, TakesNoLine}
+use Rattle.urlpattern_syntax.specs.declared.parts.ComponentParts.{ComponentParts}
+use Rattle.urlpattern_rules.specs.declared.pattern.PatternParts.{PatternParts}
 use Rattle.urlpattern_eight.proofs.EightLemmas.{at-each}
 use Rattle.urlpattern_eight.specs.declared.eight.ComponentName.{ComponentName}
-use Rattle.urlpattern_eight.specs.declared.eight.ComponentName.TheVariants.{Protocol}
-use Rattle.urlpattern_eight.specs.declared.eight.Eight.{Eight}
-use Rattle.urlpattern_eight.specs.Eight.{Texts, Values, at, each}
+use Rattle.urlpattern_eight.specs.Eight.{Texts, at}
 use Rattle.urlpattern_syntax.specs.Options.{OptionsView, options_view}
 use Rattle.urlpattern_syntax.specs.Parts.{PartView, parts_view}
 use Rattle.urlpattern_syntax.specs.Text.{text_of}
@@ -41,65 +33,29 @@ by_answer : {E : Type 0} (answer : E → List ℕ → Option Captures) (matcher 
 by_answer answer matcher options parts text (Some captures) answers agrees means = (captures, answers)
 by_answer answer matcher options parts text None answers agrees means = absurd (agrees means.0 means.1)
 
--- a component that answers by its text matches what its parts mean
-matched_means : {E : Type 0} (answer : E → List ℕ → Option Captures) (manner : Manner) (compiled : ComponentView E) (parts : List PartView) (text : List ℕ) →
-    AnswersByText answer manner compiled → ReadsAs manner parts → IsLine text → IsMatched answer compiled.matcher text ↔ MeansText manner.options parts text
-matched_means answer manner compiled parts text by reads line =
-    let same : by.parts ≡ parts = read_once manner by.parts parts by.reads reads in
-    let agrees : (found : Option Captures) → Answers answer compiled.matcher text found → Agrees manner.options parts text found =
-    λ found answers. subst (λ (ps : List PartView). Agrees manner.options ps text found) same (by.answers text found line.no_line_feed line.characters answers).1 in
-    let whole = answered answer compiled.matcher text in (
-      λ matched. (matched.0, agrees (Some matched.0) matched.1),
-      λ means. by_answer answer compiled.matcher manner.options parts text whole.0 whole.1 (agrees whole.0 whole.1) means,
-    )
-
--- what is known of parts is known of the manner
-has_meaning : (manner : Manner) (component : ComponentParts) → IsReadInManner manner component → IsKnown component → HasMeaning manner
-has_meaning manner component is known = record {
-  generated = λ others reads. subst (λ (ps : List PartView). AreGenerated ps) (read_once manner (parts_view component.parts.items) others is.reads reads) known.generated;
-  case_kept = ap (λ (o : OptionsView). o.ignore_case) (sym is.options) ∙ known.case_kept;
-}
-
 -- ---- a whole pattern
 
-same_truth : (P : Type 0) (a b : Bool) → IsTrue a ↔ P → IsTrue b ↔ P → a ≡ b
-same_truth P true true h k = refl
-same_truth P true false h k = sym (k.1 (h.0 refl))
-same_truth P false true h k = h.1 (k.0 refl)
-same_truth P false false h k = refl
-
-pub its_parts : {E : Type 0} (answer : E → List ℕ → Option Captures) (init : UrlPatternInit) (asked : UrlPatternOptions) (pattern : PatternView E) (values : Values) (parts : PatternParts) →
-    AnswersByItsText answer init asked pattern → pattern_values init ≡ Ok values → AreReadByValues answer asked values pattern parts → AreItsParts answer pattern parts
-its_parts answer init asked pattern values parts by are read name known text line =
-    let component = at parts.components name in
-    let one : values ≡ by.values = cc (sym are ∙ by.are_values) in
-    let again = subst (λ (v : Values). AreReadByValues answer asked v pattern parts) one read in
-    let path : again.hierarchical ≡ by.hierarchical = same_truth _ again.hierarchical by.hierarchical again.path_kind by.by_protocol in
-    let is : IsReadInManner (manner_of asked by.values by.hierarchical name) component =
-    subst (λ (h : Bool). IsReadInManner (manner_of asked by.values h name) component) path (again.reads name).is_read in
-    let manner = manner_of asked by.values by.hierarchical name in
-    subst (λ (o : OptionsView). IsMatched answer (pattern name).matcher text ↔ MeansText o (parts_view component.parts.items) text) (sym is.options)
-    (matched_means answer manner (pattern name) (parts_view component.parts.items) text (by.answers name (has_meaning manner component is known)) is.reads line)
-
--- the parts are those that the pattern was made of
-pub made_of : {E : Type 0} (engine : Engine E) (init : UrlPatternInit) (asked : UrlPatternOptions) (pattern : PatternView E) (values : Values) (parts : PatternParts) →
-    IsPatternOfInit engine init asked pattern → pattern_values init ≡ Ok values → AreReadByValues engine.answer asked values pattern parts → AreMadeOf engine pattern parts
-made_of {E} engine init asked pattern values parts (own, are_values, compiled) are read name =
-    let component = at parts.components name in
-    let one : values ≡ own = cc (sym are ∙ are_values) in
-    let again = subst (λ (v : Values). AreReadByValues engine.answer asked v pattern parts) one read in
-    let path : again.hierarchical ≡ compiled.hierarchical = same_truth _ again.hierarchical compiled.hierarchical again.path_kind compiled.path_kind in
-    let manner = manner_of asked own compiled.hierarchical name in
-    let is : IsReadInManner manner component =
-    subst (λ (h : Bool). IsReadInManner (manner_of asked own h name) component) path (again.reads name).is_read in
-    let (made_parts, reads, of_parts) = (compiled.are_compiled name).0 in
-    let same : made_parts ≡ parts_view component.parts.items = read_once manner made_parts (parts_view component.parts.items) reads is.reads in
-    record {
-      is_made =
-          subst (λ (o : OptionsView). IsMadeOf (IsEngineOf engine false (engine_flags o)) o (parts_view component.parts.items) (pattern name).matcher) (sym is.options)
-          (subst (λ (ps : List PartView). IsMadeOf (IsEngineOf engine false (engine_flags manner.options)) manner.options ps (pattern name).matcher) same of_parts.has_matcher);
-      accepted = (again.reads name).accepted.0;
-    }
+-- a pattern that was made of its parts matches what they mean, by an engine that answers first ways
+pub own_parts_mean : {E : Type 0} (engine : Engine E) (Took : Taking E) → EachAnswersFirst engine Took →
+    ((options : OptionsView) (inner : InnerView E) → TookText (λ value. ⊤) inner → Took options (engine_flags options) inner) → OwnPartsMean engine
+own_parts_mean engine Took firsts taken pattern parts made name known text line =
+    let kept = at parts.components name in
+    let options = options_view kept.options in
+    let own = parts_view kept.parts.items in
+    let matcher = (pattern name).matcher in
+    let is = made name in
+    let answers = firsts options (engine_flags options) own matcher (record {
+      is_made = is.is_component.has_matcher;
+      generated = known.generated;
+      case_kept = known.case_kept;
+      took = taken options matcher.inner is.has_engine.of_matcher;
+    }) in
+    let agrees : (found : Option Captures) → Answers engine.answer matcher text found → Agrees options own text found =
+    λ found is_answer. (answers text found line.no_line_feed line.characters is_answer).1 in
+    let whole = answered engine.answer matcher text in (
+      λ matched. (matched.0, agrees (Some matched.0) matched.1),
+      λ means. by_answer engine.answer matcher options own text whole.0 whole.1 (agrees whole.0 whole.1) means,
+    )
 
 -- ---- laws
 
@@ -154,12 +110,12 @@ known_meant pattern asked known (inr each_is) = inr (λ name. elim (meant_or_sam
   | inr same ↦ absurd (same.0 (known name same.1))
 ])
 
-pub covered_by_engine : {E : Type 0} (engine : Engine E) →
-    ((pattern asked : PatternView E) (parts asked_parts : PatternParts) → AreMadeOf engine pattern parts → AreMadeOf engine asked asked_parts → SameAreMatched engine.answer pattern asked parts asked_parts) →
+pub covered_by_engine : {E : Type 0} (engine : Engine E) → OwnPartsMean engine →
+    ((pattern asked : PatternView E) (parts asked_parts : PatternParts) → AreMadeOfParts engine parts pattern → AreMadeOfParts engine asked_parts asked → SameAreMatched engine.answer pattern asked parts asked_parts) →
     CoveredByEngineAreMatched engine
-covered_by_engine engine made pattern asked parts asked_parts by also covered =
-    covered_matched engine.answer pattern asked parts asked_parts by.are_its_parts also.are_its_parts
-    (made pattern asked parts asked_parts by.are_made also.are_made) covered
+covered_by_engine engine mean made pattern asked parts asked_parts by also covered =
+    covered_matched engine.answer pattern asked parts asked_parts (mean pattern parts by) (mean asked asked_parts also)
+    (made pattern asked parts asked_parts by also) covered
 
 meant_line : (component : ComponentParts) (text : String Global) → IsMeantBy component (text_of text) → IsLine (text_of text)
 meant_line component text meant = record { characters = scalars-chars (string_bytes text) (IsUtf8-string_bytes text); no_line_feed = meant.line }
@@ -185,21 +141,3 @@ apart_matched answer pattern other parts other_parts name are other_are apart te
     let line = lines name in
     apart.apart (at texts name) line.characters line.no_line_feed ((are name apart.known (at texts name) line).0 (matched name))
     ((other_are name apart.other_known (at texts name) line).0 (other_matched name))
-
--- ---- results
-
-pub parts_result : {E : Type 0} (answer : E → List ℕ → Option Captures) (init : UrlPatternInit) (asked : UrlPatternOptions) (pattern : PatternView E) (values : Values) (result : Result PatternParts Error) →
-    AnswersByItsText answer init asked pattern → pattern_values init ≡ Ok values → IfOk result (AreReadByValues answer asked values pattern) → IfOk result (AreItsParts answer pattern)
-parts_result answer init asked pattern values (Ok parts) by are read = its_parts answer init asked pattern values parts by are read
-parts_result answer init asked pattern values (Err error) by are read = read
-
-pub made_result : {E : Type 0} (engine : Engine E) (init : UrlPatternInit) (asked : UrlPatternOptions) (pattern : PatternView E) (values : Values) (result : Result PatternParts Error) →
-    IsPatternOfInit engine init asked pattern → pattern_values init ≡ Ok values → IfOk result (AreReadByValues engine.answer asked values pattern) → IfOk result (AreMadeOf engine pattern)
-made_result engine init asked pattern values (Ok parts) of_init are read = made_of engine init asked pattern values parts of_init are read
-made_result engine init asked pattern values (Err error) of_init are read = tt
-
-pub read_values : {E : Type 0} (answer : E → List ℕ → Option Captures) (asked : UrlPatternOptions) (values : Values) (pattern : PatternView E) (hierarchical : Bool) (result : Result PatternParts Error) →
-    IsPathKind answer values (pattern Protocol).matcher hierarchical → IfOk result (λ parts. (name : ComponentName) → IsReadBeside (manner_of asked values hierarchical name) (pattern name) (at parts.components name)) →
-    IfOk result (AreReadByValues answer asked values pattern)
-read_values answer asked values pattern hierarchical (Ok parts) kind reads = record { hierarchical = hierarchical; path_kind = kind; reads = reads }
-read_values answer asked values pattern hierarchical (Err error) kind reads = tt

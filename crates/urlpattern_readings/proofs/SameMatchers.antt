@@ -15,11 +15,13 @@ use Rattle.urlpattern_meaning.specs.FirstAnswers.{TookText}
 use Rattle.urlpattern_meaning.specs.Matching.{Accepts, ArePeeled, BeginsPlain, EndsPlain, InnerView, IsMadeBetween, IsMadeByEngine, IsMadeOf, IsMadeOfOne, IsMatched, IsRemoved, MatcherView, RegExp, end_text}
 use Rattle.urlpattern_meaning.specs.PartMeaning.{AreGenerated, Captures}
 use Rattle.urlpattern_pattern.specs.Patterns.{PatternView}
-use Rattle.urlpattern_readings.specs.Readings.{IsMadeOfParts, MadeAreMatched, MatchesEachLineOf}
+use Rattle.urlpattern_pattern.proofs.MadeAlike.{AreAlike, made_alike}
+use Rattle.urlpattern_pattern.specs.UrlPatterns.{IsMadeOfParts}
+use Rattle.urlpattern_readings.specs.Readings.{MadeAreMatched, MatchesEachLineOf}
 use Rattle.urlpattern_rules.proofs.NamelessParts.{all_nameless, generated_nameless, nameless}
 use Rattle.urlpattern_rules.proofs.SameParts.{same_nameless}
 use Rattle.urlpattern_rules.specs.Comparing.{AreSame}
-use Rattle.urlpattern_rules.specs.declared.component.ComponentParts.{ComponentParts}
+use Rattle.urlpattern_syntax.specs.declared.parts.ComponentParts.{ComponentParts}
 use Rattle.urlpattern_syntax.specs.declared.parser.PartModifier.{PartModifier}
 use Rattle.urlpattern_syntax.specs.declared.parser.PartModifier.TheVariants as modifiers
 use Rattle.urlpattern_syntax.specs.declared.parser.PartType.{PartType}
@@ -113,81 +115,6 @@ module _ {E : Type 0} (IsEngine : List ℕ → Result E ErrorView → Type 0) (o
         (between_nameless (end_text made.front) made.middle (end_text made.back) matcher made.is_made));
   }
 
--- ---- parts are peeled in one way
-
-ends_plain : (parts : List PartView) (last : PartView) → IsTrue (is_plain last) → EndsPlain (parts ++ last ∷ [])
-ends_plain [] last plain = plain
-ends_plain (part ∷ []) last plain = plain
-ends_plain (part ∷ next ∷ parts) last plain = ends_plain (next ∷ parts) last plain
-
--- What is the same of two ways in which parts are peeled.
-record ArePeeledAlike (front begin : Option PartView) (middle other : List PartView) (back end : Option PartView) : Type 0 where
-  fronts : front ≡ begin
-  middles : middle ≡ other
-  backs : back ≡ end
-
-back_alike : (middle other : List PartView) (back end : Option PartView) → IsRemoved back (EndsPlain middle) → IsRemoved end (EndsPlain other) →
-    middle ++ option_to_list back ≡ other ++ option_to_list end → (middle ≡ other) × (back ≡ end)
-back_alike middle other (Some back) (Some end) goes goes_too e =
-    let both = same_from_push middle other back end e in (both.0, ap (λ (part : PartView). Some part) both.1)
-back_alike middle other (Some back) None goes stays e = absurd (stays (subst EndsPlain (e ∙ append-nil other) (ends_plain middle back goes)))
-back_alike middle other None (Some end) stays goes e = absurd (stays (subst EndsPlain (sym e ∙ append-nil middle) (ends_plain other end goes)))
-back_alike middle other None None stays stays_too e = (sym (append-nil middle) ∙ e ∙ append-nil other, refl)
-
-head_of : (part other : PartView) (parts others : List PartView) → part ∷ parts ≡ other ∷ others → part ≡ other
-head_of part other parts others e = cc e
-
-tail_of : (part other : PartView) (parts others : List PartView) → part ∷ parts ≡ other ∷ others → parts ≡ others
-tail_of part other parts others e = cc e
-
-front_alike : (parts : List PartView) (front begin : Option PartView) (middle other : List PartView) (back end : Option PartView) →
-    parts ≡ option_to_list front ++ middle ++ option_to_list back → parts ≡ option_to_list begin ++ other ++ option_to_list end →
-    IsRemoved front (BeginsPlain parts) → IsRemoved begin (BeginsPlain parts) → IsRemoved back (EndsPlain middle) → IsRemoved end (EndsPlain other) →
-    ArePeeledAlike front begin middle other back end
-front_alike parts (Some front) (Some begin) middle other back end e f goes goes_too ends ends_too =
-    let both : front ∷ (middle ++ option_to_list back) ≡ begin ∷ (other ++ option_to_list end) = sym e ∙ f in
-    let rest = back_alike middle other back end ends ends_too (tail_of front begin (middle ++ option_to_list back) (other ++ option_to_list end) both) in
-    record {
-      fronts = ap (λ (part : PartView). Some part) (head_of front begin (middle ++ option_to_list back) (other ++ option_to_list end) both);
-      middles = rest.0;
-      backs = rest.1;
-    }
-front_alike parts (Some front) None middle other back end e f goes stays ends ends_too = absurd (stays (subst BeginsPlain (sym e) goes))
-front_alike parts None (Some begin) middle other back end e f stays goes ends ends_too = absurd (stays (subst BeginsPlain (sym f) goes))
-front_alike parts None None middle other back end e f stays stays_too ends ends_too =
-    let rest = back_alike middle other back end ends ends_too (sym e ∙ f) in record { fronts = refl; middles = rest.0; backs = rest.1 }
-
--- ---- matchers of the same parts
-
-module _ {E : Type 0} (IsEngine : List ℕ → Result E ErrorView → Type 0) (options : OptionsView) where
-  -- they are the same, or both ask an engine about the same expression
-  abbrev AreAlike : (prefix : List ℕ) → (middle : List PartView) → (suffix : List ℕ) → (matcher other : MatcherView E) → Type 0
-  AreAlike prefix middle suffix matcher other =
-      (matcher ≡ other) ⊎ (IsMadeByEngine IsEngine options prefix middle suffix matcher × IsMadeByEngine IsEngine options prefix middle suffix other)
-
-  one_alike : (kind : PartType) (modifier : PartModifier) (prefix : List ℕ) (part : PartView) (suffix : List ℕ) (matcher other : MatcherView E) →
-      IsMadeOfOne IsEngine kind modifier options prefix part suffix matcher → IsMadeOfOne IsEngine kind modifier options prefix part suffix other →
-      AreAlike prefix (part ∷ []) suffix matcher other
-  one_alike FullWildcard modifiers.None prefix part suffix matcher other made also = inl (made ∙ sym also)
-  one_alike SegmentWildcard modifiers.None prefix part suffix matcher other made also = inl (made ∙ sym also)
-  one_alike kind modifier prefix part suffix matcher other made also = inr (made, also)
-
-  between_alike : (prefix : List ℕ) (middle : List PartView) (suffix : List ℕ) (matcher other : MatcherView E) →
-      IsMadeBetween IsEngine options prefix middle suffix matcher → IsMadeBetween IsEngine options prefix middle suffix other → AreAlike prefix middle suffix matcher other
-  between_alike prefix [] suffix matcher other made also = inl (made ∙ sym also)
-  between_alike prefix (part ∷ []) suffix matcher other made also = one_alike part.kind part.modifier prefix part suffix matcher other made also
-  between_alike prefix (part ∷ next ∷ parts) suffix matcher other made also = inr (made, also)
-
-  made_alike : (parts : List PartView) (matcher other : MatcherView E) → (made : IsMadeOf IsEngine options parts matcher) → IsMadeOf IsEngine options parts other →
-      AreAlike (end_text made.front) made.middle (end_text made.back) matcher other
-  made_alike parts matcher other made also =
-      let same = front_alike parts made.front also.front made.middle also.middle made.back also.back made.are_peeled.cut also.are_peeled.cut
-      made.are_peeled.front_removed also.are_peeled.front_removed made.are_peeled.back_removed also.are_peeled.back_removed in
-      between_alike (end_text made.front) made.middle (end_text made.back) matcher other made.is_made
-      (subst (λ (front : Option PartView). IsMadeBetween IsEngine options (end_text front) made.middle (end_text made.back) other) (sym same.fronts)
-      (subst (λ (middle : List PartView). IsMadeBetween IsEngine options (end_text also.front) middle (end_text made.back) other) (sym same.middles)
-      (subst (λ (back : Option PartView). IsMadeBetween IsEngine options (end_text also.front) also.middle (end_text back) other) (sym same.backs) also.is_made)))
-
 -- ---- what they match
 
 middle_generated : (parts : List PartView) (front : Option PartView) (middle : List PartView) (back : Option PartView) → ArePeeled parts front middle back → AreGenerated parts → AreGenerated middle
@@ -243,12 +170,12 @@ made_matched {E} engine alike pattern asked parts asked_parts made also name unk
     let other = at asked_parts.components name in
     let options = options_view component.options in
     let own = parts_view component.parts.items in
-    let one : IsMadeOfParts engine (pattern name).matcher component = made name in
-    let two : IsMadeOfParts engine (asked name).matcher other = also name in
+    let one : IsMadeOfParts engine component (pattern name) = made name in
+    let two : IsMadeOfParts engine other (asked name) = also name in
     let others : IsMadeOf (IsEngineOf engine false (engine_flags options)) options (parts_view other.parts.items) (asked name).matcher =
-    subst (λ (o : OptionsView). IsMadeOf (IsEngineOf engine false (engine_flags o)) o (parts_view other.parts.items) (asked name).matcher) (sym same.options) two.is_made in
+    subst (λ (o : OptionsView). IsMadeOf (IsEngineOf engine false (engine_flags o)) o (parts_view other.parts.items) (asked name).matcher) (sym same.options) two.is_component.has_matcher in
     let others_nameless : IsMadeOf (IsEngineOf engine false (engine_flags options)) options (all_nameless own) (asked name).matcher =
     subst (λ (ps : List PartView). IsMadeOf (IsEngineOf engine false (engine_flags options)) options ps (asked name).matcher) (sym (same_nameless component other same))
     (made_nameless (IsEngineOf engine false (engine_flags options)) options (parts_view other.parts.items) (asked name).matcher others) in
     same_matched engine alike options (all_nameless own) (pattern name).matcher (asked name).matcher (settled_nameless options own same.settled)
-    (made_nameless (IsEngineOf engine false (engine_flags options)) options own (pattern name).matcher one.is_made) others_nameless (one.accepted same.accepted)
+    (made_nameless (IsEngineOf engine false (engine_flags options)) options own (pattern name).matcher one.is_component.has_matcher) others_nameless one.has_engine.of_matcher

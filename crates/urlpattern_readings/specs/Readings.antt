@@ -1,57 +1,19 @@
 -- The parts of a pattern, and what the pattern matches.
-use Rattle.std.specs.Prelude.{◌≡◌, ◌↔◌, ◌⊎◌, ⊤, ℕ, Bool, IfOk, IsTrue, List, Option, Result, String, false}
+use Rattle.std.specs.Prelude.{◌↔◌, ◌⊎◌, ℕ, List, Option, String}
 use Rattle.std.specs.declared.alloc.Global.{Global}
-use Rattle.urlpattern_core.specs.Components.{ComponentView, IsEngineOf, engine_flags}
 use Rattle.urlpattern_core.specs.declared.regexp.RegExp.{Ghosts as Engine}
 use Rattle.urlpattern_init.specs.UrlTexts.{EachIsLine, IsLine}
-use Rattle.urlpattern_inputs.specs.declared.options.UrlPatternOptions.{UrlPatternOptions}
 use Rattle.urlpattern_engine.specs.Readings.{ExpressionsAnswerAlike}
-use Rattle.urlpattern_meaning.specs.FirstAnswers.{TookText}
-use Rattle.urlpattern_meaning.specs.Matching.{IsMadeOf, IsMatched, MatcherView}
+use Rattle.urlpattern_meaning.specs.Matching.{IsMatched, MatcherView}
 use Rattle.urlpattern_meaning.specs.PartMeaning.{Captures}
-use Rattle.urlpattern_pattern.specs.{Patterns.PatternView, Match.AreMatched, Meaning.ReadsAs}
-use Rattle.urlpattern_create.specs.{Compiled.IsPathKind, Compiled.Manner, Compiled.manner_of}
+use Rattle.urlpattern_pattern.specs.{Patterns.PatternView, Match.AreMatched, UrlPatterns.AreMadeOfParts}
 use Rattle.urlpattern_rules.specs.Comparing.{AreApart, AreSame, IsCovered, IsKnown, IsParting, MeansAllOf, MeansEach, MeansIn, TakesEachLine, TakesNoLine}
-use Rattle.urlpattern_rules.specs.declared.component.ComponentParts.{ComponentParts}
 use Rattle.urlpattern_rules.specs.declared.pattern.{Parting.Parting, PatternParts.PatternParts}
+use Rattle.urlpattern_syntax.specs.declared.parts.ComponentParts.{ComponentParts}
 use Rattle.urlpattern_eight.specs.declared.eight.ComponentName.{ComponentName}
-use Rattle.urlpattern_eight.specs.declared.eight.ComponentName.TheVariants.{Protocol}
 use Rattle.urlpattern_eight.specs.declared.eight.Eight.{Eight}
-use Rattle.urlpattern_syntax.specs.declared.error.Error.{Error}
-use Rattle.urlpattern_eight.specs.Eight.{Texts, Values, at, each}
-use Rattle.urlpattern_syntax.specs.Options.{options_view}
-use Rattle.urlpattern_syntax.specs.Parts.{parts_view}
+use Rattle.urlpattern_eight.specs.Eight.{Texts, at, each}
 use Rattle.urlpattern_syntax.specs.Text.{text_of}
-
--- ---- reading
-
--- The parts are those as which a text is read in this manner, under its options.
-pub record IsReadInManner (manner : Manner) (component : ComponentParts) : Type 0 where
-  pub options : options_view component.options ≡ manner.options
-  pub reads : ReadsAs manner (parts_view component.parts.items)
-
--- the engine accepted what a matcher needs it for, if it needs it
-abbrev pub IsAccepted : {E : Type 0} → MatcherView E → Type 0
-IsAccepted matcher = TookText (λ value. ⊤) matcher.inner
-
--- The parts are read so, and it is known whether the engine accepted what the component's matcher needs.
-pub record IsReadBeside {E : Type 0} (manner : Manner) (compiled : ComponentView E) (component : ComponentParts) : Type 0 where
-  pub is_read : IsReadInManner manner component
-  pub accepted : IsTrue component.is_accepted ↔ IsAccepted compiled.matcher
-
--- so they are, if the text is read
-abbrev pub IsReadFor : {E : Type 0} → Manner → ComponentView E → Result ComponentParts Error → Type 0
-IsReadFor manner compiled result = IfOk result (IsReadBeside manner compiled)
-
--- the parts of each component of a pattern are read so, in its manner
-abbrev pub AreReadBeside : {E : Type 0} → (manners : ComponentName → Manner) → PatternView E → PatternParts → Type 0
-AreReadBeside manners pattern parts = (name : ComponentName) → IsReadBeside (manners name) (pattern name) (at parts.components name)
-
--- The parts of each component are read of these values, which were compiled to this pattern.
-pub record AreReadByValues {E : Type 0} (answer : E → List ℕ → Option Captures) (asked : UrlPatternOptions) (values : Values) (pattern : PatternView E) (parts : PatternParts) : Type 0 where
-  pub hierarchical : Bool
-  pub path_kind : IsPathKind answer values (pattern Protocol).matcher hierarchical
-  pub reads : (name : ComponentName) → IsReadBeside (manner_of asked values hierarchical name) (pattern name) (at parts.components name)
 
 -- ---- matching
 
@@ -60,16 +22,6 @@ abbrev pub AreItsParts : {E : Type 0} → (answer : E → List ℕ → Option Ca
 AreItsParts answer pattern parts =
     (name : ComponentName) → IsKnown (at parts.components name) → (text : List ℕ) → IsLine text →
     IsMatched answer (pattern name).matcher text ↔ MeansIn (at parts.components name) text
-
--- The matcher was made of the parts by the engine, which accepted what the matcher needs if the component says so.
-pub record IsMadeOfParts {E : Type 0} (engine : Engine E) (matcher : MatcherView E) (component : ComponentParts) : Type 0 where
-  pub is_made :
-      IsMadeOf (IsEngineOf engine false (engine_flags (options_view component.options))) (options_view component.options) (parts_view component.parts.items) matcher
-  pub accepted : IsTrue component.is_accepted → IsAccepted matcher
-
--- each component was made of its parts, whether it is known what these mean or not
-abbrev pub AreMadeOf : {E : Type 0} → Engine E → PatternView E → PatternParts → Type 0
-AreMadeOf engine pattern parts = (name : ComponentName) → IsMadeOfParts engine (pattern name).matcher (at parts.components name)
 
 -- the characters of eight texts
 abbrev pub eight_texts : Eight (String Global) → Texts
@@ -121,18 +73,17 @@ KnownAreCoveredByMeaning = (pattern asked : PatternParts) → SameAreKnown patte
 -- components that were made of the same parts match so, if the engine's values answer alike
 abbrev pub MadeAreMatched : {E : Type 0} → Engine E → Type 0
 MadeAreMatched {E} engine = ExpressionsAnswerAlike engine →
-    (pattern asked : PatternView E) (parts asked_parts : PatternParts) → AreMadeOf engine pattern parts → AreMadeOf engine asked asked_parts →
+    (pattern asked : PatternView E) (parts asked_parts : PatternParts) → AreMadeOfParts engine parts pattern → AreMadeOfParts engine asked_parts asked →
     SameAreMatched engine.answer pattern asked parts asked_parts
 
--- the parts are those of the pattern, and it was made of them by the engine
-pub record ArePartsBy {E : Type 0} (engine : Engine E) (pattern : PatternView E) (parts : PatternParts) : Type 0 where
-  pub are_its_parts : AreItsParts engine.answer pattern parts
-  pub are_made : AreMadeOf engine pattern parts
+-- the parts that a pattern was made of say what it matches, where it is known what they mean
+abbrev pub OwnPartsMean : {E : Type 0} → Engine E → Type 0
+OwnPartsMean {E} engine = (pattern : PatternView E) (parts : PatternParts) → AreMadeOfParts engine parts pattern → AreItsParts engine.answer pattern parts
 
--- so what is covered is matched, with custom regular expressions or not, and nothing is asked of the engine
+-- what is covered is matched, with custom regular expressions or not, by patterns that were made of their parts
 abbrev pub CoveredByEngineAreMatched : {E : Type 0} → Engine E → Type 0
 CoveredByEngineAreMatched {E} engine =
-    (pattern asked : PatternView E) (parts asked_parts : PatternParts) → ArePartsBy engine pattern parts → ArePartsBy engine asked asked_parts →
+    (pattern asked : PatternView E) (parts asked_parts : PatternParts) → AreMadeOfParts engine parts pattern → AreMadeOfParts engine asked_parts asked →
     IsCovered parts asked_parts → (texts : Texts) → EachIsLine texts → AreMatched engine.answer asked texts → AreMatched engine.answer pattern texts
 
 -- the texts in which patterns part are matched by the asked one, and not by the other

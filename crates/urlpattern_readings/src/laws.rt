@@ -4,9 +4,16 @@
 
 ghost use Rattle.urlpattern_core.specs.Regexes.{regex_engine};
 ghost use Rattle.urlpattern_engine.specs.PatternRegexps.{pattern_engine};
-ghost use Rattle.urlpattern_readings.specs.Readings.{ApartMatchNothing, CommonAreMatched, CoveredAreMatched, CoveredByEngineAreMatched, CoveredByMeaningAreMatched, KnownAreCoveredByMeaning, MadeAreMatched, PartingsAreMatched};
+ghost use Rattle.urlpattern_readings.specs.Readings.{ApartMatchNothing, CommonAreMatched, CoveredAreMatched, CoveredByEngineAreMatched, CoveredByMeaningAreMatched, KnownAreCoveredByMeaning, MadeAreMatched, OwnPartsMean, PartingsAreMatched};
 
 use urlpattern_core::regexp::RegExp;
+
+/// A pattern over `PatternRegexp`, or over `regex::Regex`, matches of each text without line feed what the parts that it was made of mean, in
+/// each component where that is known: where none of them is custom and case is kept.
+pub fn patterns_match_what_their_parts_mean()
+    ensures pattern_regexp { OwnPartsMean pattern_engine }
+    ensures regex { OwnPartsMean regex_engine }
+{}
 
 /// If a pattern covers another by their parts, then of any eight texts without line feed that the other matches it matches each. If
 /// they part, then the other matches the texts, and the pattern does not match that of the component.

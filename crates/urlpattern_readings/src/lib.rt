@@ -1,7 +1,4 @@
-//! The parts of a whole pattern, read as its compiler reads them, so that patterns can be compared.
+//! Laws of patterns and their parts: what patterns match whose parts cover others, or overlap.
 #![tactic(auto)]
 
 pub mod laws;
-mod reading;
-
-pub use reading::parts_of;

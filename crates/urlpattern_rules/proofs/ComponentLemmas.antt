@@ -9,7 +9,7 @@ use Rattle.urlpattern_covers.specs.declared.parts.Overlap.{Overlap}
 use Rattle.urlpattern_covers.specs.declared.parts.Overlap.TheVariants as overlaps
 use Rattle.urlpattern_covers.specs.declared.parts.Reason.TheVariants as reasons
 use Rattle.urlpattern_rules.specs.Comparing.{AreSame, IsComponentCovering, IsComponentOverlap, IsExample, IsKnown, TakesEachLine, anything_part}
-use Rattle.urlpattern_rules.specs.declared.component.ComponentParts.{ComponentParts}
+use Rattle.urlpattern_syntax.specs.declared.parts.ComponentParts.{ComponentParts}
 use Rattle.urlpattern_syntax.specs.{Options.OptionsView, Options.default_options, Options.options_view, Parts.PartView, Parts.parts_view, Text.lacks, Text.line_feed}
 
 -- ---- a full wildcard

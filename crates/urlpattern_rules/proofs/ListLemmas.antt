@@ -1,12 +1,32 @@
 -- Which patterns of a list are covered by one before them.
-use Rattle.std.proofs.Common.{◌≡◌, ◌∙◌, ◌<◌, ◌+◌, ◌⊎◌, ℕ, zero, suc, List, [], ◌∷◌, ◌++◌, inl, inr, sym, subst, ap, take, arith, Option, Some, None}
-use Rattle.std.proofs.lemmas.List.Elements.{All-head, All-nil, All-push, All-tail, All-weaker, Contains-append_left, Contains-push}
+use Rattle.std.proofs.Common.{◌≡◌, ◌∙◌, ◌<◌, ◌+◌, ◌⊎◌, ℕ, zero, suc, List, [], ◌∷◌, ◌++◌, inl, inr, refl, sym, subst, ap, get_or, length, map, take, arith, Option, Some, None}
+use Rattle.std.proofs.lemmas.Option.{get_or_from_slice_get, slice_get-map, slice_get_read, slice_get_within}
+use Rattle.std.specs.Borrow.{Bor}
+use Rattle.std.proofs.lemmas.List.Elements.{All-head, All-more, All-nil, All-push, All-tail, All-weaker, Contains-append_left, Contains-push}
 use Rattle.std.specs.List.{All, Contains, slice_get}
-use Rattle.std.specs.Prelude.{MatchOption}
+use Rattle.std.specs.Prelude.{MatchOption, option_map}
 use Rattle.urlpattern_rules.specs.Comparing.{AreInOrder, CoversAt, IsListed, IsNotKnownToCover, IsShadowed, with_found}
 use Rattle.urlpattern_rules.specs.declared.list.Shadowed.{Shadowed}
 use Rattle.urlpattern_rules.specs.declared.pattern.PatternParts.{PatternParts}
 use borrow.Author.Count
+
+-- the patterns that references lead to
+abbrev pub now : Bor PatternParts → PatternParts
+now pattern = pattern.now
+
+abbrev pub all_now : List (Bor PatternParts) → List PatternParts
+all_now patterns = map now patterns
+
+-- the pattern at an index
+pub now_at : (patterns : List (Bor PatternParts)) (i : ℕ) (pattern : Bor PatternParts) → i < length patterns → pattern ≡ get_or patterns i pattern
+    → slice_get (all_now patterns) i ≡ Some pattern.now
+now_at patterns i pattern within is = slice_get-map now patterns i ∙ ap (option_map now) (slice_get_read patterns (length patterns) i pattern refl within is)
+
+-- what holds of the patterns before one, and of that one, holds of those before the next
+pub all_more : (P : PatternParts → Type 0) (patterns : List PatternParts) (i : ℕ) (pattern : PatternParts) → slice_get patterns i ≡ Some pattern
+    → All P (take i patterns) → P pattern → All P (take (i + 1) patterns)
+all_more P patterns i pattern there before is =
+    All-more P patterns i pattern (slice_get_within patterns i pattern there) before (subst P (sym (get_or_from_slice_get patterns i pattern pattern there)) is)
 
 -- what is found of the patterns below an index
 pub record AreListedBelow (patterns : List PatternParts) (found : List Shadowed) (index : ℕ) : Type 0 where

@@ -12,7 +12,7 @@ use Rattle.urlpattern_meaning.specs.PartMeaning.{PartsMean}
 use Rattle.urlpattern_covers.proofs.AnswerLemmas.{custom, generated}
 use Rattle.urlpattern_rules.proofs.NamelessParts.{all_nameless, generated_renamed, renamed, unnamed_views}
 use Rattle.urlpattern_rules.specs.Comparing.{AreSame, IsKnown, IsSettled, MeansAllOf, unnamed, unnamed_view}
-use Rattle.urlpattern_rules.specs.declared.component.ComponentParts.{ComponentParts}
+use Rattle.urlpattern_syntax.specs.declared.parts.ComponentParts.{ComponentParts}
 use Rattle.urlpattern_syntax.proofs.StringTexts.{text_bytes}
 use Rattle.urlpattern_syntax.specs.declared.parser.Part.{Part}
 use Rattle.urlpattern_syntax.specs.{Options.OptionsView, Options.options_view, Parts.PartView, Parts.parts_view, Text.text_of}

@@ -12,7 +12,7 @@ use Rattle.urlpattern_covers.specs.declared.parts.Overlap.TheVariants as overlap
 use Rattle.urlpattern_covers.specs.declared.parts.Reason.{Reason}
 use Rattle.urlpattern_covers.specs.declared.parts.Reason.TheVariants as reasons
 use Rattle.urlpattern_meaning.specs.PartMeaning.{AreGenerated}
-use Rattle.urlpattern_rules.specs.declared.component.ComponentParts.{ComponentParts}
+use Rattle.urlpattern_syntax.specs.declared.parts.ComponentParts.{ComponentParts}
 use Rattle.urlpattern_rules.specs.declared.list.Shadowed.{Shadowed}
 use Rattle.urlpattern_rules.specs.declared.pattern.First.{First}
 use Rattle.urlpattern_rules.specs.declared.pattern.First.TheVariants as firsts
@@ -107,13 +107,12 @@ unnamed parts = map unnamed_view parts
 abbrev pub IsSettled : ComponentParts → Type 0
 IsSettled component = (component.options.ignore_case ≡ false) ⊎ AreGenerated (parts_view component.parts.items)
 
--- The parts are the same but for names, under the same options, and the engine accepted the expression of the first. Case is kept, or
--- no part is custom: then an engine answers alike by two values that it made of one expression.
+-- The parts are the same but for names, under the same options. Case is kept, or no part is custom: then an engine answers alike by two
+-- values that it made of one expression.
 pub record AreSame (component other : ComponentParts) : Type 0 where
   pub options : options_view component.options ≡ options_view other.options
   pub parts : unnamed component.parts.items ≡ unnamed other.parts.items
   pub settled : IsSettled component
-  pub accepted : IsTrue component.is_accepted
 
 -- the component covers the asked one: it takes each line, whatever is asked, or the asked texts are within its own, or both are the same,
 -- with custom regular expressions or not
@@ -265,3 +264,7 @@ IsListed patterns found index asked =
 -- so it is of each pattern of the list
 abbrev pub ListsEachShadowed : List PatternParts → List Shadowed → Type 0
 ListsEachShadowed patterns found = (index : ℕ) (asked : PatternParts) → slice_get patterns index ≡ Some asked → IsListed patterns found index asked
+
+-- these are the patterns that one before them is known to cover, in their order, each with the first such one
+abbrev pub AreUnreachable : List PatternParts → List Shadowed → Type 0
+AreUnreachable patterns found = All (IsShadowed patterns) found × AreInOrder found × ListsEachShadowed patterns found

@@ -10,8 +10,8 @@ mod list;
 mod order;
 mod pattern;
 
-pub use component::ComponentParts;
 pub use list::{Shadowed, first_covering, unreachable};
 pub use order::compare_parts;
 pub use pattern::{Parting, PatternCovering, PatternOverlap, PatternParts};
 pub use urlpattern_covers::Reason;
+pub use urlpattern_syntax::ComponentParts;

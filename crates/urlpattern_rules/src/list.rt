@@ -1,7 +1,7 @@
 //! Lists of patterns: which cover which.
 
-ghost use Rattle.std.specs.Prelude.{◌≡◌, All, IfOk, OnOk};
-ghost use Rattle.urlpattern_rules.specs.Comparing.{AreInOrder, ListsEachShadowed, IsFirstCovering, IsShadowed, Tells, with_found};
+ghost use Rattle.std.specs.Prelude.{◌≡◌, map, IfOk, OnOk};
+ghost use Rattle.urlpattern_rules.specs.Comparing.{AreUnreachable, IsFirstCovering, Tells, with_found};
 
 use crate::pattern::{PatternCovering, PatternParts};
 use std::alloc::{AllocError, Global};
@@ -20,13 +20,13 @@ pub struct Shadowed {
 /// Each pattern before it does not mean some eight texts that the asked one means, or it is not known whether it does.
 pub fn first_covering(
     alloc: Global,
-    patterns: &[PatternParts],
+    patterns: &[&PatternParts],
     asked: &PatternParts,
 ) -> Result<Option<usize>, AllocError>
-    ensures { IfOk result (IsFirstCovering patterns.now asked.now) }
+    ensures { IfOk result (IsFirstCovering (map (λ pattern. pattern.now) patterns.now) asked.now) }
 {
     for index in 0..patterns.len() {
-        let covers = is_known_to_cover(alloc, &patterns[index], asked)?;
+        let covers = is_known_to_cover(alloc, patterns[index], asked)?;
         if covers {
             return Ok(Some(index));
         }
@@ -56,14 +56,12 @@ fn is_known_to_cover(
 /// Lists each pattern that one before it is known to cover, in their order, with the index of the first such one.
 ///
 /// In a list whose first match counts these are never found. A pattern that several others cover only together is not listed.
-pub fn unreachable(alloc: Global, patterns: &[PatternParts]) -> Result<Vec<Shadowed>, AllocError>
-    ensures covered { IfOk result (λ found. All (IsShadowed patterns.now) found.items) }
-    ensures ordered { IfOk result (λ found. AreInOrder found.items) }
-    ensures others { IfOk result (λ found. ListsEachShadowed patterns.now found.items) }
+pub fn unreachable(alloc: Global, patterns: &[&PatternParts]) -> Result<Vec<Shadowed>, AllocError>
+    ensures { IfOk result (λ found. AreUnreachable (map (λ pattern. pattern.now) patterns.now) found.items) }
 {
     let mut found = Vec::new(alloc);
     for index in 0..patterns.len() {
-        let by = first_covering(alloc, &patterns[..index], &patterns[index])?;
+        let by = first_covering(alloc, &patterns[..index], patterns[index])?;
         add(&mut found, index, by)?;
     }
     Ok(found)

@@ -5,25 +5,24 @@ ghost use Rattle.std.specs.Str.{chars};
 ghost use Rattle.urlpattern_eight.specs.Eight.{at};
 ghost use Rattle.urlpattern_syntax.specs.Text.{text_of};
 
-use crate::component::ComponentParts;
+use crate::component::{component_covers, component_example, component_overlaps};
 use crate::order::compare_parts;
 use std::alloc::{AllocError, Global};
 use std::cmp::Ordering;
 use urlpattern_covers::{Covering, Overlap, Reason};
 use urlpattern_eight::{ComponentName, Eight};
+use urlpattern_syntax::ComponentParts;
 
 /// The parts of a pattern's eight components.
 ///
 /// Here `pattern` compiles a constructor string:
 ///
 /// ```rust parts
-/// let init = UrlPatternInit::parse_constructor_string::<PatternRegexp>(alloc, text, None)?;
 /// let options = UrlPatternOptions::default();
-/// let pattern = pattern(alloc, text)?;
-/// let parts = parts_of(alloc, &pattern, &init, &options);
-/// drop(pattern);
-/// drop(init);
-/// parts
+/// match Pattern::from_constructor_string(alloc, text, None, options)?.into_parts() {
+///     Some(parts) => Ok(parts),
+///     None => unreachable!(),
+/// }
 /// ```
 #[derive(Debug)]
 pub struct PatternParts {
@@ -212,7 +211,7 @@ impl PatternParts {
         let mut first = First::Nowhere;
         for name in ComponentName::all() {
             let component = self.components.get(name);
-            let covering = component.covers(alloc, asked.components.get(name))?;
+            let covering = component_covers(alloc, component, asked.components.get(name))?;
             first = first.or(name, covering);
         }
         Ok(first)
@@ -269,7 +268,7 @@ impl PatternParts {
         if name == parted {
             return Ok(String::from_str(alloc, text)?);
         }
-        match self.components.get(name).example(alloc)? {
+        match component_example(alloc, self.components.get(name))? {
             Overlap::Common(text) => Ok(string_of(alloc, &text)?),
             Overlap::Apart => Err(Lack::Nothing(name)),
             Overlap::Unknown(reason) => Err(Lack::Unknown(name, reason)),
@@ -280,10 +279,8 @@ impl PatternParts {
     fn common_text(&self, alloc: Global, other: &Self, name: ComponentName) -> Result<String, Lack>
         ensures { IsCommonText self.now other.now name result }
     {
-        let overlap = self
-            .components
-            .get(name)
-            .overlaps(alloc, other.components.get(name))?;
+        let component = self.components.get(name);
+        let overlap = component_overlaps(alloc, component, other.components.get(name))?;
         match overlap {
             Overlap::Common(text) => Ok(string_of(alloc, &text)?),
             Overlap::Apart => Err(Lack::Nothing(name)),

@@ -1,3 +1,4 @@
+pub mod ComponentParts
 pub mod Cursors
 pub mod ErrorText
 pub mod Errors

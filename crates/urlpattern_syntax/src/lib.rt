@@ -5,8 +5,10 @@
 pub mod error;
 pub mod escape;
 pub mod parser;
+pub mod parts;
 pub mod tokenizer;
 pub mod writing;
 
 pub use error::Error;
 pub use parser::RegexSyntax;
+pub use parts::ComponentParts;

@@ -11,7 +11,10 @@ use urlpattern::component::{Component, generate_matcher};
 use urlpattern::matcher::{InnerMatcher, Matcher};
 use urlpattern::parser::Options;
 use urlpattern::regexp::RegExp;
-use urlpattern::{Error, UrlPattern, UrlPatternComponentResult, UrlPatternResult};
+use urlpattern::{
+    CompareError, ComponentName, Error, UrlPattern, UrlPatternComponentResult, UrlPatternList,
+    UrlPatternMap, UrlPatternResult,
+};
 
 /// A URL with a path.
 const URL: &str = "https://example.com/path";
@@ -51,8 +54,15 @@ fn by_hand<R: RegExp>(
 /// A pattern with this component for the path, whose other components take any text.
 fn with_pathname<R: RegExp>(alloc: Global, pathname: Component<R>) -> Result<UrlPattern<R>, Error> {
     let mut pattern = pattern_of(alloc, &[])?;
+    pattern.parts = None;
     pattern.pathname = pathname;
     Ok(pattern)
+}
+
+/// The pattern of a path, put together of its components.
+fn without_parts(alloc: Global, pathname: &str) -> Result<UrlPattern, Error> {
+    let pattern = pattern_of(alloc, &[("pathname", pathname)])?;
+    Ok(UrlPattern::from_eight(pattern.into_eight()))
 }
 
 /// Compares the groups of a component by name: there are no others.
@@ -226,5 +236,57 @@ fn an_engine_without_memory_is_reported_as_such(rt: HostRuntime) -> Result<(), F
     let outcome = expect_wanting(&rt, alloc, &matcher);
     drop(matcher);
     outcome?;
+    Ok(())
+}
+
+/// Whether nothing is compared, as a pattern has no parts.
+fn lacks_parts<T: Drop>(found: Result<T, CompareError>) -> Result<bool, Error> {
+    match found {
+        Ok(_) => Ok(false),
+        Err(CompareError::NoParts) => Ok(true),
+        Err(CompareError::OutOfMemory) => Err(Error::OutOfMemory),
+    }
+}
+
+/// Compares two patterns, one of which has no parts.
+fn expect_not_compared(
+    rt: &impl Abort,
+    alloc: Global,
+    pattern: &UrlPattern,
+    other: &UrlPattern,
+) -> Result<(), Error> {
+    assert!(rt; lacks_parts(pattern.covers(alloc, other))?);
+    assert!(rt; lacks_parts(pattern.overlaps(alloc, other))?);
+    let order = UrlPattern::compare_component(ComponentName::Pathname, pattern, other);
+    assert!(rt; lacks_parts(order)?);
+    Ok(())
+}
+
+#[test]
+fn a_pattern_without_parts_is_not_compared(rt: HostRuntime) -> Result<(), Fail> {
+    let alloc = rt.alloc();
+    let by_hand = without_parts(alloc, "/a")?;
+    let compiled = pattern_of(alloc, &[("pathname", "/a")])?;
+    expect_not_compared(&rt, alloc, &by_hand, &compiled)?;
+    expect_not_compared(&rt, alloc, &compiled, &by_hand)?;
+    Ok(())
+}
+
+/// Compares a list and a map of two patterns, the second of which has no parts.
+fn expect_no_unreachable(rt: &impl Abort, alloc: Global) -> Result<(), Error> {
+    let mut list = UrlPatternList::new(alloc);
+    list.try_push(pattern_of(alloc, &[("pathname", "/*")])?)?;
+    list.try_push(without_parts(alloc, "/a")?)?;
+    assert!(rt; lacks_parts(list.unreachable(alloc))?);
+    let mut map = UrlPatternMap::new(alloc);
+    map.try_insert(pattern_of(alloc, &[("pathname", "/*")])?, 0u32)?;
+    map.try_insert(without_parts(alloc, "/a")?, 1)?;
+    assert!(rt; lacks_parts(map.unreachable(alloc))?);
+    Ok(())
+}
+
+#[test]
+fn patterns_of_which_one_has_no_parts_are_not_compared(rt: HostRuntime) -> Result<(), Fail> {
+    expect_no_unreachable(&rt, rt.alloc())?;
     Ok(())
 }

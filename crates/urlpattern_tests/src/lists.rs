@@ -106,9 +106,10 @@ fn patterns_are_asked_up_to_the_first_match(rt: HostRuntime) -> Result<(), Fail>
     Ok(())
 }
 
-/// A pattern with a component that was made to ignore case.
+/// A pattern with a component that was made to ignore case. Its parts are no longer those of its components.
 fn pattern_ignoring_case(alloc: Global) -> Result<UrlPattern, Error> {
     let mut pattern = pattern_of(alloc, &[("pathname", NAME)])?;
+    pattern.parts = None;
     pattern.pathname.matcher.ignore_case = true;
     Ok(pattern)
 }
@@ -116,6 +117,7 @@ fn pattern_ignoring_case(alloc: Global) -> Result<UrlPattern, Error> {
 /// A pattern with a host that was changed after it was compiled.
 fn pattern_of_a_changed_host(alloc: Global) -> Result<UrlPattern, Error> {
     let mut pattern = pattern_of(alloc, &[("hostname", "example.com")])?;
+    pattern.parts = None;
     pattern.hostname.matcher.suffix.push_str(".org")?;
     Ok(pattern)
 }

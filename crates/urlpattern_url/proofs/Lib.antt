@@ -1,3 +1,1 @@
-pub mod CanonicalTexts
-pub mod OpaqueTexts
 pub mod UrlLemmas

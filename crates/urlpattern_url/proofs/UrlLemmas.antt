@@ -1,5 +1,8 @@
 -- The texts of a URL, in bytes and in characters.
-use Rattle.std.proofs.Common.{◌≡◌, ℕ, Bool, List, ap, sym, ◌∙◌}
+use Rattle.std.proofs.Common.{◌≡◌, ◌+◌, ◌<◌, ℕ, add-one, Bool, true, false, List, [], ◌∷◌, ◌++◌, ap, drop, get_or, length, refl, sym, take, ◌∙◌}
+use Rattle.std.proofs.Math.Seq.{drop-cons}
+use Rattle.std.proofs.lemmas.List.{take-append-drop}
+use Rattle.std.proofs.lemmas.List.Elements.{All-cons, All-nil}
 use Rattle.std.proofs.lemmas.Str.{encodes-chars}
 use Rattle.std.specs.Prelude.{◌↔◌, All, IsTrue, encode_utf8_all}
 use Rattle.std.specs.{Borrow.Bor, Str.chars}
@@ -12,9 +15,9 @@ use Rattle.urlpattern_eight.specs.declared.eight.ComponentName.{ComponentName}
 use Rattle.urlpattern_eight.specs.declared.eight.ComponentName.TheVariants.{Protocol, Username, Password, Hostname, Port, Pathname, Search, Hash}
 use Rattle.urlpattern_eight.specs.declared.eight.Eight.{Eight}
 use Rattle.urlpattern_eight.specs.Eight.{at, components}
-use Rattle.urlpattern_generate.specs.Writers.{cow_text}
+use Rattle.urlpattern_generate.specs.Writing.{cow_text}
 use Rattle.urlpattern_url.specs.UrlLines.{bytes_of_each, url_line}
-use Rattle.urlpattern_url.specs.UrlsOfTexts.{AreSeenAs, IsSeenAs, RefusesLine, RefusesTexts, cow_texts, line_of, texts_seen}
+use Rattle.urlpattern_url.specs.UrlsOfTexts.{AreSeenAs, IsAtFault, IsSeenAs, RefusesLine, RefusesTexts, compared, cow_texts, line_of, runs_on, texts_seen}
 use Rattle.urlpattern_url.specs.declared.error.NoLink.{NoLink}
 use Rattle.urlpattern_url.specs.declared.error.NoLink.TheVariants.{Component, OtherText, OutOfMemory, Url}
 
@@ -62,3 +65,25 @@ text_tested url texts name found got same is_text is_got tested =
 pub texts_had : (url : Parts) (texts : Eight (Bor (List ℕ))) → All (HasText url texts) components → texts_of_url url ≡ texts_seen texts
 texts_had url texts all =
     same_values (texts_of_url url) (texts_seen texts) (λ name. at-each (λ other. url_text other url) name ∙ of_each (HasText url texts) all name)
+
+-- ---- the component at fault
+
+-- the pathname is where it runs into the host
+pub path_at_fault : (url : Parts) (texts : Eight (Bor (List ℕ))) → runs_on (texts_seen texts) ≡ true → ¬ HasText url texts Pathname → IsAtFault url (texts_seen texts) Pathname
+path_at_fault url texts runs other = ([], components, ap compared runs, All-nil (HasText url texts), other)
+
+cut_at : (i : ℕ) → i < length components → components ≡ take i components ++ get_or components i Protocol ∷ drop (i + 1) components
+cut_at i within =
+    sym (take-append-drop i components) ∙ ap (λ rest. take i components ++ rest) (drop-cons components i Protocol within ∙ ap (λ n. get_or components i Protocol ∷ drop n components) (sym (add-one i)))
+
+-- otherwise it is the first that has another text
+pub first_at_fault : (url : Parts) (texts : Eight (Bor (List ℕ))) (i : ℕ) (runs : Bool) → runs_on (texts_seen texts) ≡ runs → (runs ≡ true → HasText url texts Pathname) → i < length components →
+    All (HasText url texts) (take i components) → ¬ HasText url texts (get_or components i Protocol) → IsAtFault url (texts_seen texts) (get_or components i Protocol)
+first_at_fault url texts i true e path within all other = (
+  Pathname ∷ take i components,
+  drop (i + 1) components,
+  ap compared e ∙ ap (λ names. Pathname ∷ names) (cut_at i within),
+  All-cons (HasText url texts) Pathname (take i components) (path refl) all,
+  other,
+)
+first_at_fault url texts i false e path within all other = (take i components, drop (i + 1) components, ap compared e ∙ cut_at i within, all, other)

@@ -1,18 +1,21 @@
 -- The URL that has eight texts, and why there is none.
-use Rattle.std.specs.Prelude.{◌≡◌, ◌≢◌, ℕ, List, encode_utf8_all, length, None, Ok, String}
+use Rattle.std.specs.Prelude.{◌≡◌, ◌≢◌, ◌==◌, ◌&&◌, ◌++◌, All, ℕ, Bool, true, false, not, List, ◌∷◌, encode_utf8_all, length, None, Ok, String}
 use Rattle.std.specs.{Borrow.Bor, Cow.cow_str_bytes, Str.IsUtf8, Str.chars}
 use Rattle.std.specs.declared.borrow.CowStr.{CowStr}
 use Rattle.std.specs.declared.alloc.Global.{Global}
+use Rattle.url.specs.Ascii.{slash}
 use Rattle.url.specs.Parser.{parse_url}
 use Rattle.url.specs.Parts.{Parts}
 use Rattle.urlpattern_canonical.specs.Canonical.{Reports}
 use Rattle.urlpattern_init.specs.Inheritance.{url_text}
 use Rattle.urlpattern_eight.specs.declared.eight.ComponentName.{ComponentName}
+use Rattle.urlpattern_eight.specs.declared.eight.ComponentName.TheVariants.{Pathname}
 use Rattle.urlpattern_eight.specs.declared.eight.Eight.{Eight}
-use Rattle.urlpattern_eight.specs.Eight.{Texts, at, each}
+use Rattle.urlpattern_eight.specs.Eight.{Texts, at, components, each}
 use Rattle.urlpattern_syntax.specs.Errors.{ErrorView as views}
-use Rattle.urlpattern_generate.specs.Writers.{cow_text}
-use Rattle.urlpattern_syntax.specs.Text.{text_of}
+use Rattle.urlpattern_generate.specs.Writing.{cow_text}
+use Rattle.urlpattern_syntax.specs.RegexpText.{is_empty}
+use Rattle.urlpattern_syntax.specs.Text.{begins_with, text_of}
 use Rattle.urlpattern_url.specs.UrlLines.{url_line}
 use Rattle.urlpattern_url.specs.declared.error.NoLink.{NoLink}
 use Rattle.urlpattern_url.specs.declared.error.NoLink.TheVariants.{OtherText, OutOfMemory, Url}
@@ -49,6 +52,22 @@ IsReadOfTexts texts url = parse_url None (line_of texts) ≡ Ok url
 abbrev pub HasOtherText : Parts → Texts → ComponentName → Type 0
 HasOtherText url texts component = url_text component url ≢ at texts component
 
+-- the path runs into the host before it: neither is empty, and the path does not begin with a slash
+abbrev pub runs_on : Texts → Bool
+runs_on texts = not (is_empty texts.hostname) && begins_with (λ c. not (c == slash)) texts.pathname
+
+-- the components in the order in which they are compared: the pathname first where it runs into the host
+abbrev pub compared : (runs_on : Bool) → List ComponentName
+compared true = Pathname ∷ components
+compared false = components
+
+-- the component is at fault: the first, as they are compared, for which the URL has another text
+abbrev pub IsAtFault : Parts → Texts → ComponentName → Type 0
+IsAtFault url texts component =
+    (before after : List ComponentName) × (compared (runs_on texts) ≡ before ++ component ∷ after)
+    × All (λ earlier. url_text earlier url ≡ at texts earlier) before
+    × HasOtherText url texts component
+
 -- `url` refuses the text of a URL, for this reason, or memory ran out
 abbrev pub RefusesLine : (bytes : List ℕ) → NoLink → Type 0
 RefusesLine bytes (Url reason) = Reports (parse_url None bytes) (length bytes) (views.Url reason)
@@ -57,5 +76,5 @@ RefusesLine bytes error = ⊥
 
 -- there is no URL of these texts, for this reason: `url` refuses the text of it, or reads it as a URL with other texts; or memory ran out
 abbrev pub RefusesTexts : Texts → NoLink → Type 0
-RefusesTexts texts (OtherText component) = (url : Parts) × IsReadOfTexts texts url × HasOtherText url texts component
+RefusesTexts texts (OtherText component) = (url : Parts) × IsReadOfTexts texts url × IsAtFault url texts component
 RefusesTexts texts error = RefusesLine (line_of texts) error

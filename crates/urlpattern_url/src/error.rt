@@ -25,7 +25,8 @@ pub enum NoLink {
     Component(GenerateError),
     /// `url` refuses the texts of the components, put together.
     Url(ParseError),
-    /// Put together they are a URL that has another text for this component, as `https://example.com` has the path `/`.
+    /// Put together they are a URL that has another text for this component, as `https://example.com` has the path `/`. It is the
+    /// pathname where that runs into the host before it, and else the first such component.
     OtherText(ComponentName),
     /// The allocator had no memory.
     OutOfMemory,

@@ -1,11 +1,15 @@
 //! The URL of eight texts.
 
-ghost use Rattle.std.specs.Prelude.{◌≡◌, ◌↔◌, None, Ok, IfErr, IfNone, IfOk, IfSome, IsTrue};
+ghost use Rattle.std.specs.Prelude.{◌≡◌, ◌↔◌, ◌==◌, None, Ok, IfErr, IfNone, IfOk, IfSome, IsTrue, false, not, true};
 ghost use Rattle.std.specs.Str.{chars};
+ghost use Rattle.url.specs.Ascii.{slash};
 ghost use Rattle.url.specs.Parser.{parse_url};
-ghost use Rattle.urlpattern_init.specs.Inheritance.{texts_of_url};
+ghost use Rattle.urlpattern_init.specs.Inheritance.{texts_of_url, url_text};
+ghost use Rattle.urlpattern_eight.specs.declared.eight.ComponentName.TheVariants.{Pathname};
 ghost use Rattle.urlpattern_eight.specs.Eight.{at};
-ghost use Rattle.urlpattern_url.specs.UrlsOfTexts.{AreSeenAs, HasOtherText, IsReadOfTexts, IsSeenAs, RefusesLine, RefusesTexts, cow_texts, texts_seen};
+ghost use Rattle.urlpattern_syntax.specs.RegexpText.{is_empty};
+ghost use Rattle.urlpattern_syntax.specs.Text.{begins_with};
+ghost use Rattle.urlpattern_url.specs.UrlsOfTexts.{AreSeenAs, IsAtFault, IsReadOfTexts, IsSeenAs, RefusesLine, RefusesTexts, cow_texts, runs_on, texts_seen};
 
 use crate::error::NoLink;
 use crate::line::url_line;
@@ -61,17 +65,59 @@ fn read(alloc: Global, line: &str) -> Result<Url, NoLink>
     }
 }
 
-/// A component for which a URL has another text. `None`: it has these texts.
+/// The component at fault where a URL has another text for one. `None`: it has these texts.
 fn other_text(url: &Url, texts: &Eight<&str>) -> Option<ComponentName>
     ensures same { IfNone result (texts_of_url url.now ≡ texts_seen texts.now) }
-    ensures other { IfSome result (HasOtherText url.now (texts_seen texts.now)) }
+    ensures other { IfSome result (IsAtFault url.now (texts_seen texts.now)) }
 {
+    if is_path_at_fault(url, texts) {
+        return Some(ComponentName::Pathname);
+    }
     for name in ComponentName::all() {
-        if !is_same_text(url_text(url, name), texts.get(name)) {
+        if !has_text(url, texts, name) {
             return Some(name);
         }
     }
     None
+}
+
+/// Whether the path runs into the host before it, and a URL has another one.
+fn is_path_at_fault(url: &Url, texts: &Eight<&str>) -> bool
+    ensures at_fault { IsTrue result → IsAtFault url.now (texts_seen texts.now) Pathname }
+    ensures other { result ≡ false → runs_on (texts_seen texts.now) ≡ true → url_text Pathname url.now ≡ at (texts_seen texts.now) Pathname }
+{
+    runs_on(texts) && !has_text(url, texts, ComponentName::Pathname)
+}
+
+/// Whether the path runs into the host before it.
+fn runs_on(texts: &Eight<&str>) -> bool
+    ensures { result ≡ runs_on (texts_seen texts.now) }
+{
+    is_some_text(texts.hostname) && begins_without_slash(texts.pathname)
+}
+
+/// Whether a text is not empty.
+fn is_some_text(text: &str) -> bool
+    ensures { result ≡ not (is_empty (chars text.now)) }
+{
+    !text.is_empty()
+}
+
+/// Whether a text is not empty and does not begin with a slash.
+fn begins_without_slash(text: &str) -> bool
+    ensures { result ≡ begins_with (λ c. not (c == slash)) (chars text.now) }
+{
+    match text.chars().next() {
+        Some(first) => first != '/',
+        None => false,
+    }
+}
+
+/// Whether a URL has the text of a component.
+fn has_text(url: &Url, texts: &Eight<&str>, name: ComponentName) -> bool
+    ensures { IsTrue result ↔ (url_text name url.now ≡ at (texts_seen texts.now) name) }
+{
+    is_same_text(url_text(url, name), texts.get(name))
 }
 
 /// Whether two texts are the same.

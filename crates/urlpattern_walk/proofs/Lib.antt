@@ -18,4 +18,3 @@ pub mod EndLemmas
 pub mod TakenFronts
 pub mod PlaceLemmas
 pub mod TableLemmas
-pub mod Outlines

@@ -2,4 +2,3 @@ pub mod Failed
 pub mod Taken
 pub mod Table
 pub mod ReadSteps
-pub mod OutlineSteps

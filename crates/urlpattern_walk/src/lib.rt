@@ -8,7 +8,6 @@ mod by_table;
 pub mod choices;
 mod failed;
 mod fronts;
-pub mod outline;
 pub mod reading;
 mod runs;
 mod table;

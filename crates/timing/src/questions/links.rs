@@ -221,7 +221,7 @@ fn of_error(error: &GenerateError) -> Result<Came, Error> {
     match error {
         GenerateError::Missing(_, _) => Ok(Came::Missing),
         GenerateError::NotCaptured(_, _) => Ok(Came::NotCaptured),
-        GenerateError::ReadOtherwise(_) => Ok(Came::ReadOtherwise),
+        GenerateError::ReadOtherwise(_) | GenerateError::NoParts => Ok(Came::ReadOtherwise),
         GenerateError::OutOfMemory => Err(Error::OutOfMemory),
     }
 }

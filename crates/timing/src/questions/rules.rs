@@ -4,7 +4,7 @@ use super::Outcome;
 use super::making::Maker;
 use std::alloc::{AllocError, Global};
 use urlpattern::regexp::PatternRegexp;
-use urlpattern::rules::{PatternCovering, PatternOverlap, PatternParts, parts_of};
+use urlpattern::rules::{PatternCovering, PatternOverlap, PatternParts};
 use urlpattern::{
     ComponentName, Eight, Error, GivenGroup, UrlPattern, UrlPatternInit, UrlPatternOptions,
     pathname_texts,
@@ -49,13 +49,12 @@ fn make_pattern(maker: &mut Maker) -> Result<Made, Error> {
     let alloc = maker.alloc;
     let text = maker.text(&PIECES, 6)?;
     let options = UrlPatternOptions::default();
+    let parts = UrlPattern::<PatternRegexp>::parse(alloc, init_of(alloc, &text)?, options)?.into_parts();
+    let options = UrlPatternOptions::default();
     let pattern = UrlPattern::parse(alloc, init_of(alloc, &text)?, options)?;
-    let init = init_of(alloc, &text)?;
-    let parts = parts_of(alloc, &pattern, &init, &UrlPatternOptions::default());
-    drop(init);
     Ok(Made {
         pattern,
-        parts: parts?,
+        parts: parts.ok_or(Error::OutOfMemory)?,
     })
 }
 

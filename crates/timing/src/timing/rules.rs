@@ -7,7 +7,7 @@ use std::io::Write;
 use std::time::{Clock, Instant};
 use urlpattern::quirks::{StringOrInit, process_construct_pattern_input};
 use urlpattern::regexp::PatternRegexp;
-use urlpattern::rules::{PatternCovering, PatternOverlap, PatternParts, parts_of, unreachable};
+use urlpattern::rules::{PatternCovering, PatternOverlap, PatternParts, unreachable};
 use urlpattern::{Error, UrlPattern, UrlPatternOptions};
 
 /// Where all routes are.
@@ -50,14 +50,7 @@ fn parts(alloc: Global, route: &str) -> Result<PatternParts, Error> {
     let init = process_construct_pattern_input(alloc, given(route), Some(BASE))?;
     let options = UrlPatternOptions::default();
     let pattern = UrlPattern::<PatternRegexp>::parse(alloc, init, options)?;
-    let init = process_construct_pattern_input(alloc, given(route), Some(BASE));
-    let parts = match &init {
-        Ok(init) => parts_of(alloc, &pattern, init, &UrlPatternOptions::default()),
-        Err(_) => Err(Error::OutOfMemory),
-    };
-    drop(init);
-    drop(pattern);
-    parts
+    pattern.into_parts().ok_or(Error::OutOfMemory)
 }
 
 /// The parts of the routes that the lines of a text are.
@@ -104,7 +97,7 @@ fn compare<R: AllocGlobal + Clock, O: Write>(
     covers.print(out, "covers")?;
     overlaps.print(out, "overlaps")?;
     let start = Instant::now(rt)?;
-    let found = unreachable(rt.alloc(), all)?;
+    let found = unreachable(rt.alloc(), &all.iter().collect(rt.alloc())?)?;
     let taken = start.elapsed(rt)?.as_nanos();
     writeln!(out, "unreachable\t1\t{}\t{taken}\t{taken}", found.len())
 }

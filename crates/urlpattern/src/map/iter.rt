@@ -28,7 +28,7 @@ pub struct UrlPatternMapIter<'a, T, R: RegExp> {
 impl<'a, T, R: RegExp> Model for UrlPatternMapIter<'a, T, R> {
     ghost use Rattle.std.specs.Prelude.{◌≡◌, List, length, zip};
     ghost use Rattle.std.specs.Slice.Iter.{iter_rest};
-    ghost use Rattle.urlpattern_pattern.specs.declared.pattern.UrlPattern.{UrlPattern};
+    ghost use Rattle.urlpattern_pattern.specs.UrlPatterns.{UrlPattern};
 
     ghost Value = { List (UrlPattern R × T) };
 

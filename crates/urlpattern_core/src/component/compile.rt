@@ -2,12 +2,12 @@
 
 ghost use Rattle.std.specs.Prelude.{◌≡◌, IfErr, IfOk};
 ghost use Rattle.std.specs.Str.{chars};
-ghost use Rattle.urlpattern_core.specs.Components.{AnswersByItsParts, FailsToRead, IsCompiledFrom, IsComponentOf, IsEngineOf, IsWholeEngineOf, component_view, engine_flags, has_regexp, pattern_text};
+ghost use Rattle.urlpattern_core.specs.Components.{AnswersByItsParts, FailsToRead, IsCompiledFrom, IsCompiledKeeping, IsComponentOf, IsEngineOf, IsWholeEngineOf, component_view, engine_flags, has_regexp, pattern_text};
 ghost use Rattle.urlpattern_core.specs.Matchers.{engine_view};
 ghost use Rattle.urlpattern_syntax.specs.{Errors.OnlyOutOfMemory, Options.options_view, Parts.parts_view, Reading.encoding_by};
 
-use super::Component;
 use super::matchers::generate_matcher_knowing;
+use super::{Component, ComponentWithParts};
 use crate::error::{Error, RegExpError};
 use crate::parser::{Options, Part, PartType, RegexSyntax, parse_pattern_string};
 use crate::regexp::RegExp;
@@ -15,6 +15,7 @@ use std::alloc::{AllocError, Global};
 use urlpattern_printing::{
     generate_name_list, generate_pattern_string, generate_regular_expression,
 };
+use urlpattern_syntax::ComponentParts;
 
 impl<R: RegExp> Component<R> {
     /// The component of a pattern text, or of an asterisk where there is none.
@@ -41,9 +42,37 @@ impl<R: RegExp> Component<R> {
         ensures means { IfOk result (λ component. AnswersByItsParts R.RegExp (options_view options) (component_view component)) }
         ensures refuses { IfErr result (FailsToRead (pattern_text pattern.entry) (options_view options) (encoding_by F.Fn encoding_callback)) }
     {
+        match Self::compile_with_parts(alloc, pattern, encoding_callback, options) {
+            Ok(made) => {
+                let (component, kept) = made.into_fields();
+                drop(kept);
+                Ok(component)
+            }
+            Err(error) => Err(error),
+        }
+    }
+
+    /// The component of a pattern text, or of an asterisk where there is none, as `compile` makes it, and the parts that it was
+    /// made of.
+    ///
+    /// The error is that of the pattern text, which may be the callback's own; or that memory ran out.
+    ///
+    /// <https://urlpattern.spec.whatwg.org/#compile-a-component>
+    pub fn compile_with_parts<F: Fn(&str) -> Result<String, Error> + Drop>(
+        alloc: Global,
+        pattern: Option<&str>,
+        encoding_callback: F,
+        options: Options,
+    ) -> Result<ComponentWithParts<R>, Error>
+        requires { F.IsAlwaysCallable encoding_callback }
+        ensures compiled { IfOk result (IsCompiledKeeping R.RegExp (pattern_text pattern.entry) (options_view options) (encoding_by F.Fn encoding_callback)) }
+        ensures refuses { IfErr result (FailsToRead (pattern_text pattern.entry) (options_view options) (encoding_by F.Fn encoding_callback)) }
+    {
         let pattern = pattern.unwrap_or("*");
-        let part_list = parse_pattern_string(alloc, pattern, &options, encoding_callback)?;
-        Self::from_parts(alloc, &part_list, &options)
+        let parts = parse_pattern_string(alloc, pattern, &options, encoding_callback)?;
+        let component = Self::from_parts(alloc, &parts, &options)?;
+        let kept = ComponentParts { options, parts };
+        Ok(ComponentWithParts { component, kept })
     }
 
     /// The component of a list of parts.

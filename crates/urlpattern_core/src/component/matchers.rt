@@ -95,7 +95,7 @@ fn peel_back(part_list: &[Part]) -> (&[Part], &str)
 }
 
 /// Whether a part is a fixed text without modifier.
-fn is_plain(part: &Part) -> bool
+pub fn is_plain(part: &Part) -> bool
     ensures { result ≡ is_plain (part_view part.now) }
 {
     part.kind == PartType::FixedText && part.modifier == PartModifier::None

@@ -1,22 +1,26 @@
 //! Creates a pattern from an init or from a constructor string, or for one input.
 
-ghost use Rattle.std.specs.Prelude.{option_copied, option_map, IfErr, IfOk};
+ghost use Rattle.std.specs.Prelude.{is_some, option_copied, option_map, IfErr, IfOk, IsTrue};
 ghost use Rattle.std.specs.Str.{chars};
 ghost use Rattle.urlpattern_create.specs.Compiled.{IsPatternOfInit, RefusesInit};
 ghost use Rattle.urlpattern_create.specs.FromString.{IsPatternOfText, RefusesPatternOfText};
 ghost use Rattle.urlpattern_matches.specs.ResultViews.{result_view};
 ghost use Rattle.urlpattern_pattern.specs.ByText.{AnswersByItsText, AnswersByTextOf, IsExecutedByMeaning, MakesFirstWays};
+ghost use Rattle.urlpattern_pattern.specs.KeptParts.{AreParted, KeepsPartsOf, KeepsPartsOfText};
 ghost use Rattle.urlpattern_pattern.specs.Patterns.{IfPattern};
 ghost use Rattle.urlpattern_syntax.specs.Errors.{MemoryOr};
 
 use super::UrlPattern;
 use std::alloc::Global;
 use urlpattern_core::Error;
+use urlpattern_core::component::{Component, ComponentWithParts};
 use urlpattern_core::regexp::RegExp;
 use urlpattern_create::{compile_init, init_of_text};
+use urlpattern_eight::Eight;
 use urlpattern_init::{UrlPatternInit, UrlPatternMatchInput};
 use urlpattern_inputs::UrlPatternOptions;
 use urlpattern_matches::UrlPatternResult;
+use urlpattern_rules::PatternParts;
 
 impl<R: RegExp> UrlPattern<R> {
     /// Compiles a pattern from an init: from its own texts, and from what they inherit from its base URL.
@@ -24,6 +28,8 @@ impl<R: RegExp> UrlPattern<R> {
     /// The error is that of the first component that is refused, or that memory ran out. The protocol is compiled first, then
     /// the hostname and the pathname, and then the others as they stand in a URL. A component is refused for its text, by
     /// `url` for a fixed text in it, or by the engine for its regular expression.
+    ///
+    /// The pattern keeps the parts that its texts read as, of which its components are made.
     ///
     /// The pattern answers by its texts, with an engine whose matchers answer the first way of what they are made of, as
     /// `PatternRegexp`'s do.
@@ -43,15 +49,18 @@ impl<R: RegExp> UrlPattern<R> {
         options: UrlPatternOptions,
     ) -> Result<Self, Error>
         ensures compiled { IfPattern result (IsPatternOfInit R.RegExp init options) }
+        ensures kept { IfOk result (KeepsPartsOf R.RegExp init options) }
+        ensures parts { IfOk result (λ pattern. IsTrue (is_some pattern.parts)) }
         ensures by_text { MakesFirstWays R.RegExp → IfPattern result (AnswersByItsText R.answer init options) }
         ensures refused { IfErr result (MemoryOr (RefusesInit R.RegExp init options)) }
     {
         // (A `?` or one `match` for both would copy the components, which fill kilobytes, once more.)
-        let components = match compile_init(alloc, init, options) {
-            Ok(components) => components,
+        let made = match compile_init(alloc, init, options) {
+            Ok(made) => made,
             Err(error) => return Err(error),
         };
-        Ok(Self::from_eight(components))
+        let (components, parts) = parted(made);
+        Ok(Self::with_parts(components, parts))
     }
 
     /// Compiles a pattern from a constructor string, the pattern of a whole URL, with a base URL if there is one.
@@ -75,6 +84,8 @@ impl<R: RegExp> UrlPattern<R> {
         options: UrlPatternOptions,
     ) -> Result<Self, Error>
         ensures compiled { IfPattern result (IsPatternOfText R.RegExp (chars pattern.now) (option_copied base_url.entry) options) }
+        ensures parts { IfOk result (λ pattern. IsTrue (is_some pattern.parts)) }
+        ensures kept { IfOk result (KeepsPartsOfText R.RegExp (chars pattern.now) (option_copied base_url.entry) options) }
         ensures by_text { MakesFirstWays R.RegExp → IfPattern result (AnswersByTextOf R.RegExp (chars pattern.now) (option_copied base_url.entry) options) }
         ensures refused { IfErr result (MemoryOr (RefusesPatternOfText R.RegExp (chars pattern.now) (option_copied base_url.entry) options)) }
     {
@@ -104,4 +115,39 @@ impl<R: RegExp> UrlPattern<R> {
         drop(pattern);
         found
     }
+}
+
+/// Components, and their parts.
+fn parted<R: RegExp>(made: Eight<ComponentWithParts<R>>) -> (Eight<Component<R>>, PatternParts)
+    ensures { AreParted made result.0 result.1 }
+{
+    let (protocol, protocol_parts) = made.protocol.into_fields();
+    let (username, username_parts) = made.username.into_fields();
+    let (password, password_parts) = made.password.into_fields();
+    let (hostname, hostname_parts) = made.hostname.into_fields();
+    let (port, port_parts) = made.port.into_fields();
+    let (pathname, pathname_parts) = made.pathname.into_fields();
+    let (search, search_parts) = made.search.into_fields();
+    let (hash, hash_parts) = made.hash.into_fields();
+    let components = Eight {
+        protocol,
+        username,
+        password,
+        hostname,
+        port,
+        pathname,
+        search,
+        hash,
+    };
+    let parts = Eight {
+        protocol: protocol_parts,
+        username: username_parts,
+        password: password_parts,
+        hostname: hostname_parts,
+        port: port_parts,
+        pathname: pathname_parts,
+        search: search_parts,
+        hash: hash_parts,
+    };
+    (components, PatternParts { components: parts })
 }

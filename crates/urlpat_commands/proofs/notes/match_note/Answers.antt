@@ -1,6 +1,6 @@
 use Rattle.std.specs.Prelude.{string_bytes}
 use Rattle.urlpat_commands.proofs.ShortLemmas.{of_note, refused_match_input}
-use Rattle.urlpat_matching.specs.InputUrls.{IsRefusedText}
+use Rattle.urlpattern_canonical.specs.BaseUrls.{IsRefusedText}
 use Rattle.urlpat_matching.specs.PatternWords.{base_of}
 use Rattle.urlpat_commands.specs.Notes.{HasRefusedMatchInput}
 use Rattle.urlpat_commands.proofs.notes.match_note.Goals as goal

@@ -5,7 +5,8 @@ use Rattle.urlpattern_canonical.specs.Canonical.{Reports}
 use Rattle.urlpattern_init.specs.ConstructorString.{RefusesString}
 use Rattle.urlpattern_create.specs.Diagnoses.{ShowsText}
 use Rattle.urlpattern_diagnosis.specs.declared.diagnosis.Subject.{Subject}
-use Rattle.urlpattern_create.specs.FromString.{IsInitOfText, RefusesPatternOfText, RefusesSplit, parsed_base, text_bytes}
+use Rattle.urlpattern_canonical.specs.BaseUrls.{parsed_base, text_bytes}
+use Rattle.urlpattern_create.specs.FromString.{IsInitOfText, RefusesPatternOfText, RefusesSplit}
 use Rattle.urlpattern_create.proofs.DiagnosisLemmas.{init_accepted, init_shown, is_other, protocol_shown, shows_all, text-or_nothing}
 use Rattle.urlpattern_syntax.specs.declared.error.Error.{Error}
 use Rattle.urlpattern_syntax.specs.Errors.{error_view}

@@ -1,21 +1,24 @@
-use Rattle.std.proofs.Common.{ap, subst, ◌∙◌}
-use Rattle.std.specs.Prelude.{IfErr, IfOk}
+use Rattle.std.proofs.Common.{ap, subst, sym}
 use Rattle.std.specs.Str.{chars}
 use Rattle.urlpattern_core.specs.Matchers.{matcher_view}
-use Rattle.urlpattern_generate.specs.Generating.{IsTextWithGroups, RefusesGroups}
+use Rattle.urlpattern_generate.proofs.GeneratingLemmas.{told_canonical, told_found}
+use Rattle.urlpattern_generate.specs.Generating.{TellsFound}
 use Rattle.urlpattern_generate.specs.Manners.{given_groups, manner_for}
+use Rattle.urlpattern_generate.specs.Writing.{IsWritten}
+use Rattle.urlpattern_syntax.specs.ComponentParts.{kept_options, kept_parts}
 use Rattle.urlpattern_syntax.specs.Text.{text_of}
 use Rattle.urlpattern_generate.proofs.component.generate_component.Goals as goal
 
-pub returns-clause-generated : goal.returns-clause-generated
-returns-clause-generated g c =
-    let component = c.args.component.now in
-    let made = c.new-writer.ensures.manner ∙ ap (λ bytes. manner_for c.args.name c.args.hierarchical (chars bytes) (given_groups c.args.groups.now)) c.deref.ensures in
-    subst (λ manner. IfOk c.canonical_text.result (λ text. IsTextWithGroups g.R.RegExp.answer (matcher_view component.matcher) manner (text_of component.pattern_string) (text_of text))) made c.canonical_text.ensures.generated
-
-pub returns-clause-refused : goal.returns-clause-refused
-returns-clause-refused g c =
-    let component = c.args.component.now in
-    let made = c.new-writer.ensures.manner ∙ ap (λ bytes. manner_for c.args.name c.args.hierarchical (chars bytes) (given_groups c.args.groups.now)) c.deref.ensures in
-    subst (λ name. IfErr c.canonical_text.result (RefusesGroups g.R.RegExp.answer (matcher_view component.matcher) name (manner_for c.args.name c.args.hierarchical (text_of component.pattern_string) (given_groups c.args.groups.now)) (text_of component.pattern_string))) c.new-writer.ensures.component
-    (subst (λ manner. IfErr c.canonical_text.result (RefusesGroups g.R.RegExp.answer (matcher_view component.matcher) c.new-writer.result.component manner (text_of component.pattern_string))) made c.canonical_text.ensures.refused)
+pub returns-then-branch-2-clause-generated : goal.returns-then-branch-2-clause-generated
+returns-then-branch-2-clause-generated g c =
+    let parts = kept_parts c.args.kept.now in
+    let manner = manner_for c.args.component (kept_options c.args.kept.now) parts (given_groups c.args.groups.now) in
+    let answer = g.R.RegExp.answer in
+    let matcher = matcher_view c.args.matcher.now in
+    let own = c.in_ok-text-in-Ok.text in
+    record {
+      is_written = subst (IsWritten manner parts) (sym (ap chars c.in_ok-text-in-Ok.ensures.ok)) c.in-Ok.ensures.written;
+      is_found = told_found answer matcher manner parts (text_of own) c.in_ok-confirms.field-0 c.if-branch.true
+          (subst (λ bytes. TellsFound c.in_ok-confirms.field-0 answer matcher manner parts (chars bytes)) c.deref.ensures c.in_ok-confirms.ensures);
+      is_canonical = told_canonical manner.canonical c.in_ok-is_canonical.field-0 c.deref-then-branch.result.now (text_of own) c.if-branch-2.true (ap chars c.deref-then-branch.ensures) c.in_ok-is_canonical.ensures;
+    }

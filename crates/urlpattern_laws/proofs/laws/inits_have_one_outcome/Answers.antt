@@ -1,6 +1,8 @@
-use Rattle.std.proofs.Common.{◌≡◌, false, true, inl, inr, refl}
-use Rattle.std.specs.Prelude.{Err}
-use Rattle.urlpattern_core.specs.Components.{engine_flags, has_regexp}
+use Rattle.std.proofs.Common.{◌≡◌, false, true, List, ◌++◌, inl, inr, refl, subst}
+use Rattle.std.specs.Prelude.{All}
+use Rattle.urlpattern_meaning.proofs.MatcherMeaning.{all_left, all_right}
+use Rattle.urlpattern_meaning.proofs.PartTrees.{IsNotCustom}
+use Rattle.urlpattern_syntax.specs.Parts.{PartView}
 use Rattle.urlpattern_engine.proofs.EngineLaws.{taken_first}
 use Rattle.urlpattern_engine.specs.PatternRegexps.{pattern_engine}
 use Rattle.urlpattern_laws.proofs.OutcomesExist.{init_outcome, inits_have_values}
@@ -10,8 +12,14 @@ use Rattle.urlpattern_laws.proofs.laws.inits_have_one_outcome.Goals as goal
 
 -- the regular expression of such parts is never refused
 takes_generated : TakesOrRefusesGenerated pattern_engine
-takes_generated manner none parts reads value error taken (inl (named, may)) = may (manner.options, parts, none parts reads, refl)
-takes_generated manner none parts reads value error taken (inr (again, refused)) = let never : false ≡ true = again in cc never
+takes_generated manner none = record {
+  whole = λ parts reads value error taken refused. elim refused [
+    | inl is ↦ is.1.0 (manner.options, parts, none parts reads, refl)
+    | inr again ↦ (let never : false ≡ true = again.0 in cc never)
+  ];
+  of_matcher = λ parts before middle after reads cut value error taken refused.
+      refused.1.0 (manner.options, middle, all_right before middle (all_left (before ++ middle) after (subst (λ (ps : List PartView). All IsNotCustom ps) cut (none parts reads))), refl);
+}
 
 pub returns-clause-not_both : goal.returns-clause-not_both
 returns-clause-not_both g c = pattern_or_refusal g.R.RegExp

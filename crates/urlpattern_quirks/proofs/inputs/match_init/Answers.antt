@@ -1,5 +1,5 @@
 use Rattle.std.specs.Prelude.{option_copied}
-use Rattle.urlpattern_quirks.proofs.InputLemmas.{refused_by_url}
+use Rattle.urlpattern_canonical.proofs.CanonicalLemmas.{refused_by_url}
 use Rattle.urlpattern_quirks.specs.Inputs.{parsed_base, text_bytes}
 use Rattle.urlpattern_quirks.proofs.inputs.match_init.Goals as goal
 

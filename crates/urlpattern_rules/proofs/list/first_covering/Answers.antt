@@ -1,7 +1,7 @@
-use Rattle.std.proofs.Common.{length, refl, subst, take_all}
-use Rattle.std.proofs.lemmas.List.Elements.{All-more}
-use Rattle.std.proofs.lemmas.Option.{slice_get_read}
+use Rattle.std.proofs.Common.{◌≤◌, length, subst, sym, take_all}
+use Rattle.std.proofs.lemmas.List.{length-map}
 use Rattle.std.specs.List.{All}
+use Rattle.urlpattern_rules.proofs.ListLemmas.{all_more, all_now, now, now_at}
 use Rattle.urlpattern_rules.specs.Comparing.{IsNotKnownToCover, Tells}
 use Rattle.urlpattern_rules.proofs.list.first_covering.Goals as goal
 
@@ -9,21 +9,27 @@ pub loop-index-preserved : goal.loop-index-preserved
 loop-index-preserved c =
     let patterns = c.args.patterns.now in
     let asked = c.args.asked.now in
+    let i = c.loop-index.index in
     let pattern = c.index-patterns-index.result in
-    All-more (IsNotKnownToCover asked) patterns c.loop-index.index pattern c.loop-index-test.true c.loop-index.invariant
-    (subst (IsNotKnownToCover asked) c.index-patterns-index.is (subst (Tells pattern asked) c.if-covers.false c.in_ok-covers.ensures))
+    let there = now_at patterns i pattern c.loop-index-test.true c.index-patterns-index.is in
+    all_more (IsNotKnownToCover asked) (all_now patterns) i pattern.now there c.loop-index.invariant
+    (subst (Tells pattern.now asked) c.if-covers.false c.in_ok-covers.ensures)
 
 pub returns-then-covers : goal.returns-then-covers
 returns-then-covers c =
     let patterns = c.args.patterns.now in
     let pattern = c.index-patterns-index.result in (
       (
-        pattern,
-        slice_get_read patterns (length patterns) c.loop-index.index pattern refl c.loop-index-test.true c.index-patterns-index.is,
-        subst (Tells pattern c.args.asked.now) c.if-covers.true c.in_ok-covers.ensures,
+        pattern.now,
+        now_at patterns c.loop-index.index pattern c.loop-index-test.true c.index-patterns-index.is,
+        subst (Tells pattern.now c.args.asked.now) c.if-covers.true c.in_ok-covers.ensures,
       ),
       c.loop-index.invariant,
     )
 
 pub returns : goal.returns
-returns c = subst (λ list. All (IsNotKnownToCover c.args.asked.now) list) (take_all c.loop-index.index c.args.patterns.now c.loop-index-test.false) c.loop-index.invariant
+returns c =
+    let patterns = c.args.patterns.now in
+    let i = c.loop-index.index in
+    let past = subst (λ count. count ≤ i) (sym (length-map patterns now)) c.loop-index-test.false in
+    subst (λ list. All (IsNotKnownToCover c.args.asked.now) list) (take_all i (all_now patterns) past) c.loop-index.invariant

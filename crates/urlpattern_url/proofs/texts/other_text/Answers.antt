@@ -1,25 +1,33 @@
-use Rattle.std.proofs.Common.{◌≡◌, ◌<◌, ◌≤◌, ap, arith, get_or, length, subst, sym, take_all, ◌∙◌}
+use Rattle.std.proofs.Common.{◌≡◌, ◌<◌, ◌≤◌, ◌∙◌, arith, ap, get_or, length, refl, subst, sym, take, take_all}
 use Rattle.std.proofs.lemmas.Bool.{false≢true}
 use Rattle.std.proofs.lemmas.List.Elements.{All-more}
 use Rattle.std.specs.Prelude.{All}
 use Rattle.urlpattern_eight.specs.declared.eight.ComponentName.TheVariants.{Protocol}
-use Rattle.urlpattern_url.proofs.UrlLemmas.{HasText, text_tested, texts_had}
+use Rattle.urlpattern_eight.specs.Eight.{components}
+use Rattle.urlpattern_url.proofs.UrlLemmas.{HasText, first_at_fault, texts_had}
+use Rattle.urlpattern_url.specs.UrlsOfTexts.{IsAtFault, runs_on, texts_seen}
 use Rattle.urlpattern_url.proofs.texts.other_text.Goals as goal
 
-pub returns-then-not-is_same_text-clause-other : goal.returns-then-not-is_same_text-clause-other
-returns-then-not-is_same_text-clause-other c =
-    let name = get_or c.all-name-items.result c.loop-name.name-index Protocol in
-    let tested = text_tested c.args.url.now c.args.texts.now name c.url_text.result.now c.get.result.now.now c.is_same_text.result c.url_text.ensures (ap (λ text. text.now) c.get.ensures) c.is_same_text.ensures in
-    λ has. false≢true (sym c.if-not-is_same_text.true ∙ tested.1 has)
+pub returns-then-not-has_text-clause-other : goal.returns-then-not-has_text-clause-other
+returns-then-not-has_text-clause-other c =
+    let url = c.args.url.now in
+    let texts = c.args.texts.now in
+    let names = c.all-name-items.result in
+    let i = c.loop-name.name-index in
+    let eight : length names ≡ 8 = ap length c.all-name-items.ensures in
+    let within : i < length components = omega arith in
+    let other : ¬ HasText url texts (get_or names i Protocol) = λ has. false≢true (sym c.if-not-has_text.true ∙ c.has_text.ensures.1 has) in
+    subst (λ list. IsAtFault url (texts_seen texts) (get_or list i Protocol)) (sym c.all-name-items.ensures)
+    (first_at_fault url texts i (runs_on (texts_seen texts)) refl (c.is_path_at_fault.ensures.other c.if-is_path_at_fault.false) within
+    (subst (λ list. All (HasText url texts) (take i list)) c.all-name-items.ensures c.loop-name.invariant)
+    (subst (λ list. ¬ HasText url texts (get_or list i Protocol)) c.all-name-items.ensures other))
 
 pub loop-name-preserved : goal.loop-name-preserved
 loop-name-preserved c =
     let names = c.all-name-items.result in
     let eight : length names ≡ 8 = ap length c.all-name-items.ensures in
     let within : c.loop-name.name-index < length names = omega arith in
-    let name = get_or names c.loop-name.name-index Protocol in
-    let tested = text_tested c.args.url.now c.args.texts.now name c.url_text.result.now c.get.result.now.now c.is_same_text.result c.url_text.ensures (ap (λ text. text.now) c.get.ensures) c.is_same_text.ensures in
-    All-more (HasText c.args.url.now c.args.texts.now) names c.loop-name.name-index Protocol within c.loop-name.invariant (tested.0 c.if-not-is_same_text.false)
+    All-more (HasText c.args.url.now c.args.texts.now) names c.loop-name.name-index Protocol within c.loop-name.invariant (c.has_text.ensures.0 c.if-not-has_text.false)
 
 pub returns-clause-same : goal.returns-clause-same
 returns-clause-same c =

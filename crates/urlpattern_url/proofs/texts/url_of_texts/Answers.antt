@@ -1,7 +1,7 @@
 use Rattle.std.proofs.Common.{None, Ok, subst, ◌∙◌, ◌≡◌}
 use Rattle.url.specs.Parser.{parse_url}
 use Rattle.urlpattern_url.proofs.UrlLemmas.{line_encoded, line_refused, seen_texts}
-use Rattle.urlpattern_url.specs.UrlsOfTexts.{HasOtherText, RefusesLine}
+use Rattle.urlpattern_url.specs.UrlsOfTexts.{IsAtFault, RefusesLine}
 use Rattle.urlpattern_url.proofs.texts.url_of_texts.Goals as goal
 
 pub returns-in-Err-clause-refused : goal.returns-in-Err-clause-refused
@@ -20,5 +20,5 @@ pub returns-clause-refused : goal.returns-clause-refused
 returns-clause-refused c = (
   c.in-Ok.url,
   subst (λ bytes. parse_url None bytes ≡ Ok c.in-Ok.url) (c.deref.ensures ∙ c.in_ok-line.ensures ∙ line_encoded c.args.texts.now c.seen-seen.result c.seen-seen.ensures) c.in-Ok.ensures.read,
-  subst (λ texts. HasOtherText c.in-Ok.url texts c.in-Some.component) (seen_texts c.args.texts.now c.seen-seen.result c.seen-seen.ensures) c.in-Some.ensures.other,
+  subst (λ texts. IsAtFault c.in-Ok.url texts c.in-Some.component) (seen_texts c.args.texts.now c.seen-seen.result c.seen-seen.ensures) c.in-Some.ensures.other,
 )

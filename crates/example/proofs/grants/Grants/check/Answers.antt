@@ -1,4 +1,4 @@
-use Rattle.std.proofs.Common.{◌≡◌, ◌∙◌, ℕ, List, sym, subst, true, false, Option, Some, None}
+use Rattle.std.proofs.Common.{◌≡◌, ◌∙◌, Bor, ℕ, List, ap, map, sym, subst, true, false, Option, Some, None}
 use Rattle.std.specs.List.{All}
 use Rattle.std.specs.Prelude.{IsTrue, MatchOption, is_some, take}
 use Rattle.example.specs.Grants.{IsGranted}
@@ -14,5 +14,6 @@ granted_by granted asked (Some index) is there = (index, is.0)
 
 pub returns : goal.returns
 returns c = λ there.
-    subst (λ (list : List PatternParts). IsGranted list c.args.asked.now) c.deref.ensures.value
-    (granted_by c.deref.result.now c.args.asked.now c.in_ok-found.found c.in_ok-found.ensures (sym c.is_some.ensures ∙ there))
+    let now = λ (pattern : Bor PatternParts). pattern.now in
+    subst (λ (list : List PatternParts). IsGranted list c.args.asked.now) (ap (map now) c.deref.ensures.value ∙ c.in_ok-granted.ensures)
+    (granted_by (map now c.deref.result.now) c.args.asked.now c.in_ok-found.found c.in_ok-found.ensures (sym c.is_some.ensures ∙ there))

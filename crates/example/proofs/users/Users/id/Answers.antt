@@ -3,8 +3,8 @@ use Rattle.example.proofs.users.Users.id.Goals as goal
 
 pub returns-clause-some : goal.returns-clause-some
 returns-clause-some c =
-    found_weaker _ _ (named _ c.self.invariant c.args.url.now c.texts_are_lines.ensures.valid c.texts_are_lines.ensures.lines) c.user.result c.user.ensures.some
+    found_weaker _ _ (named _ c.self.invariant.compiled c.args.url.now c.texts_are_lines.ensures.valid c.texts_are_lines.ensures.lines) c.user.result c.user.ensures.some
 
 pub returns-clause-none : goal.returns-clause-none
 returns-clause-none c =
-    none_weaker _ _ (named_none _ c.self.invariant c.args.url.now c.texts_are_lines.ensures.valid c.texts_are_lines.ensures.lines) c.user.result c.user.ensures.none
+    none_weaker _ _ (named_none _ c.self.invariant.compiled c.args.url.now c.texts_are_lines.ensures.valid c.texts_are_lines.ensures.lines) c.user.result c.user.ensures.none

@@ -1,8 +1,8 @@
 use Rattle.std.proofs.Common.{◌≡◌, None, subst}
-use Rattle.example.specs.Users.{users_text}
+use Rattle.example.specs.Users.{IsPatternOfUsers, default_asked, users_text}
 use Rattle.example.proofs.users.Users.new.Goals as goal
-use Rattle.urlpattern.proofs.UsersExample.{default_asked}
 use Rattle.urlpattern.specs.FromString.{IsPatternOfText}
+use Rattle.urlpattern.specs.KeptParts.{KeepsPartsOfText}
 use Rattle.urlpattern.specs.Patterns.{pattern_view}
 use Rattle.urlpattern.specs.PatternRegexps.{pattern_engine}
 use Rattle.urlpattern.specs.UrlPatternOptions.{UrlPatternOptions}
@@ -11,5 +11,9 @@ pub invariant_of-result : goal.invariant_of-result
 invariant_of-result c =
     let fields = c.default-options.ensures in
     let same : c.default-options.result ≡ default_asked = λ i. record { regex_syntax = fields.0 i; ignore_case = fields.1 i } in
-    subst (λ (options : UrlPatternOptions). IsPatternOfText pattern_engine users_text None options (pattern_view c.in_ok-pattern.pattern))
-    same c.in_ok-pattern.ensures.compiled
+    record {
+      compiled = subst (λ (options : UrlPatternOptions). IsPatternOfText pattern_engine users_text None options (pattern_view c.in_ok-pattern.pattern))
+          same c.in_ok-pattern.ensures.compiled;
+      kept = subst (λ (options : UrlPatternOptions). KeepsPartsOfText pattern_engine users_text None options c.in_ok-pattern.pattern)
+          same c.in_ok-pattern.ensures.kept;
+    }

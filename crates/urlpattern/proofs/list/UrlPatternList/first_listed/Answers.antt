@@ -7,7 +7,7 @@ use Rattle.urlpattern_matches.specs.GroupTexts.{borrowed_texts}
 use Rattle.urlpattern.specs.FirstMatch.{patterns_view}
 use Rattle.urlpattern.specs.NextMatch.{AreRefusedBetween}
 use Rattle.urlpattern_pattern.specs.Patterns.{pattern_view}
-use Rattle.urlpattern_pattern.specs.declared.pattern.UrlPattern.{UrlPattern}
+use Rattle.urlpattern_pattern.specs.UrlPatterns.{UrlPattern}
 use Rattle.urlpattern.proofs.list.UrlPatternList.first_listed.Given as given
 use Rattle.urlpattern.proofs.list.UrlPatternList.first_listed.Goals as goal
 use Rattle.urlpattern.proofs.list.UrlPatternList.first_listed.Goals.{After-index-pattern}

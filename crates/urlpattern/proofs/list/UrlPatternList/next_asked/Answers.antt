@@ -4,7 +4,7 @@ use Rattle.urlpattern.proofs.NextLemmas.{found-inside, found-passed}
 use Rattle.urlpattern.specs.FirstMatch.{patterns_view}
 use Rattle.urlpattern.specs.NextMatch.{AreRefusedBetween}
 use Rattle.urlpattern_index.specs.Keys.{hashes_view}
-use Rattle.urlpattern_pattern.specs.declared.pattern.UrlPattern.{UrlPattern}
+use Rattle.urlpattern_pattern.specs.UrlPatterns.{UrlPattern}
 use Rattle.urlpattern.proofs.list.UrlPatternList.next_asked.Goals as goal
 
 pub returns-clause-within : goal.returns-clause-within

@@ -1,18 +1,12 @@
-use Rattle.std.proofs.Common.{◌∙◌, ◌++◌, ◌∷◌, [], List, ap, subst, sym}
+use Rattle.std.proofs.Common.{◌∙◌, ◌++◌, ◌∷◌, [], List, ap}
 use Rattle.urlpattern.proofs.FixedLemmas.{indexed-push}
-use Rattle.urlpattern_meaning.specs.Outlines.{HasOutline}
-use Rattle.urlpattern_pattern.specs.declared.pattern.UrlPattern.{UrlPattern}
+use Rattle.urlpattern_pattern.specs.UrlPatterns.{UrlPattern}
 use Rattle.urlpattern.proofs.list.UrlPatternList.push.Goals as goal
 
 pub invariant_of-self-2 : goal.invariant_of-self-2
 invariant_of-self-2 g c =
     rw (c.in-Ok-push-2.ensures.items, c.reserve.ensures.items)
-    (indexed-push g.R.RegExp.answer c.self.inside.patterns.items c.self.inside.index c.self.invariant c.args.pattern _ _ c.in-Ok-push.ensures.appended
-    record {
-      protocol = c.fixed_text.ensures;
-      hostname = c.fixed_text-2.ensures;
-      pathname = λ text matched. subst (λ items. HasOutline items text) (sym c.deref.ensures.value) (c.in-Ok-outline_of.ensures text matched);
-    })
+    (indexed-push g.R.RegExp.answer c.self.inside.patterns.items c.self.inside.index c.self.invariant c.args.pattern _ _ c.in-Ok-push.ensures.appended c.fixed_of.ensures)
 
 pub returns-clause-appended : goal.returns-clause-appended
 returns-clause-appended g c =

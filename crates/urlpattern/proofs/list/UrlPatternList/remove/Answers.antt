@@ -1,14 +1,19 @@
 use Rattle.std.proofs.Common.{◌<◌, ◌≤◌, ◌∙◌, List, ap, arith, length, refl, sym}
-use Rattle.std.proofs.lemmas.Option.{slice_get_read}
+use Rattle.std.proofs.lemmas.Option.{slice_get_past, slice_get_read}
 use Rattle.std.specs.Prelude.{slice_get}
 use Rattle.urlpattern.proofs.FixedLemmas.{indexed-remove, remove-past}
-use Rattle.urlpattern_pattern.specs.declared.pattern.UrlPattern.{UrlPattern}
+use Rattle.urlpattern_pattern.specs.UrlPatterns.{UrlPattern}
 use Rattle.urlpattern.proofs.list.UrlPatternList.remove.Goals as goal
 
 pub returns-then-index-len-clause-others : goal.returns-then-index-len-clause-others
 returns-then-index-len-clause-others g c =
     let past : length c.args.self.now ≤ c.args.index = omega (arith, c.len.ensures, c.if-index-len.true, c.self.inside.patterns.ok, ap length c.self.view_is) in
     sym (remove-past c.args.self.now c.args.index past)
+
+pub returns-then-index-len-clause-removed : goal.returns-then-index-len-clause-removed
+returns-then-index-len-clause-removed g c =
+    let past : length c.args.self.now ≤ c.args.index = omega (arith, c.len.ensures, c.if-index-len.true, c.self.inside.patterns.ok, ap length c.self.view_is) in
+    sym (slice_get_past c.args.self.now c.args.index past)
 
 pub invariant_of-self : goal.invariant_of-self
 invariant_of-self g c =

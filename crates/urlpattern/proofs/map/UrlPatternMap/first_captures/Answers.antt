@@ -11,7 +11,7 @@ use Rattle.urlpattern_pattern.proofs.Results.{if_err}
 use Rattle.urlpattern_matches.specs.BorrowedMatches.{pattern_captures_view}
 use Rattle.urlpattern_pattern.specs.Match.{HasNoMatch}
 use Rattle.urlpattern_pattern.specs.Patterns.{pattern_view}
-use Rattle.urlpattern_pattern.specs.declared.pattern.UrlPattern.{UrlPattern}
+use Rattle.urlpattern_pattern.specs.UrlPatterns.{UrlPattern}
 use Rattle.urlpattern.specs.FirstMatch.{AsksBeforeMatch, HasGroupsInOrder, IsFirstMatch, patterns_view}
 use Rattle.urlpattern.proofs.map.UrlPatternMap.first_captures.Goals as goal
 

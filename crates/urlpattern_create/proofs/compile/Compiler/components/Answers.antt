@@ -1,18 +1,18 @@
-use Rattle.urlpattern_create.proofs.CompiledLemmas.{are_compiled, refused_behind}
+use Rattle.urlpattern_create.proofs.CompiledLemmas.{are_kept, kept_compiled, refused_behind}
 use Rattle.urlpattern_create.specs.CompilerSteps.{compiled_values}
 use Rattle.urlpattern_core.specs.Components.{component_view}
 use Rattle.urlpattern_create.proofs.compile.Compiler.components.Goals as goal
 
 pub returns-clause-compiled : goal.returns-clause-compiled
 returns-clause-compiled g c =
-    are_compiled g.R.RegExp
+    are_kept g.R.RegExp
     c.args.self.now.options.now (compiled_values c.args.self.now) c.in_ok-hierarchical.hierarchical
-    (component_view c.in_ok-protocol.protocol) c.after_protocol.result
+    (component_view c.in_ok-protocol.protocol.component) c.after_protocol.result
     c.in_ok-hierarchical.ensures.path_kind c.after_protocol.ensures.protocol c.after_protocol.ensures.compiled
 
 pub returns-clause-refused : goal.returns-clause-refused
 returns-clause-refused g c =
     refused_behind g.R.RegExp
     c.args.self.now.options.now (compiled_values c.args.self.now) c.in_ok-hierarchical.hierarchical
-    (component_view c.in_ok-protocol.protocol) c.after_protocol.result
-    c.in_ok-protocol.ensures.compiled c.in_ok-hierarchical.ensures.path_kind c.after_protocol.ensures.refused
+    (component_view c.in_ok-protocol.protocol.component) c.after_protocol.result
+    (kept_compiled g.R.RegExp _ c.in_ok-protocol.protocol c.in_ok-protocol.ensures.compiled) c.in_ok-hierarchical.ensures.path_kind c.after_protocol.ensures.refused

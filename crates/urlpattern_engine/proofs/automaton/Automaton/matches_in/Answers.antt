@@ -1,4 +1,4 @@
-use Rattle.std.proofs.Common.{◌≡◌, ◌-◌, true, List, ℕ, length, is_some, sym, ap, ◌∙◌, subst, arith}
+use Rattle.std.proofs.Common.{◌≡◌, true, List, ℕ, length, is_some, sym, ap, ◌∙◌, subst}
 use Rattle.std.specs.Prelude.{IfSome}
 use Rattle.regex_vm.specs.Found.{group_cells}
 use Rattle.urlpattern_engine.specs.Automatons.{match_at_start}

@@ -11,7 +11,7 @@ pub returns-in-Ok : goal.returns-in-Ok
 returns-in-Ok c =
     let own = c.args.self.now in
     let regex = c.in-Ok.regex in
-    let made = subst (λ (s : List ℕ). IsRegexReadAs own.ignore_case (chars s) regex) c.deref.ensures c.in-Ok.ensures in
+    let made = subst (λ (s : List ℕ). IsRegexReadAs own.ignore_case (chars s) regex) c.deref.ensures c.in-Ok.ensures.made in
     subst (λ answer. IfOk c.matches.result (λ found. captures_view found ≡ answer))
     (sym (automaton_same_once own.ignore_case (string_bytes own.text) own.nfa (IsUtf8-string_bytes own.text) own.is_made regex made c.args.text.now c.utf8.text))
     c.matches.ensures

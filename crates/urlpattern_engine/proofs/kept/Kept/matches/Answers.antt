@@ -1,8 +1,7 @@
-use Rattle.std.proofs.Common.{◌≡◌, ◌*◌, List, ℕ, length, sym, subst, ◌∙◌, arith}
+use Rattle.std.proofs.Common.{◌≡◌, ◌*◌, List, ℕ, length, sym, subst, arith}
 use Rattle.std.proofs.lemmas.List.{length-map}
 use Rattle.std.proofs.lemmas.Str.{IsUtf8-string_bytes}
 use Rattle.std.specs.Prelude.{IfOk, option_map, string_bytes}
-use Rattle.std.specs.Str.{chars}
 use Rattle.urlpattern_meaning.specs.CaptureTexts.{captures_view}
 use Rattle.urlpattern_engine.specs.Automatons.{IsNfaOf, names_of}
 use Rattle.urlpattern_engine.proofs.AutomatonLemmas.{automaton_as_tree, is_nfa_of_tree}

@@ -1,4 +1,4 @@
-use Rattle.std.proofs.Common.{◌≡◌, ◌≤◌, ◌∙◌, ap, arith, length, map, sym}
+use Rattle.std.proofs.Common.{◌≤◌, ◌∙◌, ap, arith, length, map, sym}
 use Rattle.std.proofs.lemmas.List.{length-map}
 use Rattle.urlpattern_index.proofs.GroupLemmas.{group-at, group-past, groups_view}
 use Rattle.urlpattern_index.specs.Keys.{form_view, group}

@@ -24,3 +24,7 @@ returns-clause-refused g c =
       | inl memory ↦ inl memory
       | inr reported ↦ inr (inr (c.in_ok-init.init, c.in_ok-init.ensures.constructed, reported))
     ]) c.parse.ensures.refused
+
+pub returns-clause-kept : goal.returns-clause-kept
+returns-clause-kept g c =
+    IfOk-weaker c.parse.result _ _ (λ pattern kept. (c.in_ok-init.init, c.in_ok-init.ensures.constructed, kept)) c.parse.ensures.kept

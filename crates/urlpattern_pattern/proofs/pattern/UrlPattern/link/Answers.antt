@@ -1,26 +1,46 @@
+use Rattle.std.proofs.Common.{rules, sym, subst, IfSome}
 use Rattle.urlpattern_generate.specs.Manners.{given_groups}
-use Rattle.urlpattern_pattern.proofs.LinkedLemmas.{canonical_made, drafts_linked, links_matched}
-use Rattle.urlpattern_pattern.specs.LinkedUrls.{RefusesLink}
+use Rattle.urlpattern_pattern.proofs.LinkedLemmas.{link_matched, link_returns, linked, refused_reading, refused_text, refused_url}
+use Rattle.urlpattern_pattern.specs.LinkedUrls.{IsConfirmedBefore}
 use Rattle.urlpattern_pattern.specs.Patterns.{pattern_view}
+use Rattle.urlpattern_pattern.specs.UrlPatterns.{AreMadeOfParts}
 use Rattle.urlpattern_url.specs.UrlsOfTexts.{cow_texts}
 use Rattle.urlpattern_pattern.proofs.pattern.UrlPattern.link.Goals as goal
 
-pub returns-then-makes_canonical-clause-generated : goal.returns-then-makes_canonical-clause-generated
-returns-then-makes_canonical-clause-generated g c =
-    drafts_linked g.R.RegExp.answer (pattern_view c.args.self.now) (given_groups c.args.groups.now) c.in-Ok.hierarchical c.in-Ok.ensures.path_kind (cow_texts c.in-Some.texts) c.in-Some.ensures
-    c.url_of_texts-made.result (c.makes_canonical.ensures c.if-makes_canonical.true) c.url_of_texts-made.ensures.has c.url_of_texts-made.ensures.read
+pub returns-in-Err : goal.returns-in-Err
+returns-in-Err g c = record {
+  generated = tt;
+  returns = tt;
+  matched = tt;
+  refused = refused_text g.R.RegExp.answer c.args.self.now c.in-Some.parts.now (given_groups c.args.groups.now) (sym c.in-Some.ensures.parts) c.in-Err.error (search rules) c.in-Err.ensures.refused;
+}
 
-pub returns-then-makes_canonical-clause-matched : goal.returns-then-makes_canonical-clause-matched
-returns-then-makes_canonical-clause-matched g c =
-    links_matched g.R.RegExp.answer (pattern_view c.args.self.now) (given_groups c.args.groups.now) c.url_of_texts-made.result
-    (drafts_linked g.R.RegExp.answer (pattern_view c.args.self.now) (given_groups c.args.groups.now) c.in-Ok.hierarchical c.in-Ok.ensures.path_kind (cow_texts c.in-Some.texts) c.in-Some.ensures
-    c.url_of_texts-made.result (c.makes_canonical.ensures c.if-makes_canonical.true) c.url_of_texts-made.ensures.has c.url_of_texts-made.ensures.read)
+pub returns-in-Err-url_of_texts-clause-refused : goal.returns-in-Err-url_of_texts-clause-refused
+returns-in-Err-url_of_texts-clause-refused g c =
+    refused_url g.R.RegExp.answer c.args.self.now c.in-Some.parts.now (given_groups c.args.groups.now) (sym c.in-Some.ensures.parts) (cow_texts c.in-Ok.texts) c.in-Err-url_of_texts.error
+    c.in-Ok.ensures.written c.in-Err-url_of_texts.ensures.refused
 
-pub returns-then-makes_canonical-clause-refused : goal.returns-then-makes_canonical-clause-refused
-returns-then-makes_canonical-clause-refused g c =
-    canonical_made (pattern_view c.args.self.now) c.in-Ok.hierarchical (cow_texts c.in-Some.texts) c.url_of_texts-made.result
-    (RefusesLink g.R.RegExp.answer (pattern_view c.args.self.now) (given_groups c.args.groups.now)) (c.makes_canonical.ensures c.if-makes_canonical.true)
+pub returns-in-None-clause-generated : goal.returns-in-None-clause-generated
+returns-in-None-clause-generated g c =
+    linked g.R.RegExp.answer c.args.self.now c.in-Some.parts.now (given_groups c.args.groups.now) (sym c.in-Some.ensures.parts) (cow_texts c.in-Ok.texts) c.in-Ok-url_of_texts.url
+    c.in-Ok.ensures.written c.in-Ok-url_of_texts.ensures.has c.in-Ok-url_of_texts.ensures.read
+    (subst (IsConfirmedBefore g.R.RegExp.answer (pattern_view c.args.self.now) c.in-Some.parts.now (given_groups c.args.groups.now) (cow_texts c.in-Ok.texts)) c.in-None.is c.in_ok-unconfirmed.ensures)
 
-pub returns-clause-matched : goal.returns-clause-matched
-returns-clause-matched g c =
-    links_matched g.R.RegExp.answer (pattern_view c.args.self.now) (given_groups c.args.groups.now) c.generated_link.result c.generated_link.ensures.generated
+pub returns-in-None-clause-returns : goal.returns-in-None-clause-returns
+returns-in-None-clause-returns g c =
+    link_returns g.R.RegExp.answer c.args.self.now c.in-Some.parts.now (given_groups c.args.groups.now) (sym c.in-Some.ensures.parts) g.R.RegExp (cow_texts c.in-Ok.texts) c.in-Ok-url_of_texts.url
+    (subst (λ of. IfSome of (λ own. AreMadeOfParts g.R.RegExp own (pattern_view c.args.self.now))) (sym c.in-Some.ensures.parts) c.parts.ensures.made)
+    c.in-Ok-url_of_texts.ensures.has
+    (subst (IsConfirmedBefore g.R.RegExp.answer (pattern_view c.args.self.now) c.in-Some.parts.now (given_groups c.args.groups.now) (cow_texts c.in-Ok.texts)) c.in-None.is c.in_ok-unconfirmed.ensures)
+
+pub returns-in-None-clause-matched : goal.returns-in-None-clause-matched
+returns-in-None-clause-matched g c =
+    link_matched g.R.RegExp.answer c.args.self.now c.in-Some.parts.now (given_groups c.args.groups.now) (sym c.in-Some.ensures.parts) (cow_texts c.in-Ok.texts) c.in-Ok-url_of_texts.url
+    c.in-Ok-url_of_texts.ensures.has
+    (subst (IsConfirmedBefore g.R.RegExp.answer (pattern_view c.args.self.now) c.in-Some.parts.now (given_groups c.args.groups.now) (cow_texts c.in-Ok.texts)) c.in-None.is c.in_ok-unconfirmed.ensures)
+
+pub returns-clause-refused : goal.returns-clause-refused
+returns-clause-refused g c =
+    refused_reading g.R.RegExp.answer c.args.self.now c.in-Some.parts.now (given_groups c.args.groups.now) (sym c.in-Some.ensures.parts) (cow_texts c.in-Ok.texts) c.in-Ok-url_of_texts.url c.in-Some-2.component
+    c.in-Ok.ensures.written c.in-Ok-url_of_texts.ensures.has c.in-Ok-url_of_texts.ensures.read
+    (subst (IsConfirmedBefore g.R.RegExp.answer (pattern_view c.args.self.now) c.in-Some.parts.now (given_groups c.args.groups.now) (cow_texts c.in-Ok.texts)) c.in-Some-2.is c.in_ok-unconfirmed.ensures)

@@ -1,0 +1,35 @@
+-- Lemmas on the parts of patterns.
+use Rattle.std.proofs.Common.{◌≡◌, ◌∙◌, ◌<◌, ◌+◌, ℕ, Bor, List, [], ◌∷◌, ◌++◌, ap, get_or, length, map, subst, sym, take}
+use Rattle.std.proofs.lemmas.List.{get_or-map, length-map, map_more, map_push}
+use Rattle.std.proofs.lemmas.List.Elements.{Contains-get_or}
+use Rattle.std.specs.Prelude.{Contains, Option, None, Some}
+use Rattle.urlpattern.specs.Unreached.{HaveAllParts}
+use Rattle.urlpattern_pattern.specs.UrlPatterns.{UrlPattern}
+use Rattle.urlpattern_rules.specs.declared.pattern.PatternParts.{PatternParts}
+
+-- the parts of a pattern
+abbrev pub parts_of : {E : Type 0} → UrlPattern E → Option PatternParts
+parts_of pattern = pattern.parts
+
+-- what references lead to
+abbrev pub all_now : List (Bor PatternParts) → List PatternParts
+all_now parts = map (λ (them : Bor PatternParts). them.now) parts
+
+module _ {E : Type 0} (patterns : List (UrlPattern E)) (i : ℕ) (pattern : UrlPattern E) (within : i < length patterns) (is : pattern ≡ get_or patterns i pattern) where
+  -- the parts of one more pattern
+  pub parts_more : (old new : List (Bor PatternParts)) (parts : Bor PatternParts) → pattern.parts ≡ Some parts.now → new ≡ old ++ parts ∷ []
+      → HaveAllParts (take i patterns) (all_now old) → HaveAllParts (take (i + 1) patterns) (all_now new)
+  parts_more old new parts has grown have =
+      let seen = map parts_of (take i patterns) in
+      let one_more : map parts_of (take (i + 1) patterns) ≡ seen ++ parts_of (get_or patterns i pattern) ∷ [] = map_more parts_of patterns i pattern within in
+      let last : parts_of (get_or patterns i pattern) ≡ Some parts.now = ap parts_of (sym is) ∙ has in
+      let pushed : all_now new ≡ all_now old ++ parts.now ∷ [] = ap all_now grown ∙ map_push (λ (them : Bor PatternParts). them.now) old parts in
+      let all : map Some (all_now new) ≡ map Some (all_now old) ++ Some parts.now ∷ [] = ap (map Some) pushed ∙ map_push Some (all_now old) parts.now in
+      one_more ∙ ap (λ one. seen ++ one ∷ []) last ∙ ap (λ them. them ++ Some parts.now ∷ []) have ∙ sym all
+
+  -- a pattern without parts is among them
+  pub has_none : pattern.parts ≡ None → Contains (map parts_of patterns) None
+  has_none none =
+      let inside : i < length (map parts_of patterns) = subst (λ count. i < count) (sym (length-map patterns parts_of)) within in
+      let at_i : get_or (map parts_of patterns) i None ≡ None = get_or-map parts_of patterns i pattern None within ∙ ap parts_of (sym is) ∙ none in
+      subst (Contains (map parts_of patterns)) at_i (Contains-get_or (map parts_of patterns) i None inside)

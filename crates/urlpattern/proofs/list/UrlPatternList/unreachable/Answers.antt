@@ -1,0 +1,16 @@
+use Rattle.std.proofs.Common.{◌∙◌, Bor, List, subst}
+use Rattle.urlpattern.proofs.UnreachedLemmas.{all_now}
+use Rattle.urlpattern.specs.Unreached.{HaveAllParts}
+use Rattle.urlpattern_pattern.specs.UrlPatterns.{UrlPattern}
+use Rattle.urlpattern_rules.specs.Comparing.{AreUnreachable}
+use Rattle.urlpattern_rules.specs.declared.pattern.PatternParts.{PatternParts}
+use Rattle.urlpattern.proofs.list.UrlPatternList.unreachable.Goals as goal
+
+pub returns-clause-found : goal.returns-clause-found
+returns-clause-found g c =
+    let parts = all_now c.in_ok-parts.parts.items in
+    let found = c.in_ok-unreachable.field-0.items in (
+      parts,
+      subst (λ (patterns : List (UrlPattern g.row.R.Denot)). HaveAllParts patterns parts) (c.deref.ensures.value ∙ c.self.view_is) c.in_ok-parts.ensures.parts,
+      subst (λ (them : List (Bor PatternParts)). AreUnreachable (all_now them) found) c.deref-2.ensures.value c.in_ok-unreachable.ensures,
+    )

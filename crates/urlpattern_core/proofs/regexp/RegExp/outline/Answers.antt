@@ -1,8 +1,0 @@
-use Rattle.std.proofs.Common.{[], refl, subst, sym}
-use Rattle.std.proofs.lemmas.List.{append-nil}
-use Rattle.urlpattern_meaning.specs.Outlines.{HasOutline}
-use Rattle.urlpattern_core.proofs.regexp.RegExp.outline.Goals as goal
-
-pub returns : goal.returns
-returns g c = λ text matched.
-    subst (λ items. HasOutline items text) (sym c.in_ok-vec.ensures.items) (text, [], sym (append-nil text), tt, refl)

@@ -1,0 +1,60 @@
+//! Bounds the room that an expression takes.
+
+ghost use Rattle.std.specs.Prelude.{◌≡◌, ◌≤◌, true, codes, map, sum};
+ghost use Rattle.std.specs.Str.{chars};
+ghost use Rattle.urlpattern_engine.specs.Refusals.{IsLarge, copies_in, number_from, room_of};
+
+use crate::automaton::SIZE_LIMIT;
+use urlpattern_syntax::tokenizer::split_first;
+
+/// Whether an expression may take more room than an automaton has, by what its characters and
+/// numbers may take.
+pub(crate) fn is_large(regexp: &str) -> bool
+    ensures { result ≡ true → IsLarge (chars regexp.now) }
+{
+    copies(regexp).saturating_mul(room(regexp)) > SIZE_LIMIT
+}
+
+/// How many bytes the characters of an expression may take, each of them once.
+fn room(regexp: &str) -> usize
+    ensures { result ≤ sum (map room_of (chars regexp.now)) }
+{
+    let mut room: usize = 0;
+    let mut rest = regexp;
+    while let Some((c, remaining)) = split_first(rest) {
+        room = room.saturating_add(if c == '\\' { 1 << 14 } else { 1 << 8 });
+        rest = remaining;
+    }
+    room
+}
+
+/// How many copies of a piece the numbers of an expression make together.
+fn copies(regexp: &str) -> usize
+    ensures { result ≤ copies_in (chars regexp.now) }
+{
+    let mut copies: usize = 1;
+    let mut rest = regexp;
+    while let Some((c, remaining)) = split_first(rest) {
+        if matches!(c, '{' | ',') {
+            copies = copies.saturating_mul(number(remaining).max(1));
+        }
+        rest = remaining;
+    }
+    copies
+}
+
+/// The number that a text begins with, or 0. A very large one may be returned as a smaller one.
+fn number(text: &str) -> usize
+    ensures { result ≤ number_from 0 (chars text.now) }
+{
+    let mut number: usize = 0;
+    let mut rest = text;
+    while let Some((c, remaining)) = split_first(rest) {
+        let Some(digit) = c.to_digit(10) else {
+            break;
+        };
+        number = number.saturating_mul(10).saturating_add(digit as usize);
+        rest = remaining;
+    }
+    number
+}

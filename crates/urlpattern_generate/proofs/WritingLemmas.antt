@@ -1,0 +1,115 @@
+-- The text of parts, part by part.
+use Rattle.std.proofs.Common.{◌≡◌, ◌+◌, ◌∙◌, ◌≤◌, ◌<◌, ℕ, true, List, [], ◌∷◌, ◌++◌, add-one, ap, append-nil, drop, get_or, inr, length, refl, sym, subst, take, take_all, Option, Some, None, Result, Ok, Err, Bool}
+use Rattle.std.proofs.Math.Seq.{drop-cons}
+use Rattle.std.proofs.lemmas.List.{map-append, take-append-drop, take_more}
+use Rattle.std.specs.Prelude.{◌&&◌, ◌↔◌, IfOk, IfSome, IsTrue}
+use Rattle.std.specs.{Borrow.Bor, Str.chars}
+use Rattle.urlpattern_eight.specs.declared.eight.ComponentName.{ComponentName}
+use Rattle.urlpattern_generate.proofs.AskedLemmas.{each_alone, each_joined, fixed_alone, fixed_text_alone, text_alone, texts_joined}
+use Rattle.urlpattern_generate.specs.Asked.{IsAsked, IsAskedBy}
+use Rattle.urlpattern_generate.specs.Manners.{WritingManner}
+use Rattle.urlpattern_generate.specs.Writing.{CannotWrite, IsWritten, RefusesPart}
+use Rattle.urlpattern_generate.specs.declared.error.GenerateError.{GenerateError}
+use Rattle.urlpattern_links.specs.Links.{IsCopyText, MayCapture, fewest_copies, text_of_group, text_of_parts}
+use Rattle.urlpattern_meaning.specs.PartMeaning.{Allows}
+use Rattle.urlpattern_syntax.specs.declared.parser.Part.{Part}
+use Rattle.urlpattern_syntax.specs.declared.parser.PartModifier.TheVariants as modifiers
+use Rattle.urlpattern_syntax.specs.declared.parser.PartType.TheVariants.{FixedText, FullWildcard}
+use Rattle.urlpattern_syntax.specs.Parts.{PartView, part_view, parts_view}
+use Rattle.urlpattern_syntax.specs.RegexpText.{is_empty}
+use Rattle.urlpattern_syntax.specs.Text.{lacks, line_feed}
+
+-- ---- texts
+
+pub nothing_written : (manner : WritingManner) → IsWritten manner [] []
+nothing_written manner = record { captures = []; are_asked = refl; may_capture = refl; is_text = refl }
+
+pub written_joined : (manner : WritingManner) (parts others : List PartView) (text more : List ℕ) → IsWritten manner parts text → IsWritten manner others more → IsWritten manner (parts ++ others) (text ++ more)
+written_joined manner parts others text more written also = record {
+  captures = written.captures ++ also.captures;
+  are_asked = each_joined (IsAsked manner) parts others written.captures also.captures written.are_asked also.are_asked;
+  may_capture = each_joined (MayCapture manner.options) parts others written.captures also.captures written.may_capture also.may_capture;
+  is_text = ap (λ own. own ++ more) written.is_text ∙ ap (λ other. text_of_parts parts written.captures ++ other) also.is_text ∙ sym (texts_joined (IsAsked manner) parts others written.captures also.captures written.are_asked);
+}
+
+pub fixed_written : (manner : WritingManner) (part : PartView) → part.kind ≡ FixedText → IsWritten manner (part ∷ []) (fewest_copies part.modifier part.value)
+fixed_written manner part e = record {
+  captures = [];
+  are_asked = fixed_alone (IsAsked manner) part.kind part e;
+  may_capture = fixed_alone (MayCapture manner.options) part.kind part e;
+  is_text = sym (fixed_text_alone part e);
+}
+
+pub group_written : (manner : WritingManner) (part : PartView) (capture : Option (List ℕ)) → ¬ (part.kind ≡ FixedText) → IsAsked manner part capture → MayCapture manner.options part capture →
+    IsWritten manner (part ∷ []) (text_of_group part capture)
+group_written manner part capture group asked may = record {
+  captures = capture ∷ [];
+  are_asked = each_alone (IsAsked manner) part capture group asked;
+  may_capture = each_alone (MayCapture manner.options) part capture group may;
+  is_text = sym (text_alone part capture group);
+}
+
+-- ---- parts up to an index
+
+parts_more : (list : List Part) (i : ℕ) (part : Part) → i < length list → part ≡ get_or list i part → parts_view (take (i + 1) list) ≡ parts_view (take i list) ++ part_view part ∷ []
+parts_more list i part within is =
+    ap parts_view (take_more list i part within) ∙ map-append part_view (take i list) (get_or list i part ∷ []) ∙ ap (λ p. parts_view (take i list) ++ part_view p ∷ []) (sym is)
+
+parts_cut : (list : List Part) (i : ℕ) (part : Part) → i < length list → part ≡ get_or list i part → parts_view list ≡ parts_view (take i list) ++ part_view part ∷ parts_view (drop (i + 1) list)
+parts_cut list i part within is =
+    ap parts_view (sym (take-append-drop i list)) ∙ map-append part_view (take i list) (drop i list)
+    ∙ ap (λ rest. parts_view (take i list) ++ parts_view rest) (drop-cons list i part within ∙ ap (λ n. get_or list i part ∷ drop n list) (sym (add-one i)))
+    ∙ ap (λ p. parts_view (take i list) ++ part_view p ∷ parts_view (drop (i + 1) list)) (sym is)
+
+-- the text of one part more
+pub written_more : (manner : WritingManner) (list : List Part) (i : ℕ) (part : Part) (text more now : List ℕ) → i < length list → part ≡ get_or list i part → IsWritten manner (parts_view (take i list)) text →
+    IsWritten manner (part_view part ∷ []) more → now ≡ text ++ more → IsWritten manner (parts_view (take (i + 1) list)) now
+written_more manner list i part text more now within is written also e =
+    subst (IsWritten manner (parts_view (take (i + 1) list))) (sym e)
+    (subst (λ parts. IsWritten manner parts (text ++ more)) (sym (parts_more list i part within is)) (written_joined manner (parts_view (take i list)) (part_view part ∷ []) text more written also))
+
+-- all parts
+pub all_written : (manner : WritingManner) (list : List Part) (i : ℕ) (text : List ℕ) → length list ≤ i → IsWritten manner (parts_view (take i list)) text → IsWritten manner (parts_view list) text
+all_written manner list i text past written = subst (λ parts. IsWritten manner (parts_view parts) text) (take_all i list past) written
+
+-- a part that is refused after those before it were written
+pub refused_there : (component : ComponentName) (manner : WritingManner) (list : List Part) (i : ℕ) (part : Part) (text : List ℕ) (error : GenerateError) → i < length list → part ≡ get_or list i part →
+    IsWritten manner (parts_view (take i list)) text → RefusesPart component manner (part_view part) error → CannotWrite component manner (parts_view list) error
+refused_there component manner list i part text error within is written refused =
+    inr (parts_view (take i list), parts_view (drop (i + 1) list), part_view part, text, parts_cut list i part within is, written, refused)
+
+-- ---- one part whose text need not be made
+
+pub lent_written : (manner : WritingManner) (part : PartView) (text : List ℕ) → part.kind ≡ FullWildcard → part.modifier ≡ modifiers.None → (is_empty part.prefix && is_empty part.suffix) ≡ true → IsAsked manner part (Some text) →
+    IsTrue (lacks line_feed text) → IsWritten manner (part ∷ []) text
+lent_written manner part text e f bare asked line =
+    let none = both_nothing part.prefix part.suffix bare in
+    let may : MayCapture manner.options part (Some text) =
+    inr (0, subst (λ m. Allows m 1) (sym f) refl, subst (λ k. IsCopyText manner.options k text) (sym e) line) in
+    subst (IsWritten manner (part ∷ [])) (ap (λ front. front ++ text ++ part.suffix) none.0 ∙ ap (λ back. text ++ back) none.1 ∙ append-nil text)
+    (group_written manner part (Some text) (λ fixed. cc) asked may)
+  where
+    both_nothing : (prefix suffix : List ℕ) → (is_empty prefix && is_empty suffix) ≡ true → (prefix ≡ []) × (suffix ≡ [])
+    both_nothing [] [] bare = (refl, refl)
+    both_nothing [] (c ∷ suffix) bare = cc bare
+    both_nothing (c ∷ prefix) suffix bare = cc bare
+
+-- the same of what may be borrowed
+pub lent_if : (manner : WritingManner) (part : PartView) (found : Option (Bor (List ℕ))) → part.kind ≡ FullWildcard → part.modifier ≡ modifiers.None → (is_empty part.prefix && is_empty part.suffix) ≡ true →
+    IfSome found (λ text. IsAsked manner part (Some (chars text.now))) → IfSome found (λ text. IsTrue (lacks line_feed (chars text.now))) → IfSome found (λ text. IsWritten manner (part ∷ []) (chars text.now))
+lent_if manner part None e f bare asked line = tt
+lent_if manner part (Some text) e f bare asked line = lent_written manner part (chars text.now) e f bare asked line
+
+-- ---- what is asked of a group to which a text is given
+
+pub asked_form : {Fault : Type 0} (manner : WritingManner) (part : PartView) (given value : List ℕ) (r : Result Bool Fault) → manner.given part.name ≡ Some given →
+    IfOk r (λ has. IsTrue has ↔ (manner.canonical given ≡ Ok value)) → IfOk r (λ is. IsTrue is ↔ IsAsked manner part (Some value))
+asked_form manner part given value (Err fault) e tested = tt
+asked_form manner part given value (Ok is) e tested =
+    subst (λ text. IsTrue is ↔ IsAskedBy manner.canonical text part (Some value)) (sym e) (
+      (λ yes. (value, tested.0 yes, refl)),
+      (λ (other, form, same). tested.1 (form ∙ ap (λ t. Ok t) (some_same other value same))),
+    )
+  where
+    some_same : (other value : List ℕ) → Some value ≡ Some other → other ≡ value
+    some_same other value same = cc same

@@ -1,0 +1,14 @@
+use Rattle.std.proofs.Common.{◌↔◌, ◌≤◌, drop, length, map}
+use Rattle.urlpattern_generate.specs.Asked.{AreAsked}
+use Rattle.urlpattern_generate.specs.Writing.{manner_of_writer}
+use Rattle.urlpattern_syntax.specs.ComponentParts.{kept_parts}
+use Rattle.urlpattern_syntax.specs.Parts.{parts_view}
+use Rattle.urlpattern_syntax.specs.Text.{option_text}
+use Rattle.urlpattern_generate.proofs.writer.Writer.are_asked.Given as goal
+
+-- all captures are what is asked where those that are left are what is asked of the parts that are left
+abbrev pub invariant-loop-part : goal.invariant-loop-part
+invariant-loop-part l = record {
+  within : l.next ≤ length l.found;
+  asked : AreAsked (manner_of_writer l.self) (parts_view (drop l.part-index l.part-items)) (drop l.next (map option_text l.found)) ↔ AreAsked (manner_of_writer l.self) (kept_parts l.self.kept.now) (map option_text l.found);
+}

@@ -1,0 +1,155 @@
+//! Whether a matcher finds in a text what is asked of the groups.
+
+ghost use Rattle.std.specs.Prelude.{◌≡◌, ◌↔◌, ◌≤◌, false, length, map, IfOk, IfSome, IsTrue, Ok};
+ghost use Rattle.std.specs.Str.{chars};
+ghost use Rattle.urlpattern_core.specs.Components.{IsEngineOf, engine_flags};
+ghost use Rattle.urlpattern_core.specs.Matchers.{matcher_view};
+ghost use Rattle.urlpattern_generate.specs.Asked.{AreAsked, IsAsked};
+ghost use Rattle.urlpattern_generate.specs.Generating.{ReadsWritten, TellsFound, has_one_case};
+ghost use Rattle.urlpattern_generate.specs.Writing.{IsWritten, LeavesAsked, manner_of_writer};
+ghost use Rattle.urlpattern_meaning.specs.Matching.{IsMadeOf};
+ghost use Rattle.urlpattern_syntax.specs.ComponentParts.{kept_options, kept_parts};
+ghost use Rattle.urlpattern_syntax.specs.Parts.{part_view};
+ghost use Rattle.urlpattern_syntax.specs.Text.{option_text};
+
+use crate::captures::capture_not_given;
+use crate::groups::{given_text, is_same_text};
+use crate::writer::Writer;
+use std::alloc::AllocError;
+use urlpattern_core::matcher::{InnerMatcher, Matcher};
+use urlpattern_core::regexp::RegExp;
+use urlpattern_syntax::parser::{Part, PartType};
+
+impl Writer<'_> {
+    /// Whether a matcher that was made of the parts finds in their text what is asked of the groups. It need not be looked at where it
+    /// has no engine.
+    #[inline(always)]
+    pub(crate) fn confirms<R: RegExp>(
+        &self,
+        matcher: &Matcher<R>,
+        text: &str,
+    ) -> Result<bool, AllocError>
+        requires made { IsMadeOf (IsEngineOf R.RegExp false (engine_flags (kept_options self.now.kept.now)))
+            (kept_options self.now.kept.now) (kept_parts self.now.kept.now) (matcher_view matcher.now) }
+        requires written { IsWritten (manner_of_writer self.now) (kept_parts self.now.kept.now) (chars text.now) }
+        ensures { IfOk result (λ is. TellsFound is R.answer (matcher_view matcher.now) (manner_of_writer self.now) (kept_parts self.now.kept.now) (chars text.now)) }
+    {
+        if reads_what_is_written(matcher) {
+            return Ok(true);
+        }
+        self.finds(matcher, text)
+    }
+
+    /// Whether a matcher finds in a text what is asked of the groups.
+    #[inline(never)]
+    fn finds<R: RegExp>(&self, matcher: &Matcher<R>, text: &str) -> Result<bool, AllocError>
+        ensures { IfOk result (λ is. TellsFound is R.answer (matcher_view matcher.now) (manner_of_writer self.now) (kept_parts self.now.kept.now) (chars text.now)) }
+    {
+        let Ok(found) = matcher.matches(self.alloc, text) else {
+            return Err(AllocError);
+        };
+        match found {
+            Some(found) => self.are_asked(&found),
+            None => Ok(false),
+        }
+    }
+
+    /// Whether these captures are what is asked of the groups.
+    fn are_asked(&self, found: &[Option<&str>]) -> Result<bool, AllocError>
+        ensures { IfOk result (λ are. IsTrue are ↔ AreAsked (manner_of_writer self.now) (kept_parts self.now.kept.now) (map option_text found.now)) }
+    {
+        let mut next = 0;
+        for part in &self.kept.parts {
+            match self.after_asked(part, found, next)? {
+                Some(later) => next = later,
+                None => return Ok(false),
+            }
+        }
+        Ok(next == found.len())
+    }
+
+    /// The index after the capture of a part, which is at this index and what is asked of the part. `None`: it is not.
+    fn after_asked(
+        &self,
+        part: &Part,
+        found: &[Option<&str>],
+        index: usize,
+    ) -> Result<Option<usize>, AllocError>
+        requires { index ≤ length found.now }
+        ensures next { IfOk result (LeavesAsked (manner_of_writer self.now) (part_view part.now) (map option_text found.now) index) }
+        ensures within { IfOk result (λ next. IfSome next (λ later. later ≤ length found.now)) }
+    {
+        if part.kind == PartType::FixedText {
+            return Ok(Some(index));
+        }
+        if index == found.len() {
+            return Ok(None);
+        }
+        if self.is_asked(part, found[index])? {
+            Ok(Some(index + 1))
+        } else {
+            Ok(None)
+        }
+    }
+
+    /// Whether a capture is what is asked of a group.
+    fn is_asked(&self, part: &Part, capture: Option<&str>) -> Result<bool, AllocError>
+        ensures { IfOk result (λ is. IsTrue is ↔ IsAsked (manner_of_writer self.now) (part_view part.now) (option_text capture.entry)) }
+    {
+        let Some(given) = given_text(self.groups, self.component, &part.name) else {
+            return Ok(is_same(capture, capture_not_given(part)));
+        };
+        match capture {
+            Some(value) => self.has_form(given, value),
+            None => Ok(false),
+        }
+    }
+
+    /// Whether the canonical form of a text is this. A refusal of `url` is reported as memory that ran out: what was written is not
+    /// refused.
+    fn has_form(&self, given: &str, value: &str) -> Result<bool, AllocError>
+        ensures { IfOk result (λ has. IsTrue has ↔ ((manner_of_writer self.now).canonical (chars given.now) ≡ Ok (chars value.now))) }
+    {
+        if self.keeps(given) {
+            return Ok(is_same_text(given, value));
+        }
+        match self.canonical(given) {
+            Ok(form) => Ok(is_same_text(&form, value)),
+            Err(_) => Err(AllocError),
+        }
+    }
+}
+
+/// Whether a matcher finds what was written: it has no engine, and if case is ignored, its filter has one case.
+fn reads_what_is_written<R>(matcher: &Matcher<R>) -> bool
+    ensures { IsTrue result → ReadsWritten matcher.now.ignore_case (matcher_view matcher.now).inner }
+{
+    match &matcher.inner {
+        InnerMatcher::Literal { .. } => true,
+        InnerMatcher::SingleCapture { filter, .. } => {
+            !matcher.ignore_case || has_one_case(*filter)
+        }
+        InnerMatcher::RegExp { .. } => false,
+    }
+}
+
+/// Whether a filter's character, if it has one, is no ASCII letter.
+fn has_one_case(filter: Option<char>) -> bool
+    ensures { result ≡ has_one_case filter }
+{
+    match filter {
+        None => true,
+        Some(c) => !c.is_ascii_alphabetic(),
+    }
+}
+
+/// Whether two captures are the same.
+fn is_same(capture: Option<&str>, other: Option<&str>) -> bool
+    ensures { IsTrue result ↔ (option_text capture.entry ≡ option_text other.entry) }
+{
+    match (capture, other) {
+        (Some(text), Some(other)) => is_same_text(text, other),
+        (None, None) => true,
+        _ => false,
+    }
+}

@@ -1,0 +1,34 @@
+-- What is known of the texts that a component matches, by its parts.
+use Rattle.std.specs.Prelude.{◌≡◌, ℕ, false, true, List, [], ◌∷◌, IsTrue, Option}
+use Rattle.urlpattern_core.specs.Components.{IsComponentOf, component_view}
+use Rattle.urlpattern_core.specs.declared.component.Component.{Component}
+use Rattle.urlpattern_core.specs.declared.regexp.RegExp.{Ghosts as Engine}
+use Rattle.urlpattern_index.specs.Paths.{FitsParts}
+use Rattle.urlpattern_meaning.specs.Matching.{IsMatched}
+use Rattle.urlpattern_meaning.specs.PartMeaning.{Captures}
+use Rattle.urlpattern_syntax.specs.ComponentParts.{kept_options, kept_parts}
+use Rattle.urlpattern_syntax.specs.declared.parts.ComponentParts.{ComponentParts}
+use Rattle.urlpattern_syntax.specs.{Options.OptionsView, Parts.PartView, RegexpText.is_plain}
+
+-- the component is made of the parts by the engine
+abbrev pub IsOfParts : {E : Type 0} → Engine E → ComponentParts → Component E → Type 0
+IsOfParts engine kept component =
+    IsComponentOf engine (kept_options kept) (kept_parts kept) (component_view component)
+
+-- each text that the component matches is one of these
+abbrev pub MatchesOnly : {E : Type 0} → (answer : E → List ℕ → Option Captures) → Component E
+    → (Is : List ℕ → Type 0) → Type 0
+MatchesOnly answer component Is =
+    (text : List ℕ) → IsMatched answer (component_view component).matcher text → Is text
+
+-- the text is made up of texts that fit the parts
+abbrev pub FitsKept : ComponentParts → List ℕ → Type 0
+FitsKept kept text = FitsParts true (kept_options kept).delimiter (kept_parts kept) text
+
+-- these are none of the parts, or the plain fixed text that they begin with, where case is kept
+abbrev pub IsFirstText : OptionsView → List PartView → (first : List PartView) → Type 0
+IsFirstText options parts [] = Unit {0}
+IsFirstText options parts (first ∷ []) =
+    (options.ignore_case ≡ false) × IsTrue (is_plain first)
+    × (rest : List PartView) × (parts ≡ first ∷ rest)
+IsFirstText options parts more = ⊥

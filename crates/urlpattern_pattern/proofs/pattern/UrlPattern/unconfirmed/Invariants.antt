@@ -1,0 +1,11 @@
+use Rattle.std.proofs.Common.{take}
+use Rattle.std.specs.Prelude.{All}
+use Rattle.urlpattern_generate.specs.Manners.{given_groups}
+use Rattle.urlpattern_pattern.specs.LinkedUrls.{IsConfirmed}
+use Rattle.urlpattern_pattern.specs.Patterns.{pattern_view}
+use Rattle.urlpattern_url.specs.UrlsOfTexts.{cow_texts}
+use Rattle.urlpattern_pattern.proofs.pattern.UrlPattern.unconfirmed.Given as goal
+
+-- the matchers of the components so far find what is asked
+abbrev pub invariant-loop-name : goal.invariant-loop-name
+invariant-loop-name g l = All (IsConfirmed g.R.RegExp.answer (pattern_view l.self) l.parts (given_groups l.groups) (cow_texts l.texts)) (take l.name-index l.name-items)

@@ -1,0 +1,43 @@
+-- The parts that a compiled pattern keeps: those that its texts read as, of which its components are made.
+use Rattle.std.specs.Prelude.{◌≡◌, ℕ, Bool, List, Ok, Option, Some}
+use Rattle.urlpattern_core.specs.declared.component.{Component.Component, ComponentWithParts.ComponentWithParts}
+use Rattle.urlpattern_core.specs.declared.regexp.RegExp.{Ghosts as Engine}
+use Rattle.urlpattern_create.specs.Compiled.{IsPathKind, Manner, ReadsAs, manner_of, pattern_values}
+use Rattle.urlpattern_create.specs.FromString.{IsInitOfText}
+use Rattle.urlpattern_eight.specs.declared.eight.ComponentName.{ComponentName}
+use Rattle.urlpattern_eight.specs.declared.eight.ComponentName.TheVariants.{Protocol}
+use Rattle.urlpattern_eight.specs.declared.eight.Eight.{Eight}
+use Rattle.urlpattern_eight.specs.Eight.{Values, at}
+use Rattle.urlpattern_init.specs.declared.init.UrlPatternInit.{UrlPatternInit}
+use Rattle.urlpattern_inputs.specs.declared.options.UrlPatternOptions.{UrlPatternOptions}
+use Rattle.urlpattern_pattern.specs.Patterns.{pattern_view}
+use Rattle.urlpattern_pattern.specs.UrlPatterns.{AreMadeOfParts, UrlPattern}
+use Rattle.urlpattern_rules.specs.declared.pattern.PatternParts.{PatternParts}
+use Rattle.urlpattern_syntax.specs.ComponentParts.{kept_options, kept_parts}
+use Rattle.urlpattern_syntax.specs.declared.parts.ComponentParts.{ComponentParts}
+
+-- The parts are those that the pattern text reads as in this manner, under its options and its canonical form.
+pub record AreReadInManner (manner : Manner) (kept : ComponentParts) : Type 0 where
+  pub options_are : kept_options kept ≡ manner.options
+  pub reads : ReadsAs manner (kept_parts kept)
+
+-- The pattern has parts: of each component those that its text reads as, where the texts are the values of this init, and whether the
+-- pathname is hierarchical is decided by the protocol. All fields of each component are made of them.
+pub record KeepsPartsOf {E : Type 0} (engine : Engine E) (init : UrlPatternInit) (asked : UrlPatternOptions) (pattern : UrlPattern E) : Type 0 where
+  pub parts : PatternParts
+  pub values : Values
+  pub hierarchical : Bool
+  pub has_parts : pattern.parts ≡ Some parts
+  pub are_values : pattern_values init ≡ Ok values
+  pub path_kind : IsPathKind engine.answer values (pattern_view pattern Protocol).matcher hierarchical
+  pub are_read : (name : ComponentName) → AreReadInManner (manner_of asked values hierarchical name) (at parts.components name)
+  pub are_made : AreMadeOfParts engine parts (pattern_view pattern)
+
+-- it has those of the init of this constructor string with this base URL
+abbrev pub KeepsPartsOfText : {E : Type 0} → Engine E → (text : List ℕ) → (base : Option (List ℕ)) → UrlPatternOptions → UrlPattern E → Type 0
+KeepsPartsOfText engine text base asked pattern = (init : UrlPatternInit) × IsInitOfText engine text base init × KeepsPartsOf engine init asked pattern
+
+-- these are the components, and these their parts
+pub record AreParted {E : Type 0} (made : Eight (ComponentWithParts E)) (components : Eight (Component E)) (parts : PatternParts) : Type 0 where
+  pub components_are : (name : ComponentName) → at components name ≡ (at made name).component
+  pub parts_are : (name : ComponentName) → at parts.components name ≡ (at made name).kept

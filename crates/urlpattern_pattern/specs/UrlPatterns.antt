@@ -1,0 +1,30 @@
+-- What a clause sees of a `UrlPattern`: its components, and the parts that they were made of.
+use Rattle.std.specs.Prelude.{IfSome, Option}
+use Rattle.urlpattern_core.specs.Components.{ComponentView, IsComponentOf}
+use Rattle.urlpattern_core.specs.declared.component.Component.{Component}
+use Rattle.urlpattern_core.specs.declared.regexp.RegExp.{Ghosts as Engine}
+use Rattle.urlpattern_create.specs.{Compiled.HasEngine, PatternViews.PatternView, PatternViews.eight_view}
+use Rattle.urlpattern_eight.specs.declared.eight.ComponentName.{ComponentName}
+use Rattle.urlpattern_eight.specs.declared.eight.Eight.{Eight}
+use Rattle.urlpattern_eight.specs.Eight.{at}
+use Rattle.urlpattern_rules.specs.declared.pattern.PatternParts.{PatternParts}
+use Rattle.urlpattern_syntax.specs.ComponentParts.{kept_options, kept_parts}
+use Rattle.urlpattern_syntax.specs.declared.parts.ComponentParts.{ComponentParts}
+
+-- The components of a pattern, and their parts, unless the pattern was put together by hand.
+pub record UrlPattern (E : Type 0) : Type 0 where
+  pub components : Eight (Component E)
+  pub parts : Option PatternParts
+
+-- All five fields of the component are made of the parts by this engine, which took what the component needs.
+pub record IsMadeOfParts {E : Type 0} (engine : Engine E) (kept : ComponentParts) (component : ComponentView E) : Type 0 where
+  pub is_component : IsComponentOf engine (kept_options kept) (kept_parts kept) component
+  pub has_engine : HasEngine component
+
+-- each component is made of its parts
+abbrev pub AreMadeOfParts : {E : Type 0} → Engine E → PatternParts → PatternView E → Type 0
+AreMadeOfParts engine parts pattern = (name : ComponentName) → IsMadeOfParts engine (at parts.components name) (pattern name)
+
+-- if the pattern has parts, its components are made of them
+abbrev pub HasOwnParts : {E : Type 0} → Engine E → UrlPattern E → Type 0
+HasOwnParts engine pattern = IfSome pattern.parts (λ parts. AreMadeOfParts engine parts (eight_view pattern.components))

@@ -1,0 +1,110 @@
+//! Patterns compared by the parts that they were made of.
+ghost use Rattle.std.specs.Prelude.{◌≡◌, IfErr, IfOk, Some};
+ghost use Rattle.urlpattern_eight.specs.Eight.{at};
+ghost use Rattle.urlpattern_pattern.specs.Comparing.{HaveParts, LackParts, OfBoth, compare_error_text};
+ghost use Rattle.urlpattern_pattern.specs.declared.pattern.compare.CompareError.TheVariants as errors;
+ghost use Rattle.urlpattern_rules.specs.Comparing.{IsPatternCovering, IsPatternOverlap};
+ghost use Rattle.urlpattern_rules.specs.Order.{parts_cmp};
+
+use super::UrlPattern;
+use std::alloc::{AllocError, Global};
+use std::cmp::Ordering;
+use std::{error, fmt};
+use urlpattern_core::regexp::RegExp;
+use urlpattern_eight::ComponentName;
+use urlpattern_rules::{PatternCovering, PatternOverlap, PatternParts};
+
+/// Why two patterns are not compared.
+#[derive(Debug, Clone, Copy, PartialEq, Eq)]
+pub enum CompareError {
+    /// One of them was put together by hand, so that its parts are not known.
+    NoParts,
+    /// The allocator had no memory.
+    OutOfMemory,
+}
+
+/// Prints why, in a line.
+impl fmt::Display for CompareError {
+    ghost output = { λ error. Some (compare_error_text error) };
+
+    fn fmt<W: fmt::Write>(&self, f: &mut fmt::Formatter<W>) -> fmt::Result {
+        match self {
+            Self::NoParts => f.write_str("a pattern that was put together by hand has no parts"),
+            Self::OutOfMemory => f.write_str("out of memory"),
+        }
+    }
+}
+
+impl error::Error for CompareError {}
+
+impl From<AllocError> for CompareError {
+    ghost from_gives = { λ _ error. error ≡ errors.OutOfMemory };
+
+    fn from(_error: AllocError) -> CompareError {
+        CompareError::OutOfMemory
+    }
+}
+
+impl<R: RegExp> UrlPattern<R> {
+    /// Returns whether this pattern covers another one: whether it means each eight texts without line feed that the other one means.
+    ///
+    /// It compares the parts of both, as `PatternParts::covers` does.
+    ///
+    /// The error is that one of them has no parts, or that memory ran out.
+    pub fn covers(&self, alloc: Global, asked: &Self) -> Result<PatternCovering, CompareError>
+        ensures covering { IfOk result (λ covering. OfBoth self.now asked.now (λ parts others. IsPatternCovering parts others covering)) }
+        ensures missing { IfErr result (LackParts self.now asked.now) }
+    {
+        let (parts, others) = self.both_parts(asked)?;
+        Ok(parts.covers(alloc, others)?)
+    }
+
+    /// Returns whether this pattern and another one both mean some eight texts without line feed, and such texts.
+    ///
+    /// It compares the parts of both, as `PatternParts::overlaps` does.
+    ///
+    /// The error is that one of them has no parts, or that memory ran out.
+    pub fn overlaps(&self, alloc: Global, other: &Self) -> Result<PatternOverlap, CompareError>
+        ensures overlap { IfOk result (λ overlap. OfBoth self.now other.now (λ parts others. IsPatternOverlap parts others overlap)) }
+        ensures missing { IfErr result (LackParts self.now other.now) }
+    {
+        let (parts, others) = self.both_parts(other)?;
+        Ok(parts.overlaps(alloc, others)?)
+    }
+
+    /// Compares two patterns in one component: the more specific is the greater.
+    ///
+    /// It compares the parts of both, as `compare_parts` does, and does not allocate.
+    ///
+    /// The error is that one of them has no parts.
+    pub fn compare_component(
+        component: ComponentName,
+        left: &Self,
+        right: &Self,
+    ) -> Result<Ordering, CompareError>
+        ensures order { IfOk result (λ order. OfBoth left.now right.now (λ parts others.
+            order ≡ parts_cmp (at parts.components component).parts.items (at others.components component).parts.items)) }
+        ensures missing { IfErr result (λ error. (error ≡ errors.NoParts) × LackParts left.now right.now error) }
+    {
+        match left.both_parts(right) {
+            Ok((parts, others)) => Ok(PatternParts::compare_component(component, parts, others)),
+            Err(_) => Err(CompareError::NoParts),
+        }
+    }
+
+    /// The parts of both patterns.
+    ///
+    /// The error is that one of them has none.
+    fn both_parts<'p>(
+        &'p self,
+        other: &'p Self,
+    ) -> Result<(&'p PatternParts, &'p PatternParts), CompareError>
+        ensures parts { IfOk result (λ both. HaveParts self.now other.now both.0.now both.1.now) }
+        ensures missing { IfErr result (λ error. (error ≡ errors.NoParts) × LackParts self.now other.now error) }
+    {
+        match (self.parts(), other.parts()) {
+            (Some(parts), Some(others)) => Ok((parts, others)),
+            _ => Err(CompareError::NoParts),
+        }
+    }
+}

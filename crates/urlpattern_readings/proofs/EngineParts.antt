@@ -1,0 +1,14 @@
+-- Patterns over two engines match what their parts mean.
+use Rattle.urlpattern_core.proofs.FirstMatchers.{flags_agree}
+use Rattle.urlpattern_core.specs.Regexes.{regex_engine}
+use Rattle.urlpattern_engine.proofs.EngineLaws as own
+use Rattle.urlpattern_engine.specs.PatternRegexps.{pattern_engine}
+use Rattle.urlpattern_readings.proofs.MatchingLemmas.{own_parts_mean}
+use Rattle.urlpattern_readings.specs.Readings.{OwnPartsMean}
+use Rattle.urlpattern_regex.proofs.RegexMatchers as regex
+
+pub pattern_parts_mean : OwnPartsMean pattern_engine
+pattern_parts_mean = own_parts_mean pattern_engine _ own.taken_first (λ options inner took. flags_agree options)
+
+pub regex_parts_mean : OwnPartsMean regex_engine
+regex_parts_mean = own_parts_mean regex_engine _ regex.taken_first (λ options inner took. took)
