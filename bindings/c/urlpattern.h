@@ -179,7 +179,10 @@ typedef struct urlpattern_given {
 
 /* Writes the URL that the pattern of this index matches with these groups, or why there is none.
  * A name has to be given, unless it is optional; a wildcard that is not given is empty. What is
- * given for a group that the pattern has not is ignored.
+ * given for a group that the pattern has not is ignored. Texts are made canonical, and a match of
+ * the URL captures what they are then. A fixed text that may be missing or repeated is written as
+ * few times as possible, so that `{/}?:x` has no URL with `a` for `x`, although it matches
+ * `https://example.com/a`; the reason names the component.
  * DONE (the URL is written), REFUSED (the pattern has no URL with these groups, and the reason
  * is written), OUT_OF_MEMORY, NO_PATTERN (also where there is no component of a number, or a
  * part lies outside of the text or is not UTF-8, as one that cuts a character), or TOO_SMALL

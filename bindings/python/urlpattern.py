@@ -488,7 +488,8 @@ class URLPatternList:
     def link(self, index, groups):
         """The URL that the pattern of this index matches with these groups, each a tuple of the
         component, the name and the text, as `captures` gives them; one whose text is None takes no
-        part. ValueError: there is no such URL, and the message says why."""
+        part. A match of the URL captures the canonical forms of the texts. ValueError: there is no
+        such URL, and the message says why."""
         text, given = _groups_given(groups)
         arguments = text, _SIZE[len(text)], ctypes.byref(given), _SIZE[len(given)]
         status, text = self._written(_calls.link, _SIZE[index], *arguments)

@@ -41,6 +41,7 @@ pub(crate) fn given_text<'g>(
 }
 
 /// Whether a text is given for this group.
+#[inline(always)]
 fn is_given_for(component: ComponentName, name: &str, given: &GivenGroup<'_>) -> bool
     ensures { result ≡ is_given_for component (chars name.now) (given_view given.now) }
 {
@@ -48,6 +49,7 @@ fn is_given_for(component: ComponentName, name: &str, given: &GivenGroup<'_>) ->
 }
 
 /// Whether two components are the same.
+#[inline(always)]
 fn is_same_component(one: ComponentName, other: ComponentName) -> bool
     ensures { result ≡ bytes_eq (name_text one) (name_text other) }
 {
@@ -55,6 +57,7 @@ fn is_same_component(one: ComponentName, other: ComponentName) -> bool
 }
 
 /// Whether two texts are the same.
+#[inline(always)]
 pub(crate) fn is_same_text(text: &str, other: &str) -> bool
     ensures test { result ≡ bytes_eq (chars text.now) (chars other.now) }
     ensures same { IsTrue result ↔ (chars text.now ≡ chars other.now) }

@@ -98,6 +98,7 @@ impl<'d> Writer<'d> {
     }
 
     /// Appends the text of a part.
+    #[inline(always)]
     fn push_part(&self, text: &mut String, part: &Part) -> Result<(), GenerateError>
         ensures written { OnOk result (GetsPart (manner_of_writer self.now) (part_view part.now) text.old text.new) }
         ensures refused { IfErr result (RefusesPart self.now.component (manner_of_writer self.now) (part_view part.now)) }

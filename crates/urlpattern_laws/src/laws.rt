@@ -117,8 +117,8 @@ pub fn patterns_by_these_engines_answer_by_their_texts()
 /// for or may refuse it. The values of an init as a pattern are never refused. Left aside are two errors: that memory ran out,
 /// and that a text is too long for `url`.
 ///
-/// Of the engine it is asked that it does not both take and refuse the regular expression of a component, and that two of its
-/// matchers for the protocol accept a special scheme alike. An engine that makes first ways meets the second where no pattern
+/// Of the engine it is asked that it does not both take and refuse a regular expression that is made of a component's parts or of
+/// some of them, and that two of its matchers for the protocol accept a special scheme alike. An engine that makes first ways meets the second where no pattern
 /// text has a custom regular expression, and `PatternRegexp` meets both there.
 pub fn inits_have_one_outcome<R: RegExp>()
     ensures not_both { PatternsExcludeRefusals R.RegExp }

@@ -114,6 +114,7 @@ fn begins_without_slash(text: &str) -> bool
 }
 
 /// Whether a URL has the text of a component.
+#[inline(always)]
 fn has_text(url: &Url, texts: &Eight<&str>, name: ComponentName) -> bool
     ensures { IsTrue result ↔ (url_text name url.now ≡ at (texts_seen texts.now) name) }
 {
@@ -121,6 +122,7 @@ fn has_text(url: &Url, texts: &Eight<&str>, name: ComponentName) -> bool
 }
 
 /// Whether two texts are the same.
+#[inline(always)]
 fn is_same_text(text: &str, other: &str) -> bool
     ensures { IsTrue result ↔ (chars text.now ≡ chars other.now) }
 {

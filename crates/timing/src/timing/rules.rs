@@ -96,8 +96,9 @@ fn compare<R: AllocGlobal + Clock, O: Write>(
     }
     covers.print(out, "covers")?;
     overlaps.print(out, "overlaps")?;
+    let patterns: Vec<&PatternParts> = all.iter().collect(rt.alloc())?;
     let start = Instant::now(rt)?;
-    let found = unreachable(rt.alloc(), &all.iter().collect(rt.alloc())?)?;
+    let found = unreachable(rt.alloc(), &patterns)?;
     let taken = start.elapsed(rt)?.as_nanos();
     writeln!(out, "unreachable\t1\t{}\t{taken}\t{taken}", found.len())
 }

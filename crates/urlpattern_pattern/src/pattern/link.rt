@@ -20,8 +20,8 @@ use urlpattern_rules::PatternParts;
 use urlpattern_url::{NoLink, url_of_texts};
 
 impl<R: RegExp> UrlPattern<R> {
-    /// The URL that the pattern matches, with these groups: each of its texts is what `generate` returns for the component, and it is what
-    /// `url` reads in these texts, put together. So a component that the pattern leaves open is empty, unless its wildcard is given by its
+    /// The URL that the pattern matches, with these groups: each of its texts is that of the component's parts, and it is what `url`
+    /// reads in these texts, put together. So a component that the pattern leaves open is empty, unless its wildcard is given by its
     /// number. Each match of the URL captures the canonical forms of the texts that are given.
     ///
     /// The error is that of the first component that has no text with its groups, that no URL has the texts of the components, that the
