@@ -96,7 +96,7 @@ impl<'a> PartList<'a> {
         self.add_pending(parser)?;
         if !text.is_empty() {
             let value = parser.ask(text)?;
-            self.parts.push(Part::fixed(parser.alloc, value, modifier))?;
+            push(&mut self.parts, Part::fixed(parser.alloc, value, modifier))?;
         }
         Ok(())
     }
@@ -124,14 +124,15 @@ impl<'a> PartList<'a> {
         let prefix = parser.ask(before)?;
         let suffix = parser.ask(after)?;
         let (kind, value) = parser.kind_and_value(placeholder.matched)?;
-        self.parts.push(Part {
+        let part = Part {
             kind,
             value,
             modifier,
             name,
             prefix,
             suffix,
-        })?;
+        };
+        push(&mut self.parts, part)?;
         Ok(())
     }
 
@@ -187,8 +188,7 @@ impl<'a> PartList<'a> {
         }
         let value = parser.ask(&self.pending_fixed_value)?;
         self.pending_fixed_value.clear();
-        self.parts
-            .push(Part::fixed(parser.alloc, value, PartModifier::None))?;
+        push(&mut self.parts, Part::fixed(parser.alloc, value, PartModifier::None))?;
         Ok(())
     }
 }
@@ -201,4 +201,15 @@ fn numeric_name(alloc: Global, number: usize) -> Result<String, AllocError>
         return String::from_str(alloc, "0");
     }
     number.to_string(alloc)
+}
+
+/// Adds a part. At first there is room for one alone, as many as most texts have.
+fn push(parts: &mut Vec<Part>, part: Part) -> Result<(), AllocError>
+    ensures { OnOk result (parts.new.items ≡ parts.old.items ++ part ∷ []) }
+{
+    if parts.is_empty() {
+        parts.reserve_exact(1)?;
+    }
+    parts.push(part)?;
+    Ok(())
 }

@@ -40,7 +40,7 @@ returns-clause-ok g c =
           adds_item _ _ _ _ _ added (part_list_view c.if-not-is_empty.self) (Fixed text modifier) (fixed_text value modifier ∷ [])
           (fixed_parts (parser_options c.args.parser.now) encoding text value modifier (emptiness ∙ w.if-not-is_empty.true) answered)
           (fixed_met encoding (list_names c.add_pending.new.self) text value modifier answered)
-          (ap (λ (list : PartList). map part_view list.parts.items) w.self-is ∙ ap (map part_view) w.in_ok-push.ensures.items ∙ map-append part_view parts (w.fixed.result ∷ [])
+          (ap (λ (list : PartList). map part_view list.parts.items) w.self-is ∙ ap (map part_view) w.in_ok-push.ensures ∙ map-append part_view parts (w.fixed.result ∷ [])
           ∙ ap (λ part. map part_view parts ++ part ∷ []) w.fixed.ensures)
           (ap (λ (list : PartList). text_of list.pending_fixed_value) w.self-is)
       | else-not-is_empty w ↦

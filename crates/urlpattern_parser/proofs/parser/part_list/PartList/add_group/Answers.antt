@@ -53,9 +53,9 @@ returns-clause-ok g c =
     let pushed : Part = record { kind = c.in_ok-kind.kind; value = c.in_ok-kind.value; modifier = modifier; name = c.in_ok-name.name; prefix = c.in_ok-prefix.prefix; suffix = c.in_ok-suffix.suffix } in
     adds_group options (parser_encoding g.F.Fn c.args.parser.now) (part_list_view c.args.self.now) (part_list_view c.add_pending.new.self) c.in_ok-add_pending.ensures.ok c.in_ok-add_pending.ensures.number
     (chars c.args.before.now) placeholder (chars c.args.after.now) modifier
-    (record { parts = parts_view c.push.new.self.items; pending = text_of c.new_name.new.self.pending_fixed_value; number = c.new_name.new.self.next_numeric_name })
+    (record { parts = parts_view c.push.new.parts.items; pending = text_of c.new_name.new.self.pending_fixed_value; number = c.new_name.new.self.next_numeric_name })
     before after c.in_ok-name.ensures.new c.in_ok-prefix.ensures.ok c.in_ok-suffix.ensures.ok
-    (ap (map part_view) c.in_ok-push.ensures.items ∙ map-append part_view parts (pushed ∷ [])
+    (ap (map part_view) c.in_ok-push.ensures ∙ map-append part_view parts (pushed ∷ [])
     ∙ ap (λ (x : PartView). parts_view parts ++ x ∷ []) view
     ∙ ap (λ (list : Vec Part Global). parts_view list.items ++ part (text_of c.in_ok-name.name) ∷ []) c.in_ok-name.ensures.same.0
     ∙ ap (λ name. parts_view c.add_pending.new.self.parts.items ++ part name ∷ []) c.in_ok-name.ensures.name)
@@ -75,7 +75,7 @@ returns-clause-knows g c =
     let mid = part_list_view c.add_pending.new.self in
     let given = c.new_name.new.self.given_names in
     let next = c.new_name.new.self.next_numeric_name in
-    let new : PartListView = record { parts = parts_view c.push.new.self.items; pending = text_of c.new_name.new.self.pending_fixed_value; number = next } in
+    let new : PartListView = record { parts = parts_view c.push.new.parts.items; pending = text_of c.new_name.new.self.pending_fixed_value; number = next } in
     let name = name_or (option_text c.args.placeholder.now.name) in
     let group = group_item (chars c.args.before.now) c.args.placeholder.now (chars c.args.after.now) c.args.modifier old.number in
     let added : group_names new.parts ≡ group_names old.parts ++ name old.number ∷ [] = names_with _ _ old new (group ∷ []) (returns-clause-ok g c) in

@@ -35,7 +35,7 @@ returns-clause-ok g c =
     let answered : encoding (text_of pending) (Ok (text_of c.in_ok-value.value)) =
     subst (λ bytes. encoding (chars bytes) (Ok (text_of c.in_ok-value.value))) c.deref.ensures c.in_ok-value.ensures.ok in
     let parts = c.args.self.now.parts.items in
-    let items : c.push.new.self.items ≡ parts ++ c.fixed.result ∷ [] = search rules in
+    let items : c.push.new.parts.items ≡ parts ++ c.fixed.result ∷ [] = search rules in
     record {
       added = fixed_text (text_of c.in_ok-value.value) modifiers.None ∷ [];
       parts = ap (map part_view) items ∙ map-append part_view parts (c.fixed.result ∷ []) ∙ ap (λ part. map part_view parts ++ part ∷ []) c.fixed.ensures;
