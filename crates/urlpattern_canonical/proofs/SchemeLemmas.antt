@@ -1,9 +1,13 @@
 -- Lemmas on special schemes.
-use Rattle.std.proofs.Common.{◌≡◌, ℕ, Bool, true, false, ◌||◌, List, [], ◌∷◌, codes, Option, None, Some, refl, ap, ◌∙◌}
+use Rattle.std.proofs.Common.{◌≡◌, ℕ, Bool, true, false, ◌||◌, List, [], ◌∷◌, codes, Ok, Option, None, Some, refl, sym, ap, subst, ◌∙◌}
+use Rattle.std.proofs.lemmas.Bool.{false≢true}
+use Rattle.std.proofs.lemmas.Slice.Eq.{bytes_eq-Decides}
+use Rattle.std.specs.Char.{encode_utf8}
 use Rattle.std.specs.Prelude.{bytes_eq, if◌then◌else◌}
 use Rattle.std.specs.Str.{chars, IsAscii, IsUtf8}
+use Rattle.url.proofs.OnLiterals.{url_on_literals}
 use Rattle.urlpattern_canonical.proofs.MarkLemmas.{ascii_text, bytes_eq-chars, bytes_eq-other}
-use Rattle.urlpattern_canonical.specs.Canonical.{default_port, is_hierarchical_under, is_special, port_among, scheme_among, special_schemes}
+use Rattle.urlpattern_canonical.specs.Canonical.{canonical_protocol, default_port, is_hierarchical_under, is_special, port_among, scheme_among, special_schemes}
 
 -- each of these schemes is ASCII
 abbrev AllAscii : List (List ℕ × Option (List ℕ)) → Type 0
@@ -73,3 +77,27 @@ port-none scheme not_http not_https not_ws not_wss not_ftp =
 pub hierarchical-special : (protocol : List ℕ) → ¬ (protocol ≡ []) → is_special protocol ≡ is_hierarchical_under (Some protocol)
 hierarchical-special [] some = absurd (some refl)
 hierarchical-special (c ∷ protocol) some = refl
+
+-- ---- canonical values
+
+-- `url` keeps each of these schemes
+abbrev AllKept : List (List ℕ × Option (List ℕ)) → Type 0
+AllKept [] = Unit {0}
+AllKept (scheme ∷ schemes) = (canonical_protocol scheme.0 ≡ Ok scheme.0) × AllKept schemes
+
+kept-schemes : AllKept special_schemes
+unfolding url_on_literals encode_utf8 chars
+kept-schemes = (refl, (refl, (refl, (refl, (refl, (refl, tt))))))
+
+among-kept : (schemes : List (List ℕ × Option (List ℕ))) → AllKept schemes → (text : List ℕ) → scheme_among schemes text ≡ true
+    → canonical_protocol text ≡ Ok text
+among-kept [] kept text = λ is. absurd (false≢true is)
+among-kept (scheme ∷ schemes) kept text =
+    elim (bytes_eq text scheme.0) as (λ same. bytes_eq text scheme.0 ≡ same → (same || scheme_among schemes text) ≡ true → canonical_protocol text ≡ Ok text) [
+      | true ↦ λ e is. subst (λ it. canonical_protocol it ≡ Ok it) (sym ((bytes_eq-Decides text scheme.0).0 e)) kept.0
+      | false ↦ λ e is. among-kept schemes kept.1 text is
+    ] refl
+
+-- a special scheme is its own canonical value
+pub special-kept : (scheme : List ℕ) → is_special scheme ≡ true → canonical_protocol scheme ≡ Ok scheme
+special-kept = among-kept special_schemes kept-schemes

@@ -9,12 +9,13 @@ ghost use Rattle.urlpattern_syntax.specs.Text.{option_text};
 use super::Canonicalizer;
 use super::marks::begins_with_slash;
 use super::refusals::{refused_as, reported};
+use super::schemes::is_special_scheme;
 use super::urls::{parse_opaque, parse_under};
 use url::{ParseError, quirks};
 use urlpattern_syntax::Error;
 
 impl Canonicalizer {
-    /// The canonical protocol: the scheme of a URL.
+    /// The canonical protocol: the scheme of a URL. A special scheme is its own.
     ///
     /// The error is the refusal of `url`, or that memory ran out.
     pub fn protocol(&self, value: &str) -> Result<String, Error>
@@ -22,6 +23,9 @@ impl Canonicalizer {
     {
         if value.is_empty() {
             return Ok(String::new(self.alloc));
+        }
+        if is_special_scheme(value) {
+            return Ok(String::from_str(self.alloc, value)?);
         }
         let url = parse_under(self.alloc, value, value.len())?;
         Ok(String::from_str(self.alloc, url.scheme())?)
