@@ -1,16 +1,15 @@
 -- Lemmas on components that are compiled.
-use Rattle.std.proofs.Common.{◌≡◌, ℕ, Bool, true, false, true≢false, ◌||◌, List, [], ◌∷◌, codes, Option, Some, None, Result, unwrap_or, refl, sym, ap, ◌∙◌, subst}
+use Rattle.std.proofs.Common.{◌≡◌, ℕ, Bool, false, true≢false, List, [], ◌∷◌, codes, Option, Some, None, Result, unwrap_or, sym, ap, ◌∙◌, subst}
+use Rattle.std.proofs.lemmas.Bool.{or_parts}
 use Rattle.std.proofs.lemmas.List.Elements.{All-nil, All-cons}
 use Rattle.std.specs.Borrow.{Bor}
 use Rattle.std.specs.Str.{chars}
 use Rattle.urlpattern_core.specs.Components.{IsWholeEngineOf, has_regexp, is_custom, pattern_text}
 use Rattle.urlpattern_core.specs.declared.regexp.RegExp.{Ghosts as Engine}
-use Rattle.urlpattern_meaning.specs.GeneratedTexts.{IsGenerated}
 use Rattle.urlpattern_meaning.specs.PartMeaning.{AreGenerated}
+use Rattle.urlpattern_meaning.proofs.PartTrees.{IsNotCustom}
 use Rattle.urlpattern_syntax.specs.Errors.{ErrorView}
-use Rattle.urlpattern_syntax.specs.Options.{OptionsView}
 use Rattle.urlpattern_syntax.specs.Parts.{PartView}
-use Rattle.urlpattern_syntax.specs.RegexpText.{regexp_text}
 
 -- an engine of equal flags and an equal text, where custom regular expressions are told alike
 pub engine-along : {E : Type 0} (engine : Engine E) (made : Result E ErrorView) {has reported : Bool} {flags options_flags regexp text : List ℕ}
@@ -26,16 +25,9 @@ unfolding chars
 text-or_asterisk None found asterisk e is = ap (λ (b : Bor (List ℕ)). chars b.now) e ∙ ap chars is
 text-or_asterisk (Some pattern) found asterisk e is = ap (λ (b : Bor (List ℕ)). chars b.now) e
 
-neither : (a b : Bool) → (a || b) ≡ false → (a ≡ false) × (b ≡ false)
-neither false b e = (refl, e)
-neither true b e = absurd (true≢false e)
-
--- parts without a custom one have a regular expression that is generated
-none_custom : (parts : List PartView) → has_regexp parts ≡ false → AreGenerated parts
-none_custom [] e = All-nil _
+-- parts are generated if none of them is custom
+pub none_custom : (parts : List PartView) → has_regexp parts ≡ false → AreGenerated parts
+none_custom [] e = All-nil IsNotCustom
 none_custom (part ∷ parts) e =
-    let both = neither (is_custom part.kind) (has_regexp parts) e in
-    All-cons _ part parts (λ is. true≢false (sym (ap is_custom is) ∙ both.0)) (none_custom parts both.1)
-
-pub is_generated-none_custom : (options : OptionsView) (parts : List PartView) (text : List ℕ) → text ≡ regexp_text options parts → has_regexp parts ≡ false → IsGenerated text
-is_generated-none_custom options parts text e none = (options, parts, none_custom parts none, e)
+    let both = or_parts (is_custom part.kind) (has_regexp parts) e in
+    All-cons IsNotCustom part parts (λ is. true≢false (sym (ap is_custom is) ∙ both.0)) (none_custom parts both.1)

@@ -80,7 +80,7 @@ mutual
   items_once : (items : Items) → IsProp (AreItems items)
   items_once Nothing = Prim.hlevel
   items_once (Item atom quantifier items) =
-      ×_prop (known_once atom) (×_prop (allowed_once quantifier (atom_group_count atom)) (items_once items))
+      Prim.hlevel (known_once atom, allowed_once quantifier (atom_group_count atom), items_once items)
 
   known_once : (atom : Atom) → IsProp (IsAtom atom)
   known_once (Literal (Plain c)) = Prim.hlevel

@@ -1,6 +1,5 @@
-use Rattle.std.proofs.Common.{false, map, sym, ap, ◌∙◌, subst}
-use Rattle.std.specs.Str.{chars}
-use Rattle.urlpattern_core.proofs.CompileLemmas.{engine-along, is_generated-none_custom}
+use Rattle.std.proofs.Common.{false, map, sym, ◌∙◌, subst}
+use Rattle.urlpattern_core.proofs.CompileLemmas.{engine-along, none_custom}
 use Rattle.urlpattern_core.specs.Components.{IsEngineOf}
 use Rattle.urlpattern_core.specs.Matchers.{engine_view, matcher_view}
 use Rattle.urlpattern_meaning.specs.Matching.{IsMadeOf}
@@ -25,4 +24,5 @@ returns-clause-made g c =
 
 pub engine_of-requires : goal.engine_of-requires
 engine_of-requires g c = λ none.
-    is_generated-none_custom (options_view c.args.options.now) (map part_view c.args.part_list.now) _ c.in_ok-text.ensures (sym c.has_regexp-has_regexp_group.ensures ∙ none)
+    let parts = map part_view c.args.part_list.now in
+    (options_view c.args.options.now, parts, none_custom parts (sym c.has_regexp-has_regexp_group.ensures ∙ none), c.in_ok-text.ensures)
