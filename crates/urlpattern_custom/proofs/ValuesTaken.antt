@@ -1,5 +1,5 @@
 -- A value of an engine answers captures exactly to the texts that the parts take that it was made of.
-use Rattle.std.proofs.Common.{◌-◌, true≢false, ◌≡◌, ℕ, suc, ◌^◌, ◌≤◌, List, ◌++◌, length, Bool, true, false, Option, Some, None, IsSome, is_some, option_map, refl, sym, ap, ◌∙◌, subst, arith, codes, length-append, encode_utf8_all}
+use Rattle.std.proofs.Common.{◌-◌, true≢false, ◌≡◌, ℕ, suc, ◌^◌, ◌≤◌, List, ◌++◌, length, Bool, true, false, Option, Some, None, IsSome, is_some, option_map, inl, inr, refl, sym, ap, ◌∙◌, subst, arith, codes, length-append, encode_utf8_all}
 use Rattle.std.specs.List.{flat_map}
 use Rattle.std.specs.Prelude.{⊤, IfSome, IsTrue}
 use Rattle.std.specs.Str.{all_scalars}
