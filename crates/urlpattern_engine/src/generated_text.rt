@@ -32,8 +32,8 @@ impl GeneratedText {
         GeneratedText { text }
     }
 
-    /// What the groups capture of a text, by steps that are read for it. `None`: the expression does
-    /// not match it.
+    /// What the groups capture of a text, by steps that are read for it. `None`: the expression
+    /// does not match it.
     ///
     /// The error is that memory ran out.
     pub(crate) fn matches<'t>(

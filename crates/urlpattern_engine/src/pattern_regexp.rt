@@ -54,8 +54,8 @@ impl Drop for PatternRegexp {
     }
 }
 
-/// An expression, by what it is matched with. Of the kinds `Generated` and `Custom` the text alone is
-/// kept, and what it is matched with is made for each match.
+/// An expression, by what it is matched with. `Generated` and `Custom` keep the text alone, and what
+/// it is matched with is made for each match.
 #[derive(Drop)]
 enum Expression {
     Own(Steps),
@@ -180,8 +180,8 @@ fn compiled(alloc: Global, pattern: &str, ignore_case: bool) -> Result<Expressio
     }
 }
 
-/// An expression that is kept and may have custom parts: if the engine accepts it, its text alone, or
-/// its steps if it has some.
+/// An expression that is kept and may have custom parts: if the engine accepts it, its text alone,
+/// or its steps if it has some.
 ///
 /// The error says whether `regex` rejects it or memory ran out.
 fn kept(alloc: Global, pattern: String, ignore_case: bool) -> Result<Expression, RegExpError>
