@@ -230,7 +230,8 @@ pub(crate) fn match_once<'t>(
     ignore_case: bool,
     text: &'t str,
 ) -> Result<Option<Vec<Option<&'t str>>>, OutOfMemory>
-    ensures { IfOk result (λ found. captures_view found ≡ read_answer ignore_case (chars regexp.now) (chars text.now)) }
+    ensures { IfOk result (λ found.
+        captures_view found ≡ read_answer ignore_case (chars regexp.now) (chars text.now)) }
 {
     match regex_of(alloc, regexp, ignore_case) {
         Ok(regex) => RegExp::matches(&regex, alloc, text),

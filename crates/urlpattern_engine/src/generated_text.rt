@@ -42,7 +42,8 @@ impl GeneratedText {
         ignore_case: bool,
         text: &'t str,
     ) -> Result<Option<Vec<Option<&'t str>>>, OutOfMemory>
-        ensures { IfOk result (λ found. captures_view found ≡ first_way_by ignore_case self.now.tree.0 (chars text.now)) }
+        ensures { IfOk result (λ found.
+            captures_view found ≡ first_way_by ignore_case self.now.tree.0 (chars text.now)) }
     {
         let steps = read_steps(alloc, &self.text)?.unwrap();
         match_steps(alloc, &steps, ignore_case, strategy_of(&steps), text)

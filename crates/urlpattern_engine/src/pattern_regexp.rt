@@ -54,8 +54,8 @@ impl Drop for PatternRegexp {
     }
 }
 
-/// An expression, by what it is matched with. `Generated` and `Custom` keep the text alone, and what
-/// it is matched with is made for each match.
+/// An expression, by what it is matched with. `Generated` and `Custom` keep the text alone, and
+/// make the rest for each match.
 #[derive(Drop)]
 enum Expression {
     Own(Steps),
@@ -186,7 +186,8 @@ fn compiled(alloc: Global, pattern: &str, ignore_case: bool) -> Result<Expressio
 /// The error says whether `regex` rejects it or memory ran out.
 fn kept(alloc: Global, pattern: String, ignore_case: bool) -> Result<Expression, RegExpError>
     ensures made { IfOk result (IsExpressionOf ignore_case (text_of pattern)) }
-    ensures refused { result ≡ Err Pattern → (¬ IsGenerated (text_of pattern)) × HasFault ignore_case (text_of pattern) }
+    ensures refused { result ≡ Err Pattern → (¬ IsGenerated (text_of pattern))
+        × HasFault ignore_case (text_of pattern) }
 {
     if let Some(steps) = read_steps(alloc, &pattern)? {
         return Ok(Expression::Own(Steps::new(pattern, steps)));
@@ -200,7 +201,8 @@ fn kept(alloc: Global, pattern: String, ignore_case: bool) -> Result<Expression,
 /// The error says whether `regex` rejects it or memory ran out.
 #[tactic(auto, using(crate::proofs::ReadAnswers::reads_some))]
 fn check(alloc: Global, pattern: &str, ignore_case: bool) -> Result<(), RegExpError>
-    ensures accepted { IfOk result (λ nothing. IsSome (read (config_for ignore_case) (chars pattern.now))) }
+    ensures accepted { IfOk result (λ nothing.
+        IsSome (read (config_for ignore_case) (chars pattern.now))) }
     ensures refused { result ≡ Err Pattern → HasFault ignore_case (chars pattern.now) }
 {
     read_expression(alloc, pattern, ignore_case)?;

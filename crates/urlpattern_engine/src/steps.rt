@@ -45,7 +45,8 @@ pub(crate) fn match_steps<'t>(
     strategy: Strategy,
     text: &'t str,
 ) -> Result<Option<Vec<Option<&'t str>>>, OutOfMemory>
-    ensures { IfOk result (λ found. captures_view found ≡ walk ignore_case steps.now (chars text.now)) }
+    ensures { IfOk result (λ found.
+        captures_view found ≡ walk ignore_case steps.now (chars text.now)) }
 {
     match strategy {
         Strategy::ByChoices(remembered) => walk(alloc, steps, ignore_case, remembered, text),
