@@ -12,7 +12,8 @@ pub fn is_same<R: RegExp>(case: &Case<'_>) -> Result<bool, Fault> {
     let pattern = text(case.question, "pattern")?;
     let force_eval = is_set(case.question, "force_eval");
     let asked = R::parse(case.alloc, pattern, "u", force_eval);
-    let kept = R::parse_to_keep(case.alloc, pattern, "u", force_eval);
+    let own = String::from_str(case.alloc, pattern)?;
+    let kept = R::parse_to_keep(case.alloc, own, "u", force_eval, false);
     Ok(is_same_value(case, asked)? && is_same_value(case, kept)?)
 }
 

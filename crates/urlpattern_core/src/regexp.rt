@@ -2,13 +2,15 @@
 
 mod rust;
 
-ghost use Rattle.std.specs.Prelude.{◌≡◌, Bool, ℕ, List, Option, Err, IfOk, IsTrue};
+ghost use Rattle.std.specs.Prelude.{◌≡◌, Bool, true, ℕ, List, Option, Err, IfOk, IsTrue};
 ghost use Rattle.std.specs.Str.{chars};
 ghost use Rattle.urlpattern_meaning.specs.CaptureTexts.{captures_view};
+ghost use Rattle.urlpattern_meaning.specs.GeneratedTexts.{IsGenerated};
 ghost use Rattle.urlpattern_meaning.specs.Matching.{ValuesAgreeWithParts};
 ghost use Rattle.urlpattern_meaning.specs.PartMeaning.{Captures};
 ghost use Rattle.urlpattern_syntax.specs.declared.error.RegExpError.TheVariants.{Pattern};
 ghost use Rattle.urlpattern_syntax.specs.declared.parser.RegexSyntax.{RegexSyntax};
+ghost use Rattle.urlpattern_syntax.specs.Text.{text_of};
 
 use crate::error::{OutOfMemory, RegExpError};
 use crate::parser::RegexSyntax;
@@ -50,16 +52,19 @@ pub trait RegExp: Sized + Drop {
         ensures refused { result ≡ Err Pattern → MayRefuse (chars pattern.now) (chars flags.now) force_eval };
 
     /// The same for a value that is kept, and that hardly ever matches a text: an engine may put off work until then.
+    /// `is_generated` says that the text is generated of parts, none of them custom.
     fn parse_to_keep(
         alloc: Global,
-        pattern: &str,
+        pattern: String,
         flags: &str,
         force_eval: bool,
+        is_generated: bool,
     ) -> Result<Self, RegExpError>
-        ensures made { IfOk result (λ engine. IsMade engine (chars pattern.now) (chars flags.now)) }
-        ensures refused { result ≡ Err Pattern → MayRefuse (chars pattern.now) (chars flags.now) force_eval }
+        requires { is_generated ≡ true → IsGenerated (text_of pattern) }
+        ensures made { IfOk result (λ engine. IsMade engine (text_of pattern) (chars flags.now)) }
+        ensures refused { result ≡ Err Pattern → MayRefuse (text_of pattern) (chars flags.now) force_eval }
     {
-        Self::parse(alloc, pattern, flags, force_eval)
+        Self::parse(alloc, &pattern, flags, force_eval)
     }
 
     /// What the groups capture of a text, in their order and without the whole match: a slice of the text, or `None` for a

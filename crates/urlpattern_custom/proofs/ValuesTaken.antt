@@ -1,14 +1,10 @@
 -- A value of an engine answers captures exactly to the texts that the parts take that it was made of.
-use Rattle.std.proofs.Common.{◌-◌, true≢false, ◌≡◌, ℕ, suc, ◌^◌, ◌≤◌, List, ◌++◌, length, Bool, true, false, Option, Some, None, IsSome, IsSomeAnd, is_some, option_map, refl, sym, ap, ◌∙◌, subst, arith, codes, length-append, encode_utf8_all}
-use Rattle.std.proofs.lemmas.Str.{IsUtf8-string_bytes, scalars-chars}
-use Rattle.std.specs.declared.alloc.Global.{Global}
+use Rattle.std.proofs.Common.{◌-◌, true≢false, ◌≡◌, ℕ, suc, ◌^◌, ◌≤◌, List, ◌++◌, length, Bool, true, false, Option, Some, None, IsSome, is_some, option_map, inl, inr, refl, sym, ap, ◌∙◌, subst, arith, codes, length-append, encode_utf8_all}
 use Rattle.std.specs.List.{flat_map}
-use Rattle.std.specs.Prelude.{⊤, IfSome, IsTrue, String, string_bytes}
-use Rattle.std.specs.Str.{all_scalars, chars}
+use Rattle.std.specs.Prelude.{⊤, IfSome, IsTrue}
+use Rattle.std.specs.Str.{all_scalars}
 use lib.Utf8.{scalars}
-use Rattle.regex.specs.Strings.{regex_source}
 use Rattle.regex.specs.declared.string.regex.Regex.{Regex}
-use Rattle.regex_hir.specs.declared.hir.Hir.{Hir}
 use Rattle.regex.specs.Writes.{group_of}
 use Rattle.regex_hir.specs.Find.{Match, find_str}
 use Rattle.regex_hir.specs.Meaning.{cat_all}
@@ -16,7 +12,7 @@ use Rattle.regex_hir.specs.Re.{Re}
 use Rattle.regex_hir.proofs.OptionLemmas.{value_of_IsSome}
 use Rattle.regex_syntax.specs.Brackets.{Nested}
 use Rattle.regex_syntax.specs.Grammar.{Names, read}
-use Rattle.regex_syntax.specs.Verdict.{Reads, default_config}
+use Rattle.regex_syntax.specs.Verdict.{default_config}
 use Rattle.urlpattern_core.specs.FirstWays.{KeepsCase, Keeping}
 use Rattle.urlpattern_core.specs.Regexes.{IsRegexOf, group_texts, regex_engine}
 use Rattle.urlpattern_core.specs.declared.regexp.RegExp.{Ghosts as Engine}
@@ -30,12 +26,12 @@ use Rattle.urlpattern_custom.specs.LawsOfWays.{FirstWaysAreCaptured, ValuesAnswe
 use Rattle.urlpattern_custom.specs.PartCaptures.{PartsCapture}
 use Rattle.urlpattern_custom.specs.PartTexts.{AllCaptureNothing, AllStandAlone, PartsTake}
 use Rattle.urlpattern_custom.specs.PartWays.{parts_first_way, parts_ways}
-use Rattle.urlpattern_engine.proofs.EngineLaws.{pattern_values_read, regex_values_read}
+use Rattle.urlpattern_engine.proofs.EngineLaws.{expression_good, form_of, pattern_values_read, regex_values_read, text_good}
+use Rattle.urlpattern_engine.proofs.ReadAnswers.{read_by_default, regex_some}
 use Rattle.urlpattern_engine.specs.Automatons.{config_for}
 use Rattle.urlpattern_engine.specs.PatternRegexps.{IsExpressionOf, pattern_engine}
 use Rattle.urlpattern_engine.specs.Readings.{re_answer}
 use Rattle.urlpattern_engine.specs.declared.pattern_regexp.Expression.{Expression}
-use Rattle.urlpattern_engine.specs.declared.pattern_regexp.Expression.TheVariants.{Own, Compiled, Kept, Other}
 use Rattle.urlpattern_engine.specs.declared.pattern_regexp.PatternRegexp.{PatternRegexp}
 use Rattle.urlpattern_meaning.specs.Dialect.{Atom, Items, Nothing, Item, Captured, Grouped, IsTreeOf, atom_group_count, atom_text, group_count, items_text, quantifier_text}
 use Rattle.urlpattern_meaning.specs.PartMeaning.{Captures}
@@ -128,23 +124,10 @@ captured_as_first engine Keeps Fits first good options flags parts value keeps a
 
 -- ---- values
 
-some_of : {A : Type 0} (o : Option A) (P : A → Type 0) → IsSomeAnd o P → IsSome o
-some_of None P p = absurd p
-some_of (Some a) P p = refl
-
-reads_some : (source regexp : List ℕ) (hir : Hir) (names : Names) → chars source ≡ regexp → Reads default_config source hir names → IsSome (read default_config regexp)
-unfolding Reads
-reads_some source regexp hir names of_text reads = ap (λ t. is_some (read default_config t)) (sym of_text) ∙ some_of (read default_config (chars source)) _ reads
-
-regex_reads : (regexp : List ℕ) (regex : Regex) → IsRegexOf regexp regex → IsSome (read default_config regexp)
-regex_reads regexp regex made = reads_some (regex_source regex) regexp _ _ made.of_text (rw (made.by_default) at made.is_read)
-
-text_good : (source : String Global) (regexp : List ℕ) → chars (string_bytes source) ≡ regexp → scalars regexp ≡ true
-text_good source regexp of_text = ap scalars (sym of_text) ∙ scalars-chars (string_bytes source) (IsUtf8-string_bytes source)
-
 regex_read : (regexp flags : List ℕ) (regex : Regex) → IsRegexOf regexp regex → IsReadFor regexp (regex_engine.answer regex)
 regex_read regexp flags regex made =
-    read_for regexp (regex_engine.answer regex) (text_good regex.pattern.source regexp made.of_text) (regex_reads regexp regex made) (regex_values_read regexp flags regex tt made)
+    read_for regexp (regex_engine.answer regex) (text_good regex.pattern.source regexp made.of_text) (regex_some false regexp regex (read_by_default regexp regex made))
+    (regex_values_read regexp flags regex tt made)
 
 pub regex_values_taken : ValuesAnswerTaken regex_engine (λ flags. ⊤) (λ regexp. ⊤)
 regex_values_taken options flags parts regex any alone fits made = answers_taken options parts (regex_engine.answer regex) alone (regex_read (regexp_text options parts) flags regex made)
@@ -177,22 +160,11 @@ tree_some regexp tree is good room =
     let few : suc (group_count tree) ≤ 2 ^ 32 = omega (arith, items_few tree, ap length is.0, length-append (items_text tree) (codes "$"), room) in
     ap (λ t. is_some (read default_config t)) is.0 ∙ ap is_some (tree_is_read tree is.1 fine few)
 
-read_kept : (ignore_case : Bool) (source : List ℕ) (hir : Hir) (names : Names) → ignore_case ≡ false → Reads (config_for ignore_case) source hir names → Reads default_config source hir names
-read_kept ignore_case source hir names kept reads = subst (λ (b : Bool). Reads (config_for b) source hir names) kept reads
-
-expression_good : (ignore_case : Bool) (regexp : List ℕ) (expression : Expression) → IsExpressionOf ignore_case regexp expression → scalars regexp ≡ true
-expression_good ignore_case regexp (Own own) made = text_good own.text regexp made.0
-expression_good ignore_case regexp (Compiled automaton) made = text_good automaton.value.text regexp made.0
-expression_good ignore_case regexp (Kept kept) made = text_good kept.value.text regexp made.0
-expression_good ignore_case regexp (Other regex) made = text_good regex.value.pattern.source regexp made.0.of_text
-
 expression_some : (ignore_case : Bool) (regexp : List ℕ) (expression : Expression) → ignore_case ≡ false → IsExpressionOf ignore_case regexp expression → HasNumbers regexp → IsSome (read default_config regexp)
-expression_some ignore_case regexp (Own own) kept made room = tree_some regexp made.1.tree made.1.is_tree (text_good own.text regexp made.0) room
-expression_some ignore_case regexp (Compiled automaton) kept made room =
-    reads_some (string_bytes automaton.value.text) regexp _ _ made.0 (read_kept ignore_case _ _ _ kept made.1.of_tree.is_read)
-expression_some ignore_case regexp (Kept value) kept made room = reads_some (string_bytes value.value.text) regexp _ _ made.0 (read_kept ignore_case _ _ _ kept made.1.is_read)
-expression_some ignore_case regexp (Other regex) kept made room =
-    reads_some (regex_source regex.value) regexp _ _ made.0.of_text (read_kept ignore_case _ _ _ kept (rw (made.0.by_case) at made.0.is_read))
+expression_some ignore_case regexp expression kept made room = elim (form_of ignore_case regexp expression made) [
+  | inl own ↦ tree_some regexp own.tree own.is_tree (expression_good ignore_case regexp expression made) room
+  | inr custom ↦ subst (λ (b : Bool). IsSome (read (config_for b) regexp)) kept custom.is_read
+]
 
 pattern_read : (regexp flags : List ℕ) (value : PatternRegexp) → KeepsCase flags → HasNumbers regexp → pattern_engine.IsMade value regexp flags → IsReadFor regexp (pattern_engine.answer value)
 pattern_read regexp flags value keeps room made =

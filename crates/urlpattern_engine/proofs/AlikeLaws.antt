@@ -1,76 +1,33 @@
 -- Two values that were made of one expression answer alike.
-use Rattle.std.proofs.Common.{◌≡◌, ◌⊎◌, ℕ, Bool, false, List, ap, inl, inr, refl, subst, sym, ◌∙◌}
-use Rattle.std.proofs.lemmas.Str.{IsUtf8-string_bytes}
-use Rattle.std.specs.Prelude.{IsTrue, string_bytes}
+use Rattle.std.proofs.Common.{◌≡◌, ℕ, Bool, false, List, ap, inl, inr, subst, sym, ◌∙◌}
+use Rattle.std.specs.Prelude.{IsSome, IsTrue}
 use Rattle.std.specs.Str.{all_scalars}
-use Rattle.regex.specs.Strings.{regex_names}
-use Rattle.regex_hir.specs.declared.hir.Hir.{Hir}
-use Rattle.regex_syntax.specs.Grammar.{Names}
+use Rattle.regex_syntax.specs.Grammar.{read}
 use Rattle.urlpattern_core.proofs.FirstMatchers.{flags_agree}
 use Rattle.urlpattern_core.specs.Components.{engine_flags}
 use Rattle.urlpattern_core.specs.Regexes.{regex_engine}
-use Rattle.urlpattern_engine.proofs.AutomatonLemmas.{answers_as_tree}
-use Rattle.urlpattern_engine.proofs.EngineLaws.{expression_first, values_by_flags}
-use Rattle.urlpattern_engine.proofs.TwoReadings.{IsReadIn, read_by_default, readings_same, regex_answer_is, regex_is_read, regexes_same}
-use Rattle.urlpattern_engine.specs.Automatons.{config_for, names_of, tree_answer}
+use Rattle.urlpattern_engine.proofs.EngineLaws.{expression_as_read, expression_first, form_of, values_by_flags}
+use Rattle.urlpattern_engine.proofs.ReadAnswers.{read_by_default, regex_as_read}
+use Rattle.urlpattern_engine.specs.Automatons.{config_for}
 use Rattle.urlpattern_engine.specs.PatternRegexps.{IsExpressionOf, expression_answer, pattern_answer, pattern_engine}
 use Rattle.urlpattern_engine.specs.Readings.{ExpressionsAnswerAlike}
 use Rattle.urlpattern_engine.specs.declared.pattern_regexp.Expression.{Expression}
-use Rattle.urlpattern_engine.specs.declared.pattern_regexp.Expression.TheVariants.{Own, Compiled, Kept, Other}
 use Rattle.urlpattern_meaning.proofs.OneMeaning.{is_tree_of}
 use Rattle.urlpattern_meaning.proofs.PartTrees.{tree_of}
-use Rattle.urlpattern_meaning.specs.Dialect.{IsTreeOf, Items}
 use Rattle.urlpattern_syntax.specs.RegexpText.{regexp_text}
-
--- the expression has a tree of the dialect
-abbrev HasTree : List ℕ → Type 0
-HasTree regexp = (tree : Items) × IsTreeOf regexp tree
-
--- Or the value answers what the grammar reads.
-record AnswersRead (ignore_case : Bool) (regexp : List ℕ) (expression : Expression) : Type 0 where
-  hir : Hir
-  names : Names
-  is_read : IsReadIn (config_for ignore_case) regexp hir names
-  answers : (text : List ℕ) → IsTrue (all_scalars text) → expression_answer ignore_case expression text ≡ tree_answer hir names text
-
-form_of : (ignore_case : Bool) (regexp : List ℕ) (expression : Expression) → IsExpressionOf ignore_case regexp expression → HasTree regexp ⊎ AnswersRead ignore_case regexp expression
-form_of ignore_case regexp (Own own) made = inl (made.1.tree, made.1.is_tree)
-form_of ignore_case regexp (Compiled automaton) made = inr (record {
-  hir = made.1.tree;
-  names = made.1.names;
-  is_read = (string_bytes automaton.value.text, made.0, made.1.of_tree.is_read);
-  answers = λ text fine. answers_as_tree ignore_case regexp (string_bytes automaton.value.text) automaton.value.nfa (IsUtf8-string_bytes automaton.value.text) made.0 made.1 text fine;
-})
-form_of ignore_case regexp (Kept value) made = inr (record {
-  hir = value.value.hir;
-  names = names_of value.value.names.items;
-  is_read = (string_bytes value.value.text, made.0, made.1.is_read);
-  answers = λ text fine. refl;
-})
-form_of ignore_case regexp (Other regex) made = inr (record {
-  hir = regex.value.pattern.program.hir;
-  names = regex_names regex.value;
-  is_read = regex_is_read ignore_case regexp regex.value made.0;
-  answers = λ text fine. regex_answer_is regex.value text;
-})
 
 module _ (ignore_case : Bool) (regexp : List ℕ) (one other : Expression) (kept : ignore_case ≡ false) (made : IsExpressionOf ignore_case regexp one) (also : IsExpressionOf ignore_case regexp other)
     (text : List ℕ) (fine : IsTrue (all_scalars text)) where
-  by_tree : HasTree regexp → expression_answer ignore_case one text ≡ expression_answer ignore_case other text
-  by_tree (tree, is) =
-      expression_first ignore_case regexp tree one text kept is made fine ∙ sym (expression_first ignore_case regexp tree other text kept is also fine)
-
-  by_forms : HasTree regexp ⊎ AnswersRead ignore_case regexp one → HasTree regexp ⊎ AnswersRead ignore_case regexp other
-      → expression_answer ignore_case one text ≡ expression_answer ignore_case other text
-  by_forms (inl tree) form = by_tree tree
-  by_forms (inr read) (inl tree) = by_tree tree
-  by_forms (inr read) (inr again) =
-      read.answers text fine
-      ∙ readings_same (config_for ignore_case) regexp read.hir again.hir read.names again.names read.is_read again.is_read text fine
-      ∙ sym (again.answers text fine)
-
   expressions_alike : expression_answer ignore_case one text ≡ expression_answer ignore_case other text
-  expressions_alike = by_forms (form_of ignore_case regexp one made) (form_of ignore_case regexp other also)
+  expressions_alike = elim (form_of ignore_case regexp one made) [
+    | inl own ↦
+        expression_first ignore_case regexp one made text kept fine own.tree own.is_tree
+        ∙ sym (expression_first ignore_case regexp other also text kept fine own.tree own.is_tree)
+    | inr custom ↦
+        let some = subst (λ (b : Bool). IsSome (read (config_for b) regexp)) kept custom.is_read in
+        expression_as_read ignore_case regexp one made text kept fine some
+        ∙ sym (expression_as_read ignore_case regexp other also text kept fine some)
+  ]
 
 pub own_expressions : ExpressionsAnswerAlike pattern_engine
 unfolding pattern_answer
@@ -90,4 +47,5 @@ own_expressions options parts value other text (inr generated) made also fine =
 pub expressions_of_regex : ExpressionsAnswerAlike regex_engine
 expressions_of_regex options parts value other text settled made also fine =
     let regexp = regexp_text options parts in
-    regexes_same false regexp value other (read_by_default regexp value made) (read_by_default regexp other also) text fine
+    regex_as_read false regexp value (read_by_default regexp value made) text fine
+    ∙ sym (regex_as_read false regexp other (read_by_default regexp other also) text fine)

@@ -3,8 +3,8 @@ use Rattle.std.proofs.Common.{◌≡◌, ℕ, zero, suc, ◌+◌, ◌-◌, ◌*�
 use Rattle.std.proofs.lemmas.Bool.{and_from, and_parts, cases_Bool, cond-true, cond-false, leb-true}
 use Rattle.std.proofs.lemmas.List.FromFn.{get_or-map-range_with_len, length-map-range_with_len}
 use Rattle.std.proofs.lemmas.Option.{none-some, same_Some}
-use Rattle.std.proofs.lemmas.Str.{IsCharBoundary-start, encodes-chars, scalars-chars}
-use Rattle.std.proofs.Math.Logic.{∥∥₁_elim, ∥∥₁_prop}
+use Rattle.std.proofs.lemmas.Str.{IsCharBoundary-start, encodes-chars}
+use Rattle.std.proofs.Math.Logic.{∥∥₁_elim}
 use Rattle.std.specs.Coded.{coded_list, coded_option, coded_ℕ}
 use base.Stored.{Coded-set}
 use Rattle.std.specs.List.{range_with_len}
@@ -25,20 +25,13 @@ use Rattle.regex_hir.proofs.AttemptLemmas.{cond_some}
 use Rattle.regex_hir.proofs.FindLemmas.{IsFirst-of_first_between, first_between_cong, first_between_here, first_between_none}
 use Rattle.regex_hir.proofs.OptionLemmas.{none_of_no_value, option_cases, option_or-None}
 use Rattle.regex_meta.proofs.LeftmostLemmas.{Matches-of_attempt}
-use Rattle.regex_hir.specs.declared.hir.Hir.{Hir}
 use Rattle.regex_nfa.specs.declared.nfa.Nfa.{Nfa}
-use Rattle.regex_syntax.specs.Grammar.{Names}
-use Rattle.regex_syntax.specs.Verdict.{Reads}
 use Rattle.regex_vm.specs.Found.{cell, first_match, group_cells}
-use Rattle.urlpattern_core.specs.Regexes.{group_texts, regex_answer, text_between}
-use Rattle.urlpattern_regex.proofs.RegexWays.{read_answers_first}
-use Rattle.urlpattern_engine.specs.Automatons.{IsRegexReadAs, IsNfaOf, IsReadAtStart, automaton_answer, config_for, match_captures, cell_texts, match_at_start, place_of, text_cut, tree_answer}
+use Rattle.urlpattern_core.specs.Regexes.{group_texts, text_between}
+use Rattle.urlpattern_engine.specs.Automatons.{IsNfaOf, automaton_answer, match_captures, cell_texts, match_at_start, place_of, read_answer, text_cut}
 use Rattle.urlpattern_engine.proofs.TextParts.{text_parts}
-use Rattle.urlpattern_engine.proofs.TwoReadings.{readings_same, regex_answer_is, regex_is_read}
-use Rattle.urlpattern_meaning.specs.Dialect.{IsTreeOf, Items}
+use Rattle.urlpattern_engine.proofs.ReadAnswers.{tree_answer, tree_as_read}
 use Rattle.urlpattern_meaning.specs.PartMeaning.{Captures}
-use Rattle.urlpattern_meaning.specs.Ways.{first_way}
-use Rattle.regex.specs.declared.string.regex.Regex.{Regex}
 
 -- ---- a match at the start of a text
 
@@ -138,52 +131,27 @@ option_map_same (Some x) f g same = ap Some (same x refl)
 
 -- ---- the laws
 
-module _ (ignore_case : Bool) (regexp source : List ℕ) (nfa : Nfa) (utf8 : IsUtf8 source) (of_text : chars source ≡ regexp) (made : IsNfaOf ignore_case source nfa) (text : List ℕ) (fine : IsTrue (all_scalars text)) where
-  pub answers_as_tree : automaton_answer nfa text ≡ tree_answer made.tree made.names text
+module _ (ignore_case : Bool) (source : List ℕ) (nfa : Nfa) (made : IsNfaOf ignore_case source nfa) (text : List ℕ) (fine : IsTrue (all_scalars text)) where
+  answers_as_tree : automaton_answer nfa text ≡ tree_answer made.tree made.names text
   unfolding automaton_answer
   answers_as_tree =
       let bytes = encode_utf8_all text in
       let spelled : IsUtf8 bytes = (text, (fine, refl)) in
       let re = meaning made.tree in
       let count : nfa.slot_count / 2 - 1 ≡ length made.names - 1 = omega (arith, made.slots) in
-      ap₂ (λ n o. option_map (match_captures bytes n) o) count (first_is_found nfa re made.implements made.of_tree.is_anchored bytes spelled)
-      ∙ option_map_same (find_str re bytes 0) _ _ (λ m found. captures_are_texts bytes re m _ spelled (text_parts made.tree made.of_tree.is_formed) found)
+      ap₂ (λ n o. option_map (match_captures bytes n) o) count (first_is_found nfa re made.implements made.is_anchored bytes spelled)
+      ∙ option_map_same (find_str re bytes 0) _ _ (λ m found. captures_are_texts bytes re m _ spelled (text_parts made.tree made.is_formed) found)
 
-  pub automaton_first : ignore_case ≡ false → (tree : Items) → IsTreeOf regexp tree → automaton_answer nfa text ≡ first_way tree text
-  automaton_first kept tree is =
-      answers_as_tree
-      ∙ read_answers_first regexp tree source made.tree made.names text is utf8 of_text (subst (λ (b : Bool). Reads (config_for b) source made.tree made.names) kept made.of_tree.is_read) fine
-
-  pub automaton_same : (regex : Regex) → IsRegexReadAs ignore_case regexp regex → automaton_answer nfa text ≡ regex_answer regex text
-  automaton_same regex also =
-      answers_as_tree
-      ∙ readings_same (config_for ignore_case) regexp _ _ _ _ (source, of_text, made.of_tree.is_read) (regex_is_read ignore_case regexp regex also) text fine
-      ∙ sym (regex_answer_is regex text)
+  -- an automaton answers what the grammar reads in its text
+  pub automaton_as_read : automaton_answer nfa text ≡ read_answer ignore_case (chars source) text
+  automaton_as_read = answers_as_tree ∙ tree_as_read ignore_case source made.tree made.names made.is_read text fine
 
 -- what is known of an automaton as a fact with one proof is enough
-pub automaton_same_once : (ignore_case : Bool) (source : List ℕ) (nfa : Nfa) → IsUtf8 source → ∥ IsNfaOf ignore_case source nfa ∥₁ → (regex : Regex) → IsRegexReadAs ignore_case (chars source) regex → (bytes : List ℕ) → IsUtf8 bytes
-    → automaton_answer nfa (chars bytes) ≡ regex_answer regex (chars bytes)
-automaton_same_once ignore_case source nfa utf8 made regex also bytes text =
+pub automaton_as_read_once : (ignore_case : Bool) (source : List ℕ) (nfa : Nfa) → ∥ IsNfaOf ignore_case source nfa ∥₁ → (text : List ℕ) → IsTrue (all_scalars text)
+    → automaton_answer nfa text ≡ read_answer ignore_case (chars source) text
+automaton_as_read_once ignore_case source nfa made text fine =
     ∥∥₁_elim made (Coded-set (coded_option (coded_list (coded_option (coded_list coded_ℕ)))) _ _)
-    (λ made. automaton_same ignore_case (chars source) source nfa utf8 refl made (chars bytes) (scalars-chars bytes text) regex also)
-
--- an automaton of a tree of which as much is known
-module _ (ignore_case : Bool) (source : List ℕ) (nfa : Nfa) (tree : Hir) (names : Names) (of_tree : ∥ IsReadAtStart ignore_case source tree names ∥₁)
-    (implements : Implements nfa (meaning tree)) (slots : nfa.slot_count ≡ 2 * length names) where
-  abbrev nfa_of_tree : IsReadAtStart ignore_case source tree names → IsNfaOf ignore_case source nfa
-  nfa_of_tree known = record { tree = tree; names = names; of_tree = known; implements = implements; slots = slots }
-
-  pub is_nfa_of_tree : ∥ IsNfaOf ignore_case source nfa ∥₁
-  is_nfa_of_tree = ∥∥₁_elim of_tree ∥∥₁_prop (λ known. ∣ nfa_of_tree known ∣₁)
-
-  as_known_tree : IsUtf8 source → (bytes : List ℕ) → IsUtf8 bytes → IsReadAtStart ignore_case source tree names → automaton_answer nfa (chars bytes) ≡ tree_answer tree names (chars bytes)
-  as_known_tree utf8 bytes text known =
-      answers_as_tree ignore_case (chars source) source nfa utf8 refl (nfa_of_tree known) (chars bytes) (scalars-chars bytes text)
-
-  pub automaton_as_tree : IsUtf8 source → (bytes : List ℕ) → IsUtf8 bytes → automaton_answer nfa (chars bytes) ≡ tree_answer tree names (chars bytes)
-  automaton_as_tree utf8 bytes text =
-      ∥∥₁_elim of_tree (Coded-set (coded_option (coded_list (coded_option (coded_list coded_ℕ)))) (automaton_answer nfa (chars bytes)) (tree_answer tree names (chars bytes)))
-      (as_known_tree utf8 bytes text)
+    (λ made. automaton_as_read ignore_case source nfa made text fine)
 
 -- ---- the cells that a search writes
 

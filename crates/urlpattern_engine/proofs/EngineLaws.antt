@@ -1,21 +1,19 @@
 -- A value of the engine answers the first way, and what `regex::Regex` answers.
-use Rattle.std.proofs.Common.{◌≡◌, ℕ, Bool, false, true, List, Option, Some, None, codes, length, refl, sym, ap, ◌∙◌, subst, inl, inr}
-use Rattle.std.proofs.lemmas.Str.{IsUtf8-string_bytes}
-use Rattle.std.specs.Prelude.{⊤, IfSome, IsOk, IsTrue, Ok, Err, Result, string_bytes}
+use Rattle.std.proofs.Common.{◌≡◌, ◌⊎◌, ℕ, Bool, false, true, List, Option, Some, None, codes, is_some, refl, sym, ap, ◌∙◌, subst, inl, inr}
+use Rattle.std.proofs.lemmas.Str.{IsUtf8-string_bytes, scalars-chars}
+use Rattle.std.specs.Prelude.{⊤, IfSome, IsOk, IsSome, IsTrue, Ok, Err, Result, String, string_bytes}
+use Rattle.std.specs.declared.alloc.Global.{Global}
 use Rattle.std.specs.Str.{all_scalars}
-use Rattle.regex.specs.declared.string.regex.Regex.{Regex}
-use Rattle.regex_hir.specs.Re.{Re}
-use Rattle.regex_hir.specs.declared.hir.Hir.{Hir}
-use Rattle.regex_syntax.specs.Brackets.{Nested}
-use Rattle.regex_syntax.specs.Grammar.{Names, read}
-use Rattle.regex_syntax.specs.Verdict.{Reads, default_config}
-use Rattle.urlpattern_core.specs.Regexes.{IsRegexOf, regex_answer, regex_engine}
+use lib.Utf8.{scalars}
+use Rattle.regex_syntax.specs.Grammar.{read}
+use Rattle.regex_syntax.specs.Verdict.{default_config}
+use Rattle.urlpattern_core.specs.Regexes.{regex_engine}
 use Rattle.urlpattern_core.specs.FirstWays.{AllAnswerAlike, ComponentsTakeGenerated, EachAnswersFirst, KeepsCase, MatchersTakeGenerated, ValuesAnswerAlike, ValuesAnswerByFlags, ValuesAnswerFirst}
 use Rattle.urlpattern_core.specs.Generated.{AreGenerated}
 use Rattle.urlpattern_core.proofs.FirstMatchers.{first_alike, made_first}
-use Rattle.urlpattern_regex.proofs.RegexWays.{read_answers_first, regex_answers_first}
 use Rattle.urlpattern_meaning.specs.Dialect.{IsTreeOf, Items}
 use Rattle.urlpattern_meaning.specs.FirstAnswers.{AnswersFirst}
+use Rattle.urlpattern_meaning.specs.GeneratedTexts.{IsGenerated}
 use Rattle.urlpattern_meaning.specs.Ways.{first_way, first_way_by}
 use Rattle.urlpattern_meaning.proofs.DialectUnique.{trees_are_one}
 use Rattle.urlpattern_meaning.proofs.OneMeaning.{is_tree_of}
@@ -27,42 +25,102 @@ use Rattle.urlpattern_syntax.specs.Errors.{ErrorView}
 use Rattle.urlpattern_syntax.specs.Options.{OptionsView}
 use Rattle.urlpattern_syntax.specs.Parts.{PartView}
 use Rattle.urlpattern_syntax.specs.RegexpText.{regexp_text}
+use Rattle.urlpattern_syntax.specs.Text.{text_of}
 use Rattle.urlpattern_engine.specs.declared.pattern_regexp.Expression.{Expression}
-use Rattle.urlpattern_engine.specs.declared.pattern_regexp.Expression.TheVariants.{Own, Compiled, Kept, Other}
+use Rattle.urlpattern_engine.specs.declared.pattern_regexp.Expression.TheVariants.{Own, Generated, Compiled, Other, Custom}
 use Rattle.urlpattern_engine.specs.declared.pattern_regexp.PatternRegexp.{PatternRegexp}
 use Rattle.urlpattern_engine.specs.PatternRegexps.{IsExpressionOf, IsPatternRegexpOf, expression_answer, pattern_answer, pattern_engine}
-use Rattle.urlpattern_steps.specs.declared.step.Step.{Step}
-use Rattle.urlpattern_engine.specs.Automatons.{IsRegexReadAs, config_for, names_of}
-use Rattle.urlpattern_walk.specs.ReadSteps.{AreStepsOf, IsGenerated}
-use Rattle.urlpattern_engine.specs.Readings.{ValuesAnswerAsRead, re_answer}
-use Rattle.urlpattern_steps.specs.Walk.{walk}
+use Rattle.urlpattern_engine.specs.Automatons.{config_for, read_answer}
+use Rattle.urlpattern_engine.specs.Readings.{ValuesAnswerAsRead}
 use Rattle.urlpattern_meaning.proofs.FirstAnswers.{first_agrees, took_all}
-use Rattle.urlpattern_engine.proofs.AutomatonLemmas.{answers_as_tree, automaton_first, automaton_same}
-use Rattle.urlpattern_engine.proofs.TwoReadings.{default_read, first_is_read, read_by_default, regex_read, regexes_same, tree_is_read, tree_same}
+use Rattle.urlpattern_engine.proofs.AutomatonLemmas.{automaton_as_read}
+use Rattle.urlpattern_engine.proofs.ReadAnswers.{first_as_read, read_answer_is, read_by_default, reads_some, regex_as_read, regex_some}
 
--- the steps of an expression answer the first way of its tree, whether case counts or not
-steps_first : (ignore_case : Bool) (regexp : List ℕ) (tree : Items) (steps : List Step) (text : List ℕ) → IsTreeOf regexp tree → AreStepsOf regexp steps → walk ignore_case steps text ≡ first_way_by ignore_case tree text
-steps_first ignore_case regexp tree steps text is of =
-    of.answers ignore_case text ∙ ap (λ t. first_way_by ignore_case t text) (trees_are_one regexp of.tree tree of.is_tree is)
+-- ---- how a value answers
 
-by_default : (ignore_case : Bool) (regexp : List ℕ) (regex : Regex) → ignore_case ≡ false → IsRegexReadAs ignore_case regexp regex → IsRegexOf regexp regex
-by_default ignore_case regexp regex kept made = default_read regexp regex (subst (λ (b : Bool). IsRegexReadAs b regexp regex) kept made)
+-- by the first way of a tree of its expression
+pub record AnswersByTree (ignore_case : Bool) (regexp : List ℕ) (expression : Expression) : Type 0 where
+  pub tree : Items
+  pub is_tree : IsTreeOf regexp tree
+  pub answers : (text : List ℕ) → expression_answer ignore_case expression text ≡ first_way_by ignore_case tree text
 
-pub expression_first : (ignore_case : Bool) (regexp : List ℕ) (tree : Items) (expression : Expression) (text : List ℕ) → ignore_case ≡ false → IsTreeOf regexp tree → IsExpressionOf ignore_case regexp expression
-    → IsTrue (all_scalars text) → expression_answer ignore_case expression text ≡ first_way tree text
-expression_first ignore_case regexp tree (Own own) text kept is made fine =
-    steps_first ignore_case regexp tree own.steps.items text is made.1 ∙ ap (λ b. first_way_by b tree text) kept
-expression_first ignore_case regexp tree (Compiled automaton) text kept is made fine =
-    automaton_first ignore_case regexp (string_bytes automaton.value.text) automaton.value.nfa (IsUtf8-string_bytes automaton.value.text) made.0 made.1 text fine kept tree is
-expression_first ignore_case regexp tree (Kept value) text kept is made fine =
-    read_answers_first regexp tree (string_bytes value.value.text) value.value.hir (names_of value.value.names.items) text is (IsUtf8-string_bytes value.value.text) made.0
-    (subst (λ (b : Bool). Reads (config_for b) (string_bytes value.value.text) value.value.hir (names_of value.value.names.items)) kept made.1.is_read) fine
-expression_first ignore_case regexp tree (Other regex) text kept is made fine = regex_answers_first regexp tree regex.value text is (by_default ignore_case regexp regex.value kept made.0) fine
+-- by what the grammar reads in it, and no parts without a custom one generate it
+pub record AnswersAsRead (ignore_case : Bool) (regexp : List ℕ) (expression : Expression) : Type 0 where
+  pub is_custom : ¬ IsGenerated regexp
+  pub is_read : IsSome (read (config_for ignore_case) regexp)
+  pub answers : (text : List ℕ) → IsTrue (all_scalars text) → expression_answer ignore_case expression text ≡ read_answer ignore_case regexp text
+
+pub form_of : (ignore_case : Bool) (regexp : List ℕ) (expression : Expression) → IsExpressionOf ignore_case regexp expression
+    → AnswersByTree ignore_case regexp expression ⊎ AnswersAsRead ignore_case regexp expression
+form_of ignore_case regexp (Own own) made = inl (record { tree = made.1.tree; is_tree = made.1.is_tree; answers = made.1.answers ignore_case })
+form_of ignore_case regexp (Generated own) made = inl (record {
+  tree = own.tree.0;
+  is_tree = subst (λ t. IsTreeOf t own.tree.0) made own.tree.1;
+  answers = λ text. refl;
+})
+form_of ignore_case regexp (Compiled automaton) made =
+    let source = string_bytes automaton.value.text in
+    inr (record {
+      is_custom = made.2;
+      is_read = subst (λ t. IsSome (read (config_for ignore_case) t)) made.0 (reads_some (config_for ignore_case) source _ _ made.1.is_read);
+      answers = λ text fine. automaton_as_read ignore_case source automaton.value.nfa made.1 text fine ∙ ap (λ t. read_answer ignore_case t text) made.0;
+    })
+form_of ignore_case regexp (Other regex) made = inr (record {
+  is_custom = made.1;
+  is_read = regex_some ignore_case regexp regex.value made.0;
+  answers = regex_as_read ignore_case regexp regex.value made.0;
+})
+form_of ignore_case regexp (Custom own) made = inr (record {
+  is_custom = made.2;
+  is_read = made.1;
+  answers = λ text fine. ap (λ t. read_answer ignore_case t text) made.0;
+})
+
+pub text_good : (source : String Global) (regexp : List ℕ) → text_of source ≡ regexp → scalars regexp ≡ true
+text_good source regexp of_text = ap scalars (sym of_text) ∙ scalars-chars (string_bytes source) (IsUtf8-string_bytes source)
+
+-- the expression is of characters
+pub expression_good : (ignore_case : Bool) (regexp : List ℕ) (expression : Expression) → IsExpressionOf ignore_case regexp expression → scalars regexp ≡ true
+expression_good ignore_case regexp (Own own) made = text_good own.text regexp made.0
+expression_good ignore_case regexp (Generated own) made = text_good own.text regexp made
+expression_good ignore_case regexp (Compiled automaton) made = text_good automaton.value.text regexp made.0
+expression_good ignore_case regexp (Other regex) made = text_good regex.value.pattern.source regexp made.0.of_text
+expression_good ignore_case regexp (Custom own) made = text_good own regexp made.0
+
+module _ (ignore_case : Bool) (regexp : List ℕ) (expression : Expression) (made : IsExpressionOf ignore_case regexp expression) (text : List ℕ) where
+  -- a value that was made of the regular expression of parts without a custom one answers the first way of its tree
+  pub expression_generated : IsGenerated regexp → (tree : Items) → IsTreeOf regexp tree → expression_answer ignore_case expression text ≡ first_way_by ignore_case tree text
+  expression_generated generated tree is = elim (form_of ignore_case regexp expression made) [
+    | inl own ↦ own.answers text ∙ ap (λ t. first_way_by ignore_case t text) (trees_are_one regexp own.tree tree own.is_tree is)
+    | inr read ↦ absurd (read.is_custom generated)
+  ]
+
+  module _ (kept : ignore_case ≡ false) (fine : IsTrue (all_scalars text)) where
+    -- if case is kept, a value answers what the grammar reads
+    pub expression_as_read : IsSome (read default_config regexp) → expression_answer ignore_case expression text ≡ read_answer false regexp text
+    expression_as_read some = elim (form_of ignore_case regexp expression made) [
+      | inl own ↦
+          own.answers text ∙ ap (λ b. first_way_by b own.tree text) kept
+          ∙ first_as_read regexp own.tree own.is_tree (expression_good ignore_case regexp expression made) some text fine
+      | inr read ↦ read.answers text fine ∙ ap (λ b. read_answer b regexp text) kept
+    ]
+
+    -- and the first way of a tree
+    pub expression_first : (tree : Items) → IsTreeOf regexp tree → expression_answer ignore_case expression text ≡ first_way tree text
+    expression_first tree is = elim (form_of ignore_case regexp expression made) [
+      | inl own ↦
+          own.answers text ∙ ap (λ b. first_way_by b own.tree text) kept ∙ ap (λ t. first_way t text) (trees_are_one regexp own.tree tree own.is_tree is)
+      | inr custom ↦
+          let some = subst (λ (b : Bool). IsSome (read (config_for b) regexp)) kept custom.is_read in
+          expression_as_read some ∙ sym (first_as_read regexp tree is (expression_good ignore_case regexp expression made) some text fine)
+    ]
+
+-- ---- values
 
 pub pattern_regexp_first : (regexp flags : List ℕ) (tree : Items) (value : PatternRegexp) (text : List ℕ) → ignores_case flags ≡ false → IsTreeOf regexp tree → IsPatternRegexpOf regexp flags value → IsTrue (all_scalars text)
     → pattern_answer value text ≡ first_way tree text
 unfolding pattern_answer
-pattern_regexp_first regexp flags tree value text keeps is made fine = expression_first value.ignore_case regexp tree value.expression text (made.by_flags ∙ keeps) is made.of_text fine
+pattern_regexp_first regexp flags tree value text keeps is made fine = expression_first value.ignore_case regexp value.expression made.of_text text (made.by_flags ∙ keeps) fine tree is
 
 -- a value that was made of a text answers the first way of its tree, if case is kept, and so it follows the text
 pub answers_first_of : (regexp flags : List ℕ) (value : PatternRegexp) → ignores_case flags ≡ false → IsPatternRegexpOf regexp flags value → AnswersFirst regexp (pattern_answer value)
@@ -71,18 +129,10 @@ answers_first_of regexp flags value keeps made = λ tree text is fine. pattern_r
 pub values_first : ValuesAnswerFirst pattern_engine KeepsCase
 values_first regexp flags value keeps made = answers_first_of regexp flags value keeps made
 
--- a value that was made of the regular expression of parts without a custom one answers by its steps
-expression_generated : (ignore_case : Bool) (regexp : List ℕ) (tree : Items) (expression : Expression) (text : List ℕ) → IsGenerated regexp → IsTreeOf regexp tree → IsExpressionOf ignore_case regexp expression
-    → expression_answer ignore_case expression text ≡ first_way_by ignore_case tree text
-expression_generated ignore_case regexp tree (Own own) text generated is made = steps_first ignore_case regexp tree own.steps.items text is made.1
-expression_generated ignore_case regexp tree (Compiled automaton) text generated is made = absurd (made.2 generated)
-expression_generated ignore_case regexp tree (Kept value) text generated is made = absurd (made.2 generated)
-expression_generated ignore_case regexp tree (Other regex) text generated is made = absurd (made.1 generated)
-
 pub values_by_flags : ValuesAnswerByFlags pattern_engine
 unfolding pattern_answer
 values_by_flags options flags parts tree value generated is made = λ text.
-    expression_generated value.ignore_case (regexp_text options parts) tree value.expression text (options, parts, generated, refl) is made.of_text
+    expression_generated value.ignore_case (regexp_text options parts) value.expression made.of_text text (options, parts, generated, refl) tree is
     ∙ ap (λ b. first_way_by b tree text) made.by_flags
 
 -- so it answers what such parts mean, if case is kept
@@ -96,44 +146,14 @@ values_agree options parts value generated made text =
           made text;
     }
 
-expression_same : (ignore_case : Bool) (regexp : List ℕ) (expression : Expression) (regex : Regex) (text : List ℕ) → ignore_case ≡ false → IsExpressionOf ignore_case regexp expression → IsRegexOf regexp regex
-    → IsTrue (all_scalars text) → expression_answer ignore_case expression text ≡ regex_answer regex text
-expression_same ignore_case regexp (Own own) regex text kept made also fine =
-    ap (λ b. walk b own.steps.items text) kept ∙ made.1.answers false text ∙ sym (regex_answers_first regexp made.1.tree regex text made.1.is_tree also fine)
-expression_same ignore_case regexp (Compiled automaton) regex text kept made also fine =
-    automaton_same ignore_case regexp (string_bytes automaton.value.text) automaton.value.nfa (IsUtf8-string_bytes automaton.value.text) made.0 made.1 text fine regex
-    (subst (λ (b : Bool). IsRegexReadAs b regexp regex) (sym kept) (read_by_default regexp regex also))
-expression_same ignore_case regexp (Kept value) regex text kept made also fine =
-    tree_same ignore_case regexp (string_bytes value.value.text) value.value.hir (names_of value.value.names.items) made.0 made.1.is_read regex
-    (subst (λ (b : Bool). IsRegexReadAs b regexp regex) (sym kept) (read_by_default regexp regex also)) text fine
-expression_same ignore_case regexp (Other other) regex text kept made also fine =
-    regexes_same ignore_case regexp other.value regex made.0 (subst (λ (b : Bool). IsRegexReadAs b regexp regex) (sym kept) (read_by_default regexp regex also)) text fine
-
 pub pattern_regexp_same : ValuesAnswerAlike pattern_engine regex_engine KeepsCase
 unfolding pattern_answer
-pattern_regexp_same regexp flags value regex text keeps made also fine = expression_same value.ignore_case regexp value.expression regex text (made.by_flags ∙ keeps) made.of_text also fine
+pattern_regexp_same regexp flags value regex text keeps made also fine =
+    let by_case = read_by_default regexp regex also in
+    expression_as_read value.ignore_case regexp value.expression made.of_text text (made.by_flags ∙ keeps) fine (regex_some false regexp regex by_case)
+    ∙ sym (regex_as_read false regexp regex by_case text fine)
 
 -- ---- what the grammar reads
-
-read_default : (ignore_case : Bool) (source : List ℕ) (hir : Hir) (names : Names) → ignore_case ≡ false → Reads (config_for ignore_case) source hir names → Reads default_config source hir names
-read_default ignore_case source hir names kept is_read = subst (λ (b : Bool). Reads (config_for b) source hir names) kept is_read
-
-expression_read : (ignore_case : Bool) (regexp : List ℕ) (expression : Expression) → ignore_case ≡ false → IsExpressionOf ignore_case regexp expression
-    → (found : Nested Re × Names) → read default_config regexp ≡ Some found
-    → (text : List ℕ) → IsTrue (all_scalars text) → expression_answer ignore_case expression text ≡ re_answer found.0.value (length found.1) text
-expression_read ignore_case regexp (Own own) kept made found e text fine =
-    ap (λ b. walk b own.steps.items text) kept ∙ made.1.answers false text
-    ∙ first_is_read regexp (string_bytes own.text) made.1.tree made.1.is_tree (IsUtf8-string_bytes own.text) made.0 found e text fine
-expression_read ignore_case regexp (Compiled automaton) kept made found e text fine =
-    let source = string_bytes automaton.value.text in
-    answers_as_tree ignore_case regexp source automaton.value.nfa (IsUtf8-string_bytes automaton.value.text) made.0 made.1 text fine
-    ∙ tree_is_read regexp made.1.tree made.1.names (source, made.0, read_default ignore_case source made.1.tree made.1.names kept made.1.of_tree.is_read) found e text fine
-expression_read ignore_case regexp (Kept value) kept made found e text fine =
-    let source = string_bytes value.value.text in
-    let names = names_of value.value.names.items in
-    tree_is_read regexp value.value.hir names (source, made.0, read_default ignore_case source value.value.hir names kept made.1.is_read) found e text fine
-expression_read ignore_case regexp (Other regex) kept made found e text fine =
-    regex_read regexp regex.value (by_default ignore_case regexp regex.value kept made.0) found e text fine
 
 if_some : {X : Type 0} (o : Option X) (P : X → Type 0) → ((x : X) → o ≡ Some x → P x) → IfSome o P
 if_some None P f = tt
@@ -142,10 +162,14 @@ if_some (Some x) P f = f x refl
 pub pattern_values_read : ValuesAnswerAsRead pattern_engine KeepsCase
 unfolding pattern_answer
 pattern_values_read regexp flags value keeps made =
-    if_some (read default_config regexp) _ (λ found e text fine. expression_read value.ignore_case regexp value.expression (made.by_flags ∙ keeps) made.of_text found e text fine)
+    if_some (read default_config regexp) _ (λ found e text fine.
+    expression_as_read value.ignore_case regexp value.expression made.of_text text (made.by_flags ∙ keeps) fine (ap is_some e)
+    ∙ read_answer_is false regexp found e text)
 
 pub regex_values_read : ValuesAnswerAsRead regex_engine (λ flags. ⊤)
-regex_values_read regexp flags regex any made = if_some (read default_config regexp) _ (λ found e text fine. regex_read regexp regex made found e text fine)
+regex_values_read regexp flags regex any made =
+    if_some (read default_config regexp) _ (λ found e text fine.
+    regex_as_read false regexp regex (read_by_default regexp regex made) text fine ∙ read_answer_is false regexp found e text)
 
 -- ---- matchers
 

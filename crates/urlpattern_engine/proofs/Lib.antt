@@ -1,4 +1,4 @@
-pub mod TwoReadings
+pub mod ReadAnswers
 pub mod TextParts
 pub mod AutomatonLemmas
 pub mod TrialLemmas

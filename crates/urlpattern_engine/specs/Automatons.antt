@@ -12,7 +12,7 @@ use Rattle.regex_hir.specs.Find.{Match}
 use Rattle.regex_hir.specs.Meaning.{meaning}
 use Rattle.regex_hir.specs.declared.hir.Hir.{Hir}
 use Rattle.regex_nfa.specs.declared.nfa.Nfa.{Nfa}
-use Rattle.regex_syntax.specs.Grammar.{Names}
+use Rattle.regex_syntax.specs.Grammar.{Names, read}
 use Rattle.regex_syntax.specs.Verdict.{Reads, default_config, default_flags}
 use Rattle.regex_syntax.specs.declared.Config.{Config}
 use Rattle.regex_syntax.specs.WellFormed.{IsWellFormed}
@@ -50,25 +50,22 @@ pub record IsRegexReadAs (ignore_case : Bool) (regexp : List ℕ) (regex : Regex
   pub by_case : regex_config regex ≡ config_for ignore_case
   pub is_read : IsReadFromSource regex
 
+-- what the first match of the pattern captures that the grammar reads in the text
+abbrev pub read_answer : (ignore_case : Bool) → (regexp : List ℕ) → List ℕ → Option Captures
+read_answer ignore_case regexp text =
+    option_and_then (λ (pattern, names). re_answer pattern.value (length names) text) (read (config_for ignore_case) regexp)
+
 -- the names of groups, as UTF-8
 abbrev pub names_of : List (Option (String Global)) → Names
 names_of names = map (option_map string_bytes) names
-
--- The grammar reads this tree and these names in the text, and its matches begin at the start.
-pub record IsReadAtStart (ignore_case : Bool) (source : List ℕ) (tree : Hir) (names : Names) : Type 0 where
-  pub is_read : Reads (config_for ignore_case) source tree names
-  pub is_formed : IsWellFormed true tree
-  pub is_anchored : IsAnchored true (meaning tree)
-
--- what the groups of the first match of a tree with these names of groups span
-abbrev pub tree_answer : Hir → Names → List ℕ → Option Captures
-tree_answer hir names text = re_answer (meaning hir) (length names) text
 
 -- The automaton was made of the text: it gives the matches of the tree that the grammar reads there, which begin at the start.
 pub record IsNfaOf (ignore_case : Bool) (source : List ℕ) (nfa : Nfa) : Type 0 where
   pub tree : Hir
   pub names : Names
-  pub of_tree : IsReadAtStart ignore_case source tree names
+  pub is_read : Reads (config_for ignore_case) source tree names
+  pub is_formed : IsWellFormed true tree
+  pub is_anchored : IsAnchored true (meaning tree)
   pub implements : Implements nfa (meaning tree)
   pub slots : nfa.slot_count ≡ 2 * length names
 

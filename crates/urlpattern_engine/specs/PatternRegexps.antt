@@ -1,42 +1,47 @@
 -- What a value of the engine is made of, and what it answers.
-use Rattle.std.specs.Prelude.{◌≡◌, ℕ, Bool, List, Option, string_bytes}
+use Rattle.std.specs.Prelude.{◌≡◌, ℕ, Bool, List, Option, IsSome, string_bytes}
+use Rattle.regex_syntax.specs.Grammar.{read}
 use Rattle.urlpattern_core.specs.declared.regexp.RegExp.{Ghosts as Engine}
 use Rattle.urlpattern_core.specs.Components.{ignores_case}
 use Rattle.urlpattern_core.specs.Regexes.{regex_answer, regex_text}
-use Rattle.urlpattern_engine.specs.Automatons.{IsNfaOf, IsReadAtStart, IsRegexReadAs, automaton_answer, names_of, tree_answer}
+use Rattle.urlpattern_engine.specs.Automatons.{IsNfaOf, IsRegexReadAs, automaton_answer, config_for, read_answer}
 use Rattle.urlpattern_engine.specs.Refusals.{HasFault}
 use Rattle.urlpattern_engine.specs.declared.pattern_regexp.Expression.{Expression}
-use Rattle.urlpattern_engine.specs.declared.pattern_regexp.Expression.TheVariants.{Own, Compiled, Kept, Other}
+use Rattle.urlpattern_engine.specs.declared.pattern_regexp.Expression.TheVariants.{Own, Generated, Compiled, Other, Custom}
 use Rattle.urlpattern_engine.specs.declared.pattern_regexp.PatternRegexp.{PatternRegexp}
-use Rattle.urlpattern_walk.specs.ReadSteps.{AreStepsOf, IsGenerated}
+use Rattle.urlpattern_meaning.specs.GeneratedTexts.{IsGenerated}
+use Rattle.urlpattern_walk.specs.ReadSteps.{AreStepsOf}
 use Rattle.urlpattern_steps.specs.Walk.{walk}
 use Rattle.urlpattern_meaning.specs.PartMeaning.{Captures}
+use Rattle.urlpattern_meaning.specs.Ways.{first_way_by}
 use Rattle.urlpattern_syntax.specs.declared.parser.RegexSyntax.TheVariants.{Rust}
 use Rattle.urlpattern_syntax.specs.Text.{text_of}
 
 -- the text that it was made of
 abbrev pub expression_text : Expression → List ℕ
 expression_text (Own own) = text_of own.text
+expression_text (Generated generated) = text_of generated.text
 expression_text (Compiled automaton) = text_of automaton.value.text
-expression_text (Kept kept) = text_of kept.value.text
 expression_text (Other regex) = regex_text regex.value
+expression_text (Custom text) = text_of text
 
 -- what it answers
 abbrev pub expression_answer : (ignore_case : Bool) → Expression → List ℕ → Option Captures
 expression_answer ignore_case (Own own) text = walk ignore_case own.steps.items text
+expression_answer ignore_case (Generated generated) text = first_way_by ignore_case generated.tree.0 text
 expression_answer ignore_case (Compiled automaton) text = automaton_answer automaton.value.nfa text
-expression_answer ignore_case (Kept kept) text = tree_answer kept.value.hir (names_of kept.value.names.items) text
 expression_answer ignore_case (Other regex) text = regex_answer regex.value text
+expression_answer ignore_case (Custom regexp) text = read_answer ignore_case (text_of regexp) text
 
--- it was made of the text: of steps that answer the first way, or, if the text is not that of parts without a custom one, of an
--- automaton, of a tree, or by `regex`
+-- It was made of the text: steps of it, or the text alone, if parts without a custom one generate it; and if they do not, an
+-- automaton, a value of `regex`, or the text alone, in which the grammar reads a pattern.
 abbrev pub IsExpressionOf : (ignore_case : Bool) → (regexp : List ℕ) → Expression → Type 0
 IsExpressionOf ignore_case regexp (Own own) = (text_of own.text ≡ regexp) × AreStepsOf regexp own.steps.items
+IsExpressionOf ignore_case regexp (Generated generated) = text_of generated.text ≡ regexp
 IsExpressionOf ignore_case regexp (Compiled automaton) =
     (text_of automaton.value.text ≡ regexp) × IsNfaOf ignore_case (string_bytes automaton.value.text) automaton.value.nfa × ¬ IsGenerated regexp
-IsExpressionOf ignore_case regexp (Kept kept) =
-    (text_of kept.value.text ≡ regexp) × IsReadAtStart ignore_case (string_bytes kept.value.text) kept.value.hir (names_of kept.value.names.items) × ¬ IsGenerated regexp
 IsExpressionOf ignore_case regexp (Other regex) = IsRegexReadAs ignore_case regexp regex.value × ¬ IsGenerated regexp
+IsExpressionOf ignore_case regexp (Custom text) = (text_of text ≡ regexp) × IsSome (read (config_for ignore_case) regexp) × ¬ IsGenerated regexp
 
 abbrev pub pattern_regexp_text : PatternRegexp → List ℕ
 pattern_regexp_text value = expression_text value.expression

@@ -9,7 +9,7 @@ ghost use Rattle.regex_syntax.specs.Verdict.{Reads};
 ghost use Rattle.regex_syntax.specs.WellFormed.{IsWellFormed};
 ghost use Rattle.regex_vm.specs.Found.{group_cells};
 ghost use Rattle.urlpattern_meaning.specs.CaptureTexts.{captures_view};
-ghost use Rattle.urlpattern_engine.specs.Automatons.{IsNfaOf, IsRegexReadAs, config_for, automaton_answer, cell_texts, match_at_start, names_of, place_of, text_cut};
+ghost use Rattle.urlpattern_engine.specs.Automatons.{IsNfaOf, IsRegexReadAs, config_for, automaton_answer, cell_texts, match_at_start, names_of, place_of, read_answer, text_cut};
 ghost use Rattle.urlpattern_engine.specs.Refusals.{HasFault, IsLarge, IsUnreadable};
 ghost use Rattle.urlpattern_syntax.specs.declared.error.RegExpError.TheVariants.{Pattern};
 ghost use Rattle.urlpattern_syntax.specs.Text.{option_text};
@@ -83,7 +83,7 @@ impl Automaton {
         ensures { IfOk result (λ found. captures_view found ≡ automaton_answer self.now.nfa (chars text.now)) }
     {
         if text.len() >= LONG {
-            return self.matches_long(alloc, text);
+            return match_once(alloc, &self.text, self.ignore_case, text);
         }
         let count = self.nfa.slot_count as usize - 2;
         if count <= FEW {
@@ -152,22 +152,6 @@ impl Automaton {
         }
     }
 
-    /// What the groups capture of a text, by a `regex::Regex`, which refuses the expression only as memory runs out.
-    ///
-    /// The error is that memory ran out.
-    fn matches_long<'t>(
-        &self,
-        alloc: Global,
-        text: &'t str,
-    ) -> Result<Option<Vec<Option<&'t str>>>, OutOfMemory>
-        ensures { IfOk result (λ found. captures_view found ≡ automaton_answer self.now.nfa (chars text.now)) }
-    {
-        match regex_of(alloc, &self.text, self.ignore_case) {
-            Ok(regex) => RegExp::matches(&regex, alloc, text),
-            Err(_) => Err(OutOfMemory),
-        }
-    }
-
     /// Whether the expression matches at the start of the bytes. Where it does, the cells are those of its groups.
     ///
     /// Where marks would need too many bits, the bytes are searched in one pass.
@@ -212,7 +196,7 @@ pub(crate) fn read_expression(
 }
 
 /// How `regex_syntax` is to read an expression: by its default options, but that case may be ignored.
-pub(crate) fn config_for(ignore_case: bool) -> Config
+fn config_for(ignore_case: bool) -> Config
     ensures { result ≡ config_for ignore_case }
 {
     let mut config = Config::default();
@@ -236,10 +220,29 @@ pub(crate) fn regex_of(alloc: Global, regexp: &str, ignore_case: bool) -> Result
     }
 }
 
+/// What the groups of an expression capture of a text, by a `regex::Regex` that is made for it and
+/// refuses the expression only as memory runs out. `None`: the expression does not match it.
+///
+/// The error is that memory ran out.
+pub(crate) fn match_once<'t>(
+    alloc: Global,
+    regexp: &str,
+    ignore_case: bool,
+    text: &'t str,
+) -> Result<Option<Vec<Option<&'t str>>>, OutOfMemory>
+    ensures { IfOk result (λ found.
+        captures_view found ≡ read_answer ignore_case (chars regexp.now) (chars text.now)) }
+{
+    match regex_of(alloc, regexp, ignore_case) {
+        Ok(regex) => RegExp::matches(&regex, alloc, text),
+        Err(_) => Err(OutOfMemory),
+    }
+}
+
 /// The automaton of the tree of an expression with so many groups, the whole match among them.
 ///
 /// The error says whether it would be too large or memory ran out.
-pub(crate) fn nfa_of(
+fn nfa_of(
     alloc: Global,
     regexp: &str,
     hir: &Hir,

@@ -10,12 +10,12 @@
 mod ahead;
 mod automaton;
 mod choices;
-mod cost;
 mod ecma_regexp;
-mod kept;
+mod generated_text;
 mod large;
 pub mod laws;
 mod pattern_regexp;
+mod steps;
 mod trial;
 
 pub use ecma_regexp::EcmaRegexp;

@@ -1,28 +1,26 @@
 //! The engine.
 
-ghost use Rattle.std.specs.Prelude.{◌≡◌, Err, IfOk};
+ghost use Rattle.std.specs.Prelude.{◌≡◌, Err, IfOk, IsSome};
 ghost use Rattle.std.specs.Str.{chars};
-ghost use Rattle.urlpattern_meaning.specs.CaptureTexts.{captures_view};
+ghost use Rattle.regex_syntax.specs.Grammar.{read};
+ghost use Rattle.urlpattern_meaning.specs.GeneratedTexts.{IsGenerated};
 ghost use Rattle.urlpattern_core.specs.Components.{ignores_case};
+ghost use Rattle.urlpattern_engine.specs.Automatons.{config_for};
 ghost use Rattle.urlpattern_engine.specs.PatternRegexps.{IsExpressionOf, pattern_engine};
 ghost use Rattle.urlpattern_engine.specs.Refusals.{HasFault};
-ghost use Rattle.urlpattern_walk.specs.ReadSteps.{IsGenerated};
-ghost use Rattle.urlpattern_steps.specs.Walk.{walk};
 ghost use Rattle.urlpattern_syntax.specs.declared.error.RegExpError.TheVariants.{Pattern};
 ghost use Rattle.urlpattern_syntax.specs.Text.{text_of};
 
-use crate::automaton::{Automaton, regex_of};
-use crate::kept::Kept;
+use crate::automaton::{Automaton, match_once, read_expression, regex_of};
+use crate::generated_text::GeneratedText;
+use crate::large::is_large;
+use crate::steps::{Steps, match_steps};
 use regex::Regex;
 use std::alloc::{AllocError, Global};
 use urlpattern_core::RegexSyntax;
 use urlpattern_core::error::{OutOfMemory, RegExpError};
 use urlpattern_core::regexp::RegExp;
-use urlpattern_steps::step::Step;
-use urlpattern_walk::choices::{Strategy, strategy_of};
 use urlpattern_walk::reading::read_steps;
-use urlpattern_walk::walk::walk;
-use urlpattern_walk::walk_by_table;
 
 /// An engine that answers what `regex::Regex` answers.
 ///
@@ -56,21 +54,15 @@ impl Drop for PatternRegexp {
     }
 }
 
-/// An expression, by who matches it.
+/// An expression, by what it is matched with. `Generated` and `Custom` keep the text alone, and
+/// make the rest for each match.
 #[derive(Drop)]
 enum Expression {
     Own(Steps),
+    Generated(GeneratedText),
     Compiled(Box<Automaton>),
-    Kept(Box<Kept>),
     Other(Box<Regex>),
-}
-
-/// The text of an expression, its steps, and how a text is matched by them.
-#[derive(Drop)]
-struct Steps {
-    text: String,
-    steps: Vec<Step>,
-    strategy: Strategy,
+    Custom(String),
 }
 
 /// It ignores case where the flags have an `i`, takes no notice of others, and reads each text at
@@ -102,7 +94,7 @@ impl RegExp for PatternRegexp {
     ) -> Result<PatternRegexp, RegExpError> {
         let ignore_case = ignores_case(flags);
         let expression = match read_steps(alloc, pattern)? {
-            Some(steps) => Expression::Own(own(alloc, pattern, steps)?),
+            Some(steps) => Expression::Own(Steps::new(String::from_str(alloc, pattern)?, steps)),
             None => compiled(alloc, pattern, ignore_case)?,
         };
         Ok(PatternRegexp {
@@ -113,20 +105,19 @@ impl RegExp for PatternRegexp {
 
     fn parse_to_keep(
         alloc: Global,
-        pattern: &str,
+        pattern: String,
         flags: &str,
         _force_eval: bool,
+        is_generated: bool,
     ) -> Result<PatternRegexp, RegExpError> {
         let ignore_case = ignores_case(flags);
-        let kept = match read_steps(alloc, pattern)? {
-            Some(steps) => Expression::Own(own(alloc, pattern, steps)?),
-            None => match Kept::new(alloc, pattern, ignore_case)? {
-                Some(kept) => Expression::Kept(boxed(alloc, kept)?),
-                None => compiled(alloc, pattern, ignore_case)?,
-            },
+        let expression = if is_generated {
+            Expression::Generated(GeneratedText::new(pattern))
+        } else {
+            kept(alloc, pattern, ignore_case)?
         };
         Ok(PatternRegexp {
-            expression: kept,
+            expression,
             ignore_case,
         })
     }
@@ -144,18 +135,20 @@ impl RegExp for PatternRegexp {
                 own.strategy,
                 text,
             ),
+            Expression::Generated(generated) => generated.matches(alloc, self.ignore_case, text),
             Expression::Compiled(automaton) => automaton.matches(alloc, text),
-            Expression::Kept(kept) => kept.matches(alloc, text),
             Expression::Other(regex) => RegExp::matches(&**regex, alloc, text),
+            Expression::Custom(pattern) => match_once(alloc, pattern, self.ignore_case, text),
         }
     }
 
     fn pattern_string(&self) -> &str {
         match &self.expression {
             Expression::Own(own) => own.text.as_str(),
+            Expression::Generated(generated) => generated.text.as_str(),
             Expression::Compiled(automaton) => automaton.text.as_str(),
-            Expression::Kept(kept) => kept.text.as_str(),
             Expression::Other(regex) => RegExp::pattern_string(&**regex),
+            Expression::Custom(pattern) => pattern.as_str(),
         }
     }
 
@@ -169,21 +162,6 @@ fn ignores_case(flags: &str) -> bool
     ensures { result ≡ ignores_case (chars flags.now) }
 {
     flags.chars().any(|flag| flag == 'i')
-}
-
-/// An expression that is matched by its steps.
-///
-/// The error is that memory ran out.
-#[inline(always)]
-fn own(alloc: Global, pattern: &str, steps: Vec<Step>) -> Result<Steps, AllocError>
-    ensures text { IfOk result (λ own. text_of own.text ≡ chars pattern.now) }
-    ensures steps { IfOk result (λ own. own.steps ≡ steps) }
-{
-    Ok(Steps {
-        text: String::from_str(alloc, pattern)?,
-        strategy: strategy_of(&steps),
-        steps,
-    })
 }
 
 /// An expression that is matched by an automaton, or by a `regex::Regex` if it may match elsewhere than at the start of a text.
@@ -202,22 +180,36 @@ fn compiled(alloc: Global, pattern: &str, ignore_case: bool) -> Result<Expressio
     }
 }
 
-/// What the steps capture of a text that they take whole. `None`: they do not take it whole.
+/// An expression that is kept and may have custom parts: if the engine accepts it, its text alone,
+/// or its steps if it has some.
 ///
-/// The error is that memory ran out.
-fn match_steps<'t>(
-    alloc: Global,
-    steps: &[Step],
-    ignore_case: bool,
-    strategy: Strategy,
-    text: &'t str,
-) -> Result<Option<Vec<Option<&'t str>>>, OutOfMemory>
-    ensures { IfOk result (λ found. captures_view found ≡ walk ignore_case steps.now (chars text.now)) }
+/// The error says whether `regex` rejects it or memory ran out.
+fn kept(alloc: Global, pattern: String, ignore_case: bool) -> Result<Expression, RegExpError>
+    ensures made { IfOk result (IsExpressionOf ignore_case (text_of pattern)) }
+    ensures refused { result ≡ Err Pattern → (¬ IsGenerated (text_of pattern))
+        × HasFault ignore_case (text_of pattern) }
 {
-    match strategy {
-        Strategy::ByChoices(remembered) => walk(alloc, steps, ignore_case, remembered, text),
-        Strategy::ByTable => walk_by_table(alloc, steps, ignore_case, text),
+    if let Some(steps) = read_steps(alloc, &pattern)? {
+        return Ok(Expression::Own(Steps::new(pattern, steps)));
     }
+    check(alloc, &pattern, ignore_case)?;
+    Ok(Expression::Custom(pattern))
+}
+
+/// Reads an expression, and if it is large also compiles it, to see whether the engine accepts it.
+///
+/// The error says whether `regex` rejects it or memory ran out.
+#[tactic(auto, using(crate::proofs::ReadAnswers::reads_some))]
+fn check(alloc: Global, pattern: &str, ignore_case: bool) -> Result<(), RegExpError>
+    ensures accepted { IfOk result (λ nothing.
+        IsSome (read (config_for ignore_case) (chars pattern.now))) }
+    ensures refused { result ≡ Err Pattern → HasFault ignore_case (chars pattern.now) }
+{
+    read_expression(alloc, pattern, ignore_case)?;
+    if is_large(pattern) {
+        compiled(alloc, pattern, ignore_case)?;
+    }
+    Ok(())
 }
 
 /// A value on the heap.

@@ -1,10 +1,12 @@
 -- A text has one tree at most.
+use mathlib.Core.HLevel.{Σ_prop_path}
 use Rattle.std.proofs.Common.{◌≡◌, ℕ, List, ◌++◌, refl, sym, ap, ◌∙◌, subst}
+use Rattle.std.specs.Coded.{Coded-set, coded_bool, coded_list, coded_ℕ, ×_prop}
 use Rattle.std.specs.Prelude.{codes}
 use Rattle.std.proofs.lemmas.Bool.{eqb-false}
 use Rattle.urlpattern_meaning.proofs.DialectLeads.{Ends, IsFree, IsUnclosed, Leads, ends_no_atom, spelled_free, kind, kinds_one, character_one, class_one, unclosed, quantifier_one}
 use Rattle.urlpattern_meaning.proofs.DialectSpelled.{spelled, atom_spelled, items-spelled}
-use Rattle.urlpattern_meaning.specs.Dialect.{Items, Nothing, Item, Atom, Literal, Dot, AnyBut, Captured, Grouped, items_text, quantifier_text, AreItems, IsAtom, IsTreeOf, IsOnlyTreeOf}
+use Rattle.urlpattern_meaning.specs.Dialect.{Items, Nothing, Item, Atom, Literal, Dot, AnyBut, Captured, Grouped, Plain, Escaped, Quantifier, Once, Optional, ZeroOrMore, OneOrMore, LazyOneOrMore, atom_group_count, items_text, quantifier_text, AllowsGroups, AreItems, IsAtom, HasTree, IsTreeOf, IsOnlyTreeOf}
 
 -- after the bracket that captures, no items begin with a question mark
 not_grouped : (items : Items) (rest left : List ℕ) → AreItems items → ¬ (spelled items (codes ")" ++ rest) ≡ codes "?:" ++ left)
@@ -64,3 +66,31 @@ trees_are_one text tree other h g =
 -- So a tree of a text is its only one.
 pub only_tree : (text : List ℕ) (tree : Items) → IsTreeOf text tree → IsOnlyTreeOf text tree
 only_tree text tree h = record { is_tree = h; only = λ other g. trees_are_one text other tree g h }
+
+-- ---- one proof that it has a tree
+
+allowed_once : (quantifier : Quantifier) (groups : ℕ) → IsProp (AllowsGroups quantifier groups)
+allowed_once Once groups = Prim.hlevel
+allowed_once Optional groups = Prim.hlevel
+allowed_once ZeroOrMore groups = Coded-set coded_ℕ groups 0
+allowed_once OneOrMore groups = Coded-set coded_ℕ groups 0
+allowed_once LazyOneOrMore groups = Coded-set coded_ℕ groups 0
+
+mutual
+  items_once : (items : Items) → IsProp (AreItems items)
+  items_once Nothing = Prim.hlevel
+  items_once (Item atom quantifier items) =
+      Prim.hlevel (known_once atom, allowed_once quantifier (atom_group_count atom), items_once items)
+
+  known_once : (atom : Atom) → IsProp (IsAtom atom)
+  known_once (Literal (Plain c)) = Prim.hlevel
+  known_once (Literal (Escaped c)) = Coded-set coded_bool _ _
+  known_once Dot = Prim.hlevel
+  known_once (AnyBut (Plain c)) = Prim.hlevel
+  known_once (AnyBut (Escaped c)) = Coded-set coded_bool _ _
+  known_once (Captured items) = items_once items
+  known_once (Grouped items) = items_once items
+
+pub HasTree-prop : (text : List ℕ) → IsProp (HasTree text)
+HasTree-prop text = λ x y.
+    Σ_prop_path (λ tree. ×_prop (Coded-set (coded_list coded_ℕ) _ _) (items_once tree)) (trees_are_one text x.0 y.0 x.1 y.1)

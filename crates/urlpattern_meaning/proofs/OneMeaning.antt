@@ -1,8 +1,9 @@
 -- Parts and their regular expression mean the same, and an engine that follows the one answers what the other mean.
-use Rattle.std.proofs.Common.{◌≡◌, ℕ, List, Some, None, Option, subst, ◌↔◌}
+use Rattle.std.proofs.Common.{◌≡◌, ℕ, List, Some, None, Option, sym, subst, ◌↔◌}
 use Rattle.std.specs.Prelude.{All, IsTrue, MatchOption}
 use Rattle.std.specs.Str.{all_scalars}
-use Rattle.urlpattern_meaning.specs.Dialect.{Follows, HasMeaningOf, IsTreeOf, Items, Means}
+use Rattle.urlpattern_meaning.specs.Dialect.{Follows, HasMeaningOf, HasTree, IsTreeOf, Items, Means}
+use Rattle.urlpattern_meaning.specs.GeneratedTexts.{IsGenerated}
 use Rattle.urlpattern_meaning.specs.Matching.{Agrees}
 use Rattle.urlpattern_meaning.specs.PartMeaning.{Captures, PartsMean}
 use Rattle.urlpattern_syntax.specs.Options.{OptionsView}
@@ -16,6 +17,12 @@ use Rattle.urlpattern_meaning.proofs.PartTrees.{IsNotCustom, tree_of}
 
 pub is_tree_of : (options : OptionsView) (parts : List PartView) → All IsNotCustom parts → IsTreeOf (regexp_text options parts) (tree_of options parts)
 is_tree_of options parts h = (tree_text options parts h, tree_allowed options parts h)
+
+-- so a text that is generated of such parts has a tree
+pub generated_tree : (text : List ℕ) → IsGenerated text → HasTree text
+generated_tree text h =
+    let tree = tree_of h.0 h.1 in
+    (tree, subst (λ t. IsTreeOf t tree) (sym h.3) (is_tree_of h.0 h.1 h.2))
 
 -- the regular expression has one tree, which means what the parts mean
 pub one_meaning : (options : OptionsView) (parts : List PartView) → All IsNotCustom parts → HasMeaningOf (regexp_text options parts) options parts

@@ -110,6 +110,10 @@ abbrev mutual
 abbrev pub IsTreeOf : List ℕ → Items → Type 0
 IsTreeOf text tree = (text ≡ codes "^" ++ items_text tree ++ codes "$") × AreItems tree
 
+-- the text has a tree
+abbrev pub HasTree : List ℕ → Type 0
+HasTree text = (tree : Items) × IsTreeOf text tree
+
 -- ---- what trees mean
 
 -- one character, but not this

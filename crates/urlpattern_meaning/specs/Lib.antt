@@ -1,6 +1,7 @@
 pub mod CaptureTexts
 pub mod Dialect
 pub mod FirstAnswers
+pub mod GeneratedTexts
 pub mod Laws
 pub mod LawsOfMeaning
 pub mod LawsOfReading

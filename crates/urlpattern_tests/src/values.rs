@@ -1,9 +1,11 @@
 //! Copies, comparisons, defaults and written forms of small values, and values that are set on one URL.
 
-use crate::given::expect_same;
+use crate::given::{expect_same, path_of};
 use std::test::Fail;
+use urlpattern::regexp::{PatternRegexp, RegExp};
 use urlpattern_canonical::canonicalize_and_process::{Canonicalizer, ProcessType};
 use urlpattern_core::RegexSyntax;
+use urlpattern_core::component::Component;
 use urlpattern_core::parser::{Options, PartModifier, PartType};
 use urlpattern_core::tokenizer::{TokenType, TokenizePolicy, tokenize};
 
@@ -36,6 +38,28 @@ fn a_copy_of_a_token_has_each_field(rt: HostRuntime) -> Result<(), Fail> {
         assert_eq!(rt; copy.value, token.value);
     }
     // docs: end
+    Ok(())
+}
+
+/// Of the whole expression of a component `PatternRegexp` keeps the text, and matches by it all the same.
+#[test]
+fn a_whole_expression_matches(rt: HostRuntime) -> Result<(), Fail> {
+    let alloc = rt.alloc();
+    let matches = [
+        ("/users/:id", "/users/7", Some("7")),
+        ("/users/:id", "/users/", None),
+        ("/users/(\\d+)", "/users/7", Some("7")),
+        ("/users/(\\d+)", "/users/me", None),
+    ];
+    for (pattern, text, captured) in matches {
+        let component: Component<PatternRegexp> = path_of(alloc, pattern)?;
+        assert!(rt; component.regexp.is_ok());
+        if let Ok(regexp) = &component.regexp {
+            let found = regexp.matches(alloc, text)?;
+            let first = found.and_then(|captures| captures[0]);
+            expect_same(&rt, first, captured, pattern);
+        }
+    }
     Ok(())
 }
 

@@ -18,7 +18,8 @@ use Rattle.urlpattern_walk.specs.declared.tokens.Token.{Token}
 use Rattle.urlpattern_walk.specs.declared.tokens.Token.TheVariants.{Open, Close, Step as One, MaybeStep, FirstSegment}
 use Rattle.urlpattern_steps.specs.declared.step.Step.{Step}
 use Rattle.urlpattern_steps.specs.declared.step.Step.TheVariants.{Literal, Segments}
-use Rattle.urlpattern_walk.specs.ReadSteps.{AreCharacters, AreCopySteps, AreLiterals, BeginsWithRegexpToken, EndsSegments, IsGenerated, IsGroup, IsUnquantified, characters_text, literal_steps, times_text}
+use Rattle.urlpattern_meaning.specs.GeneratedTexts.{IsGenerated}
+use Rattle.urlpattern_walk.specs.ReadSteps.{AreCharacters, AreCopySteps, AreLiterals, BeginsWithRegexpToken, EndsSegments, IsGroup, IsUnquantified, characters_text, literal_steps, times_text}
 use Rattle.urlpattern_walk.proofs.FrontLemmas.{apart, by_token, character_kind, ByItself, IsEscapedAt}
 use Rattle.urlpattern_walk.proofs.Generated.{AreInside, AreReadable, AreSingle, IsGroupAtom, IsSegmentGroup, IsStep, StandInside, tree_readable}
 use Rattle.urlpattern_walk.proofs.SegmentTextLemmas.{in_order_text, spelled_segments}

@@ -1,5 +1,5 @@
 -- Which steps the text of an expression is read as.
-use Rattle.std.specs.Prelude.{◌≡◌, ◌≢◌, ◌⊎◌, ℕ, Bool, true, false, length, List, [], ◌∷◌, ◌++◌, take, drop, codes, All, Option, Some, IfSome, IsSomeAnd}
+use Rattle.std.specs.Prelude.{◌≡◌, ◌⊎◌, ℕ, Bool, true, false, length, List, [], ◌∷◌, ◌++◌, take, drop, codes, Option, Some, IfSome, IsSomeAnd}
 use Rattle.std.specs.Borrow.{Bor}
 use Rattle.std.specs.Global.{Global}
 use Rattle.std.specs.declared.vec.Vec.{Vec}
@@ -15,10 +15,6 @@ use Rattle.urlpattern_steps.specs.Walk.{capture_count, walk}
 use Rattle.urlpattern_meaning.specs.Dialect.{AllowsGroups, AnyBut, AreItems, Atom, Captured, Character, Dot, Grouped, IsAtom, IsCharacter, IsClassCharacter, IsTreeOf, Item, Items, LazyOneOrMore, Nothing, OneOrMore, Quantifier, ZeroOrMore, atom_text, character_of, character_text, group_count, items_text, quantifier_text}
 use Rattle.urlpattern_meaning.specs.Dialect as dialect
 use Rattle.urlpattern_meaning.specs.Ways.{first_way_by}
-use Rattle.urlpattern_syntax.specs.declared.parser.PartType.TheVariants.{Regexp}
-use Rattle.urlpattern_syntax.specs.Options.{OptionsView}
-use Rattle.urlpattern_syntax.specs.Parts.{PartView}
-use Rattle.urlpattern_syntax.specs.RegexpText.{regexp_text}
 use Rattle.urlpattern_syntax.specs.Text.{is_among, line_feed, BeginsWith}
 
 -- ---- characters
@@ -232,7 +228,3 @@ pub record AreStepsOf (regexp : List ℕ) (steps : List Step) : Type 0 where
   pub tree : Items
   pub is_tree : IsTreeOf regexp tree
   pub answers : (ignore_case : Bool) (text : List ℕ) → walk ignore_case steps text ≡ first_way_by ignore_case tree text
-
--- the regular expression of parts, none of them custom, under some options
-abbrev pub IsGenerated : List ℕ → Type 0
-IsGenerated regexp = (options : OptionsView) × (parts : List PartView) × All (λ part. part.kind ≢ Regexp) parts × (regexp ≡ regexp_text options parts)

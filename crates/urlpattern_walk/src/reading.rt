@@ -2,7 +2,8 @@
 
 ghost use Rattle.std.specs.Prelude.{◌≡◌, ◌↔◌, ◌∷◌, ℕ, ◌<◌, ◌≤◌, List, length, drop, codes, IfNone, IfOk, IfSome, IsTrue};
 ghost use Rattle.std.specs.Str.{chars};
-ghost use Rattle.urlpattern_walk.specs.ReadSteps.{AddsSegments, AreCopySteps, AreGrouped, AreLiterals, AreStepsOf, ClosesSegments, IsGenerated, IsGroup, MakeUp, ReadsLast, ReadsSegments};
+ghost use Rattle.urlpattern_meaning.specs.GeneratedTexts.{IsGenerated};
+ghost use Rattle.urlpattern_walk.specs.ReadSteps.{AddsSegments, AreCopySteps, AreGrouped, AreLiterals, AreStepsOf, ClosesSegments, IsGroup, MakeUp, ReadsLast, ReadsSegments};
 ghost use Rattle.urlpattern_steps.specs.Walk.{capture_count};
 
 use crate::tokens::{

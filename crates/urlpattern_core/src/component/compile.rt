@@ -1,10 +1,11 @@
 //! The component of a pattern text.
 
-ghost use Rattle.std.specs.Prelude.{◌≡◌, IfErr, IfOk};
+ghost use Rattle.std.specs.Prelude.{◌≡◌, true, false, IfErr, IfOk};
 ghost use Rattle.std.specs.Str.{chars};
 ghost use Rattle.urlpattern_core.specs.Components.{AnswersByItsParts, FailsToRead, IsCompiledFrom, IsCompiledKeeping, IsComponentOf, IsEngineOf, IsWholeEngineOf, component_view, engine_flags, has_regexp, pattern_text};
 ghost use Rattle.urlpattern_core.specs.Matchers.{engine_view};
-ghost use Rattle.urlpattern_syntax.specs.{Errors.OnlyOutOfMemory, Options.options_view, Parts.parts_view, Reading.encoding_by};
+ghost use Rattle.urlpattern_meaning.specs.GeneratedTexts.{IsGenerated};
+ghost use Rattle.urlpattern_syntax.specs.{Errors.OnlyOutOfMemory, Options.options_view, Parts.parts_view, Reading.encoding_by, Text.text_of};
 
 use super::matchers::generate_matcher_knowing;
 use super::{Component, ComponentWithParts};
@@ -83,8 +84,8 @@ impl<R: RegExp> Component<R> {
         let flags = engine_flags(options);
         let has_regexp_group = has_regexp(part_list);
         let text = generate_regular_expression(alloc, part_list, options)?;
-        let regexp = engine_of(alloc, &text, flags, has_regexp_group)?;
         let matcher = generate_matcher_knowing(alloc, part_list, options, flags, Some(&text))?;
+        let regexp = engine_of(alloc, text, flags, has_regexp_group)?;
         Ok(Component {
             pattern_string: generate_pattern_string(alloc, part_list, options)?,
             regexp,
@@ -115,29 +116,35 @@ fn has_regexp(part_list: &[Part]) -> bool
 /// holds a custom one, it is asked again and may not put off its answer.
 fn engine_of<R: RegExp>(
     alloc: Global,
-    regexp: &str,
+    regexp: String,
     flags: &str,
     has_regexp_group: bool,
 ) -> Result<Result<R, Error>, AllocError>
-    ensures { IfOk result (λ engine. IsWholeEngineOf R.RegExp has_regexp_group (chars flags.now) (chars regexp.now) (engine_view engine)) }
+    requires { has_regexp_group ≡ false → IsGenerated (text_of regexp) }
+    ensures { IfOk result (λ engine. IsWholeEngineOf R.RegExp has_regexp_group (chars flags.now) (text_of regexp) (engine_view engine)) }
 {
-    let engine: Result<R, Error> = kept_engine(alloc, regexp, flags, false)?;
-    if has_regexp_group && engine.is_ok() && R::syntax() == RegexSyntax::EcmaScript {
-        return kept_engine(alloc, regexp, flags, true);
+    if has_regexp_group && R::syntax() == RegexSyntax::EcmaScript {
+        let engine: Result<R, Error> = kept_engine(alloc, regexp.clone()?, flags, false, false)?;
+        if engine.is_err() {
+            return Ok(engine);
+        }
+        return kept_engine(alloc, regexp, flags, true, false);
     }
-    Ok(engine)
+    kept_engine(alloc, regexp, flags, false, !has_regexp_group)
 }
 
 /// The value that an engine makes of a text to keep it, or the error that it refuses the text.
 fn kept_engine<R: RegExp>(
     alloc: Global,
-    regexp: &str,
+    regexp: String,
     flags: &str,
     force_eval: bool,
+    is_generated: bool,
 ) -> Result<Result<R, Error>, AllocError>
-    ensures { IfOk result (λ engine. IsEngineOf R.RegExp force_eval (chars flags.now) (chars regexp.now) (engine_view engine)) }
+    requires { is_generated ≡ true → IsGenerated (text_of regexp) }
+    ensures { IfOk result (λ engine. IsEngineOf R.RegExp force_eval (chars flags.now) (text_of regexp) (engine_view engine)) }
 {
-    match R::parse_to_keep(alloc, regexp, flags, force_eval) {
+    match R::parse_to_keep(alloc, regexp, flags, force_eval, is_generated) {
         Ok(engine) => Ok(Ok(engine)),
         Err(RegExpError::Pattern) => Ok(Err(Error::RegExp(()))),
         Err(RegExpError::OutOfMemory) => Err(AllocError),

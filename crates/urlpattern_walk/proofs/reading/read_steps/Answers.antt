@@ -6,7 +6,8 @@ use Rattle.urlpattern_steps.specs.declared.step.Step.{Step}
 use Rattle.urlpattern_walk.specs.declared.tokens.Token.TheVariants.{Open, Close, FirstSegment, Step as One, MaybeStep}
 use Rattle.urlpattern_steps.specs.declared.step.Group.{Group}
 use Rattle.urlpattern_steps.specs.declared.step.Step.TheVariants.{Maybe}
-use Rattle.urlpattern_walk.specs.ReadSteps.{BeginsWithRegexpToken, EndsSegments, IsGenerated, IsGroup}
+use Rattle.urlpattern_meaning.specs.GeneratedTexts.{IsGenerated}
+use Rattle.urlpattern_walk.specs.ReadSteps.{BeginsWithRegexpToken, EndsSegments, IsGroup}
 use Rattle.urlpattern_walk.proofs.ReadingLemmas.{IsBegun, begun, begun-close, begun-ends, begun-more, begun-open, segments-spell, spells-once, spells-maybe}
 use Rattle.urlpattern_walk.proofs.TokenLemmas.{none_of}
 use Rattle.urlpattern_walk.proofs.LeftLemmas.{GoesOn, IsLeft, came, ended, left_after}

@@ -2,7 +2,7 @@ use Rattle.std.proofs.Common.{length}
 use denote.Text.{Utf8}
 use denote.Shadow.{shadow}
 use Rattle.std.specs.Str.{chars}
-use Rattle.urlpattern_walk.specs.ReadSteps.{IsGenerated}
+use Rattle.urlpattern_meaning.specs.GeneratedTexts.{IsGenerated}
 use Rattle.urlpattern_walk.proofs.LeftLemmas.{IsLeft}
 use Rattle.urlpattern_walk.proofs.ReadingLemmas.{IsBegun}
 use Rattle.urlpattern_walk.proofs.reading.read_steps.Given as goal

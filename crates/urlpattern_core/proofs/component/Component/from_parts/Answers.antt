@@ -1,6 +1,5 @@
-use Rattle.std.proofs.Common.{false, map, ap, ◌∙◌, subst}
-use Rattle.std.specs.Str.{chars}
-use Rattle.urlpattern_core.proofs.CompileLemmas.{engine-along}
+use Rattle.std.proofs.Common.{false, map, sym, ◌∙◌, subst}
+use Rattle.urlpattern_core.proofs.CompileLemmas.{engine-along, none_custom}
 use Rattle.urlpattern_core.specs.Components.{IsEngineOf}
 use Rattle.urlpattern_core.specs.Matchers.{engine_view, matcher_view}
 use Rattle.urlpattern_meaning.specs.Matching.{IsMadeOf}
@@ -17,8 +16,13 @@ returns-clause-made g c =
     record {
       is_printed = c.in_ok-generate_pattern_string.ensures.text;
       has_engine = engine-along g.R.RegExp (engine_view c.in_ok-regexp.regexp) reported flags_are
-          (ap chars c.deref.ensures ∙ c.in_ok-text.ensures) c.in_ok-regexp.ensures;
+          c.in_ok-text.ensures c.in_ok-regexp.ensures;
       has_names = c.in_ok-generate_name_list.ensures;
       has_matcher = subst (λ flags. IsMadeOf (IsEngineOf g.R.RegExp false flags) options parts (matcher_view c.in_ok-matcher.matcher)) flags_are c.in_ok-matcher.ensures;
       regexp_flag = reported;
     }
+
+pub engine_of-requires : goal.engine_of-requires
+engine_of-requires g c = λ none.
+    let parts = map part_view c.args.part_list.now in
+    (options_view c.args.options.now, parts, none_custom parts (sym c.has_regexp-has_regexp_group.ensures ∙ none), c.in_ok-text.ensures)

@@ -1,0 +1,51 @@
+//! Matches by the text alone of an expression that is generated of parts.
+
+ghost use Rattle.std.specs.Prelude.{◌≡◌, IfOk};
+ghost use Rattle.std.specs.Str.{chars};
+ghost use Rattle.urlpattern_meaning.proofs.DialectUnique.{HasTree-prop};
+ghost use Rattle.urlpattern_meaning.specs.CaptureTexts.{captures_view};
+ghost use Rattle.urlpattern_meaning.specs.Dialect.{HasTree};
+ghost use Rattle.urlpattern_meaning.specs.GeneratedTexts.{IsGenerated};
+ghost use Rattle.urlpattern_meaning.specs.Ways.{first_way_by};
+ghost use Rattle.urlpattern_syntax.specs.Text.{text_of};
+
+use crate::steps::match_steps;
+use std::alloc::Global;
+use urlpattern_core::error::OutOfMemory;
+use urlpattern_walk::choices::strategy_of;
+use urlpattern_walk::reading::read_steps;
+
+/// The text of an expression that is generated of parts, none of them custom.
+#[derive(Drop)]
+pub(crate) struct GeneratedText {
+    pub(crate) text: String,
+    ghost is_generated: { ∥ IsGenerated (text_of text) ∥₁ },
+    pub ghost tree: { HasTree (text_of text) } by { HasTree-prop (text_of text) },
+}
+
+impl GeneratedText {
+    /// The expression of a text.
+    pub(crate) fn new(text: String) -> GeneratedText
+        requires { IsGenerated (text_of text) }
+        ensures { result.text ≡ text }
+    {
+        GeneratedText { text }
+    }
+
+    /// What the groups capture of a text, by steps that are read for it. `None`: the expression
+    /// does not match it.
+    ///
+    /// The error is that memory ran out.
+    pub(crate) fn matches<'t>(
+        &self,
+        alloc: Global,
+        ignore_case: bool,
+        text: &'t str,
+    ) -> Result<Option<Vec<Option<&'t str>>>, OutOfMemory>
+        ensures { IfOk result (λ found.
+            captures_view found ≡ first_way_by ignore_case self.now.tree.0 (chars text.now)) }
+    {
+        let steps = read_steps(alloc, &self.text)?.unwrap();
+        match_steps(alloc, &steps, ignore_case, strategy_of(&steps), text)
+    }
+}

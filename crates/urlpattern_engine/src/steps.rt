@@ -1,0 +1,55 @@
+//! Matches a text by the steps of an expression.
+
+ghost use Rattle.std.specs.Prelude.{◌≡◌, IfOk};
+ghost use Rattle.std.specs.Str.{chars};
+ghost use Rattle.urlpattern_meaning.specs.CaptureTexts.{captures_view};
+ghost use Rattle.urlpattern_steps.specs.Walk.{walk};
+
+use std::alloc::Global;
+use urlpattern_core::error::OutOfMemory;
+use urlpattern_steps::step::Step;
+use urlpattern_walk::choices::{Strategy, strategy_of};
+use urlpattern_walk::walk::walk;
+use urlpattern_walk::walk_by_table;
+
+/// The text of an expression, its steps, and how a text is matched by them.
+#[derive(Drop)]
+pub(crate) struct Steps {
+    pub(crate) text: String,
+    pub(crate) steps: Vec<Step>,
+    pub(crate) strategy: Strategy,
+}
+
+impl Steps {
+    /// The expression of a text and its steps.
+    #[inline(always)]
+    pub(crate) fn new(text: String, steps: Vec<Step>) -> Steps
+        ensures text { result.text ≡ text }
+        ensures steps { result.steps ≡ steps }
+    {
+        Steps {
+            text,
+            strategy: strategy_of(&steps),
+            steps,
+        }
+    }
+}
+
+/// What the steps capture of a text that they take whole. `None`: they do not take it whole.
+///
+/// The error is that memory ran out.
+pub(crate) fn match_steps<'t>(
+    alloc: Global,
+    steps: &[Step],
+    ignore_case: bool,
+    strategy: Strategy,
+    text: &'t str,
+) -> Result<Option<Vec<Option<&'t str>>>, OutOfMemory>
+    ensures { IfOk result (λ found.
+        captures_view found ≡ walk ignore_case steps.now (chars text.now)) }
+{
+    match strategy {
+        Strategy::ByChoices(remembered) => walk(alloc, steps, ignore_case, remembered, text),
+        Strategy::ByTable => walk_by_table(alloc, steps, ignore_case, text),
+    }
+}
