@@ -81,7 +81,7 @@ text_good source regexp of_text = ap scalars (sym of_text) ∙ scalars-chars (st
 
 -- the expression is of characters
 pub expression_good : (ignore_case : Bool) (regexp : List ℕ) (expression : Expression) → IsExpressionOf ignore_case regexp expression → scalars regexp ≡ true
-expression_good ignore_case regexp (Own own) made = text_good own.text regexp made.0
+expression_good ignore_case regexp (Own own) made = text_good own.value.text regexp made.0
 expression_good ignore_case regexp (Generated own) made = text_good own.text regexp made
 expression_good ignore_case regexp (Compiled automaton) made = text_good automaton.value.text regexp made.0
 expression_good ignore_case regexp (Other regex) made = text_good regex.value.pattern.source regexp made.0.of_text

@@ -19,7 +19,7 @@ use Rattle.urlpattern_syntax.specs.Text.{text_of}
 
 -- the text that it was made of
 abbrev pub expression_text : Expression → List ℕ
-expression_text (Own own) = text_of own.text
+expression_text (Own own) = text_of own.value.text
 expression_text (Generated generated) = text_of generated.text
 expression_text (Compiled automaton) = text_of automaton.value.text
 expression_text (Other regex) = regex_text regex.value
@@ -27,7 +27,7 @@ expression_text (Custom text) = text_of text
 
 -- what it answers
 abbrev pub expression_answer : (ignore_case : Bool) → Expression → List ℕ → Option Captures
-expression_answer ignore_case (Own own) text = walk ignore_case own.steps.items text
+expression_answer ignore_case (Own own) text = walk ignore_case own.value.steps.items text
 expression_answer ignore_case (Generated generated) text = first_way_by ignore_case generated.tree.0 text
 expression_answer ignore_case (Compiled automaton) text = automaton_answer automaton.value.nfa text
 expression_answer ignore_case (Other regex) text = regex_answer regex.value text
@@ -36,7 +36,7 @@ expression_answer ignore_case (Custom regexp) text = read_answer ignore_case (te
 -- It was made of the text: steps of it, or the text alone, if parts without a custom one generate it; and if they do not, an
 -- automaton, a value of `regex`, or the text alone, in which the grammar reads a pattern.
 abbrev pub IsExpressionOf : (ignore_case : Bool) → (regexp : List ℕ) → Expression → Type 0
-IsExpressionOf ignore_case regexp (Own own) = (text_of own.text ≡ regexp) × AreStepsOf regexp own.steps.items
+IsExpressionOf ignore_case regexp (Own own) = (text_of own.value.text ≡ regexp) × AreStepsOf regexp own.value.steps.items
 IsExpressionOf ignore_case regexp (Generated generated) = text_of generated.text ≡ regexp
 IsExpressionOf ignore_case regexp (Compiled automaton) =
     (text_of automaton.value.text ≡ regexp) × IsNfaOf ignore_case (string_bytes automaton.value.text) automaton.value.nfa × ¬ IsGenerated regexp

@@ -14,7 +14,7 @@ ghost use Rattle.urlpattern_syntax.specs.Text.{text_of};
 use crate::automaton::{Automaton, match_once, read_expression, regex_of};
 use crate::generated_text::GeneratedText;
 use crate::large::is_large;
-use crate::steps::{Steps, match_steps};
+use crate::steps::Steps;
 use regex::Regex;
 use std::alloc::{AllocError, Global};
 use urlpattern_core::RegexSyntax;
@@ -58,7 +58,7 @@ impl Drop for PatternRegexp {
 /// make the rest for each match.
 #[derive(Drop)]
 enum Expression {
-    Own(Steps),
+    Own(Box<Steps>),
     Generated(GeneratedText),
     Compiled(Box<Automaton>),
     Other(Box<Regex>),
@@ -94,7 +94,10 @@ impl RegExp for PatternRegexp {
     ) -> Result<PatternRegexp, RegExpError> {
         let ignore_case = ignores_case(flags);
         let expression = match read_steps(alloc, pattern)? {
-            Some(steps) => Expression::Own(Steps::new(String::from_str(alloc, pattern)?, steps)),
+            Some(steps) => {
+                let own = Steps::new(String::from_str(alloc, pattern)?, steps);
+                Expression::Own(boxed(alloc, own)?)
+            }
             None => compiled(alloc, pattern, ignore_case)?,
         };
         Ok(PatternRegexp {
@@ -128,13 +131,7 @@ impl RegExp for PatternRegexp {
         text: &'a str,
     ) -> Result<Option<Vec<Option<&'a str>>>, OutOfMemory> {
         match &self.expression {
-            Expression::Own(own) => match_steps(
-                alloc,
-                &own.steps,
-                self.ignore_case,
-                own.strategy,
-                text,
-            ),
+            Expression::Own(own) => own.matches(alloc, self.ignore_case, text),
             Expression::Generated(generated) => generated.matches(alloc, self.ignore_case, text),
             Expression::Compiled(automaton) => automaton.matches(alloc, text),
             Expression::Other(regex) => RegExp::matches(&**regex, alloc, text),
@@ -190,7 +187,8 @@ fn kept(alloc: Global, pattern: String, ignore_case: bool) -> Result<Expression,
         × HasFault ignore_case (text_of pattern) }
 {
     if let Some(steps) = read_steps(alloc, &pattern)? {
-        return Ok(Expression::Own(Steps::new(pattern, steps)));
+        let own = Steps::new(pattern, steps);
+        return Ok(Expression::Own(boxed(alloc, own)?));
     }
     check(alloc, &pattern, ignore_case)?;
     Ok(Expression::Custom(pattern))

@@ -33,6 +33,21 @@ impl Steps {
             steps,
         }
     }
+
+    /// What the steps capture of a text that they take whole. `None`: they do not take it whole.
+    ///
+    /// The error is that memory ran out.
+    pub(crate) fn matches<'t>(
+        &self,
+        alloc: Global,
+        ignore_case: bool,
+        text: &'t str,
+    ) -> Result<Option<Vec<Option<&'t str>>>, OutOfMemory>
+        ensures { IfOk result (λ found.
+            captures_view found ≡ walk ignore_case self.now.steps.items (chars text.now)) }
+    {
+        match_steps(alloc, &self.steps, ignore_case, self.strategy, text)
+    }
 }
 
 /// What the steps capture of a text that they take whole. `None`: they do not take it whole.

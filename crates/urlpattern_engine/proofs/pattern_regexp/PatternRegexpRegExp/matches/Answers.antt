@@ -12,15 +12,15 @@ pub returns-in-Own : goal.returns-in-Own
 unfolding pattern_answer
 returns-in-Own c =
     let text = chars c.args.text.now in
-    subst (λ e. IfOk c.match_steps.result (λ found. captures_view found ≡ expression_answer c.args.self.now.ignore_case e text)) (sym c.in-Own.is)
-    (subst (λ s. IfOk c.match_steps.result (λ found. captures_view found ≡ walk c.args.self.now.ignore_case s text)) c.deref.ensures.value c.match_steps.ensures)
+    subst (λ e. IfOk c.matches.result (λ found. captures_view found ≡ expression_answer c.args.self.now.ignore_case e text)) (sym c.in-Own.is)
+    (subst (λ own. IfOk c.matches.result (λ found. captures_view found ≡ walk c.args.self.now.ignore_case own.steps.items text)) c.deref.ensures c.matches.ensures)
 
 pub returns-in-Generated : goal.returns-in-Generated
 unfolding pattern_answer
 returns-in-Generated c =
     let text = chars c.args.text.now in
-    subst (λ e. IfOk c.matches.result (λ found. captures_view found ≡ expression_answer c.args.self.now.ignore_case e text)) (sym c.in-Generated.is)
-    c.matches.ensures
+    subst (λ e. IfOk c.matches-in-Generated.result (λ found. captures_view found ≡ expression_answer c.args.self.now.ignore_case e text)) (sym c.in-Generated.is)
+    c.matches-in-Generated.ensures
 
 pub returns-in-Compiled : goal.returns-in-Compiled
 unfolding pattern_answer
