@@ -2,7 +2,7 @@
 use Rattle.std.specs.Prelude.{◌≢◌, ◌++◌, ℕ, false, Any, List, ◌∷◌, codes, Option}
 use Rattle.std.specs.Io.KnownBytes.{Appends}
 use Rattle.url.specs.Parts.{Parts, serialize}
-use Rattle.urlpat_matching.specs.PatternWords.{IsPatternOf, base_of}
+use Rattle.urlpat_matching.specs.PatternWords.{IsPatternOf, KeepsPartsOfWord, base_of}
 use Rattle.urlpat_links.specs.Given.{AreGiven, Given, WordGivesNothing}
 use Rattle.urlpat_links.specs.declared.linking.Unlinked.{Unlinked}
 use Rattle.urlpat_links.specs.declared.linking.Unlinked.TheVariants as unlinked
@@ -31,9 +31,11 @@ LacksUrl pattern words unlinked.OutOfMemory = Unit {0}
 
 -- ---- what is printed
 
--- this is said of the pattern among the words after `link`, and of the words after its base
+-- this is said of the pattern among the words after `link`, with the parts that it keeps, and of the words after its base
 abbrev pub OfPattern : (Is : UrlPattern PatternRegexp → List (List ℕ) → Type 0) → (words : List (List ℕ)) → Type 0
-OfPattern Is (pattern ∷ base ∷ words) = (compiled : UrlPattern PatternRegexp) × IsPatternOf false pattern (base_of base) (pattern_view compiled) × Is compiled words
+OfPattern Is (pattern ∷ base ∷ words) =
+    (compiled : UrlPattern PatternRegexp) × IsPatternOf false pattern (base_of base) (pattern_view compiled)
+    × KeepsPartsOfWord false pattern (base_of base) compiled × Is compiled words
 OfPattern Is words = ⊥
 
 -- the URL is written, and a line end

@@ -5,7 +5,9 @@ use Rattle.urlpattern_create.specs.FromString.{IsPatternOfText, RefusesPatternOf
 use Rattle.urlpattern_engine.specs.PatternRegexps.{pattern_engine}
 use Rattle.urlpattern_engine.specs.declared.pattern_regexp.PatternRegexp.{PatternRegexp}
 use Rattle.urlpattern_inputs.specs.declared.options.UrlPatternOptions.{UrlPatternOptions}
+use Rattle.urlpattern_pattern.specs.KeptParts.{KeepsPartsOfText}
 use Rattle.urlpattern_pattern.specs.Patterns.{PatternView}
+use Rattle.urlpattern_pattern.specs.UrlPatterns.{UrlPattern}
 use Rattle.urlpattern_syntax.specs.Errors.{ErrorView}
 use Rattle.urlpattern_syntax.specs.declared.parser.RegexSyntax.TheVariants.{Rust}
 
@@ -23,6 +25,10 @@ default_pattern_options = pattern_options false
 -- the constructor string with this base URL is compiled to the pattern, which ignores case or not, by the engine `PatternRegexp`
 abbrev pub IsPatternOf : (ignores : Bool) → (text : List ℕ) → (base : Option (List ℕ)) → PatternView PatternRegexp → Type 0
 IsPatternOf ignores text base pattern = IsPatternOfText pattern_engine (chars text) base (pattern_options ignores) pattern
+
+-- the pattern keeps the parts that the texts of the constructor string read as
+abbrev pub KeepsPartsOfWord : (ignores : Bool) → (text : List ℕ) → (base : Option (List ℕ)) → UrlPattern PatternRegexp → Type 0
+KeepsPartsOfWord ignores text base pattern = KeepsPartsOfText pattern_engine (chars text) base (pattern_options ignores) pattern
 
 -- it is refused with this error, as a constructor string or when it is compiled
 abbrev pub RefusesPatternOf : (ignores : Bool) → (text : List ℕ) → (base : Option (List ℕ)) → ErrorView → Type 0

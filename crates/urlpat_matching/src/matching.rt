@@ -5,7 +5,7 @@ ghost use Rattle.std.specs.Prelude.{◌≡◌, ◌++◌, ◌∷◌, [], ℕ, Lis
 ghost use Rattle.std.specs.Str.{chars};
 ghost use Rattle.urlpat_matching.specs.GroupLines.{AreGroupLines, AreLines, AreNames, GetsLines, group_bytes, all_named_results, group_line};
 ghost use Rattle.urlpat_matching.specs.MatchTexts.{FindsMatch, FindsMatchBy, ShowsMatch};
-ghost use Rattle.urlpat_matching.specs.PatternWords.{IsPatternOf, RefusesPatternOf, base_of};
+ghost use Rattle.urlpat_matching.specs.PatternWords.{IsPatternOf, KeepsPartsOfWord, RefusesPatternOf, base_of};
 ghost use Rattle.urlpattern_matches.specs.BorrowedMatches.{pattern_captures_view, groups_view};
 ghost use Rattle.urlpattern_eight.specs.Eight.{name_text};
 ghost use Rattle.urlpattern_syntax.specs.Errors.{MemoryOr, OnlyOutOfMemory};
@@ -63,6 +63,7 @@ pub fn compiled(
     ignore_case: bool,
 ) -> Result<UrlPattern<PatternRegexp>, Error>
     ensures compiled { IfOk result (λ compiled. IsPatternOf ignore_case pattern.now (option_copied base.entry) (pattern_view compiled)) }
+    ensures kept { IfOk result (KeepsPartsOfWord ignore_case pattern.now (option_copied base.entry)) }
     ensures refused { IfErr result (MemoryOr (RefusesPatternOf ignore_case pattern.now (option_copied base.entry))) }
 {
     let options = UrlPatternOptions {

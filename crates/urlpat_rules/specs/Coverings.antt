@@ -1,25 +1,26 @@
 -- Whether a pattern covers another, and what is printed of it. Words and texts are bytes.
-use Rattle.std.specs.Prelude.{◌≡◌, ℕ, false, List, [], ◌∷◌, ◌++◌, codes, Option, None, String, string_bytes}
+use Rattle.std.specs.Prelude.{◌≡◌, ℕ, false, List, [], ◌∷◌, ◌++◌, codes, Option, None, Some, String, string_bytes}
 use Rattle.std.specs.List.{flat_map}
 use Rattle.std.specs.Io.KnownBytes.{Appends}
 use Rattle.std.specs.declared.alloc.Global.{Global}
-use Rattle.urlpat_matching.specs.PatternWords.{IsPatternOf}
+use Rattle.urlpat_matching.specs.PatternWords.{IsPatternOf, KeepsPartsOfWord}
 use Rattle.urlpattern_eight.specs.Eight.{at, components, name_text}
 use Rattle.urlpattern_eight.specs.declared.eight.ComponentName.{ComponentName}
 use Rattle.urlpattern_eight.specs.declared.eight.Eight.{Eight}
-use Rattle.urlpattern_engine.specs.PatternRegexps.{pattern_engine}
 use Rattle.urlpattern_engine.specs.declared.pattern_regexp.PatternRegexp.{PatternRegexp}
-use Rattle.urlpattern_pattern.specs.Patterns.{PatternView}
-use Rattle.urlpattern_pattern.specs.UrlPatterns.{AreMadeOfParts}
+use Rattle.urlpattern_pattern.specs.Patterns.{pattern_view}
+use Rattle.urlpattern_pattern.specs.UrlPatterns.{UrlPattern}
 use Rattle.urlpattern_rules.specs.Comparing.{IsPatternCovering}
 use Rattle.urlpattern_rules.specs.declared.pattern.{Parting.Parting, PatternCovering.PatternCovering, PatternParts.PatternParts}
 use Rattle.urlpattern_rules.specs.declared.pattern.PatternCovering.TheVariants.{Covered, NotCovered, Unknown}
 
 -- ---- parts
 
--- the parts are those of the pattern that the constructor string with this base URL is compiled to
+-- the parts are those that the pattern keeps to which the constructor string with this base URL is compiled
 abbrev pub ArePartsOf : (text : List ℕ) → (base : Option (List ℕ)) → PatternParts → Type 0
-ArePartsOf text base parts = (compiled : PatternView PatternRegexp) × IsPatternOf false text base compiled × AreMadeOfParts pattern_engine parts compiled
+ArePartsOf text base parts =
+    (compiled : UrlPattern PatternRegexp) × IsPatternOf false text base (pattern_view compiled)
+    × KeepsPartsOfWord false text base compiled × (compiled.parts ≡ Some parts)
 
 -- whether the pattern of the first constructor string covers that of the asked one
 abbrev pub ComparesWith : (pattern asked : List ℕ) → PatternCovering → Type 0

@@ -5,6 +5,7 @@
 pub use urlpattern_readings::laws::{
     covered_patterns_by_these_engines_match, covered_patterns_match, overlapping_patterns_match,
     patterns_covered_by_meaning_match, patterns_match_what_their_parts_mean,
+    patterns_match_what_their_parts_mean_by_first_ways,
 };
 pub use urlpattern_rules::laws::parts_are_in_order;
 pub use urlpattern_rules::{

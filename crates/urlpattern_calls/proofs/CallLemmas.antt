@@ -1,11 +1,11 @@
 -- Lemmas on what calls report.
-use Rattle.std.proofs.Common.{◌≡◌, ℕ, Bool, List, length, refl, inl, inr, ◌⊎◌, ap, subst, sym}
+use Rattle.std.proofs.Common.{◌≡◌, ◌∙◌, ℕ, Bool, List, length, refl, inl, inr, ◌⊎◌, ap, subst, sym}
 use Rattle.std.specs.Str.{chars}
 use Rattle.urlpattern.specs.Errors.{ErrorView, MemoryOr, error_view}
 use Rattle.urlpattern.specs.Errors.{ErrorView as views}
 use Rattle.urlpattern.specs.FromString.{IsPatternOfText, RefusesPatternOfText}
 use Rattle.urlpattern.specs.Patterns.{pattern_view}
-use Rattle.std.specs.Prelude.{slice_get, Some, is_some, IsTrue}
+use Rattle.std.specs.Prelude.{slice_get, Option, Some}
 use Rattle.urlpattern.specs.Eight.{components}
 use Rattle.urlpattern_calls.specs.Calls.{given_base, c_options, error_status, IsAdded, IsPushed, IsTested, IsUrlTested}
 use Rattle.urlpattern_calls.specs.Diagnoses.{IsDiagnosed, IsDiagnosisOfInit, IsDiagnosisOfText, IsInitDiagnosed}
@@ -17,16 +17,24 @@ use Rattle.urlpattern_calls.specs.declared.status.Status.{Status}
 use Rattle.urlpattern_calls.specs.declared.status.Status.TheVariants as statuses
 use Rattle.urlpattern_engine.specs.PatternRegexps.{pattern_engine}
 use Rattle.urlpattern_engine.specs.declared.pattern_regexp.PatternRegexp.{PatternRegexp}
+use Rattle.urlpattern_pattern.specs.KeptParts.{KeepsPartsOfText}
 use Rattle.urlpattern_pattern.specs.UrlPatterns.{UrlPattern}
 use Rattle.urlpattern_syntax.specs.declared.error.Error.{Error}
 
 -- a pattern that is compiled and pushed is added
 pub added : (old : List (UrlPattern PatternRegexp)) (text base : List ℕ) (ignores : Bool) (pattern : UrlPattern PatternRegexp) (new : List (UrlPattern PatternRegexp)) (status : Status)
-    → IsPatternOfText pattern_engine (chars text) (given_base base) (c_options ignores) (pattern_view pattern) → IsTrue (is_some pattern.parts) → IsPushed old pattern new status
+    → IsPatternOfText pattern_engine (chars text) (given_base base) (c_options ignores) (pattern_view pattern)
+    → KeepsPartsOfText pattern_engine (chars text) (given_base base) (c_options ignores) pattern → IsPushed old pattern new status
     → IsAdded old text base ignores new status
-added old text base ignores pattern new statuses.Done is parted pushed = (pattern, is, parted, pushed)
-added old text base ignores pattern new statuses.OutOfMemory is parted pushed = pushed
-added old text base ignores pattern new status is parted pushed = absurd pushed
+added old text base ignores pattern new statuses.Done is keeps pushed = (pattern, is, keeps, pushed)
+added old text base ignores pattern new statuses.OutOfMemory is keeps pushed = pushed
+added old text base ignores pattern new status is keeps pushed = absurd pushed
+
+-- what holds of texts as they were read, and of the base URL that was given, holds of these
+pub of_texts : (Holds : List ℕ → Option (List ℕ) → Type 0) (text base read read_base : List ℕ) (url : Option (List ℕ)) → read ≡ text → read_base ≡ base → url ≡ given_base read_base
+    → Holds read url → Holds text (given_base base)
+of_texts Holds text base read read_base url is base_is url_is holds =
+    subst (λ bytes. Holds bytes (given_base base)) is (subst (Holds read) (url_is ∙ ap given_base base_is) holds)
 
 -- an error is reported in one of two ways
 two_statuses : (error : ErrorView) → (error_status error ≡ statuses.OutOfMemory) ⊎ (error_status error ≡ statuses.Refused)

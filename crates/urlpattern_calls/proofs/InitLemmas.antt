@@ -1,6 +1,5 @@
 -- Lemmas on inits.
 use Rattle.std.proofs.Common.{ℕ, Bool, List, refl, inl, inr}
-use Rattle.std.specs.Prelude.{is_some, IsTrue}
 use Rattle.urlpattern.specs.Errors.{MemoryOr, error_view}
 use Rattle.urlpattern.specs.Patterns.{pattern_view}
 use Rattle.urlpattern_calls.proofs.CallLemmas.{reported}
@@ -13,14 +12,16 @@ use Rattle.urlpattern_create.specs.Compiled.{IsPatternOfInit, RefusesInit}
 use Rattle.urlpattern_engine.specs.PatternRegexps.{pattern_engine}
 use Rattle.urlpattern_engine.specs.declared.pattern_regexp.PatternRegexp.{PatternRegexp}
 use Rattle.urlpattern_init.specs.declared.init.UrlPatternInit.{UrlPatternInit}
+use Rattle.urlpattern_pattern.specs.KeptParts.{KeepsPartsOf}
 use Rattle.urlpattern_pattern.specs.UrlPatterns.{UrlPattern}
 use Rattle.urlpattern_syntax.specs.declared.error.Error.{Error}
 
 pub init_added : (old : PatternList) (json : List ℕ) (ignores : Bool) (init : UrlPatternInit) (pattern : UrlPattern PatternRegexp) (new : PatternList) (status : Status)
-    → IsInitOfJson json init → IsPatternOfInit pattern_engine init (c_options ignores) (pattern_view pattern) → IsTrue (is_some pattern.parts) → IsPushed old pattern new status → IsInitAdded old json ignores new status
-init_added old json ignores init pattern new statuses.Done is compiled parted pushed = (init, pattern, is, compiled, parted, pushed)
-init_added old json ignores init pattern new statuses.OutOfMemory is compiled parted pushed = pushed
-init_added old json ignores init pattern new status is compiled parted pushed = absurd pushed
+    → IsInitOfJson json init → IsPatternOfInit pattern_engine init (c_options ignores) (pattern_view pattern) → KeepsPartsOf pattern_engine init (c_options ignores) pattern
+    → IsPushed old pattern new status → IsInitAdded old json ignores new status
+init_added old json ignores init pattern new statuses.Done is compiled keeps pushed = (init, pattern, is, compiled, keeps, pushed)
+init_added old json ignores init pattern new statuses.OutOfMemory is compiled keeps pushed = pushed
+init_added old json ignores init pattern new status is compiled keeps pushed = absurd pushed
 
 -- where there is no init, the patterns are as they were
 pub no_init : (old : PatternList) (json : List ℕ) (ignores : Bool) (status : Status) → IsNoInit json status → IsInitAdded old json ignores old status

@@ -1,5 +1,5 @@
 -- What calls report, of texts that are bytes.
-use Rattle.std.specs.Prelude.{◌≡◌, ◌⊎◌, ◌++◌, ℕ, Bool, List, [], ◌∷◌, slice_get, Option, None, Some, is_some, IsTrue}
+use Rattle.std.specs.Prelude.{◌≡◌, ◌⊎◌, ◌++◌, ℕ, Bool, List, [], ◌∷◌, slice_get, Option, None, Some}
 use Rattle.std.specs.Str.{chars, IsUtf8}
 use Rattle.url.specs.Parts.{Parts}
 use Rattle.urlpattern.specs.Errors.{ErrorView}
@@ -18,6 +18,7 @@ use Rattle.urlpattern_engine.specs.PatternRegexps.{pattern_answer, pattern_engin
 use Rattle.urlpattern_engine.specs.declared.pattern_regexp.PatternRegexp.{PatternRegexp}
 use Rattle.urlpattern_init.specs.declared.init.UrlPatternMatchInput.TheVariants as match_inputs
 use Rattle.urlpattern_inputs.specs.declared.options.UrlPatternOptions.{UrlPatternOptions}
+use Rattle.urlpattern_pattern.specs.KeptParts.{KeepsPartsOfText}
 use Rattle.urlpattern_pattern.specs.UrlPatterns.{UrlPattern}
 use Rattle.urlpattern_syntax.specs.declared.parser.RegexSyntax.TheVariants.{Rust}
 
@@ -39,6 +40,10 @@ c_options ignores = record { regex_syntax = Rust; ignore_case = ignores }
 abbrev pub IsCompiledFromText : (text : List ℕ) → (base : Option (List ℕ)) → (ignore_case : Bool) → UrlPattern PatternRegexp → Type 0
 IsCompiledFromText text base ignores pattern = IsPatternOfText pattern_engine (chars text) base (c_options ignores) (pattern_view pattern)
 
+-- the pattern keeps the parts that the texts of the constructor string read as
+abbrev pub KeepsItsParts : (text : List ℕ) → (base : Option (List ℕ)) → (ignore_case : Bool) → UrlPattern PatternRegexp → Type 0
+KeepsItsParts text base ignores pattern = KeepsPartsOfText pattern_engine (chars text) base (c_options ignores) pattern
+
 -- it is refused with this error
 abbrev pub RefusesToCompile : (text : List ℕ) → (base : Option (List ℕ)) → (ignore_case : Bool) → ErrorView → Type 0
 RefusesToCompile text base ignores = RefusesPatternOfText pattern_engine (chars text) base (c_options ignores)
@@ -54,11 +59,11 @@ IsPushed old pattern new statuses.Done = new ≡ old ++ pattern ∷ []
 IsPushed old pattern new statuses.OutOfMemory = new ≡ old
 IsPushed old pattern new status = ⊥
 
--- the constructor string with this base URL is compiled, and its pattern, which has parts, appended; else the patterns are as they were
+-- the constructor string with this base URL is compiled, and its pattern, which keeps its parts, appended; else the patterns are as they were
 abbrev pub IsAdded : (old : List (UrlPattern PatternRegexp)) → (text base : List ℕ) → (ignore_case : Bool) → (new : List (UrlPattern PatternRegexp)) → Status → Type 0
 IsAdded old text base ignores new statuses.Done =
-    (pattern : UrlPattern PatternRegexp) × IsCompiledFromText text (given_base base) ignores pattern × IsTrue (is_some pattern.parts)
-    × (new ≡ old ++ pattern ∷ [])
+    (pattern : UrlPattern PatternRegexp) × IsCompiledFromText text (given_base base) ignores pattern
+    × KeepsItsParts text (given_base base) ignores pattern × (new ≡ old ++ pattern ∷ [])
 IsAdded old text base ignores new statuses.Refused =
     (error : ErrorView) × RefusesToCompile text (given_base base) ignores error × (new ≡ old)
 IsAdded old text base ignores new statuses.NotUtf8 = ((¬ IsUtf8 text) ⊎ (¬ IsUtf8 base)) × (new ≡ old)

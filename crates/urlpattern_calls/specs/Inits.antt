@@ -1,5 +1,5 @@
 -- Inits that are given as JSON.
-use Rattle.std.specs.Prelude.{◌≡◌, ◌⊎◌, ◌++◌, ℕ, Bool, List, [], ◌∷◌, Option, None, Some, is_some, option_and_then, IsTrue}
+use Rattle.std.specs.Prelude.{◌≡◌, ◌⊎◌, ◌++◌, ℕ, Bool, List, [], ◌∷◌, Option, None, Some, option_and_then}
 use Rattle.std.specs.Str.{IsUtf8}
 use Rattle.serde_json.specs.Read.{read}
 use Rattle.urlpattern.specs.Errors.{ErrorView}
@@ -16,6 +16,7 @@ use Rattle.urlpattern_inputs.specs.InputJson.{init_read}
 use Rattle.urlpattern_inputs.specs.InputValues.{InitView, init_view}
 use Rattle.urlpattern_inputs.specs.declared.init.UrlPatternInit.{UrlPatternInit as PlainInit}
 use Rattle.urlpattern_inputs.specs.declared.input.StringOrInit.TheVariants as inputs
+use Rattle.urlpattern_pattern.specs.KeptParts.{KeepsPartsOf}
 use Rattle.urlpattern_pattern.specs.UrlPatterns.{UrlPattern}
 use Rattle.urlpattern_quirks.specs.Inputs.{IsInitOf, RefusesInput}
 
@@ -44,11 +45,12 @@ IsNoInit json status = ⊥
 abbrev pub IsInitRefused : (json : List ℕ) → (ignore_case : Bool) → ErrorView → Type 0
 IsInitRefused json ignores error = (init : UrlPatternInit) × IsInitOfJson json init × RefusesInit pattern_engine init (c_options ignores) error
 
--- the init is compiled, and its pattern, which has parts, appended; else the patterns are as they were
+-- the init is compiled, and its pattern, which keeps its parts, appended; else the patterns are as they were
 abbrev pub IsInitAdded : (old : PatternList) → (json : List ℕ) → (ignore_case : Bool) → (new : PatternList) → Status → Type 0
 IsInitAdded old json ignores new statuses.Done =
     (init : UrlPatternInit) × (pattern : UrlPattern PatternRegexp) × IsInitOfJson json init
-    × IsPatternOfInit pattern_engine init (c_options ignores) (pattern_view pattern) × IsTrue (is_some pattern.parts) × (new ≡ old ++ pattern ∷ [])
+    × IsPatternOfInit pattern_engine init (c_options ignores) (pattern_view pattern)
+    × KeepsPartsOf pattern_engine init (c_options ignores) pattern × (new ≡ old ++ pattern ∷ [])
 IsInitAdded old json ignores new statuses.Refused =
     (IsNoInit json statuses.Refused ⊎ ((error : ErrorView) × IsInitRefused json ignores error)) × (new ≡ old)
 IsInitAdded old json ignores new statuses.OutOfMemory = new ≡ old

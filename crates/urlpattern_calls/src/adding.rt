@@ -1,6 +1,6 @@
 //! Compiles patterns.
-ghost use Rattle.std.specs.Prelude.{◌≡◌, is_some, option_copied, IfErr, IfOk, IsTrue};
-ghost use Rattle.urlpattern_calls.specs.Calls.{given_base, c_options, error_status, IsAdded, IsCompiledFromText, IsPushed, RefusesToCompile};
+ghost use Rattle.std.specs.Prelude.{◌≡◌, option_copied, IfErr, IfOk};
+ghost use Rattle.urlpattern_calls.specs.Calls.{given_base, c_options, error_status, IsAdded, IsCompiledFromText, IsPushed, KeepsItsParts, RefusesToCompile};
 ghost use Rattle.urlpattern_calls.specs.Kept.{boxed_patterns};
 ghost use Rattle.urlpattern.specs.Errors.{error_view, MemoryOr};
 
@@ -12,7 +12,6 @@ use urlpattern::regexp::PatternRegexp;
 use urlpattern::{Error, RegexSyntax, UrlPattern, UrlPatternOptions};
 
 /// Compiles a constructor string, with a base URL unless that is empty, and appends the pattern.
-#[tactic(auto, using(crate::proofs::CallLemmas::added))]
 pub fn add(
     alloc: Global,
     kept: &mut Option<Box<Kept>>,
@@ -63,7 +62,7 @@ fn compiled(
     ignore_case: bool,
 ) -> Result<UrlPattern<PatternRegexp>, Error>
     ensures compiled { IfOk result (IsCompiledFromText text.now (option_copied base.entry) ignore_case) }
-    ensures parts { IfOk result (λ pattern. IsTrue (is_some pattern.parts)) }
+    ensures kept { IfOk result (KeepsItsParts text.now (option_copied base.entry) ignore_case) }
     ensures refused { IfErr result (MemoryOr (RefusesToCompile text.now (option_copied base.entry) ignore_case)) }
 {
     UrlPattern::from_constructor_string(alloc, text, base, options(ignore_case))

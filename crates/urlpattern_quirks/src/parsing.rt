@@ -1,6 +1,8 @@
 //! Patterns for browsers: compiled, and as plain data.
 ghost use Rattle.std.specs.Prelude.{◌≡◌, IfErr, IfOk};
 ghost use Rattle.urlpattern_create.specs.Compiled.{IsPatternOfInit, RefusesInit};
+ghost use Rattle.urlpattern_pattern.specs.ByText.{AnswersByItsText, MakesFirstWays};
+ghost use Rattle.urlpattern_pattern.specs.KeptParts.{KeepsPartsOf};
 ghost use Rattle.urlpattern_pattern.specs.Patterns.{pattern_view, IfPattern};
 ghost use Rattle.urlpattern_quirks.specs.Quirks.{IsPlainOf, plain_pattern, IsPlainOfInit};
 ghost use Rattle.urlpattern_compiled.specs.Values.{pattern_by};
@@ -31,7 +33,7 @@ pub fn parse_pattern<R: RegExp>(
     plain_pattern(alloc, pattern)
 }
 
-/// Compiles a pattern from an init.
+/// Compiles a pattern from an init: `UrlPattern::parse`, with its promises.
 ///
 /// The error is that of compiling the pattern.
 pub fn parse_pattern_as_lib<R: RegExp>(
@@ -40,6 +42,8 @@ pub fn parse_pattern_as_lib<R: RegExp>(
     options: UrlPatternOptions,
 ) -> Result<pattern::UrlPattern<R>, Error>
     ensures compiled { IfPattern result (IsPatternOfInit R.RegExp init options) }
+    ensures kept { IfOk result (KeepsPartsOf R.RegExp init options) }
+    ensures by_text { MakesFirstWays R.RegExp → IfPattern result (AnswersByItsText R.answer init options) }
     ensures refused { IfErr result (MemoryOr (RefusesInit R.RegExp init options)) }
 {
     pattern::UrlPattern::parse(alloc, init, options)

@@ -4,6 +4,7 @@
 
 ghost use Rattle.urlpattern_core.specs.Regexes.{regex_engine};
 ghost use Rattle.urlpattern_engine.specs.PatternRegexps.{pattern_engine};
+ghost use Rattle.urlpattern_pattern.specs.ByText.{MakesFirstWays};
 ghost use Rattle.urlpattern_readings.specs.Readings.{ApartMatchNothing, CommonAreMatched, CoveredAreMatched, CoveredByEngineAreMatched, CoveredByMeaningAreMatched, KnownAreCoveredByMeaning, MadeAreMatched, OwnPartsMean, PartingsAreMatched};
 
 use urlpattern_core::regexp::RegExp;
@@ -13,6 +14,12 @@ use urlpattern_core::regexp::RegExp;
 pub fn patterns_match_what_their_parts_mean()
     ensures pattern_regexp { OwnPartsMean pattern_engine }
     ensures regex { OwnPartsMean regex_engine }
+{}
+
+/// A pattern over any engine whose matchers answer first ways, as `PatternRegexp`'s do, matches of each text without line feed what the
+/// parts that it was made of mean, in each component where that is known.
+pub fn patterns_match_what_their_parts_mean_by_first_ways<R: RegExp>()
+    ensures { MakesFirstWays R.RegExp → OwnPartsMean R.RegExp }
 {}
 
 /// If a pattern covers another by their parts, then of any eight texts without line feed that the other matches it matches each. If
