@@ -54,6 +54,7 @@ impl Steps {
 /// What the steps capture of a text that they take whole. `None`: they do not take it whole.
 ///
 /// The error is that memory ran out.
+#[inline(always)]
 pub(crate) fn match_steps<'t>(
     alloc: Global,
     steps: &[Step],
