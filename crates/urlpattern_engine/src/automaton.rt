@@ -242,12 +242,7 @@ pub(crate) fn match_once<'t>(
 /// The automaton of the tree of an expression with so many groups, the whole match among them.
 ///
 /// The error says whether it would be too large or memory ran out.
-fn nfa_of(
-    alloc: Global,
-    regexp: &str,
-    hir: &Hir,
-    groups: usize,
-) -> Result<Nfa, RegExpError>
+fn nfa_of(alloc: Global, regexp: &str, hir: &Hir, groups: usize) -> Result<Nfa, RegExpError>
     ensures implements { IfOk result (λ nfa. Implements nfa (meaning hir.now)) }
     ensures slots { IfOk result (λ nfa. nfa.slot_count ≡ 2 * groups) }
     ensures refused { result ≡ Err Pattern → IsLarge (chars regexp.now) }

@@ -188,7 +188,10 @@ impl<'a> PartList<'a> {
         }
         let value = parser.ask(&self.pending_fixed_value)?;
         self.pending_fixed_value.clear();
-        push(&mut self.parts, Part::fixed(parser.alloc, value, PartModifier::None))?;
+        push(
+            &mut self.parts,
+            Part::fixed(parser.alloc, value, PartModifier::None),
+        )?;
         Ok(())
     }
 }
