@@ -1,3 +1,4 @@
 pub mod SameMatchers
 pub mod MatchingLemmas
 pub mod EngineParts
+pub mod KeptMeaning

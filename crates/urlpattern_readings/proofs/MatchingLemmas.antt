@@ -28,7 +28,7 @@ use Rattle.urlpattern_syntax.specs.Text.{text_of}
 -- ---- one component
 
 -- an answer that agrees with the parts says whether they mean the text
-by_answer : {E : Type 0} (answer : E → List ℕ → Option Captures) (matcher : MatcherView E) (options : OptionsView) (parts : List PartView) (text : List ℕ) (found : Option Captures) →
+pub by_answer : {E : Type 0} (answer : E → List ℕ → Option Captures) (matcher : MatcherView E) (options : OptionsView) (parts : List PartView) (text : List ℕ) (found : Option Captures) →
     Answers answer matcher text found → Agrees options parts text found → MeansText options parts text → IsMatched answer matcher text
 by_answer answer matcher options parts text (Some captures) answers agrees means = (captures, answers)
 by_answer answer matcher options parts text None answers agrees means = absurd (agrees means.0 means.1)

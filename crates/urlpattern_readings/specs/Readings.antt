@@ -3,10 +3,13 @@ use Rattle.std.specs.Prelude.{◌↔◌, ◌⊎◌, ℕ, List, Option, String}
 use Rattle.std.specs.declared.alloc.Global.{Global}
 use Rattle.urlpattern_core.specs.declared.regexp.RegExp.{Ghosts as Engine}
 use Rattle.urlpattern_init.specs.UrlTexts.{EachIsLine, IsLine}
+use Rattle.urlpattern_init.specs.declared.init.UrlPatternInit.{UrlPatternInit}
+use Rattle.urlpattern_inputs.specs.declared.options.UrlPatternOptions.{UrlPatternOptions}
 use Rattle.urlpattern_engine.specs.Readings.{ExpressionsAnswerAlike}
 use Rattle.urlpattern_meaning.specs.Matching.{IsMatched, MatcherView}
 use Rattle.urlpattern_meaning.specs.PartMeaning.{Captures}
-use Rattle.urlpattern_pattern.specs.{Patterns.PatternView, Match.AreMatched, UrlPatterns.AreMadeOfParts}
+use Rattle.urlpattern_pattern.specs.{ByText.AnswersByItsText, KeptParts.KeepsPartsOf, Match.AreMatched, Patterns.PatternView, Patterns.pattern_view}
+use Rattle.urlpattern_pattern.specs.UrlPatterns.{AreMadeOfParts, UrlPattern}
 use Rattle.urlpattern_rules.specs.Comparing.{AreApart, AreSame, IsCovered, IsKnown, IsParting, MeansAllOf, MeansEach, MeansIn, TakesEachLine, TakesNoLine}
 use Rattle.urlpattern_rules.specs.declared.pattern.{Parting.Parting, PatternParts.PatternParts}
 use Rattle.urlpattern_syntax.specs.declared.parts.ComponentParts.{ComponentParts}
@@ -79,6 +82,12 @@ MadeAreMatched {E} engine = ExpressionsAnswerAlike engine →
 -- the parts that a pattern was made of say what it matches, where it is known what they mean
 abbrev pub OwnPartsMean : {E : Type 0} → Engine E → Type 0
 OwnPartsMean {E} engine = (pattern : PatternView E) (parts : PatternParts) → AreMadeOfParts engine parts pattern → AreItsParts engine.answer pattern parts
+
+-- so do the parts that a pattern keeps of an init, if it answers by its texts
+abbrev pub KeptPartsMean : {E : Type 0} → Engine E → Type 0
+KeptPartsMean {E} engine =
+    (init : UrlPatternInit) (asked : UrlPatternOptions) (pattern : UrlPattern E) → AnswersByItsText engine.answer init asked (pattern_view pattern) →
+    (kept : KeepsPartsOf engine init asked pattern) → AreItsParts engine.answer (pattern_view pattern) kept.parts
 
 -- what is covered is matched, with custom regular expressions or not, by patterns that were made of their parts
 abbrev pub CoveredByEngineAreMatched : {E : Type 0} → Engine E → Type 0

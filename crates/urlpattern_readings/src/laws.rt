@@ -5,7 +5,7 @@
 ghost use Rattle.urlpattern_core.specs.Regexes.{regex_engine};
 ghost use Rattle.urlpattern_engine.specs.PatternRegexps.{pattern_engine};
 ghost use Rattle.urlpattern_pattern.specs.ByText.{MakesFirstWays};
-ghost use Rattle.urlpattern_readings.specs.Readings.{ApartMatchNothing, CommonAreMatched, CoveredAreMatched, CoveredByEngineAreMatched, CoveredByMeaningAreMatched, KnownAreCoveredByMeaning, MadeAreMatched, OwnPartsMean, PartingsAreMatched};
+ghost use Rattle.urlpattern_readings.specs.Readings.{ApartMatchNothing, CommonAreMatched, CoveredAreMatched, CoveredByEngineAreMatched, CoveredByMeaningAreMatched, KeptPartsMean, KnownAreCoveredByMeaning, MadeAreMatched, OwnPartsMean, PartingsAreMatched};
 
 use urlpattern_core::regexp::RegExp;
 
@@ -17,9 +17,11 @@ pub fn patterns_match_what_their_parts_mean()
 {}
 
 /// A pattern over any engine whose matchers answer first ways, as `PatternRegexp`'s do, matches of each text without line feed what the
-/// parts that it was made of mean, in each component where that is known.
+/// parts that it was made of mean, in each component where that is known. So does a compiled pattern that answers by its texts, whatever
+/// its engine, and the parts are those that it keeps.
 pub fn patterns_match_what_their_parts_mean_by_first_ways<R: RegExp>()
-    ensures { MakesFirstWays R.RegExp → OwnPartsMean R.RegExp }
+    ensures first_ways { MakesFirstWays R.RegExp → OwnPartsMean R.RegExp }
+    ensures by_text { KeptPartsMean R.RegExp }
 {}
 
 /// If a pattern covers another by their parts, then of any eight texts without line feed that the other matches it matches each. If
