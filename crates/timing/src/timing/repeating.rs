@@ -1,13 +1,13 @@
 //! Calls one call many times, for a tool that counts instructions.
 
-use super::{Call, Subject, links};
+use super::{Call, Subject, links, make_pattern};
 use crate::calls::optional_text;
 use serde_json::Value;
 use std::alloc::Global;
 use std::rt::Files;
 use std::{fs, io};
-use urlpattern::Error;
 use urlpattern::regexp::PatternRegexp;
+use urlpattern::{Error, UrlPattern};
 
 impl Call {
     /// The call of a name.
@@ -48,6 +48,9 @@ pub fn repeat<R: Files + AllocGlobal>(
 
 /// Calls the call of a name so many times for a pair. Returns whether there is such a call.
 fn repeat_named(alloc: Global, pair: &Value, call: &str, count: u64) -> bool {
+    if call == "keep" {
+        return keep(alloc, pair, count).is_ok();
+    }
     if call == "link" {
         return matches!(links::repeat_pair(alloc, pair, count), Ok(true));
     }
@@ -68,3 +71,19 @@ fn repeat_pair(alloc: Global, pair: &Value, call: Call, count: u64) -> Result<()
     Ok(())
 }
 
+/// Compiles the pattern of a pair so many times, and keeps all, for a tool that measures the heap.
+fn keep(alloc: Global, pair: &Value, count: u64) -> Result<(), Error> {
+    let Some(given) = pair.get("pattern") else {
+        return Ok(());
+    };
+    let subject = Subject::<PatternRegexp>::new(alloc, given, pair)?;
+    let mut kept = Vec::with_capacity(alloc, count as usize)?;
+    for _ in 0..count {
+        let base = subject.base;
+        let pattern: UrlPattern<PatternRegexp> =
+            make_pattern(alloc, &subject.given, base, subject.ignore_case)?;
+        kept.push(pattern)?;
+    }
+    drop(kept);
+    Ok(())
+}
