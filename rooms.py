@@ -319,7 +319,12 @@ class Tree:
 
     def words(self, text, place):
         """A text with the bare names of crates, and the paths of files, as they are now."""
-        text = re.sub(rf"\bcrates/({self.any})((?:/[\w.+-]+)*/?)", lambda it: self.file(it[0].rstrip("/")) + "/" * it[0].endswith("/"), text)
+        def placed(match):
+            front, path = match[1] or "", match[0].removeprefix("crates/")
+            return (front + self.file(f"crates/{path.rstrip('/')}").removeprefix("crates/") + "/" * path.endswith("/"))
+
+        text = re.sub(rf"(?<![\w./])(crates/)(?:{self.any})\b((?:/[\w.+-]+)*/?)", placed, text)
+        text = re.sub(rf"(?<![\w./])(crates/)?(?:{self.any})/(?:src|specs|proofs|must-fail)[\w.+/-]*", placed, text)
 
         def named(match):
             if match[0] in ALSO_C and IS_C.match(place):
