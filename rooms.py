@@ -319,12 +319,13 @@ class Tree:
 
     def words(self, text, place):
         """A text with the bare names of crates, and the paths of files, as they are now."""
-        def placed(match):
-            front, path = match[1] or "", match[0].removeprefix("crates/")
-            return (front + self.file(f"crates/{path.rstrip('/')}").removeprefix("crates/") + "/" * path.endswith("/"))
 
-        text = re.sub(rf"(?<![\w./])(crates/)(?:{self.any})\b((?:/[\w.+-]+)*/?)", placed, text)
-        text = re.sub(rf"(?<![\w./])(crates/)?(?:{self.any})/(?:src|specs|proofs|must-fail)[\w.+/-]*", placed, text)
+        def placed(match):
+            path = match[2] or match[0]
+            place = self.file(f"crates/{path.rstrip('/')}") + "/" * path.endswith("/")
+            return place if match[1] else place.removeprefix("crates/")
+
+        text = re.sub(rf"(?<![\w./])(crates/)((?:{self.any})\b(?:/[\w.+-]+)*/?)|(?<![\w./])(?:{self.any})/(?:src|specs|proofs|must-fail)[\w.+/-]*", placed, text)
 
         def named(match):
             if match[0] in ALSO_C and IS_C.match(place):
