@@ -22,7 +22,8 @@ import os
 import re
 import subprocess
 import sys
-from collections import defaultdict
+import textwrap
+from collections import Counter, defaultdict
 
 WIDTH = 100
 
@@ -38,7 +39,7 @@ class Part:
 
 class Room:
     def __init__(self, name, parts, row=None, head=None):
-        # row: what CONTRIBUTING.md says of it; head: the comment of its root file, as lines (without both: the old ones)
+        # row: what CONTRIBUTING.md says of it; head: the comment of its root file, by paragraphs (without both: the old ones)
         self.name, self.parts, self.row, self.head = name, [it if isinstance(it, Part) else Part(it) for it in parts], row, head
 
 
@@ -56,23 +57,20 @@ ROOMS = [
          row="where the pattern text of a component is at fault, where that is in the text that was passed in, and why, in words: `Diagnosis`",
          head=["Diagnoses of refused patterns: where a text is at fault, and why, in words for its author."]),
     Room("urlpattern_compare", ["urlpattern_covers", "urlpattern_rules"],
-         row="whether one list of parts means each text that another means, and whether both mean some text, by automata made from the parts; and patterns compared by the parts of their components: which covers another, which overlap, which is more specific, and which of a list are never reached",
-         head=["Patterns compared by their parts: which is more specific, which covers another, and which overlap.", "",
-               "A [`PatternParts`] has the parts of a pattern's eight components. [`PatternParts::covers`] and [`PatternParts::overlaps`] compare",
-               "what two patterns mean, [`first_covering`] and [`unreachable`] search a list, and [`compare_parts`] orders parts by how specific they are.", "",
-               "[`covers`] and [`overlaps`] compare the parts of one component. Each list of parts is turned into an [`Automaton`], and",
-               "[`Automaton::find`] searches for a text that one of two automata accepts, and the other accepts or does not."]),
+         row="patterns compared by the parts of their components: which covers another, which overlap, which is more specific, and which of a list are never reached; whether one list of parts means each text that another means, and whether both mean some text, by automata made from the parts",
+         head=["Patterns compared by their parts: which is more specific, which covers another, and which overlap.",
+               "A [`PatternParts`] has the parts of a pattern's eight components. [`PatternParts::covers`] and [`PatternParts::overlaps`] compare what two patterns mean, [`first_covering`] and [`unreachable`] search a list, and [`compare_parts`] orders parts by how specific they are.",
+               "[`covers`] and [`overlaps`] compare the parts of one component. Each list of parts is turned into an [`Automaton`], and [`Automaton::find`] searches for a text that one of two automata accepts, and the other accepts or rejects."]),
     Room("urlpattern_steps", ["urlpattern_steps", "urlpattern_walk"],
          row="reads the expression of parts as steps, and matches a text by them: what steps capture, and how texts are compared with those of steps",
-         head=["Matches expressions of texts and groups as patterns have them, step by step.", "",
-               "An expression is read as steps: texts and their copies, groups that capture a run of characters or such runs with a text between",
-               "each two, and groups that may be missing. The steps match a text whole or not at all, and capture what the first way captures."]),
+         head=["Matches expressions of texts and groups as patterns have them, step by step.",
+               "An expression is read as steps: texts and their copies, groups that capture a run of characters or such runs with a text between each two, and groups that may be missing. The steps match a text whole or not at all, and capture what the first way captures."]),
     Room("urlpattern_engine", ["urlpattern_engine", Part("urlpattern_regex", modules={"laws": "regex_laws"})],
          row="`PatternRegexp`, an engine that matches expressions of parts without custom ones by steps, others that begin with `^` by an automaton of the toolchain, and the rest by `regex::Regex`; `EcmaRegexp`, a browser's; and the laws of `regex::Regex` as an engine"),
     Room("urlpattern_generate", [Part("urlpattern_links", modules={"text": "part_text"}), "urlpattern_generate",
                                  Part("urlpattern_url", modules={"error": "no_link", "line": "url_line", "texts": "linked_url"})],
          row="the text of the parts of a component with given groups, the inverse of what parts mean: it makes values canonical, unless their characters show that they are, and has the matcher confirm the text, unless that needs no engine; and the URL with eight given texts, which `url` reads and whose texts are compared",
-         head=["Texts and URLs made of a pattern and given groups: the inverse of what its parts mean.", "",
+         head=["Texts and URLs made of a pattern and given groups: the inverse of what its parts mean.",
                "[`generate_component`] writes the text of one component, and [`url_of_texts`] makes the URL with eight given texts."]),
     Room("urlpattern_laws", ["urlpattern_laws", Part("urlpattern_custom", modules={"laws": "custom"}), Part("urlpattern_readings", modules={"laws": "parts"})],
          row="the laws of whole patterns; those that tie what the parts of a pattern mean to what it matches; and those of custom regular expressions: what parts take and capture, custom ones among them, and in which order, and that engines and matchers return the first"),
@@ -95,6 +93,13 @@ HOMES = {
 }
 # The same of definitions that `specs/Lib.antt` passes on.
 SPEC_HOMES = {"urlpattern_core": {"Generated": "urlpattern_printing", "NormalForms": "urlpattern_printing"}}
+
+# What a page says otherwise once the names have changed: a page, and pairs of texts.
+PROSE = [
+    ("README.md", "`urlpattern_ffi` and `urlpattern_ffi`, with", "and `urlpattern_ffi`, with"),
+    ("CONTRIBUTING.md", "it also goes into `stops.rt` there, and in `urlpattern_steps` into", "it also goes into `stops.rt` there, and into"),
+    ("CONTRIBUTING.md", "`push_fixed` in `text.rt`", "`push_fixed` in `part_text.rt`"),
+]
 
 # Names of crates that are also names of C: on these pages and in these folders a bare word is the latter.
 ALSO_C = {"urlpattern_covers"}
@@ -411,13 +416,16 @@ class Tree:
         for indent, front, body in re.findall(r"^( *)((?:pub(?:\([^)]*\))? )?)use ([^;]+);\n", text, re.M):
             found = list(leaves(body))
             tops = {it[:-1] for it, _ in found}
-            key = (indent, front, next(iter(tops))) if len(tops) == 1 else (indent, front, ("", body))
+            key = (indent, front, next(iter(tops))) if len(tops) == 1 and next(iter(tops)) not in ((), ("crate",), ("super",)) else (indent, front, ("", re.sub(r"\s+", " ", body)))
             joined.setdefault(key, []).extend(found)
         lines = []
         for (indent, front, path), found in joined.items():
             if path and path[0] == "":
-                lines.append(f"{indent}{front}use {path[1]};")
-                continue
+                top = next(iter({it[:-1] for it, _ in found})) if len({it[:-1] for it, _ in found}) == 1 else None
+                if top is None:
+                    lines.append(f"{indent}{front}use {path[1]};")
+                    continue
+                path = top
             names = sorted({f"{it[-1]} as {alias}" if alias else it[-1] for it, alias in found}, key=lambda it: (it != "self", it))
             start = f"{indent}{front}use {'::'.join(path)}{'::' if path else ''}"
             lines.append(f"{start}{names[0]};" if len(names) == 1 and names[0] != "self" else f"{indent}{front}use {'::'.join(path)};" if names == ["self"] else filled(start, names, ";"))
@@ -474,9 +482,14 @@ class Tree:
             rest += [it for it in re.sub(r"^(?:(?:pub(?:\([^)]*\))? )?mod \w+;|pub use [^;]+;)\n", "", body, flags=re.M).splitlines() if it.strip() and it != "#![tactic(auto)]"]
         if rest:
             raise SystemExit(f"{room.name}: a root file has more than modules and exports: {rest}")
-        head = room.head if room.head is not None else next((it for part, it in zip(room.parts, heads) if part.crate == room.name), heads[0])
+        head = next((it for part, it in zip(room.parts, heads) if part.crate == room.name), heads[0])
+        if room.head is not None:
+            head = [line for it in room.head for line in ["", *textwrap.wrap(it, WIDTH - 4, break_on_hyphens=False)]][1:]
         text = "".join(f"//! {it}".rstrip() + "\n" for it in head) + "#![tactic(auto)]\n\n"
         text += "".join(f"{modules[it]}mod {it};\n" for it in sorted(modules))
+        named = [alias or it[-1] for text_ in exports for body in re.findall(r"use ([^;]+);", text_) for it, alias in leaves(body)]
+        if len(set(named)) != len(named):
+            raise SystemExit(f"{room.name}: its root exports these twice: {sorted({it for it in named if named.count(it) > 1})}")
         shown = self.sorted_uses("".join(exports))
         return text + (f"\n{shown}" if shown else "")
 
@@ -574,7 +587,13 @@ class Tree:
                 text = read(f"{self.root}/{path}")
                 if path == "CONTRIBUTING.md":
                     text = self.contributing(text)
-                put(to, self.words(self.paths(self.rattle(text), None, None), path), path)
+                text = self.words(self.paths(self.rattle(text), None, None), path)
+                for page, old, new in PROSE:
+                    if page == path and text.count(old) == 1:
+                        text = text.replace(old, new)
+                    elif page == path:
+                        print(f"{page} has this {text.count(old)} times: {old}")
+                put(to, text, path)
         for room in self.rooms:
             put(f"crates/{room.name}/src/lib.rt", self.root_text(room), None)
             for side in ("specs", "proofs"):
@@ -613,6 +632,37 @@ class Tree:
         subprocess.run(["git", "-C", self.root, "add", "-A"], check=True)
         return len([1 for path, (text, old) in made.items() if path != old]), len([1 for path, (text, old) in made.items() if path == old and text is not None and text.encode() != kept[path][0]])
 
+
+
+def kept_lines(root):
+    """What may not be lost: each line of code and of definitions and proofs, without citations, comments and names of crates."""
+    crates = {**rows_of(read(f"{root}/crates.txt")), **rows_of(read(f"{root}/tests.txt"))}
+    path = re.compile(rf"(?<![\w.:$])(?:crate|{'|'.join(sorted(crates, key=len, reverse=True))})::(?:\w+::)*")
+    found = Counter()
+    for line in subprocess.run(["git", "-C", root, "ls-files", "crates"], capture_output=True, text=True, check=True).stdout.splitlines():
+        if not line.endswith((".rt", ".rs", ".antt")) or line.endswith("Lib.antt"):
+            continue
+        text = read(f"{root}/{line}")
+        if line.endswith(".antt"):
+            text = re.sub(r"^ *(?:pub )?use Rattle\.[^\n{]*(?:\{[^}]*\})?.*\n", "", text, flags=re.M)
+            text = re.sub(r"--.*", "", text)
+        else:
+            text = re.sub(r"^ *(?:pub(?:\([^)]*\))? )?(?:ghost )?use [^;]+;\n", "", text, flags=re.M)
+            text = re.sub(r"^(?:pub )?mod \w+;\n|//.*|#!\[tactic\(auto\)\]", "", text, flags=re.M)
+            text = path.sub("", text)
+        found.update(it.strip() for it in text.splitlines() if it.strip())
+    return found
+
+
+def public_names(root):
+    """What the crate `urlpattern` exports, by its modules."""
+    found = set()
+    for line in subprocess.run(["git", "-C", root, "ls-files", "crates/urlpattern/src"], capture_output=True, text=True, check=True).stdout.splitlines():
+        text = read(f"{root}/{line}")
+        for body in re.findall(r"^pub use ([^;]+);", text, re.M):
+            found.update(f"{line}: {alias or it[-1]}" for it, alias in leaves(body))
+        found.update(f"{line}: {it}" for it in re.findall(r"^ *pub (?:mod|fn|struct|enum|trait|const|type) (\w+)", text, re.M))
+    return found
 
 
 class Checks:
@@ -810,11 +860,19 @@ def main():
     given = words.parse_args()
     if not given.check:
         rooms = [it for it in ROOMS if (not given.only or it.name in given.only) and it.name not in given.without]
+        lines, names = kept_lines(given.root), public_names(given.root)
         moved, changed = Tree(given.root, rooms).apply()
         print(f"{moved} files have another place, {changed} are changed where they are")
         for script, *rest in (["crates-svg"], ["figures", "--write"], ["programs", "--write"], ["clauses", "--write"]):
             subprocess.run([f"{given.root}/.ci/{script}", *rest], check=False)
         subprocess.run(["git", "-C", given.root, "add", "-A"], check=True)
+        now = kept_lines(given.root)
+        print(f"{sum(lines.values())} lines of code, definitions and proofs before, {sum(now.values())} after")
+        for front, some in (("lost", lines - now), ("new", now - lines)):
+            for it, count in some.items():
+                print(f"{front}, {count} times: {it}")
+        for it in sorted(names ^ public_names(given.root)):
+            print(f"public before or after, and not both: {it}")
     return 0 if Checks(given.root).run() else 1
 
 
