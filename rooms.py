@@ -53,7 +53,7 @@ ROOMS = [
     Room("urlpattern_compile", ["urlpattern_create"]),
     Room("urlpattern_plain", ["urlpattern_compiled"]),
     # Joined.
-    Room("urlpattern_diagnosis", ["urlpattern_faults", Part("urlpattern_diagnosis", modules={"walk": "component_start"})],
+    Room("urlpattern_diagnosis", ["urlpattern_faults", Part("urlpattern_diagnosis", modules={"walk": "starts"})],
          row="where the pattern text of a component is at fault, where that is in the text that was passed in, and why, in words: `Diagnosis`",
          head=["Diagnoses of refused patterns: where a text is at fault, and why, in words for its author."]),
     Room("urlpattern_compare", ["urlpattern_covers", "urlpattern_rules"],
@@ -73,14 +73,19 @@ ROOMS = [
          head=["Texts and URLs made of a pattern and given groups: the inverse of what its parts mean.",
                "[`generate_component`] writes the text of one component, and [`url_of_texts`] makes the URL with eight given texts."]),
     Room("urlpattern_laws", ["urlpattern_laws", Part("urlpattern_custom", modules={"laws": "custom"}), Part("urlpattern_readings", modules={"laws": "parts"})],
-         row="the laws of whole patterns; those that tie what the parts of a pattern mean to what it matches; and those of custom regular expressions: what parts take and capture, custom ones among them, and in which order, and that engines and matchers return the first"),
+         row="the laws of whole patterns; those that tie what the parts of a pattern mean to what it matches; and those of custom regular expressions: what parts take and capture, custom ones among them, and in which order, and that engines and matchers return the first",
+         head=["The laws of whole patterns, those that tie what the parts of a pattern mean to what it matches, and those of custom regular expressions.",
+               "`urlpattern` passes on the modules."]),
     Room("urlpattern_ffi", [Part("urlpattern_linking", modules={"linking": "given_link"}, specs={"Links": "GivenLinks"}, hidden=["link", "Unlinked"]),
                             Part("urlpattern_calls", modules={"testing": "matching"})],
-         row="the calls of the C interface over references and slices: what each does and reports, and links of groups that are given as parts of one text"),
+         row="the calls of the C interface over references and slices: what each does and reports, and links of groups that are given as parts of one text",
+         head=["The calls that `urlpattern_c` offers to C, over references and slices.",
+               "Each passes on a call of `urlpattern`, and reports its outcome as a `Status`. Texts are bytes, which are checked to be UTF-8. The groups of a link are given as parts of one text."]),
     # The program.
     Room("urlpat_lines", ["urlpat_lines", "urlpat_filter", "urlpat_tables", "urlpat_words"],
          row="the arguments of the program, its lines and its tables: help, flags, the words after a command, and the query of `filter`; applies a rule to each line of a reader, and writes the results to a writer (`answer_lines`, `write_answers`), or the lines that match, or those that do not (`filter_lines`); and reads tables of patterns, a pattern a line, with a name after a tab",
-         head=["What the commands of the program read and write: their arguments, lines and tables of patterns."]),
+         head=["What the commands of the program read and write: their arguments, lines and tables of patterns.",
+               "One line at a time is in memory, and a line that is too long is not kept."]),
     Room("urlpat_explain", ["urlpat_explain", "urlpat_links"],
          row="the command `explain`: the components of a pattern in columns, with the texts of a URL, and notes on where they are and what the pattern leaves out; or all of that as JSON; and the command `link`: the URL that a pattern matches with given groups",
          head=["The commands `explain` and `link` of the program."]),
@@ -96,7 +101,7 @@ SPEC_HOMES = {"urlpattern_core": {"Generated": "urlpattern_printing", "NormalFor
 
 # What a page says otherwise once the names have changed: a page, and pairs of texts.
 PROSE = [
-    ("README.md", "`urlpattern_ffi` and `urlpattern_ffi`, with", "and `urlpattern_ffi`, with"),
+    ("README.md", "and the three of the C interface,\n`urlpattern_c`, `urlpattern_ffi` and `urlpattern_ffi`, with", "and the two of the C interface,\n`urlpattern_c` and `urlpattern_ffi`, with"),
     ("CONTRIBUTING.md", "it also goes into `stops.rt` there, and in `urlpattern_steps` into", "it also goes into `stops.rt` there, and into"),
     ("CONTRIBUTING.md", "`push_fixed` in `text.rt`", "`push_fixed` in `part_text.rt`"),
 ]
@@ -138,7 +143,7 @@ def filled(head, items, tail):
     indent = re.match(r" *", head).group() + "    "
     lines, last = [], indent
     for it in items:
-        if last != indent and len(last) + len(it) + 1 > WIDTH:
+        if last != indent and len(last) + len(it) + 1 >= WIDTH:
             lines.append(last.rstrip())
             last = indent
         last += f"{it}, "
