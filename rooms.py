@@ -1,7 +1,7 @@
 #!/usr/bin/env python3
 """Renames crates of this repository and joins some, by the table ROOMS.
 
-Usage: rooms.py [--root FOLDER] [--only ROOM ..] [--without ROOM ..] [--check]
+Usage: rooms.py [--root FOLDER] [--only ROOM ..] [--without ROOM ..] [--check | --model]
 
 Changes the tree in FOLDER (the folder of this script, if none is named). A room that is left out keeps its crates as
 they are. The sources of joined crates stand side by side in the new one, so that a path below the crate changes only
@@ -14,7 +14,8 @@ where MODULES of its row says so. What is rewritten:
 - what a crate only passes on (HOMES) is cited where it is.
 
 Then it checks the result, without proofs: files, modules, citations, edits and lists. With --check nothing is changed
-and only these checks run. The last line is `N passed, M failed`.
+and only these checks run. The last line is `N passed, M failed`. With --model it says how long proofs take before and after,
+by the minutes of MINUTES; nothing is changed.
 """
 import argparse
 import functools
@@ -99,11 +100,11 @@ HOMES = {
 # The same of definitions that `specs/Lib.antt` passes on.
 SPEC_HOMES = {"urlpattern_core": {"Generated": "urlpattern_printing", "NormalForms": "urlpattern_printing"}}
 
-# What a page says otherwise once the names have changed: a page, and pairs of texts.
+# What a page says otherwise once a room is made: the room, the page, what it has, and what it says.
 PROSE = [
-    ("README.md", "and the three of the C interface,\n`urlpattern_c`, `urlpattern_ffi` and `urlpattern_ffi`, with", "and the two of the C interface,\n`urlpattern_c` and `urlpattern_ffi`, with"),
-    ("CONTRIBUTING.md", "it also goes into `stops.rt` there, and in `urlpattern_steps` into", "it also goes into `stops.rt` there, and into"),
-    ("CONTRIBUTING.md", "`push_fixed` in `text.rt`", "`push_fixed` in `part_text.rt`"),
+    ("urlpattern_ffi", "README.md", "and the three of the C interface,\n`urlpattern_c`, `urlpattern_ffi` and `urlpattern_ffi`, with", "and the two of the C interface,\n`urlpattern_c` and `urlpattern_ffi`, with"),
+    ("urlpattern_steps", "CONTRIBUTING.md", "it also goes into `stops.rt` there, and in `urlpattern_steps` into", "it also goes into `stops.rt` there, and into"),
+    ("urlpattern_generate", "CONTRIBUTING.md", "`push_fixed` in `text.rt`", "`push_fixed` in `part_text.rt`"),
 ]
 
 # Names of crates that are also names of C: on these pages and in these folders a bare word is the latter.
@@ -593,10 +594,12 @@ class Tree:
                 if path == "CONTRIBUTING.md":
                     text = self.contributing(text)
                 text = self.words(self.paths(self.rattle(text), None, None), path)
-                for page, old, new in PROSE:
-                    if page == path and text.count(old) == 1:
+                for room, page, old, new in PROSE:
+                    if page != path or room not in {it.name for it in self.rooms}:
+                        continue
+                    if text.count(old) == 1:
                         text = text.replace(old, new)
-                    elif page == path:
+                    else:
                         print(f"{page} has this {text.count(old)} times: {old}")
                 put(to, text, path)
         for room in self.rooms:
@@ -668,6 +671,55 @@ def public_names(root):
             found.update(f"{line}: {alias or it[-1]}" for it, alias in leaves(body))
         found.update(f"{line}: {it}" for it in re.findall(r"^ *pub (?:mod|fn|struct|enum|trait|const|type) (\w+)", text, re.M))
     return found
+
+
+# Minutes of a first proof, on four lanes with the rest of the gate beside: from the making of out/ to the library, of one run.
+# A program's are those to its executable.
+MINUTES = {
+    "urlpat": 4.5, "urlpat_commands": 4.0, "urlpat_explain": 3.6, "urlpat_filter": 0.6, "urlpat_lines": 0.7, "urlpat_links": 1.7, "urlpat_matching": 3.1,
+    "urlpat_rules": 3.8, "urlpat_tables": 0.4, "urlpat_words": 0.9, "urlpattern": 5.2, "urlpattern_c": 1.3, "urlpattern_calls": 4.9,
+    "urlpattern_canonical": 2.2, "urlpattern_compiled": 6.0, "urlpattern_core": 3.0, "urlpattern_covers": 2.3, "urlpattern_create": 4.1,
+    "urlpattern_custom": 0.4, "urlpattern_diagnosis": 3.4, "urlpattern_eight": 0.8, "urlpattern_engine": 3.1, "urlpattern_faults": 1.7,
+    "urlpattern_generate": 2.3, "urlpattern_index": 2.5, "urlpattern_init": 2.5, "urlpattern_inputs": 3.9, "urlpattern_laws": 1.8,
+    "urlpattern_linking": 2.1, "urlpattern_links": 0.8, "urlpattern_matches": 4.5, "urlpattern_meaning": 0.6, "urlpattern_parser": 3.8,
+    "urlpattern_pattern": 4.7, "urlpattern_printing": 1.7, "urlpattern_quirks": 2.9, "urlpattern_readings": 1.3, "urlpattern_regex": 0.3,
+    "urlpattern_rules": 1.6, "urlpattern_split": 1.7, "urlpattern_steps": 0.8, "urlpattern_syntax": 2.0, "urlpattern_url": 1.2, "urlpattern_walk": 4.8,
+    "example": 6.1,
+}
+# What each check takes before it proves anything: a room of two crates takes it once.
+BEGINNING = 0.25
+
+
+def model(root, rooms, lanes=4):
+    """Prints how long the proofs take on so many lanes, and the longest chains, of the crates of today as these rooms."""
+    rows = rows_of(read(f"{root}/crates.txt"))
+    to = {part.crate: room.name for room in rooms for part in room.parts}
+    below, minutes = {}, {}
+    for crate, (_, named) in rows.items():
+        name = to.get(crate, crate)
+        below.setdefault(name, set()).update(to.get(it, it) for it in named if it in rows)
+        below[name].discard(name)
+        minutes[name] = minutes.get(name, BEGINNING) + MINUTES[crate] - BEGINNING
+    above = {it: [other for other in below if it in below[other]] for it in below}
+    left = functools.cache(lambda it: minutes[it] + max(map(left, above[it]), default=0))
+    depth = functools.cache(lambda it: 1 + max(map(depth, above[it]), default=0))
+    waits, running, now = {it: len(below[it]) for it in below}, [], 0.0
+    ready = [it for it in below if not waits[it]]
+    while ready or running:
+        ready.sort(key=lambda it: -left(it))
+        while ready and len(running) < lanes:
+            it = ready.pop(0)
+            running.append((now + minutes[it], it))
+        running.sort()
+        now, it = running.pop(0)
+        for other in above[it]:
+            waits[other] -= 1
+            ready += [other] * (not waits[other])
+    path = [max(below, key=left)]
+    while above[path[-1]]:
+        path.append(max(above[path[-1]], key=left))
+    print(f"{len(below)} crates, {sum(map(len, below.values()))} edges, {max(map(depth, below))} on each other; {sum(minutes.values()):.0f} minutes, {left(path[0]):.1f} on the longest path, {now:.1f} on {lanes} lanes")
+    print(f"  {' > '.join(path)}")
 
 
 class Checks:
@@ -862,9 +914,18 @@ def main():
     words.add_argument("--only", nargs="*", default=[])
     words.add_argument("--without", nargs="*", default=[])
     words.add_argument("--check", action="store_true")
+    words.add_argument("--model", action="store_true")
     given = words.parse_args()
+    if given.model:
+        model(given.root, [])
+        model(given.root, [it for it in ROOMS if (not given.only or it.name in given.only) and it.name not in given.without])
+        return 0
     if not given.check:
         rooms = [it for it in ROOMS if (not given.only or it.name in given.only) and it.name not in given.without]
+        there = {**rows_of(read(f"{given.root}/crates.txt")), **rows_of(read(f"{given.root}/tests.txt"))}
+        for room in [it for it in rooms if any(part.crate not in there for part in it.parts)]:
+            print(f"{room.name} is passed over: not all of its crates are there")
+            rooms.remove(room)
         lines, names = kept_lines(given.root), public_names(given.root)
         moved, changed = Tree(given.root, rooms).apply()
         print(f"{moved} files have another place, {changed} are changed where they are")
