@@ -68,7 +68,7 @@ ROOMS = [
                "An expression is read as steps: texts and their copies, groups that capture a run of characters or such runs with a text between each two, and groups that may be missing. The steps match a text whole or not at all, and capture what the first way captures."]),
     Room("urlpattern_engine", ["urlpattern_engine", Part("urlpattern_regex", modules={"laws": "regex_laws"})],
          row="`PatternRegexp`, an engine that matches expressions of parts without custom ones by steps, others that begin with `^` by an automaton of the toolchain, and the rest by `regex::Regex`; `EcmaRegexp`, a browser's; and the laws of `regex::Regex` as an engine"),
-    Room("urlpattern_generate", [Part("urlpattern_links", modules={"text": "part_text"}), "urlpattern_generate",
+    Room("urlpattern_generate", [Part("urlpattern_links", modules={"text": "part_text"}, hidden=["is_bare", "push_fixed", "push_group"]), "urlpattern_generate",
                                  Part("urlpattern_url", modules={"error": "no_link", "line": "url_line", "texts": "linked_url"})],
          row="the text of the parts of a component with given groups, the inverse of what parts mean: it makes values canonical, unless their characters show that they are, and has the matcher confirm the text, unless that needs no engine; and the URL with eight given texts, which `url` reads and whose texts are compared",
          head=["Texts and URLs made of a pattern and given groups: the inverse of what its parts mean.",
