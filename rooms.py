@@ -1,7 +1,7 @@
 #!/usr/bin/env python3
 """Renames crates of this repository and joins some, by the table ROOMS.
 
-Usage: rooms.py [--root FOLDER] [--only ROOM ..] [--without ROOM ..] [--check | --model]
+Usage: rooms.py [--root FOLDER] [--only ROOM ..] [--without ROOM ..] [--join ROOM ..] [--check | --model]
 
 Changes the tree in FOLDER (the folder of this script, if none is named). A room that is left out keeps its crates as
 they are. The sources of joined crates stand side by side in the new one, so that a path below the crate changes only
@@ -77,11 +77,8 @@ ROOMS = [
          row="the laws of whole patterns; those that tie what the parts of a pattern mean to what it matches; and those of custom regular expressions: what parts take and capture, custom ones among them, and in which order, and that engines and matchers return the first",
          head=["The laws of whole patterns, those that tie what the parts of a pattern mean to what it matches, and those of custom regular expressions.",
                "`urlpattern` passes on the modules."]),
-    Room("urlpattern_ffi", [Part("urlpattern_linking", modules={"linking": "given_link"}, specs={"Links": "GivenLinks"}, hidden=["link", "Unlinked"]),
-                            Part("urlpattern_calls", modules={"testing": "matching"})],
-         row="the calls of the C interface over references and slices: what each does and reports, and links of groups that are given as parts of one text",
-         head=["The calls that `urlpattern_c` offers to C, over references and slices.",
-               "Each passes on a call of `urlpattern`, and reports its outcome as a `Status`. Texts are bytes, which are checked to be UTF-8. The groups of a link are given as parts of one text."]),
+    Room("urlpattern_ffi_links", ["urlpattern_linking"]),
+    Room("urlpattern_ffi", [Part("urlpattern_calls", modules={"testing": "matching"})]),
     # The program.
     Room("urlpat_lines", ["urlpat_lines", "urlpat_filter", "urlpat_tables", "urlpat_words"],
          row="the arguments of the program, its lines and its tables: help, flags, the words after a command, and the query of `filter`; applies a rule to each line of a reader, and writes the results to a writer (`answer_lines`, `write_answers`), or the lines that match, or those that do not (`filter_lines`); and reads tables of patterns, a pattern a line, with a name after a tab",
@@ -92,6 +89,17 @@ ROOMS = [
          head=["The commands `explain` and `link` of the program."]),
 ]
 
+# Rows that stand for others if they are asked for (--join). The two of C as one: the bindings, which the gate builds once the calls
+# are proved, wait one or two minutes more, and they end last.
+JOINED = {
+    "urlpattern_ffi": (["urlpattern_ffi_links"], Room(
+        "urlpattern_ffi", [Part("urlpattern_linking", modules={"linking": "given_link"}, specs={"Links": "GivenLinks"}, hidden=["link", "Unlinked"]),
+                           Part("urlpattern_calls", modules={"testing": "matching"})],
+        row="the calls of the C interface over references and slices: what each does and reports, and links of groups that are given as parts of one text",
+        head=["The calls that `urlpattern_c` offers to C, over references and slices.",
+              "Each passes on a call of `urlpattern`, and reports its outcome as a `Status`. Texts are bytes, which are checked to be UTF-8. The groups of a link are given as parts of one text."])),
+}
+
 # Items and modules that a crate's root passes on from a crate below: each is cited there, and the line that passes it on goes.
 HOMES = {
     "urlpattern_core": {"parser": "urlpattern_parser", "tokenizer": "urlpattern_parser", "Error": "urlpattern_syntax", "RegexSyntax": "urlpattern_syntax", "error": "urlpattern_syntax"},
@@ -100,9 +108,9 @@ HOMES = {
 # The same of definitions that `specs/Lib.antt` passes on.
 SPEC_HOMES = {"urlpattern_core": {"Generated": "urlpattern_printing", "NormalForms": "urlpattern_printing"}}
 
-# What a page says otherwise once a room is made: the room, the page, what it has, and what it says.
+# What a page says otherwise once a room is made: the room or its name, the page, what it has, and what it says.
 PROSE = [
-    ("urlpattern_ffi", "README.md", "and the three of the C interface,\n`urlpattern_c`, `urlpattern_ffi` and `urlpattern_ffi`, with", "and the two of the C interface,\n`urlpattern_c` and `urlpattern_ffi`, with"),
+    (JOINED["urlpattern_ffi"][1], "README.md", "and the three of the C interface,\n`urlpattern_c`, `urlpattern_ffi` and `urlpattern_ffi`, with", "and the two of the C interface,\n`urlpattern_c` and `urlpattern_ffi`, with"),
     ("urlpattern_steps", "CONTRIBUTING.md", "it also goes into `stops.rt` there, and in `urlpattern_steps` into", "it also goes into `stops.rt` there, and into"),
     ("urlpattern_generate", "CONTRIBUTING.md", "`push_fixed` in `text.rt`", "`push_fixed` in `part_text.rt`"),
 ]
@@ -595,7 +603,7 @@ class Tree:
                     text = self.contributing(text)
                 text = self.words(self.paths(self.rattle(text), None, None), path)
                 for room, page, old, new in PROSE:
-                    if page != path or room not in {it.name for it in self.rooms}:
+                    if page != path or room not in self.rooms and room not in [it.name for it in self.rooms]:
                         continue
                     if text.count(old) == 1:
                         text = text.replace(old, new)
@@ -674,7 +682,7 @@ def public_names(root):
 
 
 # Minutes of a first proof, on four lanes with the rest of the gate beside: from the making of out/ to the library, of one run.
-# A program's are those to its executable.
+# A program's are those to its executable, and the bindings are built and run beside, once the calls are proved.
 MINUTES = {
     "urlpat": 4.5, "urlpat_commands": 4.0, "urlpat_explain": 3.6, "urlpat_filter": 0.6, "urlpat_lines": 0.7, "urlpat_links": 1.7, "urlpat_matching": 3.1,
     "urlpat_rules": 3.8, "urlpat_tables": 0.4, "urlpat_words": 0.9, "urlpattern": 5.2, "urlpattern_c": 1.3, "urlpattern_calls": 4.9,
@@ -684,7 +692,7 @@ MINUTES = {
     "urlpattern_linking": 2.1, "urlpattern_links": 0.8, "urlpattern_matches": 4.5, "urlpattern_meaning": 0.6, "urlpattern_parser": 3.8,
     "urlpattern_pattern": 4.7, "urlpattern_printing": 1.7, "urlpattern_quirks": 2.9, "urlpattern_readings": 1.3, "urlpattern_regex": 0.3,
     "urlpattern_rules": 1.6, "urlpattern_split": 1.7, "urlpattern_steps": 0.8, "urlpattern_syntax": 2.0, "urlpattern_url": 1.2, "urlpattern_walk": 4.8,
-    "example": 6.1,
+    "example": 6.1, "bindings": 5.4,
 }
 # What each check takes before it proves anything: a room of two crates takes it once.
 BEGINNING = 0.25
@@ -693,6 +701,7 @@ BEGINNING = 0.25
 def model(root, rooms, lanes=4):
     """Prints how long the proofs take on so many lanes, and the longest chains, of the crates of today as these rooms."""
     rows = rows_of(read(f"{root}/crates.txt"))
+    rows["bindings"] = ([], [it for it in rows if it in ("urlpattern_calls", "urlpattern_ffi")])
     to = {part.crate: room.name for room in rooms for part in room.parts}
     below, minutes = {}, {}
     for crate, (_, named) in rows.items():
@@ -718,7 +727,7 @@ def model(root, rooms, lanes=4):
     path = [max(below, key=left)]
     while above[path[-1]]:
         path.append(max(above[path[-1]], key=left))
-    print(f"{len(below)} crates, {sum(map(len, below.values()))} edges, {max(map(depth, below))} on each other; {sum(minutes.values()):.0f} minutes, {left(path[0]):.1f} on the longest path, {now:.1f} on {lanes} lanes")
+    print(f"{len(below) - 1} crates, {sum(map(len, below.values())) - 1} edges, {max(depth(it) for it in below)} on each other; {sum(minutes.values()):.0f} minutes, {left(path[0]):.1f} on the longest path, {now:.1f} on {lanes} lanes")
     print(f"  {' > '.join(path)}")
 
 
@@ -913,15 +922,18 @@ def main():
     words.add_argument("--root", default=os.path.dirname(os.path.abspath(__file__)))
     words.add_argument("--only", nargs="*", default=[])
     words.add_argument("--without", nargs="*", default=[])
+    words.add_argument("--join", nargs="*", default=[])
     words.add_argument("--check", action="store_true")
     words.add_argument("--model", action="store_true")
     given = words.parse_args()
+    others = {it for name in given.join for it in JOINED[name][0]}
+    rows = [JOINED[it.name][1] if it.name in given.join else it for it in ROOMS if it.name not in others]
+    rooms = [it for it in rows if (not given.only or it.name in given.only) and it.name not in given.without]
     if given.model:
         model(given.root, [])
-        model(given.root, [it for it in ROOMS if (not given.only or it.name in given.only) and it.name not in given.without])
+        model(given.root, rooms)
         return 0
     if not given.check:
-        rooms = [it for it in ROOMS if (not given.only or it.name in given.only) and it.name not in given.without]
         there = {**rows_of(read(f"{given.root}/crates.txt")), **rows_of(read(f"{given.root}/tests.txt"))}
         for room in [it for it in rooms if any(part.crate not in there for part in it.parts)]:
             print(f"{room.name} is passed over: not all of its crates are there")
