@@ -3,7 +3,7 @@
 
 Usage: rooms.py [--root FOLDER] [--only ROOM ..] [--without ROOM ..] [--join ROOM ..] [--check | --model]
 
-Changes the tree in FOLDER (the folder of this script, if none is named). A room that is left out keeps its crates as
+Changes the tree in FOLDER (the folder of this script, if none is named), where nothing is to be committed. A room that is left out keeps its crates as
 they are. The sources of joined crates stand side by side in the new one, so that a path below the crate changes only
 where MODULES of its row says so. What is rewritten:
 
@@ -21,6 +21,7 @@ import argparse
 import functools
 import os
 import re
+import shutil
 import subprocess
 import sys
 import textwrap
@@ -640,8 +641,11 @@ class Tree:
                 it.write(kept[path][0] if text is None else text.encode())
             if old:
                 os.chmod(place, kept[path][1])
+        names = {room.name for room in self.rooms}
         for room in self.rooms:
             for part in room.parts:
+                if part.crate not in names:
+                    shutil.rmtree(f"{self.root}/crates/{part.crate}/out", ignore_errors=True)
                 for folder, _, _ in sorted(os.walk(f"{self.root}/crates/{part.crate}"), key=lambda it: -len(it[0])):
                     if not os.listdir(folder):
                         os.rmdir(folder)
