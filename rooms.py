@@ -109,6 +109,17 @@ HOMES = {
 # The same of definitions that `specs/Lib.antt` passes on.
 SPEC_HOMES = {"urlpattern_core": {"Generated": "urlpattern_printing", "NormalForms": "urlpattern_printing"}}
 
+# Functions that go into a new module of their crate: from which module, to which, the head of its file, what the old file's head says
+# then, and the modules (of any crate) that pass them on: these no longer do.
+MOVES = [
+    {
+        "crate": "urlpattern_syntax", "from": "tokenizer", "to": "text", "names": ["before", "split_first"],
+        "head": "//! Texts that are cut in two.\nghost use Rattle.std.specs.Prelude.{◌≡◌, ◌<◌, List, ℕ, ◌∷◌, ◌++◌, [], length, IfNone, IfSome};\nghost use Rattle.std.specs.Str.{chars};\n",
+        "left": [("ghost use Rattle.std.specs.Prelude.{◌≡◌, ◌<◌, List, ℕ, ◌∷◌, ◌++◌, [], length, IfNone, IfSome};\nghost use Rattle.std.specs.Str.{chars};\n", "ghost use Rattle.std.specs.Prelude.{◌≡◌};\n")],
+        "passed_on": [("urlpattern_parser", "tokenizer"), ("urlpattern_steps", "texts")],
+    },
+]
+
 # What a page says otherwise once a room is made: the room or its name, the page, what it has, and what it says.
 PROSE = [
     (JOINED["urlpattern_ffi"][1], "README.md", "and the three of the C interface,\n`urlpattern_c`, `urlpattern_ffi` and `urlpattern_ffi`, with", "and the two of the C interface,\n`urlpattern_c` and `urlpattern_ffi`, with"),
@@ -181,7 +192,7 @@ def leaves(text, prefix=()):
 class Tree:
     """The repository, and where the table puts what."""
 
-    def __init__(self, root, rooms):
+    def __init__(self, root, rooms, only=False):
         self.root, self.rooms = root, rooms
         self.part, self.room = {}, {}
         for room in rooms:
@@ -192,6 +203,8 @@ class Tree:
         self.exports = {crate: self.exports_of(crate) for crate in self.project}
         self.homes = {crate: HOMES[crate] for crate in HOMES if crate in self.part}
         self.spec_homes = {crate: SPEC_HOMES[crate] for crate in SPEC_HOMES if crate in self.part}
+        self.moves = [it for it in MOVES if it["crate"] in self.project and not os.path.exists(self.module_file(it["crate"], it["to"])) and not only]
+        self.moved = {(crate, module, name): it for it in self.moves for name in it["names"] for crate, module in [(it["crate"], it["from"]), *it["passed_on"]]}
         names = sorted(self.project, key=len, reverse=True)
         self.any = "|".join(names)
         self.cited = defaultdict(set)
@@ -225,6 +238,8 @@ class Tree:
     def rust(self, crate, path):
         """Where a path below a crate is: the new crate, and the path below it."""
         path = tuple(path)
+        if move := self.moved.get((crate, *path[:2])):
+            return self.name(move["crate"]), (move["to"], *path[1:])
         if path and path[0] in self.homes.get(crate, {}):
             return self.rust(self.homes[crate][path[0]], path)
         if path and crate in self.part:
@@ -242,6 +257,10 @@ class Tree:
     def antt(self, crate, path):
         """Where a module of definitions or proofs is: the new crate, and the path below it, which begins with specs or proofs."""
         part, path = self.part.get(crate), list(path)
+        at = 2 if path[:2] == ["specs", "contracts"] else 1
+        for move in self.moves:
+            if crate == move["crate"] and path[0] == ("specs" if at == 2 else "proofs") and path[at : at + 1] == [move["from"]] and path[at + 1 : at + 2] and path[at + 1] in move["names"]:
+                path[at] = move["to"]
         if part is None or len(path) < 2:
             return self.name(crate), path
         side, first = path[0], path[1]
@@ -268,6 +287,9 @@ class Tree:
 
     def file(self, path):
         """Where a file is, by its path below the repository."""
+        for move in self.moves:
+            for name in move["names"]:
+                path = re.sub(rf"^crates/{move['crate']}/proofs/{move['from']}/{name}/", f"crates/{move['crate']}/proofs/{move['to']}/{name}/", path)
         pieces = path.split("/")
         if len(pieces) < 2 or pieces[0] != "crates" or pieces[1] not in self.part:
             return path
@@ -375,7 +397,7 @@ class Tree:
 
         def changed(match):
             indent, front, body = match.groups()
-            groups, is_changed = {}, False
+            groups, is_changed, own = {}, False, []
             for segments, alias in leaves(body):
                 where = resolved(segments)
                 if is_root and where is None:
@@ -395,6 +417,13 @@ class Tree:
                     groups.setdefault(tuple(segments[:-1]), []).append((segments[-1], alias))
                     continue
                 of, path = where
+                if move := self.moved.get((of, *path[:2])):
+                    if front and (crate, *module) in [(it, inner) for it, inner in move["passed_on"]]:
+                        is_changed = True
+                        if re.search(rf"(?<![\w:.]){path[1]}\(", re.sub(r"//.*", "", text)):
+                            to, found = self.rust(of, path)
+                            own.append(f"{indent}use {'::'.join([to, *found])};\n")
+                        continue
                 is_own = of == crate
                 to, found = self.rust(of, path)
                 if new:
@@ -417,7 +446,7 @@ class Tree:
                 names = sorted((f"{name} as {alias}" if alias else name for name, alias in names), key=lambda it: (it != "self", it))
                 start = f"{indent}{front}use {'::'.join(path)}{'::' if path else ''}"
                 lines.append(f"{start}{names[0]};" if len(names) == 1 and names[0] != "self" else f"{indent}{front}use {'::'.join(path)};" if names == ["self"] else filled(start, names, ";"))
-            return "".join(f"{it}\n" for it in lines)
+            return "".join(f"{it}\n" for it in lines) + "".join(own)
 
         def block(match):
             found = item.sub(changed, match[0])
@@ -458,10 +487,29 @@ class Tree:
     def source(self, text, crate, module, is_root=False):
         """A source as it is now."""
         new = self.name(crate) if crate else None
+        for move in self.moves:
+            if (crate, *module) == (move["crate"], move["from"]):
+                text = self.cut(text, move)[0]
+            elif crate == move["crate"] and is_root:
+                mods = sorted([*re.findall(r"^(?:pub )?mod \w+;\n", text, re.M), f"pub mod {move['to']};\n"], key=lambda it: it.split()[-1])
+                text = re.sub(r"(?:^(?:pub )?mod \w+;\n)+", "".join(mods), text, count=1, flags=re.M)
         text = self.rattle(text, new)
         text = self.uses(text, crate, module, new, is_root)
         lines = re.split(r"(^ *(?:pub(?:\([^)]*\))? )?use [^;]+;\n)", text, flags=re.M)
         return "".join(it if at % 2 else self.words(self.paths(it, crate, new), f"crates/{crate}/") for at, it in enumerate(lines))
+
+    def cut(self, text, move):
+        """The source without the functions that go, and the file that they go to."""
+        functions = []
+        for name in move["names"]:
+            found = re.search(rf"^(?:///.*\n|#\[.*\n)*pub fn {name}\b(?:.*\n)*?\}}\n\n?", text, re.M)
+            functions.append(found[0].rstrip("\n") + "\n")
+            text = text.replace(found[0], "", 1)
+        for old, new in move["left"]:
+            if text.count(old) != 1:
+                raise SystemExit(f"{move['crate']}, {move['from']}: this stands there {text.count(old)} times: {old}")
+            text = text.replace(old, new)
+        return text, move["head"] + "\n" + "\n".join(functions)
 
     def edit(self, text, crate):
         part, lines = self.part.get(crate), []
@@ -611,6 +659,9 @@ class Tree:
                     else:
                         print(f"{page} has this {text.count(old)} times: {old}")
                 put(to, text, path)
+        for move in self.moves:
+            text = self.cut(read(self.module_file(move["crate"], move["from"])), move)[1]
+            put(f"crates/{self.name(move['crate'])}/src/{move['to']}.rt", self.source(text, move["crate"], (move["to"],)), None)
         for room in self.rooms:
             put(f"crates/{room.name}/src/lib.rt", self.root_text(room), None)
             for side in ("specs", "proofs"):
@@ -943,7 +994,7 @@ def main():
             print(f"{room.name} is passed over: not all of its crates are there")
             rooms.remove(room)
         lines, names = kept_lines(given.root), public_names(given.root)
-        moved, changed = Tree(given.root, rooms).apply()
+        moved, changed = Tree(given.root, rooms, bool(given.only)).apply()
         print(f"{moved} files have another place, {changed} are changed where they are")
         for script, *rest in (["crates-svg"], ["figures", "--write"], ["programs", "--write"], ["clauses", "--write"]):
             subprocess.run([f"{given.root}/.ci/{script}", *rest], check=False)
