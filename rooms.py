@@ -697,9 +697,9 @@ class Tree:
             for part in room.parts:
                 if part.crate not in names:
                     shutil.rmtree(f"{self.root}/crates/{part.crate}/out", ignore_errors=True)
-                for folder, _, _ in sorted(os.walk(f"{self.root}/crates/{part.crate}"), key=lambda it: -len(it[0])):
-                    if not os.listdir(folder):
-                        os.rmdir(folder)
+        for folder, _, _ in sorted(os.walk(f"{self.root}/crates"), key=lambda it: -len(it[0])):
+            if "/out" not in folder and not os.listdir(folder):
+                os.rmdir(folder)
         subprocess.run(["git", "-C", self.root, "add", "-A"], check=True)
         return len([1 for path, (text, old) in made.items() if path != old]), len([1 for path, (text, old) in made.items() if path == old and text is not None and text.encode() != kept[path][0]])
 
