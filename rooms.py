@@ -122,6 +122,7 @@ MOVES = [
 
 # What a page says otherwise once a room is made: the room or its name, the page, what it has, and what it says.
 PROSE = [
+    (None, "docs/DIFFERENCES.md", "`tokenizer::is_name_part`, `tokenizer::before` and `tokenizer::split_first` are public.", "`tokenizer::is_name_part`, and in the crate `urlpattern_syntax` `text::before` and `text::split_first`, are public."),
     (JOINED["urlpattern_ffi"][1], "README.md", "and the three of the C interface,\n`urlpattern_c`, `urlpattern_ffi` and `urlpattern_ffi`, with", "and the two of the C interface,\n`urlpattern_c` and `urlpattern_ffi`, with"),
     ("urlpattern_steps", "CONTRIBUTING.md", "it also goes into `stops.rt` there, and in `urlpattern_steps` into", "it also goes into `stops.rt` there, and into"),
     ("urlpattern_generate", "CONTRIBUTING.md", "`push_fixed` in `text.rt`", "`push_fixed` in `part_text.rt`"),
@@ -652,7 +653,7 @@ class Tree:
                     text = self.contributing(text)
                 text = self.words(self.paths(self.rattle(text), None, None), path)
                 for room, page, old, new in PROSE:
-                    if page != path or room not in self.rooms and room not in [it.name for it in self.rooms]:
+                    if page != path or (room not in self.rooms and room not in [it.name for it in self.rooms] if room else not self.moves):
                         continue
                     if text.count(old) == 1:
                         text = text.replace(old, new)
