@@ -160,7 +160,7 @@ def rows_of(text):
 def filled(head, items, tail):
     """A `use` item with braces, broken as rustfmt breaks it."""
     line = f"{head}{{{', '.join(items)}}}{tail}"
-    if len(line) <= WIDTH:
+    if len(line) < WIDTH:
         return line
     indent = re.match(r" *", head).group() + "    "
     lines, last = [], indent
@@ -476,7 +476,7 @@ class Tree:
             lines.append(f"{start}{names[0]};" if len(names) == 1 and names[0] != "self" else f"{indent}{front}use {'::'.join(path)};" if names == ["self"] else filled(start, names, ";"))
 
         def key(line):
-            path = re.sub(r"\s+", " ", line.strip().removeprefix("pub ").removeprefix("pub(crate) ").removeprefix("use ")).rstrip(";")
+            path = re.sub(r"\s+", " ", line.strip().removeprefix("pub ").removeprefix("pub(crate) ").removeprefix("use ")).rstrip(";").split(" as ")[0]
             first = {"self": 0, "super": 1, "crate": 2}.get(path.split("::")[0].split(" ")[0], 3)
             return first, path.split("::")
 
