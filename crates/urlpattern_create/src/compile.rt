@@ -6,7 +6,7 @@ ghost use Rattle.urlpattern_canonical.specs.Canonical.{IsAnswer};
 ghost use Rattle.urlpattern_core.specs.Components.{component_view, pattern_text};
 ghost use Rattle.urlpattern_core.specs.Matchers.{matcher_view};
 ghost use Rattle.urlpattern_meaning.specs.FirstAnswers.{TookText};
-ghost use Rattle.urlpattern_init.specs.Inheritance.{values_view};
+ghost use Rattle.urlpattern_init.specs.{Inheritance.values_view, SpecialProtocol.IsKnownProtocol};
 ghost use Rattle.urlpattern_create.specs.Compiled.{FirstRefused, HasEngine, IsComponentRefused, IsPathKind, RefusesInit, RefusesValues, after_protocol, canonical_in_hostname, has_default_port, is_ipv6_pattern, is_mark, is_same, pattern_of, pattern_values, without_default_port};
 ghost use Rattle.urlpattern_create.specs.CompilerSteps.{IsCompiledWith, IsRefusedWith, compiled_values, manner_by};
 ghost use Rattle.urlpattern_create.specs.Kept.{AreCompiledKeeping, EachIsKept, IsKept, IsKeptOfInit};
@@ -21,7 +21,7 @@ use urlpattern_canonical::canonicalize_and_process::{
     Canonicalizer, ProcessType, begins_with_slash, canonicalize_ipv6_hostname, is_special_scheme,
     special_scheme_default_port, without_first,
 };
-use urlpattern_core::Error;
+use urlpattern_core::{Error, RegexSyntax};
 use urlpattern_core::component::{Component, ComponentWithParts};
 use urlpattern_core::matcher::{InnerMatcher, Matcher};
 use urlpattern_core::parser::Options;
@@ -36,19 +36,23 @@ use urlpattern_inputs::UrlPatternOptions;
 /// the hostname and the pathname, and then the others as they stand in a URL. A component is refused for its text, by
 /// `url` for a fixed text in it, or by the engine for its regular expression.
 ///
+/// A protocol that is known, as a constructor string's is, is not compiled again where its text and its options are the same.
+///
 /// <https://urlpattern.spec.whatwg.org/#url-pattern-create>
 pub fn compile_init<R: RegExp>(
     alloc: Global,
     init: UrlPatternInit,
+    known: Option<(&str, ComponentWithParts<R>)>,
     options: UrlPatternOptions,
 ) -> Result<Eight<ComponentWithParts<R>>, Error>
+    requires { IfSome known (IsKnownProtocol R.RegExp) }
     ensures compiled { IfOk result (IsKeptOfInit R.RegExp init options) }
     ensures refused { IfErr result (MemoryOr (RefusesInit R.RegExp init options)) }
 {
     let values = pattern_values(alloc, &init);
     drop(init);
     let values = values?;
-    let components = compile_values(alloc, &values, &options);
+    let components = compile_values(alloc, &values, known, &options);
     drop(values);
     components
 }
@@ -59,8 +63,10 @@ pub fn compile_init<R: RegExp>(
 fn compile_values<R: RegExp>(
     alloc: Global,
     values: &UrlPatternInit,
+    known: Option<(&str, ComponentWithParts<R>)>,
     options: &UrlPatternOptions,
 ) -> Result<Eight<ComponentWithParts<R>>, Error>
+    requires { IfSome known (IsKnownProtocol R.RegExp) }
     ensures compiled { IfOk result (AreCompiledKeeping R.RegExp options.now (values_view values.now)) }
     ensures refused { IfErr result (MemoryOr (RefusesValues R.RegExp options.now (values_view values.now))) }
 {
@@ -71,7 +77,7 @@ fn compile_values<R: RegExp>(
         values,
         options,
     };
-    compiler.components()
+    compiler.components(known)
 }
 
 /// The values of an init as a pattern, where a default port is emptied.
@@ -207,13 +213,41 @@ impl Compiler<'_> {
     /// The components: the protocol is compiled first, since it decides whether the pathname is hierarchical.
     ///
     /// The error is that of the first component that is refused, or that memory ran out.
-    pub(crate) fn components<R: RegExp>(&self) -> Result<Eight<ComponentWithParts<R>>, Error>
+    pub(crate) fn components<R: RegExp>(
+        &self,
+        known: Option<(&str, ComponentWithParts<R>)>,
+    ) -> Result<Eight<ComponentWithParts<R>>, Error>
+        requires { IfSome known (IsKnownProtocol R.RegExp) }
         ensures compiled { IfOk result (AreCompiledKeeping R.RegExp self.now.options.now (compiled_values self.now)) }
         ensures refused { IfErr result (MemoryOr (RefusesValues R.RegExp self.now.options.now (compiled_values self.now))) }
     {
-        let protocol = self.component(ComponentName::Protocol, false)?;
+        let protocol = self.protocol(known)?;
         let hierarchical = self.is_hierarchical(&protocol.component)?;
         self.after_protocol(protocol, hierarchical)
+    }
+
+    /// The component of the protocol: what is known, if it is of this text under these options, or else what is compiled.
+    ///
+    /// The error is that its text or its regular expression is refused, or that memory ran out.
+    fn protocol<R: RegExp>(
+        &self,
+        known: Option<(&str, ComponentWithParts<R>)>,
+    ) -> Result<ComponentWithParts<R>, Error>
+        requires { IfSome known (IsKnownProtocol R.RegExp) }
+        ensures compiled { IfOk result (IsKept R.RegExp (manner_by self.now false ComponentName.Protocol)) }
+        ensures refused { IfErr result (MemoryOr (IsComponentRefused R.RegExp (manner_by self.now false ComponentName.Protocol))) }
+    {
+        if let Some((text, made)) = known
+            && self.options.regex_syntax == RegexSyntax::Rust
+            && let Some(own) = &self.values.protocol
+            && own.as_str() == text
+        {
+            let made = Ok(made);
+            if !lacks_engine(&made) {
+                return made;
+            }
+        }
+        self.component(ComponentName::Protocol, false)
     }
 
     /// The components with this protocol.

@@ -170,7 +170,7 @@ fn values_diagnosis<R: RegExp>(
         values,
         options,
     };
-    match compiler.components::<R>() {
+    match compiler.components::<R>(None) {
         Ok(made) => {
             drop(made);
             Ok(None)

@@ -1,13 +1,15 @@
 //! The inits of constructor strings.
 
-ghost use Rattle.std.specs.Prelude.{option_copied, IfErr, IfOk};
+ghost use Rattle.std.specs.Prelude.{option_copied, IfErr, IfOk, IfSome};
 ghost use Rattle.std.specs.Str.{chars};
 ghost use Rattle.urlpattern_create.specs.FromString.{IsInitOfText, RefusesText};
+ghost use Rattle.urlpattern_init.specs.SpecialProtocol.{IsKnownProtocol};
 ghost use Rattle.urlpattern_syntax.specs.Errors.{MemoryOr};
 
 use std::alloc::Global;
 use urlpattern_canonical::parse_base;
 use urlpattern_core::Error;
+use urlpattern_core::component::ComponentWithParts;
 use urlpattern_core::regexp::RegExp;
 use urlpattern_init::UrlPatternInit;
 
@@ -24,4 +26,21 @@ pub fn init_of_text<R: RegExp>(
 {
     let base_url = parse_base(alloc, base_url)?;
     UrlPatternInit::parse_constructor_string::<R>(alloc, text, base_url)
+}
+
+/// The same; where `keeps`, with the text of the protocol and what that was compiled to under the default options.
+pub fn init_of_text_keeping<'a, R: RegExp>(
+    alloc: Global,
+    text: &'a str,
+    base_url: Option<&str>,
+    keeps: bool,
+) -> Result<(UrlPatternInit, Option<(&'a str, ComponentWithParts<R>)>), Error>
+    ensures constructed { IfOk result (λ found. IsInitOfText R.RegExp (chars text.now) (option_copied base_url.entry) found.0) }
+    ensures known { IfOk result (λ found. IfSome found.1 (IsKnownProtocol R.RegExp)) }
+    ensures refused { IfErr result (MemoryOr (RefusesText (chars text.now) (option_copied base_url.entry))) }
+{
+    let base_url = parse_base(alloc, base_url)?;
+    let (init, _, known) =
+        UrlPatternInit::parse_constructor_string_keeping::<R>(alloc, text, base_url, keeps)?;
+    Ok((init, known))
 }

@@ -10,4 +10,4 @@ mod refusal;
 
 pub use compile::{Compiler, compile_init, pattern_of, pattern_values};
 pub use diagnose::{diagnose_init, diagnose_text};
-pub use from_string::init_of_text;
+pub use from_string::{init_of_text, init_of_text_keeping};

@@ -4,7 +4,8 @@ use Rattle.std.specs.Prelude.{◌≡◌, ℕ, ◌↔◌, Bool, false, List, Any,
 use Rattle.std.specs.{Borrow.Bor, Str.chars}
 use Rattle.std.specs.declared.alloc.Global.{Global}
 use Rattle.urlpattern_canonical.specs.Canonical.{IsAnswer, canonical_protocol, special_schemes}
-use Rattle.urlpattern_core.specs.{Matchers.matcher_view, Components.IsEngineOf}
+use Rattle.urlpattern_core.specs.{Matchers.matcher_view, Components.IsCompiledKeeping, Components.IsEngineOf}
+use Rattle.urlpattern_core.specs.declared.component.ComponentWithParts.{ComponentWithParts}
 use Rattle.urlpattern_core.specs.declared.matcher.Matcher.{Matcher}
 use Rattle.urlpattern_core.specs.declared.regexp.RegExp.{Ghosts as Engine}
 use Rattle.urlpattern_meaning.specs.Matching.{IsMadeOf, IsMatched, MatcherView}
@@ -39,6 +40,10 @@ pub record IsSpecialTo {E : Type 0} (engine : Engine E) (protocol : List ℕ) (s
   pub reads : Reads protocol default_options protocol_encoding parts
   pub is_made : IsMadeOf (IsEngineOf engine false (codes "u")) default_options parts matcher
   pub decides : IsTrue special ↔ AcceptsSpecialScheme engine.answer matcher
+
+-- the text of a protocol, and what it is compiled to under the default options, with its parts
+abbrev pub IsKnownProtocol : {E : Type 0} → Engine E → Bor (List ℕ) × ComponentWithParts E → Type 0
+IsKnownProtocol engine known = IsCompiledKeeping engine (chars known.0.now) default_options protocol_encoding known.1
 
 -- the pattern of a protocol is refused with this error
 abbrev pub RefusesProtocol : List ℕ → ErrorView → Type 0

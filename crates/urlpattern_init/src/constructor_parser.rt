@@ -7,7 +7,7 @@ ghost use Rattle.std.specs.Str.{chars};
 ghost use Rattle.urlpattern_init.specs.ConstructorString.{AreFewTurns, HasProtocolOrBase, IsSplitOf, RefusesString, SplitsInto};
 ghost use Rattle.urlpattern_eight.specs.Eight.{at};
 ghost use Rattle.urlpattern_init.specs.Inheritance.{values_view};
-ghost use Rattle.urlpattern_init.specs.SpecialProtocol.{IsSpecialTo, RefusesProtocol};
+ghost use Rattle.urlpattern_init.specs.SpecialProtocol.{IsKnownProtocol, IsSpecialTo, RefusesProtocol};
 ghost use Rattle.urlpattern_split.specs.Split.{HasProtocol};
 ghost use Rattle.urlpattern_split.specs.Splitting.{IsOwned, IsSource, split_values, text_of_source};
 ghost use Rattle.urlpattern_syntax.specs.Errors.{MemoryOr, OnlyOutOfMemory};
@@ -21,6 +21,7 @@ use special_protocol::is_special_protocol;
 use std::alloc::Global;
 use url::Url;
 use urlpattern_core::Error;
+use urlpattern_core::component::ComponentWithParts;
 use urlpattern_core::regexp::RegExp;
 use urlpattern_core::tokenizer::{TokenizePolicy, tokenize};
 use urlpattern_eight::{ComponentName, Eight};
@@ -58,17 +59,36 @@ impl UrlPatternInit {
         ensures complete { IfOk result (λ found. HasProtocolOrBase found.0) }
         ensures refused { IfErr result (MemoryOr (RefusesString (chars pattern.now) base_url)) }
     {
+        let (init, turns, _) =
+            Self::parse_constructor_string_keeping::<R>(alloc, pattern, base_url, false)?;
+        Ok((init, turns))
+    }
+
+    /// The same; where `keeps`, with the text of the protocol and what that was compiled to under the default options.
+    pub fn parse_constructor_string_keeping<'a, R: RegExp>(
+        alloc: Global,
+        pattern: &'a str,
+        base_url: Option<Url>,
+        keeps: bool,
+    ) -> Result<(UrlPatternInit, usize, Option<(&'a str, ComponentWithParts<R>)>), Error>
+        ensures split { IfOk result (λ found. SplitsInto (IsSpecialTo R.RegExp) (chars pattern.now) (values_view found.0)) }
+        ensures turns { IfOk result (λ found. AreFewTurns (chars pattern.now) found.1) }
+        ensures base { IfOk result (λ found. found.0.base_url ≡ base_url) }
+        ensures complete { IfOk result (λ found. HasProtocolOrBase found.0) }
+        ensures known { IfOk result (λ found. IfSome found.2 (IsKnownProtocol R.RegExp)) }
+        ensures refused { IfErr result (MemoryOr (RefusesString (chars pattern.now) base_url)) }
+    {
         let tokens = tokenize(alloc, pattern, TokenizePolicy::Lenient)?;
         let source = Source {
             input: pattern,
             tokens: &tokens,
         };
-        let split = split::<R>(alloc, &source)?;
+        let (split, known) = split::<R>(alloc, &source, keeps)?;
         if split.values.protocol.is_none() && base_url.is_none() {
             return Err(Error::BaseUrlRequired);
         }
         let init = to_init(alloc, &split, base_url)?;
-        Ok((init, split.turns))
+        Ok((init, split.turns, known))
     }
 }
 
@@ -97,13 +117,19 @@ pub fn protocol_of(alloc: Global, pattern: &str) -> Result<Option<&str>, Error>
     }
 }
 
-/// The components of a constructor string. Its protocol is read first, and whether it is special.
+/// The components of a constructor string. Its protocol is read first, and whether it is special; where `keeps`, what it was compiled to
+/// is returned beside them.
 ///
 /// The error is that of the protocol's pattern, or that memory ran out.
-fn split<'a, R: RegExp>(alloc: Global, source: &Source<'_, 'a>) -> Result<Split<'a>, Error>
+fn split<'a, R: RegExp>(
+    alloc: Global,
+    source: &Source<'_, 'a>,
+    keeps: bool,
+) -> Result<(Split<'a>, Option<(&'a str, ComponentWithParts<R>)>), Error>
     requires { IsSource source.now }
-    ensures split { IfOk result (IsSplitOf (IsSpecialTo R.RegExp) source.now) }
-    ensures turns { IfOk result (λ split. split.turns ≤ 2 * length source.now.tokens.now) }
+    ensures split { IfOk result (λ found. IsSplitOf (IsSpecialTo R.RegExp) source.now found.0) }
+    ensures turns { IfOk result (λ found. found.0.turns ≤ 2 * length source.now.tokens.now) }
+    ensures known { IfOk result (λ found. IfSome found.1 (IsKnownProtocol R.RegExp)) }
     ensures refused { IfErr result (MemoryOr (λ error. HasProtocol (text_of_source source.now) (λ protocol. RefusesProtocol protocol error))) }
 {
     let start = Position {
@@ -113,13 +139,13 @@ fn split<'a, R: RegExp>(alloc: Global, source: &Source<'_, 'a>) -> Result<Split<
     };
     let end = source.end_of(Section::Protocol, start);
     if !source.is_sign(end.index, b':') {
-        return Ok(source.relative(end));
+        return Ok((source.relative(end), None));
     }
     let back = Position { index: 0, ..end };
     let colon = source.end_of(Section::Protocol, back);
     let protocol = source.text_between(0, colon.index);
-    let special = is_special_protocol::<R>(alloc, protocol)?;
-    Ok(source.absolute(colon, protocol, special))
+    let (special, known) = is_special_protocol::<R>(alloc, protocol, keeps)?;
+    Ok((source.absolute(colon, protocol, special), known))
 }
 
 /// An init with these components and a base URL.

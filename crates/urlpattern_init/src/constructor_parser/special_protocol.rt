@@ -1,34 +1,45 @@
 //! Whether a protocol is special.
 ghost use Rattle.std.specs.Prelude.{◌↔◌, IfErr, IfOk, IfSome, MatchBool, IsTrue};
 ghost use Rattle.std.specs.Str.{chars};
-ghost use Rattle.urlpattern_init.specs.SpecialProtocol.{AcceptsAny, AcceptsOnly, AcceptsSpecialScheme, CanonicalizesProtocol, IsSpecialTo, RefusesProtocol};
+ghost use Rattle.urlpattern_init.specs.SpecialProtocol.{AcceptsAny, AcceptsOnly, AcceptsSpecialScheme, CanonicalizesProtocol, IsKnownProtocol, IsSpecialTo, RefusesProtocol};
 ghost use Rattle.urlpattern_core.specs.Matchers.{matcher_view};
 ghost use Rattle.urlpattern_syntax.specs.Errors.{MemoryOr, OnlyOutOfMemory};
 
 use std::alloc::Global;
 use urlpattern_canonical::canonicalize_and_process::{canonicalize_protocol, is_special_scheme};
 use urlpattern_core::Error;
-use urlpattern_core::component::generate_matcher;
+use urlpattern_core::component::{Component, ComponentWithParts, generate_matcher};
 use urlpattern_core::matcher::{InnerMatcher, Matcher};
 use urlpattern_core::parser::{Options, parse_pattern_string};
 use urlpattern_core::regexp::RegExp;
 
-/// Whether a protocol that is given as a pattern is special: its matcher accepts a special scheme.
+/// Whether a protocol that is given as a pattern is special: its matcher accepts a special scheme. Where `keeps`, the whole component is
+/// compiled, and returned beside its text.
 ///
 /// The error is that the pattern is refused, or that memory ran out.
 ///
 /// <https://urlpattern.spec.whatwg.org/#compute-protocol-matches-a-special-scheme-flag>
-pub(super) fn is_special_protocol<R: RegExp>(alloc: Global, protocol: &str) -> Result<bool, Error>
-    ensures special { IfOk result (IsSpecialTo R.RegExp (chars protocol.now)) }
+pub(super) fn is_special_protocol<R: RegExp>(
+    alloc: Global,
+    protocol: &str,
+    keeps: bool,
+) -> Result<(bool, Option<(&str, ComponentWithParts<R>)>), Error>
+    ensures special { IfOk result (λ found. IsSpecialTo R.RegExp (chars protocol.now) found.0) }
+    ensures known { IfOk result (λ found. IfSome found.1 (IsKnownProtocol R.RegExp)) }
     ensures refused { IfErr result (MemoryOr (RefusesProtocol (chars protocol.now))) }
 {
     let options = Options::default(alloc);
     let canonicalize = |text: &str| -> Result<String, Error>
         ensures { CanonicalizesProtocol text.now result }
     { canonicalize_protocol(alloc, text) };
+    if keeps {
+        let made = Component::compile_with_parts(alloc, Some(protocol), canonicalize, options)?;
+        let special = accepts_special_scheme(alloc, &made.component.matcher)?;
+        return Ok((special, Some((protocol, made))));
+    }
     let part_list = parse_pattern_string(alloc, protocol, &options, canonicalize)?;
     let matcher = generate_matcher::<R>(alloc, &part_list, &options, "u")?;
-    accepts_special_scheme(alloc, &matcher)
+    Ok((accepts_special_scheme(alloc, &matcher)?, None))
 }
 
 /// Whether a matcher accepts a special scheme.

@@ -12,10 +12,10 @@ ghost use Rattle.urlpattern_syntax.specs.Errors.{MemoryOr};
 
 use super::UrlPattern;
 use std::alloc::Global;
-use urlpattern_core::Error;
+use urlpattern_core::{Error, RegexSyntax};
 use urlpattern_core::component::{Component, ComponentWithParts};
 use urlpattern_core::regexp::RegExp;
-use urlpattern_create::{compile_init, init_of_text};
+use urlpattern_create::{compile_init, init_of_text_keeping};
 use urlpattern_eight::Eight;
 use urlpattern_init::{UrlPatternInit, UrlPatternMatchInput};
 use urlpattern_inputs::UrlPatternOptions;
@@ -55,7 +55,7 @@ impl<R: RegExp> UrlPattern<R> {
         ensures refused { IfErr result (MemoryOr (RefusesInit R.RegExp init options)) }
     {
         // (A `?` or one `match` for both would copy the components, which fill kilobytes, once more.)
-        let made = match compile_init(alloc, init, options) {
+        let made = match compile_init(alloc, init, None, options) {
             Ok(made) => made,
             Err(error) => return Err(error),
         };
@@ -89,8 +89,14 @@ impl<R: RegExp> UrlPattern<R> {
         ensures by_text { MakesFirstWays R.RegExp → IfPattern result (AnswersByTextOf R.RegExp (chars pattern.now) (option_copied base_url.entry) options) }
         ensures refused { IfErr result (MemoryOr (RefusesPatternOfText R.RegExp (chars pattern.now) (option_copied base_url.entry) options)) }
     {
-        let init = init_of_text::<R>(alloc, pattern, base_url)?;
-        Self::parse(alloc, init, options)
+        let keeps = options.regex_syntax == RegexSyntax::Rust;
+        let (init, known) = init_of_text_keeping::<R>(alloc, pattern, base_url, keeps)?;
+        let made = match compile_init(alloc, init, known, options) {
+            Ok(made) => made,
+            Err(error) => return Err(error),
+        };
+        let (components, parts) = parted(made);
+        Ok(Self::with_parts(components, parts))
     }
 
     /// Compiles the pattern of an init and matches one input: `parse`, and then `exec`.
