@@ -21,11 +21,11 @@ use urlpattern_canonical::canonicalize_and_process::{
     Canonicalizer, ProcessType, begins_with_slash, canonicalize_ipv6_hostname, is_special_scheme,
     special_scheme_default_port, without_first,
 };
-use urlpattern_core::{Error, RegexSyntax};
 use urlpattern_core::component::{Component, ComponentWithParts};
 use urlpattern_core::matcher::{InnerMatcher, Matcher};
 use urlpattern_core::parser::Options;
 use urlpattern_core::regexp::RegExp;
+use urlpattern_core::{Error, RegexSyntax};
 use urlpattern_eight::{ComponentName, Eight};
 use urlpattern_init::{UrlPatternInit, accepts_special_scheme, process};
 use urlpattern_inputs::UrlPatternOptions;
@@ -237,9 +237,8 @@ impl Compiler<'_> {
         ensures compiled { IfOk result (IsKept R.RegExp (manner_by self.now false ComponentName.Protocol)) }
         ensures refused { IfErr result (MemoryOr (IsComponentRefused R.RegExp (manner_by self.now false ComponentName.Protocol))) }
     {
-        if let Some((text, made)) = known
-            && self.options.regex_syntax == RegexSyntax::Rust
-            && let Some(own) = &self.values.protocol
+        if let (Some((text, made)), Some(own), RegexSyntax::Rust) =
+            (known, &self.values.protocol, self.options.regex_syntax)
             && own.as_str() == text
         {
             let made = Ok(made);

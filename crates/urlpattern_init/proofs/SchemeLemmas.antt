@@ -7,16 +7,20 @@ use Rattle.std.specs.List.{Any}
 use Rattle.std.specs.Prelude.{◌↔◌, IfOk, IsTrue, MatchBool}
 use Rattle.std.specs.Str.{chars}
 use Rattle.urlpattern_canonical.specs.Canonical.{scheme_among, special_schemes}
-use Rattle.urlpattern_init.specs.SpecialProtocol.{AcceptsOnly, AcceptsSpecialScheme, IsSpecialTo, protocol_encoding}
+use Rattle.urlpattern_init.specs.SpecialProtocol.{AcceptsOnly, AcceptsSpecialScheme, IsKnownProtocol, IsSpecialTo, protocol_encoding}
+use Rattle.urlpattern_meaning.proofs.Encodings.{Weakens, reads_weaker}
 use Rattle.urlpattern_meaning.proofs.MatchingLaws.{middle_kept}
 use Rattle.urlpattern_meaning.specs.Matching.{Accepts, HasMiddle, InnerView, IsMadeOf, IsSame, Literal, MatcherView}
 use Rattle.urlpattern_meaning.specs.PartMeaning.{Captures}
-use Rattle.urlpattern_core.specs.Components.{IsEngineOf}
+use Rattle.urlpattern_core.specs.Components.{IsCompiledKeeping, IsEngineOf}
+use Rattle.urlpattern_core.specs.Matchers.{matcher_view}
+use Rattle.urlpattern_core.specs.declared.component.ComponentWithParts.{ComponentWithParts}
 use Rattle.urlpattern_core.specs.declared.regexp.RegExp.{Ghosts as Engine}
 use Rattle.urlpattern_syntax.specs.declared.error.Error.{Error}
 use Rattle.urlpattern_syntax.specs.Options.{OptionsView, default_options}
 use Rattle.urlpattern_syntax.specs.Parts.{PartView}
-use Rattle.urlpattern_syntax.specs.Reading.{Reads}
+use Rattle.urlpattern_syntax.specs.ComponentParts.{kept_parts}
+use Rattle.urlpattern_syntax.specs.Reading.{Encoding, Reads}
 
 -- a read does not depend on the value for want of an element
 same_read : {X : Type 0} → (xs : List X) (i : ℕ) (x d : X) → i < length xs → get_or xs i x ≡ x → get_or xs i d ≡ x
@@ -143,3 +147,25 @@ special_from engine protocol flags options parts these matcher (Ok special) e f 
 pub chars_flags : chars (codes "u") ≡ codes "u"
 unfolding chars
 chars_flags = refl
+
+-- ---- a protocol that was compiled
+
+pub known_from : {E : Type 0} (engine : Engine E) (strong : Encoding) → Weakens strong protocol_encoding → (options : OptionsView) → options ≡ default_options
+    → (known : Bor (List ℕ) × ComponentWithParts E) → IsCompiledKeeping engine (chars known.0.now) options strong known.1 → IsKnownProtocol engine known
+known_from engine strong h options e known is =
+    let at_default = subst (λ o. IsCompiledKeeping engine (chars known.0.now) o strong known.1) e is in
+    record {
+      options_are = at_default.options_are;
+      reads = reads_weaker strong protocol_encoding h (chars known.0.now) default_options (kept_parts known.1.kept) at_default.reads;
+      is_made = at_default.is_made;
+    }
+
+pub known_special : {E : Type 0} (engine : Engine E) (known : Bor (List ℕ) × ComponentWithParts E) (special : Bool) → IsKnownProtocol engine known
+    → (IsTrue special ↔ AcceptsSpecialScheme engine.answer (matcher_view known.1.component.matcher)) → IsSpecialTo engine (chars known.0.now) special
+known_special engine known special is decides = record {
+  parts = kept_parts known.1.kept;
+  matcher = matcher_view known.1.component.matcher;
+  reads = is.reads;
+  is_made = is.is_made.has_matcher;
+  decides = decides;
+}

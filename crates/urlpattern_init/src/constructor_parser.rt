@@ -64,7 +64,9 @@ impl UrlPatternInit {
         Ok((init, turns))
     }
 
-    /// The same; where `keeps`, with the text of the protocol and what that was compiled to under the default options.
+    /// The same; if `keeps`, also the text of the protocol and what it was compiled to.
+    ///
+    /// It is compiled under the default options.
     pub fn parse_constructor_string_keeping<'a, R: RegExp>(
         alloc: Global,
         pattern: &'a str,
@@ -117,8 +119,9 @@ pub fn protocol_of(alloc: Global, pattern: &str) -> Result<Option<&str>, Error>
     }
 }
 
-/// The components of a constructor string. Its protocol is read first, and whether it is special; where `keeps`, what it was compiled to
-/// is returned beside them.
+/// The components of a constructor string. Its protocol is read first, and whether it is special.
+///
+/// If `keeps`, the text of the protocol and what it was compiled to are returned too.
 ///
 /// The error is that of the protocol's pattern, or that memory ran out.
 fn split<'a, R: RegExp>(

@@ -13,8 +13,9 @@ use urlpattern_core::matcher::{InnerMatcher, Matcher};
 use urlpattern_core::parser::{Options, parse_pattern_string};
 use urlpattern_core::regexp::RegExp;
 
-/// Whether a protocol that is given as a pattern is special: its matcher accepts a special scheme. Where `keeps`, the whole component is
-/// compiled, and returned beside its text.
+/// Whether a protocol that is given as a pattern is special: its matcher accepts a special scheme.
+///
+/// If `keeps`, the whole component is compiled, and returned with its text.
 ///
 /// The error is that the pattern is refused, or that memory ran out.
 ///
@@ -39,7 +40,8 @@ pub(super) fn is_special_protocol<R: RegExp>(
     }
     let part_list = parse_pattern_string(alloc, protocol, &options, canonicalize)?;
     let matcher = generate_matcher::<R>(alloc, &part_list, &options, "u")?;
-    Ok((accepts_special_scheme(alloc, &matcher)?, None))
+    let special = accepts_special_scheme(alloc, &matcher)?;
+    Ok((special, None))
 }
 
 /// Whether a matcher accepts a special scheme.

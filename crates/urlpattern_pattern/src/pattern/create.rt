@@ -1,9 +1,10 @@
 //! Creates a pattern from an init or from a constructor string, or for one input.
 
-ghost use Rattle.std.specs.Prelude.{is_some, option_copied, option_map, IfErr, IfOk, IsTrue};
+ghost use Rattle.std.specs.Prelude.{is_some, option_copied, option_map, IfErr, IfOk, IfSome, IsTrue};
 ghost use Rattle.std.specs.Str.{chars};
 ghost use Rattle.urlpattern_create.specs.Compiled.{IsPatternOfInit, RefusesInit};
 ghost use Rattle.urlpattern_create.specs.FromString.{IsPatternOfText, RefusesPatternOfText};
+ghost use Rattle.urlpattern_init.specs.SpecialProtocol.{IsKnownProtocol};
 ghost use Rattle.urlpattern_matches.specs.ResultViews.{result_view};
 ghost use Rattle.urlpattern_pattern.specs.ByText.{AnswersByItsText, AnswersByTextOf, IsExecutedByMeaning, MakesFirstWays};
 ghost use Rattle.urlpattern_pattern.specs.KeptParts.{AreParted, KeepsPartsOf, KeepsPartsOfText};
@@ -12,9 +13,9 @@ ghost use Rattle.urlpattern_syntax.specs.Errors.{MemoryOr};
 
 use super::UrlPattern;
 use std::alloc::Global;
-use urlpattern_core::{Error, RegexSyntax};
 use urlpattern_core::component::{Component, ComponentWithParts};
 use urlpattern_core::regexp::RegExp;
+use urlpattern_core::{Error, RegexSyntax};
 use urlpattern_create::{compile_init, init_of_text_keeping};
 use urlpattern_eight::Eight;
 use urlpattern_init::{UrlPatternInit, UrlPatternMatchInput};
@@ -54,13 +55,7 @@ impl<R: RegExp> UrlPattern<R> {
         ensures by_text { MakesFirstWays R.RegExp → IfPattern result (AnswersByItsText R.answer init options) }
         ensures refused { IfErr result (MemoryOr (RefusesInit R.RegExp init options)) }
     {
-        // (A `?` or one `match` for both would copy the components, which fill kilobytes, once more.)
-        let made = match compile_init(alloc, init, None, options) {
-            Ok(made) => made,
-            Err(error) => return Err(error),
-        };
-        let (components, parts) = parted(made);
-        Ok(Self::with_parts(components, parts))
+        Self::parse_knowing(alloc, init, None, options)
     }
 
     /// Compiles a pattern from a constructor string, the pattern of a whole URL, with a base URL if there is one.
@@ -91,6 +86,26 @@ impl<R: RegExp> UrlPattern<R> {
     {
         let keeps = options.regex_syntax == RegexSyntax::Rust;
         let (init, known) = init_of_text_keeping::<R>(alloc, pattern, base_url, keeps)?;
+        Self::parse_knowing(alloc, init, known, options)
+    }
+
+    /// Compiles a pattern as `parse` does, where the protocol may be known, with its text.
+    ///
+    /// The error is that of `parse`.
+    fn parse_knowing(
+        alloc: Global,
+        init: UrlPatternInit,
+        known: Option<(&str, ComponentWithParts<R>)>,
+        options: UrlPatternOptions,
+    ) -> Result<Self, Error>
+        requires { IfSome known (IsKnownProtocol R.RegExp) }
+        ensures compiled { IfPattern result (IsPatternOfInit R.RegExp init options) }
+        ensures kept { IfOk result (KeepsPartsOf R.RegExp init options) }
+        ensures parts { IfOk result (λ pattern. IsTrue (is_some pattern.parts)) }
+        ensures by_text { MakesFirstWays R.RegExp → IfPattern result (AnswersByItsText R.answer init options) }
+        ensures refused { IfErr result (MemoryOr (RefusesInit R.RegExp init options)) }
+    {
+        // (A `?` or one `match` for both would copy the components, which fill kilobytes, once more.)
         let made = match compile_init(alloc, init, known, options) {
             Ok(made) => made,
             Err(error) => return Err(error),

@@ -4,7 +4,7 @@ use Rattle.urlpattern_create.specs.PatternViews.{eight_view}
 use Rattle.urlpattern_pattern.proofs.ByTextLemmas.{init_by_text}
 use Rattle.urlpattern_pattern.proofs.KeptLemmas.{keeps_parts, parted_pattern, parts_are_own}
 use Rattle.urlpattern_pattern.specs.Patterns.{pattern_view}
-use Rattle.urlpattern_pattern.proofs.pattern.UrlPattern.parse.Goals as goal
+use Rattle.urlpattern_pattern.proofs.pattern.UrlPattern.parse_knowing.Goals as goal
 
 pub with_parts-requires : goal.with_parts-requires
 with_parts-requires g c =

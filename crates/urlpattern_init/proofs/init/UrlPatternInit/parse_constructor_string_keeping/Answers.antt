@@ -8,7 +8,7 @@ use Rattle.urlpattern_split.specs.Splitting.{split_values}
 use Rattle.urlpattern_split.proofs.SplitLemmas.{lacks_protocol, missing_is_none, none_of}
 use Rattle.urlpattern_syntax.specs.Tokens.{AreLenientTokens, token_view}
 use Rattle.urlpattern_syntax.specs.declared.tokenizer.Token.{Token}
-use Rattle.urlpattern_init.proofs.init.UrlPatternInit.parse_constructor_string_counted.Goals as goal
+use Rattle.urlpattern_init.proofs.init.UrlPatternInit.parse_constructor_string_keeping.Goals as goal
 
 pub returns-in_err-split-clause-refused : goal.returns-in_err-split-clause-refused
 returns-in_err-split-clause-refused g c =
