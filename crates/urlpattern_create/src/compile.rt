@@ -36,7 +36,8 @@ use urlpattern_inputs::UrlPatternOptions;
 /// the hostname and the pathname, and then the others as they stand in a URL. A component is refused for its text, by
 /// `url` for a fixed text in it, or by the engine for its regular expression.
 ///
-/// A protocol that is known, as a constructor string's is, is not compiled again where its text and its options are the same.
+/// A protocol may be known, as that of a constructor string is: its text, and what it was compiled to. It is not compiled
+/// again if the processed text and the options are the same.
 ///
 /// <https://urlpattern.spec.whatwg.org/#url-pattern-create>
 pub fn compile_init<R: RegExp>(
@@ -226,7 +227,7 @@ impl Compiler<'_> {
         self.after_protocol(protocol, hierarchical)
     }
 
-    /// The component of the protocol: what is known, if it is of this text under these options, or else what is compiled.
+    /// The component of the protocol: what is known, if it is of this text and these options.
     ///
     /// The error is that its text or its regular expression is refused, or that memory ran out.
     fn protocol<R: RegExp>(

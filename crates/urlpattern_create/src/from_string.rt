@@ -28,7 +28,9 @@ pub fn init_of_text<R: RegExp>(
     UrlPatternInit::parse_constructor_string::<R>(alloc, text, base_url)
 }
 
-/// The same; where `keeps`, with the text of the protocol and what that was compiled to under the default options.
+/// The same; if `keeps`, also the text of the protocol and what it was compiled to.
+///
+/// The error is that of `init_of_text`.
 pub fn init_of_text_keeping<'a, R: RegExp>(
     alloc: Global,
     text: &'a str,
