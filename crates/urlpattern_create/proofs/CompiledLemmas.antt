@@ -2,7 +2,7 @@
 use Rattle.std.proofs.Common.{◌≡◌, ℕ, Bool, true, false, ◌<◌, List, [], ◌∷◌, ◌++◌, codes, Option, Some, None, Result, Ok, Err, String, string_bytes, Bor, refl, sym, ap, ◌∙◌, subst, inl, inr, arith}
 use Rattle.std.proofs.lemmas.Bool.{false≢true}
 use Rattle.std.proofs.lemmas.Str.Ascii.{IsAscii-cons, IsAscii-nil}
-use Rattle.std.specs.Prelude.{IfErr, IfOk, IfSome, IsTrue, bytes_eq, not, option_copied, unwrap_or, ◌&&◌, ◌||◌, slice_index, if◌then◌else◌}
+use Rattle.std.specs.Prelude.{IfErr, IfOk, IfSome, IsTrue, bytes_eq, not, option_copied, ◌&&◌, ◌||◌, slice_index, if◌then◌else◌}
 use Rattle.std.specs.List.{AllByRecursion}
 use Rattle.std.specs.Result.{IsErrAnd}
 use Rattle.std.specs.Str.{chars, IsAscii, IsUtf8}
@@ -14,7 +14,6 @@ use Rattle.urlpattern_create.specs.Kept.{AreCompiledKeeping, EachIsKept, IsKept,
 use Rattle.urlpattern_create.specs.PatternViews.{PatternView}
 use Rattle.urlpattern_eight.specs.declared.eight.ComponentName.{ComponentName as Names}
 use Rattle.urlpattern_eight.specs.declared.eight.ComponentName.TheVariants.{Protocol}
-use Rattle.urlpattern_init.specs.SpecialProtocol.{IsKnownProtocol, protocol_encoding}
 use Rattle.urlpattern_init.specs.declared.init.UrlPatternInit.{UrlPatternInit}
 use Rattle.urlpattern_eight.specs.declared.eight.Eight.{Eight}
 use Rattle.urlpattern_inputs.specs.declared.options.UrlPatternOptions.{UrlPatternOptions}
@@ -25,7 +24,7 @@ use Rattle.urlpattern_core.specs.declared.component.ComponentWithParts.{Componen
 use Rattle.urlpattern_core.specs.declared.regexp.RegExp.{Ghosts as Engine}
 use Rattle.urlpattern_syntax.specs.declared.error.Error.{Error}
 use Rattle.urlpattern_syntax.specs.Errors.{ErrorView, MemoryOr}
-use Rattle.urlpattern_syntax.specs.Options.{OptionsView, RegexSyntax, default_options}
+use Rattle.urlpattern_syntax.specs.Options.{OptionsView}
 use Rattle.urlpattern_syntax.specs.ComponentParts.{kept_parts}
 use Rattle.urlpattern_syntax.specs.Reading.{Encoding, Reads}
 use Rattle.urlpattern_syntax.specs.RegexpText.{is_empty}
@@ -160,14 +159,6 @@ kept_weaker engine strong manner h text options (Ok made) e f compiled taken = r
   is_made = subst (λ o. IsComponentOf engine o (kept_parts made.kept) (component_view made.component)) f compiled.is_made;
   has_engine = taken;
 }
-
--- a protocol that is known is kept where it is of the same text and in Rust's syntax
-pub known_kept : {E : Type 0} (engine : Engine E) (asked : UrlPatternOptions) (values : Values) (known : Bor (List ℕ) × ComponentWithParts E)
-    → asked.regex_syntax ≡ RegexSyntax.Rust → values.protocol ≡ Some (chars known.0.now) → IsKnownProtocol engine known
-    → HasEngine (component_view known.1.component) → IsKept engine (manner_of asked values false Protocol) known.1
-known_kept engine asked values known rust own is taken =
-    kept_weaker engine protocol_encoding (manner_of asked values false Protocol) (λ text answer h. h) (chars known.0.now) default_options (Ok known.1)
-    (sym (ap (λ text. unwrap_or text (codes "*")) own)) (ap (λ syntax. record default_options { syntax = syntax }) (sym rust)) is taken
 
 refused_weaker-view : {E : Type 0} (engine : Engine E)
     (strong weak : Encoding) → Weakens strong weak → (text pattern : List ℕ) (options manner : OptionsView) (error : ErrorView)
