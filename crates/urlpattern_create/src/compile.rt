@@ -36,8 +36,8 @@ use urlpattern_inputs::UrlPatternOptions;
 /// the hostname and the pathname, and then the others as they stand in a URL. A component is refused for its text, by
 /// `url` for a fixed text in it, or by the engine for its regular expression.
 ///
-/// A protocol may be known, as that of a constructor string is: its text, and what it was compiled to. It is not compiled
-/// again if the processed text and the options are the same.
+/// A protocol may be known, as that of a constructor string is: its text, and what it was compiled
+/// to. It is not compiled again if the processed text and the options are the same.
 ///
 /// <https://urlpattern.spec.whatwg.org/#url-pattern-create>
 pub fn compile_init<R: RegExp>(
