@@ -37,6 +37,7 @@ type Taken = Result<bool, OutOfMemory>;
 /// Where the states that failed are remembered, no choice is tried twice in one of them.
 ///
 /// The error is that memory ran out.
+#[inline]
 pub fn walk<'t>(
     alloc: Global,
     steps: &[Step],
