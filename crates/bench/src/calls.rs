@@ -5,13 +5,13 @@ use crate::{Case, given};
 use serde_json::Value;
 use std::alloc::Global;
 use url::Url;
-use urlpattern_core::Error;
-use urlpattern_core::regexp::RegExp;
 use urlpattern_init::{UrlPatternInit, UrlPatternMatchInput};
 use urlpattern_inputs::{MatchInput, StringOrInit, UrlPatternOptions};
+use urlpattern_matcher::regexp::RegExp;
 use urlpattern_matches::{UrlPatternCaptures, UrlPatternResult, parse_match_input};
 use urlpattern_pattern::UrlPattern;
 use urlpattern_quirks::{process_construct_pattern_input, process_match_input};
+use urlpattern_syntax::Error;
 
 /// A call that matches an input. The ones of a URL find no match of an init.
 #[derive(Clone, Copy)]

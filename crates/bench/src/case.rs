@@ -3,7 +3,7 @@
 use crate::recorded::{Answer, Fault, list};
 use serde_json::Value;
 use std::alloc::{AllocError, Global};
-use urlpattern_core::Error;
+use urlpattern_syntax::Error;
 
 /// A question, and the answer that was recorded.
 #[derive(Drop)]

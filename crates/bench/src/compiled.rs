@@ -3,10 +3,10 @@
 use crate::case::Case;
 use crate::recorded::{Fault, has_text, has_texts, is_set, optional_text, options_of};
 use serde_json::Value;
-use urlpattern_core::Error;
-use urlpattern_core::component::Component;
-use urlpattern_core::matcher::InnerMatcher;
-use urlpattern_core::regexp::RegExp;
+use urlpattern_matcher::component::Component;
+use urlpattern_matcher::matcher::InnerMatcher;
+use urlpattern_matcher::regexp::RegExp;
+use urlpattern_syntax::Error;
 
 /// Whether the compiled component of a pattern over an engine is the recorded one. The pattern's texts stay as they are.
 pub fn is_same<R: RegExp>(case: &Case<'_>) -> Result<bool, Fault> {

@@ -6,14 +6,14 @@ use crate::recorded::{Fault, has_text, has_texts, list, named, optional_text, op
 use serde_json::Value;
 use std::alloc::Global;
 use url::ParseError;
-use urlpattern_core::Error;
-use urlpattern_core::component::{
+use urlpattern_engine::EcmaRegexp;
+use urlpattern_matcher::component::{
     generate_matcher, generate_pattern_string, generate_regular_expression_and_name_list,
     normalize_part_list,
 };
-use urlpattern_core::matcher::Matcher;
-use urlpattern_core::parser::{Options, Part, PartModifier, PartType, parse_pattern_string};
-use urlpattern_engine::EcmaRegexp;
+use urlpattern_matcher::matcher::Matcher;
+use urlpattern_parser::parser::{Options, Part, PartModifier, PartType, parse_pattern_string};
+use urlpattern_syntax::Error;
 
 /// What becomes of each text of a pattern.
 #[derive(Clone, Copy, Drop)]

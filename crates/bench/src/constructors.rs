@@ -5,10 +5,10 @@ use crate::{Case, given};
 use regex::Regex;
 use serde_json::Value;
 use std::alloc::Global;
-use urlpattern_core::Error;
-use urlpattern_eight::ComponentName;
+use urlpattern_components::ComponentName;
 use urlpattern_init::UrlPatternInit;
 use urlpattern_quirks::process_construct_pattern_input;
+use urlpattern_syntax::Error;
 
 /// The answer to a constructor string: its components, and the number of looks at a token.
 type Counted = (UrlPatternInit, usize);

@@ -4,12 +4,12 @@ use crate::recorded::{Answer, Fault, has_text, list, optional_text};
 use crate::{Case, given};
 use serde_json::Value;
 use std::alloc::Global;
-use urlpattern_core::Error;
-use urlpattern_core::regexp::RegExp;
 use urlpattern_diagnosis::{Diagnosis, Span};
 use urlpattern_inputs::UrlPatternOptions;
+use urlpattern_matcher::regexp::RegExp;
 use urlpattern_pattern::UrlPattern;
 use urlpattern_quirks::process_construct_pattern_input;
+use urlpattern_syntax::Error;
 
 /// Whether what is wrong with a constructor string, or with an init, is what was recorded: null where nothing is.
 pub fn is_same<R: RegExp>(case: &Case<'_>) -> Result<bool, Fault> {

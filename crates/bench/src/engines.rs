@@ -4,8 +4,8 @@ use crate::case::Case;
 use crate::recorded::{Answer, Fault, has_text, is_set, list, text};
 use serde_json::Value;
 use std::alloc::Global;
-use urlpattern_core::error::{OutOfMemory, RegExpError};
-use urlpattern_core::regexp::RegExp;
+use urlpattern_matcher::regexp::RegExp;
+use urlpattern_syntax::error::{OutOfMemory, RegExpError};
 
 /// Whether the answers of this engine are the recorded ones, also of a value that is made to be kept.
 pub fn is_same<R: RegExp>(case: &Case<'_>) -> Result<bool, Fault> {

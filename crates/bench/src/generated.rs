@@ -1,15 +1,15 @@
 //! Asks for texts of components whose groups capture what is given.
 
-use crate::patterns;
 use crate::Case;
+use crate::patterns;
 use crate::recorded::{Answer, Fault, has_text, list, text};
 use serde_json::Value;
 use std::alloc::Global;
-use urlpattern_core::Error;
-use urlpattern_core::regexp::RegExp;
-use urlpattern_eight::ComponentName;
+use urlpattern_components::ComponentName;
 use urlpattern_generate::{GenerateError, GivenGroup};
+use urlpattern_matcher::regexp::RegExp;
 use urlpattern_pattern::UrlPattern;
+use urlpattern_syntax::Error;
 
 /// Whether the text of a component with the groups of a question is the recorded one, or is refused for the recorded reason.
 pub fn is_same<R: RegExp>(case: &Case<'_>) -> Result<bool, Fault> {

@@ -5,8 +5,8 @@ use serde_json::Value;
 use std::alloc::Global;
 use std::borrow::CowStr;
 use url::{ParseError, Url};
-use urlpattern_core::Error;
 use urlpattern_inputs::{StringOrInit, UrlPatternInit, UrlPatternOptions};
+use urlpattern_syntax::Error;
 
 /// What is given: a text, or an init.
 pub fn input<'a>(alloc: Global, fields: &'a Value) -> Result<StringOrInit<'a>, Fault> {

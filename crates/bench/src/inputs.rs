@@ -4,10 +4,10 @@ use crate::recorded::{Fault, optional_text};
 use crate::{Case, given};
 use serde_json::Value;
 use std::alloc::Global;
-use urlpattern_core::Error;
 use urlpattern_inputs::{MatchInput, StringOrInit};
 use urlpattern_matches::parse_match_input;
 use urlpattern_quirks::process_match_input;
+use urlpattern_syntax::Error;
 
 /// Whether the texts of a match input are the recorded ones: null where there is none.
 pub fn is_same(case: &Case<'_>) -> Result<bool, Fault> {

@@ -7,11 +7,11 @@ use crate::{Case, given};
 use serde_json::Value;
 use std::alloc::Global;
 use url::Url;
-use urlpattern_core::Error;
-use urlpattern_core::regexp::RegExp;
+use urlpattern_generate::NoLink;
+use urlpattern_matcher::regexp::RegExp;
 use urlpattern_matches::UrlPatternResult;
 use urlpattern_pattern::UrlPattern;
-use urlpattern_url::NoLink;
+use urlpattern_syntax::Error;
 
 /// Whether the URL of a pattern with the groups of a question is the recorded one, or is refused for the recorded reason.
 pub fn is_same<R: RegExp>(case: &Case<'_>) -> Result<bool, Fault> {

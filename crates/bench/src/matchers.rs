@@ -8,12 +8,12 @@ use crate::recorded::{
 };
 use serde_json::Value;
 use std::alloc::{AllocError, Global};
-use urlpattern_core::component::generate_matcher;
-use urlpattern_core::matcher::{InnerMatcher, Matcher};
-use urlpattern_core::parser::Options;
-use urlpattern_core::regexp::RegExp;
-use urlpattern_core::{Error, RegexSyntax};
 use urlpattern_engine::EcmaRegexp;
+use urlpattern_matcher::component::generate_matcher;
+use urlpattern_matcher::matcher::{InnerMatcher, Matcher};
+use urlpattern_matcher::regexp::RegExp;
+use urlpattern_parser::parser::Options;
+use urlpattern_syntax::{Error, RegexSyntax};
 
 /// Whether the matcher of a pattern over an engine answers what was recorded.
 pub fn is_same<R: RegExp>(case: &Case<'_>) -> Result<bool, Fault> {

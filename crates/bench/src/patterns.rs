@@ -5,14 +5,14 @@ use crate::recorded::{Fault, has_text, is_set, optional_text, text};
 use crate::{Case, given, prints};
 use serde_json::Value;
 use std::alloc::Global;
-use urlpattern_core::Error;
-use urlpattern_core::regexp::RegExp;
-use urlpattern_eight::ComponentName;
+use urlpattern_components::ComponentName;
 use urlpattern_init::UrlPatternInit;
 use urlpattern_inputs::UrlPatternOptions;
+use urlpattern_matcher::regexp::RegExp;
 use urlpattern_matches::{UrlPatternComponentResult, UrlPatternResult};
 use urlpattern_pattern::UrlPattern;
 use urlpattern_quirks::{parse_pattern_as_lib, process_construct_pattern_input};
+use urlpattern_syntax::Error;
 
 /// Whether a pattern over this engine, and what it answers to the inputs, are what was recorded.
 pub fn is_same<R: RegExp>(case: &Case<'_>) -> Result<bool, Fault> {

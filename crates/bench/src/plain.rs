@@ -4,10 +4,10 @@ use crate::recorded::{Fault, optional_text};
 use crate::{Case, given};
 use serde_json::Value;
 use std::alloc::Global;
-use urlpattern_core::Error;
-use urlpattern_core::regexp::RegExp;
 use urlpattern_inputs::{StringOrInit, UrlPatternOptions};
+use urlpattern_matcher::regexp::RegExp;
 use urlpattern_quirks::{parse_pattern, process_construct_pattern_input};
+use urlpattern_syntax::Error;
 
 /// Whether the JSON of a pattern over this engine is the recorded one.
 pub fn is_same<R: RegExp>(case: &Case<'_>) -> Result<bool, Fault> {

@@ -2,10 +2,10 @@
 
 use serde_json::Value;
 use std::alloc::{AllocError, Global};
-use urlpattern_core::RegexSyntax;
-use urlpattern_core::error::OutOfMemory;
-use urlpattern_core::parser::Options;
+use urlpattern_parser::parser::Options;
 use urlpattern_pattern::CompareError;
+use urlpattern_syntax::RegexSyntax;
+use urlpattern_syntax::error::OutOfMemory;
 
 /// Why nothing comes of a line.
 #[derive(Drop)]

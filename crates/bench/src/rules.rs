@@ -6,16 +6,16 @@ use serde_json::Value;
 use std::alloc::Global;
 use std::cmp::Ordering;
 use urlpattern::{UrlPatternList, UrlPatternMap};
-use urlpattern_core::Error;
-use urlpattern_eight::ComponentName;
+use urlpattern_compare::{
+    PatternCovering, PatternOverlap, PatternParts, Reason, Shadowed, first_covering,
+};
+use urlpattern_components::ComponentName;
 use urlpattern_engine::PatternRegexp;
 use urlpattern_init::UrlPatternInit;
 use urlpattern_inputs::UrlPatternOptions;
 use urlpattern_pattern::UrlPattern;
 use urlpattern_quirks::process_construct_pattern_input;
-use urlpattern_rules::{
-    PatternCovering, PatternOverlap, PatternParts, Reason, Shadowed, first_covering,
-};
+use urlpattern_syntax::Error;
 
 /// The names of the reasons.
 const REASONS: &[(&str, Reason)] = &[

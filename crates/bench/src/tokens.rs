@@ -3,7 +3,7 @@
 use crate::case::Case;
 use crate::recorded::{Fault, optional_text, text};
 use serde_json::Value;
-use urlpattern_core::tokenizer::{Token, TokenizePolicy, tokenize};
+use urlpattern_parser::tokenizer::{Token, TokenizePolicy, tokenize};
 
 /// Whether the tokens of a text are the recorded ones.
 pub fn is_same(case: &Case<'_>) -> Result<bool, Fault> {

@@ -6,13 +6,13 @@ use serde::Serialize;
 use serde::de::DeserializeOwned;
 use serde_json::Value;
 use std::alloc::{AllocError, Global};
-use urlpattern_compiled::{InnerMatcher, Matcher, UrlPattern, UrlPatternComponent};
-use urlpattern_core::Error;
 use urlpattern_init::UrlPatternInit;
 use urlpattern_inputs as plain;
 use urlpattern_inputs::{MatchInput, StringOrInit, UrlPatternOptions};
 use urlpattern_matches::{UrlPatternComponentResult, UrlPatternResult};
+use urlpattern_plain::{InnerMatcher, Matcher, UrlPattern, UrlPatternComponent};
 use urlpattern_quirks::process_construct_pattern_input;
+use urlpattern_syntax::Error;
 
 /// The error of a text that is no JSON.
 const NO_JSON: &str = "no JSON";

@@ -12,8 +12,8 @@ use urlpattern_canonical::canonicalize_and_process::{
     process_pathname_init, process_port_init, process_protocol_init, process_search_init,
     process_username_init,
 };
-use urlpattern_core::Error;
-use urlpattern_core::parser::Options;
+use urlpattern_parser::parser::Options;
+use urlpattern_syntax::Error;
 
 /// Whether a canonical value is the recorded one.
 pub fn is_same_canonical(case: &Case<'_>) -> Result<bool, Fault> {

@@ -2,14 +2,14 @@
 use Rattle.std.specs.Prelude.{◌≢◌, ◌⊎◌, ℕ, List, codes, Option, String}
 use Rattle.std.specs.declared.alloc.Global.{Global}
 use Rattle.urlpat_commands.specs.Answers.{AreAnswered, FailsWhere}
-use Rattle.urlpat_words.specs.Words.{words_view, AreWordsAfter}
+use Rattle.urlpat_lines.specs.Words.{words_view, AreWordsAfter}
 use Rattle.urlpat_commands.specs.FilterLines.{AskToFilter, Does}
 use Rattle.urlpat_commands.specs.Notes.{HasNote}
 use Rattle.urlpat_matching.specs.declared.status.TheConstants.{FAILED}
 use Rattle.urlpat_rules.specs.Coverings.{TellsWhether}
 use Rattle.urlpat_rules.specs.Routes.{RoutesLines}
 use Rattle.urlpat_rules.specs.Unreached.{Lists}
-use Rattle.urlpat_words.specs.declared.flags.Flags.{Flags}
+use Rattle.urlpat_lines.specs.declared.flags.Flags.{Flags}
 
 -- the first word asks to compare patterns, or for a table
 abbrev pub AskForRules : (words : List (List ℕ)) → Type 0

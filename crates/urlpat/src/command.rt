@@ -1,14 +1,14 @@
 //! All commands of the program.
 
 ghost use Rattle.std.specs.Prelude.{◌≡◌, ◌≢◌, ◌⊎◌};
-ghost use Rattle.urlpat_words.specs.Words.{words_view};
+ghost use Rattle.urlpat_lines.specs.Words.{words_view};
 ghost use Rattle.urlpat.specs.Commands.{FailsAny, MayReport, RunsAny};
 
 use std::alloc::Global;
 use std::io::{BufRead, Write};
+use urlpat_lines::{Flags, words_after};
 use urlpat_matching::{DONE, FAILED, NO_MATCH};
 use urlpat_rules::{Tables, covers, list_unreachable, route};
-use urlpat_words::{Flags, words_after};
 
 /// Does what the words and the flags ask for, and gives the status to end with.
 ///

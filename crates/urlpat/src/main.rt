@@ -14,11 +14,10 @@ use std::io::{BufRead, BufReader, BufWriter, IsTerminal, Write};
 use std::process::ExitCode;
 use std::{env, fs, io};
 use urlpat_commands::explains_errors;
-use urlpat_explain::explain;
-use urlpat_links::link;
+use urlpat_explain::{explain, link};
+use urlpat_lines::{Flags, take_flags, words_after};
 use urlpat_matching::{Failure, fail};
 use urlpat_rules::Tables;
-use urlpat_words::{Flags, take_flags, words_after};
 
 /// The files of the host.
 #[derive(Drop)]

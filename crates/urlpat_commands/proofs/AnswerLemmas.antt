@@ -7,8 +7,8 @@ use Rattle.urlpat_commands.specs.declared.command.Printed.{Printed}
 use Rattle.urlpat_matching.specs.MatchTexts.{IsMatchText, IsUnmatched}
 use Rattle.urlpat_matching.specs.PatternWords.{RefusesPatternOf, base_of}
 use Rattle.urlpat_matching.specs.declared.status.Failure.TheVariants as failures
-use Rattle.urlpat_words.specs.Words.{words_view}
-use Rattle.urlpat_words.specs.declared.flags.Flags.{Flags}
+use Rattle.urlpat_lines.specs.Words.{words_view}
+use Rattle.urlpat_lines.specs.declared.flags.Flags.{Flags}
 use Rattle.urlpattern.specs.Errors.{MemoryOr}
 use Rattle.urlpattern_syntax.specs.declared.error.Error.{Error}
 

@@ -5,10 +5,10 @@ use Rattle.urlpattern_canonical.specs.BaseUrls.{BaseView, base_view}
 use Rattle.urlpat_matching.specs.PatternWords.{base_of}
 use Rattle.urlpat_commands.specs.FilterLines.{FiltersLines, IsAskedPattern, IsFiltered}
 use Rattle.urlpat_matching.specs.Status.{status_of}
-use Rattle.urlpat_filter.specs.Filters.{FiltersText}
-use Rattle.urlpat_words.specs.Queries.{IsQueryOf}
-use Rattle.urlpat_words.specs.declared.flags.Flags.{Flags}
-use Rattle.urlpat_words.specs.declared.query.Query.{Query}
+use Rattle.urlpat_lines.specs.Filters.{FiltersText}
+use Rattle.urlpat_lines.specs.Queries.{IsQueryOf}
+use Rattle.urlpat_lines.specs.declared.flags.Flags.{Flags}
+use Rattle.urlpat_lines.specs.declared.query.Query.{Query}
 use Rattle.urlpattern.specs.Patterns.{PatternView}
 use Rattle.urlpattern_engine.specs.declared.pattern_regexp.PatternRegexp.{PatternRegexp}
 

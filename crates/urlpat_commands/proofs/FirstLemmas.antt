@@ -12,7 +12,7 @@ use Rattle.serde_json.specs.Data.{Data, no_members, number, put, unsigned}
 use Rattle.serde_json.specs.Written.{has_float}
 use Rattle.urlpat_commands.specs.Json.{first_tree}
 use Rattle.urlpat_matching.proofs.JsonLemmas.{put-none}
-use Rattle.urlpat_words.specs.declared.flags.Flags.{Flags}
+use Rattle.urlpat_lines.specs.declared.flags.Flags.{Flags}
 use Rattle.urlpattern.specs.Errors.{MemoryOr}
 use Rattle.urlpattern.specs.Patterns.{PatternView, pattern_view}
 use Rattle.urlpattern.specs.FirstMatch.{patterns_view}

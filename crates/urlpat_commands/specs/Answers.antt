@@ -13,8 +13,8 @@ use Rattle.urlpat_matching.specs.GroupLines.{AreLines, all_named_results}
 use Rattle.urlpattern_canonical.specs.BaseUrls.{IsUrlOf, base_view}
 use Rattle.urlpat_matching.specs.MatchTexts.{IsMatchText, IsUnmatched, IsUnmatchedByAllUnder}
 use Rattle.urlpat_matching.specs.PatternWords.{IsPatternOf, RefusesPatternOf, base_of}
-use Rattle.urlpat_words.specs.Help.{IsHelp}
-use Rattle.urlpat_words.specs.declared.flags.Flags.{Flags}
+use Rattle.urlpat_lines.specs.Help.{IsHelp}
+use Rattle.urlpat_lines.specs.declared.flags.Flags.{Flags}
 use Rattle.urlpat_commands.specs.Json.{IsFirstJson}
 use Rattle.urlpat_commands.specs.Kinds.{IsKind, NamesOptions}
 use Rattle.urlpat_commands.specs.Report.{component_lines, first_line, no_match_text}
@@ -32,7 +32,7 @@ use Rattle.urlpattern.specs.RegexpText.{group_names, regexp_text}
 use Rattle.urlpattern.specs.RoundTrip.{IsPrintable, ReadsBack}
 use Rattle.urlpattern_engine.specs.PatternRegexps.{pattern_answer}
 use Rattle.urlpattern_engine.specs.declared.pattern_regexp.PatternRegexp.{PatternRegexp}
-use Rattle.urlpattern_eight.specs.declared.eight.ComponentName.{ComponentName}
+use Rattle.urlpattern_components.specs.declared.eight.ComponentName.{ComponentName}
 use Rattle.urlpattern_init.specs.declared.init.UrlPatternMatchInput.TheVariants as match_inputs
 use Rattle.urlpattern_syntax.specs.declared.error.Error.{Error}
 use Rattle.urlpattern_syntax.specs.declared.error.Error.TheVariants as errors

@@ -13,22 +13,22 @@ use Rattle.urlpat_matching.specs.Groups.{has_group}
 use Rattle.urlpat_matching.specs.MatchJson.{IsMatchJson}
 use Rattle.urlpat_matching.specs.Status.{status_of}
 use Rattle.urlpat_matching.specs.declared.status.TheConstants.{FAILED}
-use Rattle.urlpat_filter.specs.Filters.{FilterAnswers, FiltersText}
+use Rattle.urlpat_lines.specs.Filters.{FilterAnswers, FiltersText}
 use Rattle.urlpat_lines.specs.declared.answers.Verdict.{Verdict}
-use Rattle.urlpat_words.specs.Queries.{IsQueryOf}
-use Rattle.urlpat_words.specs.Words.{AreWordsAfter, words_view}
-use Rattle.urlpat_words.specs.declared.flags.Flags.{Flags}
-use Rattle.urlpat_words.specs.declared.query.Query.{Query}
-use Rattle.urlpat_words.specs.declared.query.Shape.{Shape}
-use Rattle.urlpat_words.specs.declared.query.Shape.TheVariants as shapes
+use Rattle.urlpat_lines.specs.Queries.{IsQueryOf}
+use Rattle.urlpat_lines.specs.Words.{AreWordsAfter, words_view}
+use Rattle.urlpat_lines.specs.declared.flags.Flags.{Flags}
+use Rattle.urlpat_lines.specs.declared.query.Query.{Query}
+use Rattle.urlpat_lines.specs.declared.query.Shape.{Shape}
+use Rattle.urlpat_lines.specs.declared.query.Shape.TheVariants as shapes
 use Rattle.urlpattern.specs.Match.{IsMatch}
 use Rattle.urlpattern.specs.ResultViews.{ResultView}
 use Rattle.urlpattern.specs.Patterns.{PatternView}
 use Rattle.urlpattern_engine.specs.PatternRegexps.{pattern_answer}
 use Rattle.urlpattern_engine.specs.declared.pattern_regexp.PatternRegexp.{PatternRegexp}
 use Rattle.urlpattern_init.specs.declared.init.UrlPatternMatchInput.TheVariants as match_inputs
-use Rattle.urlpattern_eight.specs.Eight.{name_text}
-use Rattle.urlpattern_eight.specs.declared.eight.ComponentName.{ComponentName}
+use Rattle.urlpattern_components.specs.Eight.{name_text}
+use Rattle.urlpattern_components.specs.declared.eight.ComponentName.{ComponentName}
 
 -- what is printed of a group: what it captured, or nothing
 abbrev pub capture_or_nothing : Option (List ℕ) → List ℕ

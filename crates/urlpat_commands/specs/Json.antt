@@ -2,7 +2,7 @@
 use Rattle.std.specs.Prelude.{◌≡◌, ℕ, List, [], ◌∷◌, codes, Some}
 use Rattle.serde_json.specs.Data.{Data, number, unsigned}
 use Rattle.urlpat_matching.specs.MatchJson.{IsMatchTree, json_line}
-use Rattle.urlpattern_eight.specs.declared.eight.ComponentName.{ComponentName}
+use Rattle.urlpattern_components.specs.declared.eight.ComponentName.{ComponentName}
 use Rattle.urlpattern_inputs.specs.Trees.{object_of}
 use Rattle.urlpattern_matches.specs.ResultViews.{ResultView}
 

@@ -3,7 +3,7 @@ use Rattle.std.specs.Prelude.{◌≡◌, ◌⊎◌, ◌++◌, ℕ, true, List, [
 use Rattle.std.specs.Io.KnownBytes.{Appends}
 use Rattle.std.specs.declared.alloc.Global.{Global}
 use Rattle.urlpat_commands.specs.Answers.{IsCommand}
-use Rattle.urlpat_words.specs.declared.flags.Flags.{Flags}
+use Rattle.urlpat_lines.specs.declared.flags.Flags.{Flags}
 use Rattle.urlpattern_canonical.specs.BaseUrls.{IsRefusedText}
 use Rattle.urlpat_matching.specs.PatternWords.{base_of}
 

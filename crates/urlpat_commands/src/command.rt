@@ -3,7 +3,7 @@
 ghost use Rattle.std.specs.Io.KnownBytes.{Appends};
 ghost use Rattle.std.specs.Prelude.{◌≡◌, ◌≢◌, ◌⊎◌, map, string_bytes, IfErr, IfOk, IfSome, OnOk, Ok, None};
 ghost use Rattle.urlpat_commands.specs.Answers.{FailsComponent, FailsWhere, AreAnswered, IsCommandAnswer, IsComponentAnswer, IsComponentFailure, IsComponentText, CopiesBytes, IsFailure, IsPrintedOf, Prints, IsFirstAnswer, IsFirstFailure, IsShortAnswer, IsShortFailure, IsMatchAnswer, IsMatchFailure};
-ghost use Rattle.urlpat_words.specs.Words.{words_view};
+ghost use Rattle.urlpat_lines.specs.Words.{words_view};
 ghost use Rattle.urlpat_commands.specs.Kinds.{IsKind, NamesOptions};
 ghost use Rattle.urlpat_commands.specs.FilterLines.{AskToFilter, FailsOne, RunsOne};
 ghost use Rattle.urlpat_commands.specs.Notes.{ExplainsErrors, HasNote, ReportsFirst, note_bytes};
@@ -18,10 +18,10 @@ use crate::notes::{diagnosis_note, explains_errors, input_note};
 use std::alloc::{AllocError, Global};
 use std::io;
 use std::io::{BufRead, Write};
+use urlpat_lines::{Flags, help_of, words_after};
 use urlpat_matching::{
     DONE, FAILED, Failure, NO_BASE, NO_MATCH, fail, matched_groups, print, report,
 };
-use urlpat_words::{Flags, help_of, words_after};
 use urlpattern::Error;
 use urlpattern::component::{generate_pattern_string, generate_regular_expression_and_name_list};
 use urlpattern::parser::{Options, parse_pattern_string};

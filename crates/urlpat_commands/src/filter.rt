@@ -5,18 +5,17 @@ ghost use Rattle.std.specs.Prelude.{◌≡◌, ◌⊎◌, option_copied, IfNone,
 ghost use Rattle.urlpat_matching.specs.MatchTexts.{IsUnmatchedUnder};
 ghost use Rattle.urlpattern_canonical.specs.BaseUrls.{kept_base};
 ghost use Rattle.urlpat_commands.specs.FilterLines.{FilterReplies, HasAskedGroup, HasPiece, IsAskedPattern, IsMissingGroup, IsPieceOf, missing_group_line};
-ghost use Rattle.urlpat_filter.specs.Filters.{GetsPiece};
+ghost use Rattle.urlpat_lines.specs.Filters.{GetsPiece};
 ghost use Rattle.urlpattern.specs.BorrowedMatches.{pattern_captures_view};
 ghost use Rattle.urlpattern.specs.Patterns.{pattern_view};
 
 use std::alloc::{AllocError, Global};
 use std::io;
 use std::io::{BufRead, Write};
-use urlpat_filter::{LineMatcher, Outcome, filter_lines};
+use urlpat_lines::{Flags, LineMatcher, Outcome, Query, Shape, filter_lines, query_of};
 use urlpat_matching::{
     DONE, FAILED, NO_MATCH, base_of, capture_of, compiled, has_group, match_json, write_refusal,
 };
-use urlpat_words::{Flags, Query, Shape, query_of};
 use urlpattern::regexp::PatternRegexp;
 use urlpattern::{ComponentName, UrlPattern, UrlPatternCaptures};
 use urlpattern_canonical::BaseUrl;

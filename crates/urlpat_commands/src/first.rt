@@ -3,15 +3,15 @@
 ghost use Rattle.std.specs.Prelude.{option_copied, string_bytes, IfErr, IfOk};
 ghost use Rattle.urlpat_commands.specs.Answers.{ArePatterns, FindsFirst, FindsFirstBy, RefusesOneOf, ShowsFirst};
 ghost use Rattle.urlpat_matching.specs.PatternWords.{base_of};
-ghost use Rattle.urlpat_words.specs.Words.{words_view};
+ghost use Rattle.urlpat_lines.specs.Words.{words_view};
 ghost use Rattle.urlpattern.specs.BorrowedMatches.{pattern_captures_view};
 ghost use Rattle.urlpattern.specs.Errors.{MemoryOr, OnlyOutOfMemory};
 ghost use Rattle.urlpattern.specs.FirstMatch.{patterns_view};
 
 use crate::json::first_json;
 use std::alloc::{AllocError, Global};
+use urlpat_lines::Flags;
 use urlpat_matching::{base_of, compiled, push_match};
-use urlpat_words::Flags;
 use urlpattern::regexp::PatternRegexp;
 use urlpattern::{Error, UrlPatternCaptures, UrlPatternList};
 use urlpattern_canonical::find_url;

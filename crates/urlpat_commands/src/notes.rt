@@ -1,14 +1,14 @@
 //! What goes to standard error beside the answer: what is wrong with a pattern that is refused, and that an input is no URL.
 
 ghost use Rattle.std.specs.Prelude.{IfOk, IfSome, IsFalse, IsTrue};
-ghost use Rattle.urlpat_words.specs.Words.{words_view};
+ghost use Rattle.urlpat_lines.specs.Words.{words_view};
 ghost use Rattle.urlpat_commands.specs.Answers.{IsCommand};
 ghost use Rattle.urlpat_commands.specs.Notes.{AreOfCommand, ExplainsErrors, HasRefusedFirstInput, HasRefusedInput, HasRefusedMatchInput, HasRefusedShortInput};
 
 use crate::command::options_of;
 use std::alloc::Global;
+use urlpat_lines::Flags;
 use urlpat_matching::{Failure, base_of, first_diagnosis, match_diagnosis, note_of};
-use urlpat_words::Flags;
 use urlpattern::error::OutOfMemory;
 use urlpattern::parser::parse_pattern_string;
 use urlpattern::{ComponentName, Diagnosis, Error, Subject};

@@ -7,10 +7,10 @@ use Rattle.serde_json.specs.Written.{has_float, members_have_float}
 use Rattle.urlpat_explain.specs.Explained.{ExplainedView}
 use Rattle.urlpat_explain.specs.Json.{AreInputMembers, IsExplainedTree, IsExplanationTree, Named, captured_members, groups_named, pattern_members, place_members, verdict_members}
 use Rattle.urlpat_matching.proofs.JsonLemmas.{each-none, put-none}
-use Rattle.urlpattern_eight.specs.Eight.{Texts, at, components}
-use Rattle.urlpattern_eight.specs.declared.eight.ComponentName.{ComponentName}
+use Rattle.urlpattern_components.specs.Eight.{Texts, at, components}
+use Rattle.urlpattern_components.specs.declared.eight.ComponentName.{ComponentName}
 use Rattle.urlpattern_engine.specs.declared.pattern_regexp.PatternRegexp.{PatternRegexp}
-use Rattle.urlpattern_faults.specs.declared.span.Span.{Span}
+use Rattle.urlpattern_diagnosis.specs.declared.span.Span.{Span}
 use Rattle.urlpattern_inputs.specs.Trees.{all_with}
 use Rattle.urlpattern_meaning.specs.PartMeaning.{Captures}
 use Rattle.urlpattern_pattern.specs.Patterns.{PatternView}

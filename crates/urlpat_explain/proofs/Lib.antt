@@ -4,3 +4,5 @@ pub mod PlaceLemmas
 pub mod RowLemmas
 pub mod TreeLemmas
 mod RowExamples
+pub mod GivenLemmas
+pub mod LinkLemmas

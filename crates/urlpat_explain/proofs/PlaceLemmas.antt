@@ -4,7 +4,7 @@ use Rattle.std.proofs.lemmas.Str.{encodes-chars}
 use Rattle.std.specs.Prelude.{IfSome, IsSomeAnd, Option, None, Some}
 use Rattle.std.specs.Str.{IsUtf8, chars}
 use Rattle.urlpat_explain.specs.Places.{IsSpanOf, MayBeAt}
-use Rattle.urlpattern_faults.specs.declared.span.Span.{Span}
+use Rattle.urlpattern_diagnosis.specs.declared.span.Span.{Span}
 
 pub place-of : (string : List ℕ) (given : Option (List ℕ)) (text : List ℕ) (place : Option Span) → Some (chars text) ≡ given → IsUtf8 text
     → IfSome place (IsSpanOf string text) → MayBeAt string given place

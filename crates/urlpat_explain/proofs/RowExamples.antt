@@ -3,7 +3,7 @@ use Rattle.std.proofs.Common.{◌≡◌, [], codes, refl}
 use Rattle.std.specs.Prelude.{None, Some}
 use Rattle.urlpat_explain.specs.Notes.{left_out_name, names_line}
 use Rattle.urlpat_explain.specs.Rows.{shown}
-use Rattle.urlpattern_eight.specs.declared.eight.ComponentName.TheVariants.{Hash}
+use Rattle.urlpattern_components.specs.declared.eight.ComponentName.TheVariants.{Hash}
 
 empty_text_is_quoted : shown [] ≡ codes "\"\""
 empty_text_is_quoted = refl

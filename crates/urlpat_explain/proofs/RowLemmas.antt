@@ -8,8 +8,8 @@ use Rattle.std.specs.Prelude.{Option, None, Some, String}
 use Rattle.std.specs.Str.{IsUtf8, chars}
 use Rattle.std.specs.declared.alloc.Global.{Global}
 use Rattle.urlpat_explain.specs.Rows.{HasPieceForEach, group_cell}
-use Rattle.urlpattern_eight.specs.declared.eight.ComponentName.{ComponentName}
-use Rattle.urlpattern_eight.specs.declared.eight.ComponentName.TheVariants.{Protocol}
+use Rattle.urlpattern_components.specs.declared.eight.ComponentName.{ComponentName}
+use Rattle.urlpattern_components.specs.declared.eight.ComponentName.TheVariants.{Protocol}
 use Rattle.urlpattern_matches.specs.GroupTexts.{texts_of}
 use Rattle.urlpattern_syntax.specs.Text.{option_text, text_of}
 

@@ -9,11 +9,11 @@ use Rattle.std.specs.declared.alloc.Global.{Global}
 use Rattle.serde_json.specs.Data.{Data, Members, no_members, object, put, string}
 use Rattle.urlpat_explain.specs.Json.{Named, capture_tree, groups_named}
 use Rattle.urlpat_matching.proofs.MatchLemmas.{bytes_of_text}
-use Rattle.urlpattern_eight.proofs.EightLemmas.{by_name}
-use Rattle.urlpattern_eight.specs.Eight.{at, components, name_text}
-use Rattle.urlpattern_eight.specs.declared.eight.ComponentName.{ComponentName}
-use Rattle.urlpattern_eight.specs.declared.eight.ComponentName.TheVariants.{Protocol}
-use Rattle.urlpattern_eight.specs.declared.eight.Eight.{Eight}
+use Rattle.urlpattern_components.proofs.EightLemmas.{by_name}
+use Rattle.urlpattern_components.specs.Eight.{at, components, name_text}
+use Rattle.urlpattern_components.specs.declared.eight.ComponentName.{ComponentName}
+use Rattle.urlpattern_components.specs.declared.eight.ComponentName.TheVariants.{Protocol}
+use Rattle.urlpattern_components.specs.declared.eight.Eight.{Eight}
 use Rattle.urlpattern_inputs.specs.Trees.{all_with, each_member, object_of, with}
 use Rattle.urlpattern_matches.specs.GroupTexts.{texts_of}
 use Rattle.urlpattern_syntax.specs.Text.{option_text, text_of}

@@ -3,8 +3,8 @@ use Rattle.std.specs.Prelude.{◌≡◌, ◌++◌, ℕ, List, Option, String, ma
 use Rattle.std.specs.Borrow.{Bor}
 use Rattle.std.specs.declared.alloc.Global.{Global}
 use Rattle.urlpat_explain.specs.declared.explained.Explained.{Explained}
-use Rattle.urlpattern_eight.specs.Eight.{Texts, Values}
-use Rattle.urlpattern_eight.specs.declared.eight.Eight.{Eight}
+use Rattle.urlpattern_components.specs.Eight.{Texts, Values}
+use Rattle.urlpattern_components.specs.declared.eight.Eight.{Eight}
 use Rattle.urlpattern_engine.specs.declared.pattern_regexp.PatternRegexp.{PatternRegexp}
 use Rattle.urlpattern_init.specs.Inheritance.{values_view}
 use Rattle.urlpattern_matches.specs.GroupTexts.{borrowed_texts, texts_of}

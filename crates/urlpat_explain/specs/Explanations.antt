@@ -11,10 +11,10 @@ use Rattle.urlpat_explain.specs.declared.explaining.{Asked.Asked, Explanation.Ex
 use Rattle.urlpat_explain.specs.Json.{IsExplanationJson}
 use Rattle.urlpat_explain.specs.Notes.{AreNotes}
 use Rattle.urlpat_explain.specs.Rows.{IsMatchTable, pattern_table}
-use Rattle.urlpat_words.specs.declared.flags.Flags.{Flags}
-use Rattle.urlpattern_create.specs.Compiled.{pattern_values}
-use Rattle.urlpattern_create.specs.FromString.{IsInitOfText}
-use Rattle.urlpattern_eight.specs.Eight.{Texts, Values}
+use Rattle.urlpat_lines.specs.declared.flags.Flags.{Flags}
+use Rattle.urlpattern_compile.specs.Compiled.{pattern_values}
+use Rattle.urlpattern_compile.specs.FromString.{IsInitOfText}
+use Rattle.urlpattern_components.specs.Eight.{Texts, Values}
 use Rattle.urlpattern_engine.specs.PatternRegexps.{pattern_answer, pattern_engine}
 use Rattle.urlpattern_engine.specs.declared.pattern_regexp.PatternRegexp.{PatternRegexp}
 use Rattle.urlpattern_init.specs.Inheritance.{texts_of_url, values_view}

@@ -6,12 +6,12 @@ use Rattle.serde_json.specs.declared.value.Value.{Value}
 use Rattle.urlpat_explain.specs.Explained.{ExplainedView}
 use Rattle.urlpat_explain.specs.Places.{MayBeAt}
 use Rattle.urlpat_matching.specs.MatchJson.{json_line}
-use Rattle.urlpattern_core.specs.Components.{ComponentView}
-use Rattle.urlpattern_eight.specs.Eight.{Texts, at, name_text}
-use Rattle.urlpattern_eight.specs.declared.eight.{ComponentName.ComponentName, Eight.Eight}
+use Rattle.urlpattern_matcher.specs.Components.{ComponentView}
+use Rattle.urlpattern_components.specs.Eight.{Texts, at, name_text}
+use Rattle.urlpattern_components.specs.declared.eight.{ComponentName.ComponentName, Eight.Eight}
 use Rattle.urlpattern_engine.specs.PatternRegexps.{pattern_answer}
 use Rattle.urlpattern_engine.specs.declared.pattern_regexp.PatternRegexp.{PatternRegexp}
-use Rattle.urlpattern_faults.specs.declared.span.Span.{Span}
+use Rattle.urlpattern_diagnosis.specs.declared.span.Span.{Span}
 use Rattle.urlpattern_inputs.specs.Trees.{Gain, GainAll, each_member, object_of}
 use Rattle.urlpattern_meaning.specs.Matching.{Answers}
 use Rattle.urlpattern_meaning.specs.PartMeaning.{Captures}

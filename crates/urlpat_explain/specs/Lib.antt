@@ -4,3 +4,5 @@ pub mod Json
 pub mod Notes
 pub mod Places
 pub mod Rows
+pub mod Given
+pub mod LinkAnswers

@@ -4,8 +4,8 @@ use Rattle.std.specs.List.{flat_map}
 use Rattle.urlpat_explain.specs.Explained.{ExplainedView}
 use Rattle.urlpat_explain.specs.Places.{ArePlaceCells}
 use Rattle.urlpat_explain.specs.declared.notes.TheConstants.{DEFAULT_PORT, EMPTY_PORT, INHERITED, LEFT_OUT, PLACES}
-use Rattle.urlpattern_eight.specs.Eight.{Values, at, components, name_text}
-use Rattle.urlpattern_eight.specs.declared.eight.ComponentName.{ComponentName}
+use Rattle.urlpattern_components.specs.Eight.{Values, at, components, name_text}
+use Rattle.urlpattern_components.specs.declared.eight.ComponentName.{ComponentName}
 
 -- the name of a component that is not given and has a value, which is inherited
 abbrev pub inherited_name : ComponentName → (given value : Option (List ℕ)) → List ℕ

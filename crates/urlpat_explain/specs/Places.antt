@@ -1,9 +1,9 @@
 -- Where the texts of components are in a constructor string, which is bytes.
 use Rattle.std.specs.Prelude.{◌≡◌, ℕ, ◌<◌, ◌≤◌, List, [], ◌++◌, IfSome, IsSomeAnd, codes, decimal, encode_utf8_all, length, slice_range, Option, None, Some}
 use Rattle.urlpat_explain.specs.Rows.{HasPieceForEach}
-use Rattle.urlpattern_eight.specs.Eight.{Values, at, components, name_text}
-use Rattle.urlpattern_eight.specs.declared.eight.ComponentName.{ComponentName}
-use Rattle.urlpattern_faults.specs.declared.span.Span.{Span}
+use Rattle.urlpattern_components.specs.Eight.{Values, at, components, name_text}
+use Rattle.urlpattern_components.specs.declared.eight.ComponentName.{ComponentName}
+use Rattle.urlpattern_diagnosis.specs.declared.span.Span.{Span}
 
 -- These bytes of the string are the text, which is not empty.
 pub record IsSpanOf (string text : List ℕ) (span : Span) : Type 0 where

@@ -4,9 +4,9 @@ use Rattle.std.specs.List.{flat_map, repeat}
 use Rattle.std.specs.Str.{chars}
 use Rattle.urlpat_matching.specs.GroupLines.{capture_text}
 use Rattle.urlpat_explain.specs.declared.table.TheConstants.{NAME_WIDTH}
-use Rattle.urlpattern_core.specs.Components.{ComponentView}
-use Rattle.urlpattern_eight.specs.Eight.{Texts, at, components, name_text}
-use Rattle.urlpattern_eight.specs.declared.eight.ComponentName.{ComponentName}
+use Rattle.urlpattern_matcher.specs.Components.{ComponentView}
+use Rattle.urlpattern_components.specs.Eight.{Texts, at, components, name_text}
+use Rattle.urlpattern_components.specs.declared.eight.ComponentName.{ComponentName}
 use Rattle.urlpattern_engine.specs.PatternRegexps.{pattern_answer}
 use Rattle.urlpattern_engine.specs.declared.pattern_regexp.PatternRegexp.{PatternRegexp}
 use Rattle.urlpattern_meaning.specs.Matching.{Answers}

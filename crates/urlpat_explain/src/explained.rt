@@ -4,13 +4,12 @@ ghost use Rattle.std.specs.Prelude.{◌≡◌, IfSome};
 ghost use Rattle.urlpat_explain.specs.Explained.{explained_view};
 ghost use Rattle.urlpat_explain.specs.Json.{origin};
 ghost use Rattle.urlpat_explain.specs.Places.{IsSpanOf, MayBeAt};
-ghost use Rattle.urlpattern_eight.specs.Eight.{at};
+ghost use Rattle.urlpattern_components.specs.Eight.{at};
 ghost use Rattle.urlpattern_syntax.specs.Text.{option_text};
 
-use urlpattern_diagnosis::component_start;
-use urlpattern_eight::{ComponentName, Eight};
+use urlpattern_components::{ComponentName, Eight};
+use urlpattern_diagnosis::{Span, component_start};
 use urlpattern_engine::PatternRegexp;
-use urlpattern_faults::Span;
 use urlpattern_init::UrlPatternInit;
 use urlpattern_pattern::UrlPattern;
 

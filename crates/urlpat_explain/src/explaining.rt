@@ -4,7 +4,7 @@ ghost use Rattle.std.specs.Prelude.{◌≡◌, ◌≢◌, ◌⊎◌, length, opt
 ghost use Rattle.urlpat_matching.specs.Status.{status_of};
 ghost use Rattle.urlpat_explain.specs.Explained.{explained_view, lent_texts};
 ghost use Rattle.urlpat_explain.specs.Explanations.{AskToExplain, Explains, IsExplained, IsExplanation, IsExplanationOf, IsShown, IsTable, asked_view};
-ghost use Rattle.urlpat_words.specs.Words.{words_view};
+ghost use Rattle.urlpat_lines.specs.Words.{words_view};
 ghost use Rattle.urlpattern_pattern.specs.Patterns.{pattern_view};
 
 use crate::explained::Explained;
@@ -13,13 +13,13 @@ use crate::notes::push_notes;
 use crate::table::{match_table, pattern_table};
 use std::alloc::Global;
 use std::io::Write;
+use urlpat_lines::Flags;
 use urlpat_matching::{
     DONE, FAILED, Failure, NO_MATCH, base_of, compiled, fail, note_of, print, write_refusal,
 };
-use urlpat_words::Flags;
 use urlpattern_canonical::find_url;
-use urlpattern_create::{init_of_text, pattern_values};
-use urlpattern_eight::Eight;
+use urlpattern_compile::{init_of_text, pattern_values};
+use urlpattern_components::Eight;
 use urlpattern_engine::PatternRegexp;
 use urlpattern_init::UrlPatternInit;
 use urlpattern_matches::url_texts;

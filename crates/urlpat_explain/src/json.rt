@@ -5,7 +5,7 @@ ghost use Rattle.std.specs.Prelude.{◌≡◌, Some, string_bytes, IfOk, OnOk};
 ghost use Rattle.std.specs.Str.{chars};
 ghost use Rattle.urlpat_explain.specs.Explained.{explained_view, lent_texts, named_captures};
 ghost use Rattle.urlpat_explain.specs.Json.{GainsTree, GainsMatch, IsExplainedTree, IsExplanationJson, IsExplanationTree, capture_tree, groups_named, pattern_members, place_members, verdict_members};
-ghost use Rattle.urlpattern_core.specs.Components.{component_view};
+ghost use Rattle.urlpattern_matcher.specs.Components.{component_view};
 ghost use Rattle.urlpattern_inputs.specs.Trees.{GainAll, object_of};
 ghost use Rattle.urlpattern_syntax.specs.Text.{option_text};
 
@@ -13,11 +13,11 @@ use crate::explained::Explained;
 use serde_json::{Map, Value};
 use std::alloc::{AllocError, Global};
 use urlpat_matching::json_line;
-use urlpattern_core::component::Component;
-use urlpattern_eight::{ComponentName, Eight};
+use urlpattern_components::{ComponentName, Eight};
+use urlpattern_diagnosis::Span;
 use urlpattern_engine::PatternRegexp;
-use urlpattern_faults::Span;
 use urlpattern_inputs::writing::put_text;
+use urlpattern_matcher::component::Component;
 use urlpattern_syntax::Error;
 
 /// The line of an explanation: an object with a key for each component, whose texts of a URL may be given.

@@ -1,10 +1,14 @@
-//! The command `explain` of the program `urlpat`: what each component of a pattern is, where it comes from, and whether it matches a URL.
+//! The commands `explain` and `link` of the program.
 #![tactic(auto)]
 
 mod explained;
 mod explaining;
+mod given;
 mod json;
+mod linking;
 mod notes;
+mod reason;
 mod table;
 
 pub use explaining::explain;
+pub use linking::link;

@@ -11,8 +11,8 @@ ghost use Rattle.urlpattern_syntax.specs.Text.{option_text};
 
 use crate::explained::Explained;
 use std::alloc::{AllocError, Global};
-use urlpattern_eight::ComponentName;
-use urlpattern_faults::Span;
+use urlpattern_components::ComponentName;
+use urlpattern_diagnosis::Span;
 use urlpattern_init::UrlPatternInit;
 
 /// What is said of components that are in the constructor string.

@@ -6,15 +6,15 @@ ghost use Rattle.std.specs.Str.{chars};
 ghost use Rattle.urlpat_matching.specs.GroupLines.{GetsLines};
 ghost use Rattle.urlpat_explain.specs.Explained.{GetsBytes, named_captures};
 ghost use Rattle.urlpat_explain.specs.Rows.{IsMatchTable, IsVerdict, column, group_cell, pattern_cell, pattern_table, shown, text_cell, widest};
-ghost use Rattle.urlpattern_core.specs.Components.{component_view};
+ghost use Rattle.urlpattern_matcher.specs.Components.{component_view};
 ghost use Rattle.urlpattern_matches.specs.GroupTexts.{borrowed_texts};
 ghost use Rattle.urlpattern_pattern.specs.Patterns.{pattern_view};
 ghost use Rattle.urlpattern_syntax.specs.Text.{option_text};
 
 use std::alloc::{AllocError, Global};
-use urlpattern_core::component::Component;
-use urlpattern_eight::{ComponentName, Eight};
+use urlpattern_components::{ComponentName, Eight};
 use urlpattern_engine::PatternRegexp;
+use urlpattern_matcher::component::Component;
 use urlpattern_pattern::UrlPattern;
 use urlpattern_syntax::Error;
 

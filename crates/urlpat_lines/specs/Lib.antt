@@ -1,2 +1,8 @@
 pub mod Answers
 pub mod Lines
+pub mod Filters
+pub mod Tables
+pub mod Flags
+pub mod Help
+pub mod Queries
+pub mod Words

@@ -18,7 +18,7 @@ use Rattle.urlpat_matching.specs.GroupLines.{AreNames, group_bytes, named_group_
 use Rattle.urlpattern_matches.specs.BorrowedMatches.{pattern_captures_view, groups_view}
 use Rattle.urlpattern_matches.specs.ResultViews.{ResultView}
 use Rattle.urlpattern_syntax.specs.Text.{text_of}
-use Rattle.urlpattern_eight.specs.declared.eight.ComponentName.{ComponentName}
+use Rattle.urlpattern_components.specs.declared.eight.ComponentName.{ComponentName}
 use Rattle.urlpattern_matches.specs.declared.captures.UrlPatternCaptures.{UrlPatternCaptures}
 
 -- ---- names that are gathered

@@ -8,8 +8,8 @@ use Rattle.std.specs.declared.alloc.Global.{Global}
 use Rattle.serde_json.specs.Data.{Data, null, boolean, string, object, Members, no_members, member, put}
 use Rattle.serde_json.specs.Written.{has_float, members_have_float}
 use Rattle.urlpat_matching.specs.MatchJson.{IsMatchTree, json_line}
-use Rattle.urlpattern_eight.specs.Eight.{at, components, name_text}
-use Rattle.urlpattern_eight.specs.declared.eight.ComponentName.{ComponentName}
+use Rattle.urlpattern_components.specs.Eight.{at, components, name_text}
+use Rattle.urlpattern_components.specs.declared.eight.ComponentName.{ComponentName}
 use Rattle.urlpattern_inputs.specs.Trees.{all_with}
 use Rattle.urlpattern_matches.specs.ResultJson.{GroupsByName, IsComponentTree, PlainResultView, are_captures, captured_read, group_member, groups_read}
 use Rattle.urlpattern_matches.specs.ResultViews.{ResultView}

@@ -7,10 +7,10 @@ use Rattle.std.specs.declared.alloc.Global.{Global}
 use Rattle.urlpat_matching.specs.GroupLines.{AreGroupLines, AreLines, named_results}
 use Rattle.urlpat_matching.specs.MatchTexts.{IsMatchText, IsMatchTextBy, IsUnmatched, IsUnmatchedBy}
 use Rattle.urlpat_matching.specs.PatternWords.{IsPatternOf, default_pattern_options}
-use Rattle.urlpat_words.specs.declared.flags.Flags.{Flags}
-use Rattle.urlpattern_eight.specs.Eight.{name_text}
-use Rattle.urlpattern_eight.specs.declared.eight.ComponentName.{ComponentName}
-use Rattle.urlpattern_eight.specs.declared.eight.ComponentName.TheVariants.{Protocol}
+use Rattle.urlpat_lines.specs.declared.flags.Flags.{Flags}
+use Rattle.urlpattern_components.specs.Eight.{name_text}
+use Rattle.urlpattern_components.specs.declared.eight.ComponentName.{ComponentName}
+use Rattle.urlpattern_components.specs.declared.eight.ComponentName.TheVariants.{Protocol}
 use Rattle.urlpattern_engine.specs.declared.pattern_regexp.PatternRegexp.{PatternRegexp}
 use Rattle.urlpattern_inputs.specs.declared.options.UrlPatternOptions.{UrlPatternOptions}
 use Rattle.urlpattern_matches.specs.ResultViews.{ResultView}

@@ -1,7 +1,7 @@
 -- The groups of a pattern.
 use Rattle.std.specs.Prelude.{ℕ, Bool, List, bytes_eq}
 use Rattle.std.specs.List.{list_any}
-use Rattle.urlpattern_eight.specs.declared.eight.ComponentName.{ComponentName}
+use Rattle.urlpattern_components.specs.declared.eight.ComponentName.{ComponentName}
 use Rattle.urlpattern_pattern.specs.Patterns.{PatternView}
 
 -- whether a component of the pattern has a group of this name

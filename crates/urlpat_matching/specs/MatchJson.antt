@@ -2,7 +2,7 @@
 use Rattle.std.specs.Prelude.{◌≡◌, ◌++◌, ℕ, List, codes}
 use Rattle.serde_json.specs.Data.{Data}
 use Rattle.serde_json.specs.Written.{compact_text}
-use Rattle.urlpattern_eight.specs.declared.eight.ComponentName.{ComponentName}
+use Rattle.urlpattern_components.specs.declared.eight.ComponentName.{ComponentName}
 use Rattle.urlpattern_matches.specs.ResultJson.{IsResultTree, plain_results_view}
 use Rattle.urlpattern_matches.specs.ResultViews.{IsSameResult, ResultView, result_view}
 use Rattle.urlpattern_matches.specs.declared.result.UrlPatternResult.{UrlPatternResult}

@@ -6,8 +6,8 @@ use Rattle.urlpat_matching.specs.GroupLines.{AreLines, all_named_results}
 use Rattle.urlpattern_canonical.specs.BaseUrls.{BaseView, IsRefusedUnder, IsUrlOf, IsUrlUnder, base_view}
 use Rattle.urlpat_matching.specs.MatchJson.{IsMatchJson}
 use Rattle.urlpat_matching.specs.PatternWords.{IsPatternOf}
-use Rattle.urlpat_words.specs.declared.flags.Flags.{Flags}
-use Rattle.urlpattern_eight.specs.declared.eight.ComponentName.{ComponentName}
+use Rattle.urlpat_lines.specs.declared.flags.Flags.{Flags}
+use Rattle.urlpattern_components.specs.declared.eight.ComponentName.{ComponentName}
 use Rattle.urlpattern_engine.specs.PatternRegexps.{pattern_answer}
 use Rattle.urlpattern_engine.specs.declared.pattern_regexp.PatternRegexp.{PatternRegexp}
 use Rattle.urlpattern_init.specs.declared.init.UrlPatternMatchInput.TheVariants as match_inputs

@@ -1,7 +1,7 @@
 -- The pattern that a word and its base URL stand for. Words are bytes.
 use Rattle.std.specs.Prelude.{ℕ, Bool, false, if◌then◌else◌, List, bytes_eq, codes, Option, None, Some}
 use Rattle.std.specs.Str.{chars}
-use Rattle.urlpattern_create.specs.FromString.{IsPatternOfText, RefusesPatternOfText}
+use Rattle.urlpattern_compile.specs.FromString.{IsPatternOfText, RefusesPatternOfText}
 use Rattle.urlpattern_engine.specs.PatternRegexps.{pattern_engine}
 use Rattle.urlpattern_engine.specs.declared.pattern_regexp.PatternRegexp.{PatternRegexp}
 use Rattle.urlpattern_inputs.specs.declared.options.UrlPatternOptions.{UrlPatternOptions}

@@ -3,10 +3,10 @@
 ghost use Rattle.std.specs.List.{list_any};
 ghost use Rattle.std.specs.Prelude.{◌≡◌, bytes_eq, string_bytes};
 ghost use Rattle.std.specs.Str.{chars};
-ghost use Rattle.urlpattern_core.specs.Components.{component_view};
+ghost use Rattle.urlpattern_matcher.specs.Components.{component_view};
 
-use urlpattern_core::component::Component;
 use urlpattern_engine::PatternRegexp;
+use urlpattern_matcher::component::Component;
 
 /// Whether a component has a group of this name.
 pub fn has_group(component: &Component<PatternRegexp>, name: &str) -> bool

@@ -7,16 +7,16 @@ ghost use Rattle.urlpat_matching.specs.GroupLines.{AreGroupLines, AreLines, AreN
 ghost use Rattle.urlpat_matching.specs.MatchTexts.{FindsMatch, FindsMatchBy, ShowsMatch};
 ghost use Rattle.urlpat_matching.specs.PatternWords.{IsPatternOf, KeepsPartsOfWord, RefusesPatternOf, base_of};
 ghost use Rattle.urlpattern_matches.specs.BorrowedMatches.{pattern_captures_view, groups_view};
-ghost use Rattle.urlpattern_eight.specs.Eight.{name_text};
+ghost use Rattle.urlpattern_components.specs.Eight.{name_text};
 ghost use Rattle.urlpattern_syntax.specs.Errors.{MemoryOr, OnlyOutOfMemory};
 ghost use Rattle.urlpattern_pattern.specs.Patterns.{pattern_view};
 ghost use Rattle.urlpattern_syntax.specs.Text.{text_of};
 
 use crate::json::match_json;
 use std::alloc::{AllocError, Global};
-use urlpat_words::Flags;
+use urlpat_lines::Flags;
 use urlpattern_canonical::find_url;
-use urlpattern_eight::ComponentName;
+use urlpattern_components::ComponentName;
 use urlpattern_engine::PatternRegexp;
 use urlpattern_inputs::UrlPatternOptions;
 use urlpattern_matches::UrlPatternCaptures;

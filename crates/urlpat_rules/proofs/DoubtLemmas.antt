@@ -8,14 +8,14 @@ use Rattle.std.specs.Prelude.{Err, Ok, OnOk, Result, if◌then◌else◌}
 use Rattle.std.specs.Result.{is_ok}
 use Rattle.urlpat_rules.specs.Doubts.{AreDoubts, HasDoubts, IsDoubtAbout, IsDoubtAt, IsParted, TellsDoubts}
 use Rattle.urlpat_rules.specs.Unreached.{ArePartsOfEach}
-use Rattle.urlpat_tables.specs.Tables.{EntryView, entries_view, table_entries}
-use Rattle.urlpat_tables.specs.declared.table.Entry.{Entry}
+use Rattle.urlpat_lines.specs.Tables.{EntryView, entries_view, table_entries}
+use Rattle.urlpat_lines.specs.declared.table.Entry.{Entry}
 use Rattle.urlpat_rules.specs.declared.doubts.Doubt.{Doubt}
-use Rattle.urlpattern_eight.specs.declared.eight.ComponentName.{ComponentName}
-use Rattle.urlpattern_covers.specs.declared.parts.Reason.{Reason}
-use Rattle.urlpattern_rules.specs.Comparing.{IsNotKnownToCover, IsParting, IsReasonIn}
-use Rattle.urlpattern_rules.specs.declared.pattern.Parting.{Parting}
-use Rattle.urlpattern_rules.specs.declared.pattern.PatternParts.{PatternParts}
+use Rattle.urlpattern_components.specs.declared.eight.ComponentName.{ComponentName}
+use Rattle.urlpattern_compare.specs.declared.parts.Reason.{Reason}
+use Rattle.urlpattern_compare.specs.Comparing.{IsNotKnownToCover, IsParting, IsReasonIn}
+use Rattle.urlpattern_compare.specs.declared.pattern.Parting.{Parting}
+use Rattle.urlpattern_compare.specs.declared.pattern.PatternParts.{PatternParts}
 
 -- a doubt about the asked pattern, whose index is given: those before the one in question part
 pub record IsDoubt (index : ℕ) (patterns : List PatternParts) (asked : PatternParts) (doubt : Doubt) :

@@ -6,13 +6,13 @@ use Rattle.std.specs.List.{AllZip}
 use Rattle.std.specs.Prelude.{Option, String, nat_lt, string_bytes}
 use Rattle.std.specs.Io.KnownBytes.{Appends}
 use Rattle.std.specs.declared.alloc.Global.{Global}
-use Rattle.urlpat_words.specs.Words.{words_view}
+use Rattle.urlpat_lines.specs.Words.{words_view}
 use Rattle.urlpat_matching.specs.Status.{status_of}
 use Rattle.urlpat_rules.specs.Coverings.{ArePartsOf, ComparesWith, TellsCovering, TellsWhether}
 use Rattle.urlpat_rules.specs.Unreached.{ArePartsOfEach, AreUnreached, ListsOf}
-use Rattle.urlpat_tables.specs.Tables.{EntryView, entries_view, entry_view, table_entries}
-use Rattle.urlpat_tables.specs.declared.table.Entry.{Entry}
-use Rattle.urlpattern_rules.specs.declared.pattern.{PatternCovering.PatternCovering, PatternParts.PatternParts}
+use Rattle.urlpat_lines.specs.Tables.{EntryView, entries_view, entry_view, table_entries}
+use Rattle.urlpat_lines.specs.declared.table.Entry.{Entry}
+use Rattle.urlpattern_compare.specs.declared.pattern.{PatternCovering.PatternCovering, PatternParts.PatternParts}
 
 one-more : {X Y : Type 0} (R : X → Y → Type 0) (xs : List X) (ys : List Y) (x : X) (y : Y) → AllZip R xs ys → R x y → AllZip R (xs ++ x ∷ []) (ys ++ y ∷ [])
 one-more R [] [] x y are is = (is, tt)

@@ -12,12 +12,12 @@ use Rattle.urlpat_matching.proofs.JsonLemmas.{put-none}
 use Rattle.urlpattern_canonical.specs.BaseUrls.{BaseView, base_view}
 use Rattle.urlpat_matching.specs.PatternWords.{IsPatternOf}
 use Rattle.urlpat_matching.specs.Status.{status_of}
-use Rattle.urlpat_filter.specs.Filters.{FiltersText}
+use Rattle.urlpat_lines.specs.Filters.{FiltersText}
 use Rattle.urlpat_rules.specs.Routes.{AreRoutesOf, IsLineAnswered, Routes, RoutesBy, bare_lines, cell_text, route_tree, row_text}
-use Rattle.urlpat_tables.specs.Tables.{EntryView, entries_view, entry_view, table_entries}
-use Rattle.urlpat_tables.specs.declared.table.Entry.{Entry}
-use Rattle.urlpat_words.specs.declared.flags.Flags.{Flags}
-use Rattle.urlpat_words.specs.declared.query.Shape.TheVariants.{Line}
+use Rattle.urlpat_lines.specs.Tables.{EntryView, entries_view, entry_view, table_entries}
+use Rattle.urlpat_lines.specs.declared.table.Entry.{Entry}
+use Rattle.urlpat_lines.specs.declared.flags.Flags.{Flags}
+use Rattle.urlpat_lines.specs.declared.query.Shape.TheVariants.{Line}
 use Rattle.urlpattern.specs.Patterns.{pattern_view}
 use Rattle.urlpattern.specs.UrlPattern.{UrlPattern}
 use Rattle.urlpattern_engine.specs.declared.pattern_regexp.PatternRegexp.{PatternRegexp}

@@ -2,7 +2,7 @@
 use Rattle.std.proofs.Common.{◌≡◌, [], ◌∷◌, Some, None, codes, refl}
 use Rattle.urlpat_rules.specs.TableWords.{NameTable}
 use Rattle.urlpat_rules.specs.Unreached.{number_at}
-use Rattle.urlpat_tables.specs.Tables.{entries_from}
+use Rattle.urlpat_lines.specs.Tables.{entries_from}
 
 -- lines are numbered from 1 on, also those without a pattern
 number_after_a_comment : number_at (entries_from 1 (codes "/*" ∷ codes "# users" ∷ codes "/users/:id" ∷ [])) 1 ≡ 3

@@ -4,15 +4,15 @@ use Rattle.std.specs.List.{flat_map}
 use Rattle.std.specs.Io.KnownBytes.{Appends}
 use Rattle.std.specs.declared.alloc.Global.{Global}
 use Rattle.urlpat_matching.specs.PatternWords.{IsPatternOf, KeepsPartsOfWord}
-use Rattle.urlpattern_eight.specs.Eight.{at, components, name_text}
-use Rattle.urlpattern_eight.specs.declared.eight.ComponentName.{ComponentName}
-use Rattle.urlpattern_eight.specs.declared.eight.Eight.{Eight}
+use Rattle.urlpattern_components.specs.Eight.{at, components, name_text}
+use Rattle.urlpattern_components.specs.declared.eight.ComponentName.{ComponentName}
+use Rattle.urlpattern_components.specs.declared.eight.Eight.{Eight}
 use Rattle.urlpattern_engine.specs.declared.pattern_regexp.PatternRegexp.{PatternRegexp}
 use Rattle.urlpattern_pattern.specs.Patterns.{pattern_view}
 use Rattle.urlpattern_pattern.specs.UrlPatterns.{UrlPattern}
-use Rattle.urlpattern_rules.specs.Comparing.{IsPatternCovering}
-use Rattle.urlpattern_rules.specs.declared.pattern.{Parting.Parting, PatternCovering.PatternCovering, PatternParts.PatternParts}
-use Rattle.urlpattern_rules.specs.declared.pattern.PatternCovering.TheVariants.{Covered, NotCovered, Unknown}
+use Rattle.urlpattern_compare.specs.Comparing.{IsPatternCovering}
+use Rattle.urlpattern_compare.specs.declared.pattern.{Parting.Parting, PatternCovering.PatternCovering, PatternParts.PatternParts}
+use Rattle.urlpattern_compare.specs.declared.pattern.PatternCovering.TheVariants.{Covered, NotCovered, Unknown}
 
 -- ---- parts
 

@@ -6,13 +6,13 @@ use Rattle.std.specs.Option.{option_to_list}
 use Rattle.urlpat_rules.specs.TableWords.{NameTable}
 use Rattle.urlpat_rules.specs.Unreached.{ArePartsOfEach, number_at}
 use Rattle.urlpat_rules.specs.declared.doubts.Doubt.{Doubt}
-use Rattle.urlpat_tables.specs.Tables.{EntryView, table_entries}
-use Rattle.urlpattern_covers.specs.declared.parts.Reason.{Reason}
-use Rattle.urlpattern_covers.specs.declared.parts.Reason.TheVariants as reasons
-use Rattle.urlpattern_eight.specs.Eight.{name_text}
-use Rattle.urlpattern_rules.specs.Comparing.{CoversAt, IsNotKnownToCover, IsParting, IsReasonIn}
-use Rattle.urlpattern_rules.specs.declared.pattern.Parting.{Parting}
-use Rattle.urlpattern_rules.specs.declared.pattern.PatternParts.{PatternParts}
+use Rattle.urlpat_lines.specs.Tables.{EntryView, table_entries}
+use Rattle.urlpattern_compare.specs.declared.parts.Reason.{Reason}
+use Rattle.urlpattern_compare.specs.declared.parts.Reason.TheVariants as reasons
+use Rattle.urlpattern_components.specs.Eight.{name_text}
+use Rattle.urlpattern_compare.specs.Comparing.{CoversAt, IsNotKnownToCover, IsParting, IsReasonIn}
+use Rattle.urlpattern_compare.specs.declared.pattern.Parting.{Parting}
+use Rattle.urlpattern_compare.specs.declared.pattern.PatternParts.{PatternParts}
 
 -- ---- doubts
 

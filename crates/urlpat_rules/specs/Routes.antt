@@ -11,26 +11,26 @@ use Rattle.urlpat_matching.specs.GroupLines.{AreLines, all_named_results}
 use Rattle.urlpattern_canonical.specs.BaseUrls.{BaseView, IsUrlUnder, base_view}
 use Rattle.urlpat_matching.specs.PatternWords.{IsPatternOf}
 use Rattle.urlpat_matching.specs.MatchTexts.{IsUnmatchedByAllUnder}
-use Rattle.urlpat_words.specs.Words.{words_view}
+use Rattle.urlpat_lines.specs.Words.{words_view}
 use Rattle.urlpat_matching.specs.Status.{status_of}
 use Rattle.urlpat_matching.specs.MatchJson.{IsMatchTree, json_line}
 use Rattle.urlpat_matching.specs.declared.status.TheConstants.{FAILED}
-use Rattle.urlpat_filter.specs.Filters.{FiltersText}
+use Rattle.urlpat_lines.specs.Filters.{FiltersText}
 use Rattle.urlpat_lines.specs.Answers.{selected_by}
 use Rattle.urlpat_lines.specs.declared.answers.Verdict.{Verdict}
 use Rattle.urlpat_lines.specs.declared.answers.Verdict.TheVariants.{Selected}
 use Rattle.urlpat_rules.specs.TableWords.{NameTable}
-use Rattle.urlpat_tables.specs.Tables.{EntryView, entries_view, entry_view, table_entries}
-use Rattle.urlpat_tables.specs.declared.table.Entry.{Entry}
-use Rattle.urlpat_words.specs.declared.flags.Flags.{Flags}
-use Rattle.urlpat_words.specs.declared.query.Shape.TheVariants.{Line}
+use Rattle.urlpat_lines.specs.Tables.{EntryView, entries_view, entry_view, table_entries}
+use Rattle.urlpat_lines.specs.declared.table.Entry.{Entry}
+use Rattle.urlpat_lines.specs.declared.flags.Flags.{Flags}
+use Rattle.urlpat_lines.specs.declared.query.Shape.TheVariants.{Line}
 use Rattle.urlpattern.specs.FirstMatch.{IsFirstMatch}
 use Rattle.urlpattern.specs.PatternMaps.{entry_patterns}
 use Rattle.urlpattern.specs.Patterns.{pattern_view}
 use Rattle.urlpattern.specs.ResultViews.{ResultView}
 use Rattle.urlpattern.specs.UrlPattern.{UrlPattern}
 use Rattle.urlpattern.specs.UrlPatternMatchInput.TheVariants as match_inputs
-use Rattle.urlpattern_eight.specs.declared.eight.ComponentName.{ComponentName}
+use Rattle.urlpattern_components.specs.declared.eight.ComponentName.{ComponentName}
 use Rattle.urlpattern_inputs.specs.Trees.{object_of}
 use Rattle.urlpattern_engine.specs.PatternRegexps.{pattern_answer}
 use Rattle.urlpattern_engine.specs.declared.pattern_regexp.PatternRegexp.{PatternRegexp}

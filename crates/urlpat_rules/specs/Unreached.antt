@@ -5,10 +5,10 @@ use Rattle.std.specs.Io.KnownBytes.{Appends}
 use Rattle.urlpat_matching.specs.Status.{status_of}
 use Rattle.urlpat_rules.specs.Coverings.{ArePartsOf}
 use Rattle.urlpat_rules.specs.TableWords.{NameTable}
-use Rattle.urlpat_tables.specs.Tables.{EntryView, table_entries}
-use Rattle.urlpattern_rules.specs.Comparing.{AreUnreachable}
-use Rattle.urlpattern_rules.specs.declared.list.Shadowed.{Shadowed}
-use Rattle.urlpattern_rules.specs.declared.pattern.PatternParts.{PatternParts}
+use Rattle.urlpat_lines.specs.Tables.{EntryView, table_entries}
+use Rattle.urlpattern_compare.specs.Comparing.{AreUnreachable}
+use Rattle.urlpattern_compare.specs.declared.list.Shadowed.{Shadowed}
+use Rattle.urlpattern_compare.specs.declared.pattern.PatternParts.{PatternParts}
 
 -- the parts are those of the pattern of each entry
 abbrev pub ArePartsOfEach : (base : Option (List ℕ)) → List EntryView → List PatternParts → Type 0

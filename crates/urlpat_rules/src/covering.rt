@@ -2,7 +2,7 @@
 
 ghost use Rattle.std.specs.Io.KnownBytes.{Appends};
 ghost use Rattle.std.specs.Prelude.{◌≡◌, ◌≢◌, ◌⊎◌, ◌++◌, string_bytes, IfOk, IfSome, OnOk, None};
-ghost use Rattle.urlpat_words.specs.Words.{words_view};
+ghost use Rattle.urlpat_lines.specs.Words.{words_view};
 ghost use Rattle.urlpat_rules.specs.Coverings.{ArePartsOf, ComparesWith, TellsCovering, TellsWhether, parting_lines, text_lines};
 
 use crate::parts::parts_of_text;

@@ -3,12 +3,12 @@
 ghost use Rattle.std.specs.Prelude.{◌≡◌, ◌++◌, length, string_bytes, IfOk, OnOk};
 ghost use Rattle.std.specs.Option.{option_to_list};
 ghost use Rattle.urlpat_rules.specs.Doubts.{AreDoubts, IsDoubtAbout, TellsDoubts, doubt_line};
-ghost use Rattle.urlpat_tables.specs.Tables.{entries_view};
+ghost use Rattle.urlpat_lines.specs.Tables.{entries_view};
 
 use crate::reason::reason_text;
 use crate::unreachable::number_at;
 use std::alloc::{AllocError, Global};
-use urlpat_tables::Entry;
+use urlpat_lines::Entry;
 use urlpattern::ComponentName;
 use urlpattern::rules::{PatternCovering, PatternParts, Reason};
 

@@ -3,17 +3,14 @@
 ghost use Rattle.std.specs.Prelude.{◌≡◌, ◌⊎◌, option_copied, IfSome};
 ghost use Rattle.urlpattern_canonical.specs.BaseUrls.{kept_base};
 ghost use Rattle.urlpat_rules.specs.Routes.{AreRoutesOf, IsLineAnswered, Replies, RoutesTable, unmatched_text};
-ghost use Rattle.urlpat_tables.specs.Tables.{entries_view};
+ghost use Rattle.urlpat_lines.specs.Tables.{entries_view};
 
 use crate::row::push_route;
 use crate::tables::{Tables, read_entries, read_table, report_refused, table_words};
 use std::alloc::{AllocError, Global};
 use std::io::{BufRead, Write};
-use urlpat_filter::write_answers;
-use urlpat_lines::{Rule, Verdict};
+use urlpat_lines::{Entry, Flags, Rule, Shape, Verdict, write_answers};
 use urlpat_matching::{DONE, FAILED, Failure, NO_MATCH, compiled, fail};
-use urlpat_tables::Entry;
-use urlpat_words::{Flags, Shape};
 use urlpattern::UrlPatternMap;
 use urlpattern::regexp::PatternRegexp;
 use urlpattern_canonical::BaseUrl;

@@ -3,16 +3,16 @@
 ghost use Rattle.std.specs.List.{flat_map};
 ghost use Rattle.std.specs.Prelude.{◌≡◌, ◌++◌, IfOk, OnOk};
 ghost use Rattle.serde_json.specs.View.{view};
-ghost use Rattle.urlpat_filter.specs.Filters.{GetsPiece};
+ghost use Rattle.urlpat_lines.specs.Filters.{GetsPiece};
 ghost use Rattle.urlpat_rules.specs.Routes.{IsRouteJson, IsRouteRow, IsRowShown, bare_lines, cell_text, route_tree};
-ghost use Rattle.urlpat_tables.specs.Tables.{entry_view};
+ghost use Rattle.urlpat_lines.specs.Tables.{entry_view};
 ghost use Rattle.urlpattern.specs.BorrowedMatches.{pattern_captures_view};
 
 use bstr::ByteSlice;
 use serde_json::{Map, Value};
 use std::alloc::{AllocError, Global};
+use urlpat_lines::Entry;
 use urlpat_matching::{json_line, match_tree, push_match};
-use urlpat_tables::Entry;
 use urlpattern::UrlPatternCaptures;
 use urlpattern_inputs::writing::put_text;
 

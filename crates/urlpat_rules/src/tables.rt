@@ -1,15 +1,15 @@
 //! Tables of patterns, read from files.
 
 ghost use Rattle.std.specs.Prelude.{◌≡◌, ◌≢◌, ℕ, List, length, option_copied, IfNone, IfOk, IfSome};
-ghost use Rattle.urlpat_words.specs.Words.{words_view};
+ghost use Rattle.urlpat_lines.specs.Words.{words_view};
 ghost use Rattle.urlpat_rules.specs.TableWords.{NameTable};
-ghost use Rattle.urlpat_tables.specs.Tables.{entries_view, table_entries};
+ghost use Rattle.urlpat_lines.specs.Tables.{entries_view, table_entries};
 
 use std::alloc::Global;
 use std::io;
 use std::io::Write;
+use urlpat_lines::{Entry, NoTable, entries_of};
 use urlpat_matching::{base_of, write_refusal};
-use urlpat_tables::{Entry, NoTable, entries_of};
 use urlpattern::Error;
 
 /// What has the files of tables.

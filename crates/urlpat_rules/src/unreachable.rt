@@ -2,19 +2,19 @@
 
 ghost use Rattle.std.specs.Io.KnownBytes.{Appends};
 ghost use Rattle.std.specs.Prelude.{◌≡◌, ◌≢◌, ◌⊎◌, ◌++◌, length, map, nat_lt, string_bytes, option_copied, IfOk, IfSome, OnOk};
-ghost use Rattle.urlpat_words.specs.Words.{words_view};
+ghost use Rattle.urlpat_lines.specs.Words.{words_view};
 ghost use Rattle.urlpat_matching.specs.Status.{status_of};
 ghost use Rattle.urlpat_rules.specs.Doubts.{HasDoubts, LeaveDoubts, TellsDoubts};
 ghost use Rattle.urlpat_rules.specs.Unreached.{ArePartsOfEach, AreUnreached, Lists, ListsOf, number_at, unreached_line};
-ghost use Rattle.urlpat_tables.specs.Tables.{entries_view};
+ghost use Rattle.urlpat_lines.specs.Tables.{entries_view};
 
 use crate::doubts::doubts_text;
 use crate::parts::parts_of_text;
 use crate::tables::{Tables, read_entries, read_table, report_refused, table_words};
 use std::alloc::{AllocError, Global};
 use std::io::Write;
+use urlpat_lines::Entry;
 use urlpat_matching::{DONE, FAILED, NO_MATCH, print};
-use urlpat_tables::Entry;
 use urlpattern::rules::{PatternParts, Shadowed, unreachable};
 
 /// The usage of `unreachable`.

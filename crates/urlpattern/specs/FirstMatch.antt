@@ -1,7 +1,7 @@
 -- What the first match of a list of patterns is.
 use Rattle.std.specs.Prelude.{◌≡◌, ◌⊎◌, ℕ, List, map, take, All, Option, Some, None, IfSome, option_map, slice_get}
 use Rattle.urlpattern_init.specs.declared.init.UrlPatternMatchInput.{UrlPatternMatchInput}
-use Rattle.urlpattern_eight.specs.declared.eight.ComponentName.{ComponentName}
+use Rattle.urlpattern_components.specs.declared.eight.ComponentName.{ComponentName}
 use Rattle.urlpattern_pattern.specs.UrlPatterns.{UrlPattern}
 use Rattle.urlpattern_matches.specs.declared.captures.UrlPatternCaptures.{UrlPatternCaptures}
 use Rattle.urlpattern_matches.specs.declared.result.UrlPatternResult.{UrlPatternResult}
@@ -10,7 +10,7 @@ use Rattle.urlpattern_pattern.specs.Patterns.{PatternView, pattern_view}
 use Rattle.urlpattern_pattern.specs.Match.{AreGroupsInOrder, AreMatched, AsksAnEngine, HasMatch, HasNoMatch, IsMatch, IsMatchOf, IsRefused}
 use Rattle.urlpattern_matches.specs.ResultViews.{ResultView, result_view}
 use Rattle.urlpattern_meaning.specs.PartMeaning.{Captures}
-use Rattle.urlpattern_eight.specs.Eight.{Texts}
+use Rattle.urlpattern_components.specs.Eight.{Texts}
 
 -- A `UrlPatternList`: what the components of each pattern are compiled to.
 abbrev pub patterns_view : {E : Type 0} → List (UrlPattern E) → List (PatternView E)

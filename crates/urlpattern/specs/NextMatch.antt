@@ -12,7 +12,7 @@ use Rattle.urlpattern_pattern.specs.Patterns.{PatternView}
 use Rattle.urlpattern_pattern.specs.Match.{AsksAnEngine, IsMatchOf, IsRefused}
 use Rattle.urlpattern_syntax.specs.declared.error.Error.{Error}
 use Rattle.urlpattern_syntax.specs.declared.error.Error.TheVariants as errors
-use Rattle.urlpattern_eight.specs.Eight.{Texts}
+use Rattle.urlpattern_components.specs.Eight.{Texts}
 
 -- the patterns from one index on, up to another, do not match eight texts
 abbrev pub AreRefusedBetween : {E : Type 0} → (answer : E → List ℕ → Option Captures) → List (PatternView E) → Texts → (from end : ℕ) → Type 0

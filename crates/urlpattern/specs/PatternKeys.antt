@@ -4,8 +4,8 @@ use Rattle.urlpattern_index.specs.FixedTexts.{AddressTexts, FixedTexts, IsText}
 use Rattle.urlpattern_index.specs.Keys.{hashes_of}
 use Rattle.urlpattern_index.specs.Listed.{Finds, Listing}
 use Rattle.urlpattern_index.specs.Paths.{FitsPath}
-use Rattle.urlpattern_eight.specs.declared.eight.ComponentName.TheVariants.{Hostname, Pathname, Protocol}
-use Rattle.urlpattern_eight.specs.Eight.{Texts}
+use Rattle.urlpattern_components.specs.declared.eight.ComponentName.TheVariants.{Hostname, Pathname, Protocol}
+use Rattle.urlpattern_components.specs.Eight.{Texts}
 use Rattle.urlpattern_meaning.specs.Matching.{IsMatched}
 use Rattle.urlpattern_meaning.specs.PartMeaning.{Captures}
 use Rattle.urlpattern_pattern.specs.Match.{IsRefused}

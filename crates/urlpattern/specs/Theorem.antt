@@ -1,10 +1,10 @@
 -- The sentences of the main theorem, some of which are those of laws. Where one speaks of an encoding, it is any list of texts
 -- with their answers.
 use Rattle.std.specs.Prelude.{⊤, ℕ, false, List, Option}
-use Rattle.urlpattern_core.specs.{Components.FlagsAgree, Components.IsEngineOf, Regexes.regex_engine, FirstWays.EachAnswersFirst}
-use Rattle.urlpattern_core.specs.declared.regexp.RegExp.{Ghosts as Engine}
-use Rattle.urlpattern_custom.specs.LawsOfTexts.{CapturesAreAsNames, HasNumbers, MatchersCapture, TookAlone}
-use Rattle.urlpattern_custom.specs.LawsOfWays.{FirstWaysAreOfTrees, MatchersAnswerFirstOfParts}
+use Rattle.urlpattern_matcher.specs.{Components.FlagsAgree, Components.IsEngineOf, Regexes.regex_engine, FirstWays.EachAnswersFirst}
+use Rattle.urlpattern_matcher.specs.declared.regexp.RegExp.{Ghosts as Engine}
+use Rattle.urlpattern_laws.specs.LawsOfTexts.{CapturesAreAsNames, HasNumbers, MatchersCapture, TookAlone}
+use Rattle.urlpattern_laws.specs.LawsOfWays.{FirstWaysAreOfTrees, MatchersAnswerFirstOfParts}
 use Rattle.urlpattern_engine.specs.PatternRegexps.{pattern_engine}
 use Rattle.urlpattern_meaning.specs.{Dialect.IsOnlyTreeOf, Dialect.Items, FirstAnswers.AnswersByFirstWay, FirstAnswers.TookText}
 use Rattle.urlpattern_meaning.specs.PartMeaning.{AreGenerated, Captures}

@@ -3,9 +3,9 @@ use Rattle.std.specs.Prelude.{◌≡◌, Contains, List, map, None, Some}
 use Rattle.urlpattern_pattern.specs.UrlPatterns.{UrlPattern}
 use Rattle.urlpattern_pattern.specs.declared.pattern.compare.CompareError.{CompareError}
 use Rattle.urlpattern_pattern.specs.declared.pattern.compare.CompareError.TheVariants.{NoParts, OutOfMemory}
-use Rattle.urlpattern_rules.specs.Comparing.{AreUnreachable}
-use Rattle.urlpattern_rules.specs.declared.list.Shadowed.{Shadowed}
-use Rattle.urlpattern_rules.specs.declared.pattern.PatternParts.{PatternParts}
+use Rattle.urlpattern_compare.specs.Comparing.{AreUnreachable}
+use Rattle.urlpattern_compare.specs.declared.list.Shadowed.{Shadowed}
+use Rattle.urlpattern_compare.specs.declared.pattern.PatternParts.{PatternParts}
 
 -- each pattern has parts, and these are they, in their order
 abbrev pub HaveAllParts : {E : Type 0} → List (UrlPattern E) → List PatternParts → Type 0

@@ -16,16 +16,17 @@ pub mod theorem;
 pub use list::{UrlPatternList, UrlPatternMatches};
 pub use map::{UrlPatternMap, UrlPatternMapIter};
 pub use urlpattern_canonical::canonicalize_and_process;
-pub use urlpattern_core::{Error, RegexSyntax, component, error, matcher, parser, tokenizer};
+pub use urlpattern_components::{ComponentName, Eight};
 pub use urlpattern_diagnosis::{Diagnosis, Fault, Span, Subject};
-pub use urlpattern_eight::{ComponentName, Eight};
-pub use urlpattern_generate::{GenerateError, GivenGroup};
+pub use urlpattern_generate::{GenerateError, GivenGroup, NoLink};
 pub use urlpattern_init::{UrlPatternInit, UrlPatternMatchInput};
 pub use urlpattern_inputs::UrlPatternOptions;
 pub use urlpattern_laws::laws;
+pub use urlpattern_matcher::{component, matcher};
 pub use urlpattern_matches::{
     UrlPatternCaptures, UrlPatternCapturesIter, UrlPatternComponentResult, UrlPatternGroups,
     UrlPatternResult, pathname_texts, url_texts,
 };
+pub use urlpattern_parser::{parser, tokenizer};
 pub use urlpattern_pattern::{CompareError, UrlPattern};
-pub use urlpattern_url::NoLink;
+pub use urlpattern_syntax::{Error, RegexSyntax, error};

@@ -30,15 +30,15 @@ use std::alloc::Global;
 use std::marker::Model;
 use std::slice;
 use url::{Url, quirks};
-use urlpattern_core::Error;
-use urlpattern_core::regexp::RegExp;
 use urlpattern_index::{Address, AddressHashes, Index};
 use urlpattern_init::UrlPatternMatchInput;
 use urlpattern_inputs::MatchInput;
+use urlpattern_matcher::regexp::RegExp;
 use urlpattern_matches::{
     UrlPatternCaptures, UrlPatternResult, input_texts, parse_match_input, url_texts,
 };
 use urlpattern_pattern::UrlPattern;
+use urlpattern_syntax::Error;
 
 /// Patterns in their order, as the routes of a router.
 ///

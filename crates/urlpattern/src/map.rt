@@ -20,11 +20,11 @@ pub use iter::UrlPatternMapIter;
 use std::alloc::Global;
 use std::marker::Model;
 use url::Url;
-use urlpattern_core::Error;
-use urlpattern_core::regexp::RegExp;
+use urlpattern_compare::Shadowed;
+use urlpattern_matcher::regexp::RegExp;
 use urlpattern_matches::UrlPatternCaptures;
 use urlpattern_pattern::{CompareError, UrlPattern};
-use urlpattern_rules::Shadowed;
+use urlpattern_syntax::Error;
 
 /// Patterns in their order, each with a value, as the routes of a router with their handlers.
 ///

@@ -1,4 +1,4 @@
 //! Engines of regular expressions.
 
-pub use urlpattern_core::regexp::RegExp;
 pub use urlpattern_engine::PatternRegexp;
+pub use urlpattern_matcher::regexp::RegExp;

@@ -2,13 +2,14 @@
 //!
 //! A compiled pattern keeps its parts: `UrlPattern::parts` borrows them, `UrlPattern::into_parts` moves them out. No URL is needed.
 
-pub use urlpattern_readings::laws::{
+pub use urlpattern_compare::laws::parts_are_in_order;
+pub use urlpattern_compare::{
+    Parting, PatternCovering, PatternOverlap, PatternParts, Reason, Shadowed, compare_parts,
+    first_covering, unreachable,
+};
+pub use urlpattern_laws::parts::{
     covered_patterns_by_these_engines_match, covered_patterns_match, overlapping_patterns_match,
     patterns_covered_by_meaning_match, patterns_match_what_their_parts_mean,
     patterns_match_what_their_parts_mean_by_first_ways,
 };
-pub use urlpattern_rules::laws::parts_are_in_order;
-pub use urlpattern_rules::{
-    ComponentParts, Parting, PatternCovering, PatternOverlap, PatternParts, Reason, Shadowed,
-    compare_parts, first_covering, unreachable,
-};
+pub use urlpattern_syntax::ComponentParts;

@@ -25,7 +25,7 @@ use Rattle.std.specs.Box.Ownership.{box_owns}
 use Rattle.std.proofs.ResultValues.{and_tt}
 use Rattle.std.specs.Prelude.{IsSome, Option, None, Some}
 use Rattle.urlpattern_c.specs.Memory.{leads_to}
-use Rattle.urlpattern_calls.specs.declared.kept.Kept.{Kept}
+use Rattle.urlpattern_ffi.specs.declared.kept.Kept.{Kept}
 use Rattle.urlpattern_c.specs.contracts.loose.Loose as loose
 use Rattle.urlpattern_c.specs.contracts.slot.Slot as slot
 

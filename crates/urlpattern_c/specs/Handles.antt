@@ -1,6 +1,6 @@
 -- The patterns of a handle.
 use Rattle.urlpattern_c.specs.declared.patterns.Patterns.{Patterns}
-use Rattle.urlpattern_calls.specs.Kept.{PatternList, kept_patterns}
+use Rattle.urlpattern_ffi.specs.Kept.{PatternList, kept_patterns}
 
 -- the patterns of a handle
 abbrev pub patterns_in : Patterns → PatternList

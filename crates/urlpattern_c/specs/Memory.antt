@@ -5,8 +5,8 @@ use Rattle.std.specs.Global.{Global}
 use Rattle.std.specs.contracts.impls.GlobalAllocator.TheImpl.{ghosts}
 use base.Fml.{Fml, ftrue}
 use denote.RawPtr.{Ptr}
-use Rattle.urlpattern_calls.specs.contracts.kept.Kept.{the_row}
-use Rattle.urlpattern_calls.specs.declared.kept.Kept.{Kept}
+use Rattle.urlpattern_ffi.specs.contracts.kept.Kept.{the_row}
+use Rattle.urlpattern_ffi.specs.declared.kept.Kept.{Kept}
 
 -- the C library's heap
 abbrev pub heap : Global

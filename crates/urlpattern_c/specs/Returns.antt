@@ -2,12 +2,12 @@
 use Rattle.std.specs.Prelude.{ℕ, List}
 use Rattle.urlpattern_c.specs.Handles.{patterns_in}
 use Rattle.urlpattern_c.specs.declared.patterns.Patterns.{Patterns}
-use Rattle.urlpattern_calls.specs.Calls.{ReturnsStatus}
-use Rattle.urlpattern_calls.specs.Links.{Given, IsLinkReported}
-use Rattle.urlpattern_calls.specs.Spans.{AreCapturesReported, AreFirstCaptures}
-use Rattle.urlpattern_calls.specs.Texts.{IsGroupNameWritten}
-use Rattle.urlpattern_calls.specs.declared.spans.Sizes.{Sizes}
-use Rattle.urlpattern_calls.specs.declared.spans.Span.{Span}
+use Rattle.urlpattern_ffi.specs.Calls.{ReturnsStatus}
+use Rattle.urlpattern_ffi.specs.Links.{Given, IsLinkReported}
+use Rattle.urlpattern_ffi.specs.Spans.{AreCapturesReported, AreFirstCaptures}
+use Rattle.urlpattern_ffi.specs.Texts.{IsGroupNameWritten}
+use Rattle.urlpattern_ffi.specs.declared.spans.Sizes.{Sizes}
+use Rattle.urlpattern_ffi.specs.declared.spans.Span.{Span}
 
 -- the captures of the pattern at an index
 abbrev pub GivesCaptures : Patterns → (index : ℕ) → (url base : List ℕ) → (old new : List ℕ) → (old_spans new_spans : List Span) → (needed : Sizes)

@@ -2,16 +2,16 @@
 ghost use Rattle.std.specs.Prelude.{◌≡◌, None};
 ghost use Rattle.urlpattern_c.specs.Handles.{patterns_in};
 ghost use Rattle.urlpattern_c.specs.Returns.{GivesCaptures, GivesFirst, GivesGroupName, GivesLink};
-ghost use Rattle.urlpattern_calls.specs.Calls.{IsAdded, IsFirstReported, IsTested, ReturnsStatus};
-ghost use Rattle.urlpattern_calls.specs.Coverings.{IsCoveringReported};
-ghost use Rattle.urlpattern_calls.specs.Diagnoses.{IsDiagnosed, IsInitDiagnosed};
-ghost use Rattle.urlpattern_calls.specs.Inits.{IsInitAdded};
-ghost use Rattle.urlpattern_calls.specs.Mismatches.{IsCustomReported, IsMismatchReported};
-ghost use Rattle.urlpattern_calls.specs.Texts.{IsComponentWritten, IsExecReported};
+ghost use Rattle.urlpattern_ffi.specs.Calls.{IsAdded, IsFirstReported, IsTested, ReturnsStatus};
+ghost use Rattle.urlpattern_ffi.specs.Coverings.{IsCoveringReported};
+ghost use Rattle.urlpattern_ffi.specs.Diagnoses.{IsDiagnosed, IsInitDiagnosed};
+ghost use Rattle.urlpattern_ffi.specs.Inits.{IsInitAdded};
+ghost use Rattle.urlpattern_ffi.specs.Mismatches.{IsCustomReported, IsMismatchReported};
+ghost use Rattle.urlpattern_ffi.specs.Texts.{IsComponentWritten, IsExecReported};
 
 use crate::patterns::Patterns;
 use std::alloc::Global;
-use urlpattern_calls::{
+use urlpattern_ffi::{
     Given, Place, Sizes, Span, add, add_init, captures, covers, diagnose, diagnose_init, execute,
     first, first_captures, has_regexp_groups, link, mismatch, test, version, write_component,
     write_group_name,

@@ -1,6 +1,6 @@
 //! URL patterns for other languages: functions that C calls, of a static library. `bindings/c/urlpattern.h` declares them.
 //!
-//! Each passes on a call of `urlpattern_calls`, and states its clauses again. Raw pointers stay inside of `Loose` and `Slot`.
+//! Each passes on a call of `urlpattern_ffi`, and states its clauses again. Raw pointers stay inside of `Loose` and `Slot`.
 #![tactic(auto)]
 
 mod exports;

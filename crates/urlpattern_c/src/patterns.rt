@@ -5,7 +5,7 @@ use crate::loose::Loose;
 use crate::slot::Slot;
 use std::alloc::Global;
 use std::mem;
-use urlpattern_calls::Kept;
+use urlpattern_ffi::Kept;
 
 /// A handle to patterns in their order. C makes one by writing zeros, which has no pattern and no memory.
 #[repr(C)]
@@ -19,7 +19,7 @@ pub struct Patterns {
 impl Patterns {
     ghost use Rattle.std.specs.Prelude.{None};
     ghost use Rattle.urlpattern_c.specs.Handles.{patterns_in};
-    ghost use Rattle.urlpattern_calls.specs.Kept.{boxed_patterns};
+    ghost use Rattle.urlpattern_ffi.specs.Kept.{boxed_patterns};
 
     /// As C makes it.
     fn empty() -> Patterns

@@ -1,14 +1,14 @@
 //! The pointer that C keeps.
 ghost use Rattle.std.specs.Prelude.{◌≡◌, IsSome, Option, None, Some};
 ghost use Rattle.std.specs.Coded.{coded_option};
-ghost use Rattle.urlpattern_calls.specs.contracts.kept.Kept.{the_row as KeptRow};
-ghost use Rattle.urlpattern_calls.specs.declared.kept.Kept.{Kept};
+ghost use Rattle.urlpattern_ffi.specs.contracts.kept.Kept.{the_row as KeptRow};
+ghost use Rattle.urlpattern_ffi.specs.declared.kept.Kept.{Kept};
 
 use crate::loose::Loose;
 use std::alloc::Global;
 use std::marker::Model;
 use std::ptr;
-use urlpattern_calls::Kept;
+use urlpattern_ffi::Kept;
 
 /// A pointer to patterns, or to nothing.
 #[repr(C)]

@@ -1,0 +1,3 @@
+mod BracketLemmas
+pub mod NameLemmas
+mod TokenFaultLemmas

@@ -1,7 +1,7 @@
 //! What stands around a place in a pattern text.
 
+use crate::fault::Fault;
 use crate::wide::ascii_form;
-use urlpattern_faults::Fault;
 
 /// Whether the first bracket of a kind from a place on is not closed.
 pub(crate) fn is_unclosed(part: &str, place: usize, open: u8, close: u8) -> bool {

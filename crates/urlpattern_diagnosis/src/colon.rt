@@ -4,7 +4,7 @@ use crate::diagnosis::Subject;
 use crate::hint::{Hint, next_hint};
 use crate::reason::Faulty;
 use crate::sentence::Sentence;
-use urlpattern_eight::ComponentName;
+use urlpattern_components::ComponentName;
 
 /// Why no name follows a colon in the pattern of a component.
 pub(crate) fn colon_sentence<'a>(faulty: &'a Faulty<'_>) -> Sentence<'a> {

@@ -2,15 +2,16 @@
 
 ghost use Rattle.std.specs.Prelude.{◌≡◌, string_bytes, IfOk, IfSome};
 ghost use Rattle.urlpattern_diagnosis.specs.declared.diagnosis.Subject.TheVariants as subjects;
-ghost use Rattle.urlpattern_faults.specs.Faults.{IsFaultIn, IsUrlFault};
-ghost use Rattle.urlpattern_faults.specs.Places.{IsFaultMoved, IsPlaceOf};
+ghost use Rattle.urlpattern_diagnosis.specs.Faults.{IsFaultIn, IsUrlFault};
+ghost use Rattle.urlpattern_diagnosis.specs.Places.{IsFaultMoved, IsPlaceOf};
 
 use crate::colon::path_colon_sentence;
+use crate::fault::Fault;
 use crate::hint::Hint;
+use crate::place::Place;
 use crate::reason::{Faulty, reason_of};
 use std::alloc::{AllocError, Global};
-use urlpattern_eight::ComponentName;
-use urlpattern_faults::{Fault, Place};
+use urlpattern_components::ComponentName;
 use urlpattern_syntax::Error;
 
 /// What is at fault.

@@ -1,12 +1,13 @@
 //! Where an engine refuses a custom expression, by the crate `regex`.
 ghost use Rattle.std.specs.Prelude.{IfOk, IfSome};
-ghost use Rattle.urlpattern_faults.specs.Faults.{IsFaultIn};
-ghost use Rattle.urlpattern_faults.specs.Spans.{IsSpanIn};
+ghost use Rattle.urlpattern_diagnosis.specs.Faults.{IsFaultIn};
+ghost use Rattle.urlpattern_diagnosis.specs.Spans.{IsSpanIn};
 
+use crate::fault::Fault;
 use crate::hint::Hint;
+use crate::span::Span;
 use regex_syntax::{Config, Error, ErrorKind};
 use std::alloc::{AllocError, Global};
-use urlpattern_faults::{Fault, Span};
 
 /// Where in a text an expression is at fault that an engine refuses, if `regex` refuses it too; or else the whole expression.
 ///

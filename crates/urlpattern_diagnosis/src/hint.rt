@@ -5,9 +5,11 @@ use crate::around::{
     sign_at, stray_bracket, wide_mark,
 };
 use crate::diagnosis::Subject;
+use crate::fault::Fault;
+use crate::place::Place;
+use crate::span::Span;
 use crate::wide::ascii_form_of;
-use urlpattern_eight::ComponentName;
-use urlpattern_faults::{Fault, Place, Span};
+use urlpattern_components::ComponentName;
 use urlpattern_syntax::error::{Error, ParserError, RegexFault, TokenizerError};
 use urlpattern_syntax::tokenizer::TokenType;
 

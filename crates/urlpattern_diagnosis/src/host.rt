@@ -1,9 +1,10 @@
 //! Where and why a hostname is at fault that `url` refuses.
-ghost use Rattle.urlpattern_faults.specs.Faults.{IsFaultIn};
-ghost use Rattle.urlpattern_faults.specs.Spans.{IsSpanIn};
+ghost use Rattle.urlpattern_diagnosis.specs.Faults.{IsFaultIn};
+ghost use Rattle.urlpattern_diagnosis.specs.Spans.{IsSpanIn};
 
+use crate::fault::Fault;
+use crate::span::Span;
 use crate::wide::{ascii_form, ascii_form_of};
-use urlpattern_faults::{Fault, Span};
 
 /// The digits of a number in decimal.
 const DIGITS: [char; 10] = ['0', '1', '2', '3', '4', '5', '6', '7', '8', '9'];

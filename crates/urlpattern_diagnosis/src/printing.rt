@@ -1,9 +1,9 @@
 //! How a diagnosis is printed.
 
 use crate::diagnosis::Diagnosis;
+use crate::span::Span;
 use std::fmt;
 use unicode_width::UnicodeWidthChar;
-use urlpattern_faults::Span;
 
 /// How many columns of a text are printed at most.
 const WIDTH: usize = 80;

@@ -11,7 +11,7 @@ use crate::wide::ascii_form_of;
 use percent_encoding::{CONTROLS, utf8_percent_encode};
 use std::alloc::{AllocError, Global};
 use url::ParseError;
-use urlpattern_eight::ComponentName;
+use urlpattern_components::ComponentName;
 use urlpattern_syntax::error::{Error, ParserError, RegexFault, TokenizerError};
 use urlpattern_syntax::tokenizer::TokenType;
 

@@ -3,9 +3,9 @@ use Rattle.std.proofs.Common.{◌≡◌, ℕ, Bool, false, List, ap, inl, inr, s
 use Rattle.std.specs.Prelude.{IsSome, IsTrue}
 use Rattle.std.specs.Str.{all_scalars}
 use Rattle.regex_syntax.specs.Grammar.{read}
-use Rattle.urlpattern_core.proofs.FirstMatchers.{flags_agree}
-use Rattle.urlpattern_core.specs.Components.{engine_flags}
-use Rattle.urlpattern_core.specs.Regexes.{regex_engine}
+use Rattle.urlpattern_matcher.proofs.FirstMatchers.{flags_agree}
+use Rattle.urlpattern_matcher.specs.Components.{engine_flags}
+use Rattle.urlpattern_matcher.specs.Regexes.{regex_engine}
 use Rattle.urlpattern_engine.proofs.EngineLaws.{expression_as_read, expression_first, form_of, values_by_flags}
 use Rattle.urlpattern_engine.proofs.ReadAnswers.{read_by_default, regex_as_read}
 use Rattle.urlpattern_engine.specs.Automatons.{config_for}

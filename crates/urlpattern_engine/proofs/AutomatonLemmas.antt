@@ -27,7 +27,7 @@ use Rattle.regex_hir.proofs.OptionLemmas.{none_of_no_value, option_cases, option
 use Rattle.regex_meta.proofs.LeftmostLemmas.{Matches-of_attempt}
 use Rattle.regex_nfa.specs.declared.nfa.Nfa.{Nfa}
 use Rattle.regex_vm.specs.Found.{cell, first_match, group_cells}
-use Rattle.urlpattern_core.specs.Regexes.{group_texts, text_between}
+use Rattle.urlpattern_matcher.specs.Regexes.{group_texts, text_between}
 use Rattle.urlpattern_engine.specs.Automatons.{IsNfaOf, automaton_answer, match_captures, cell_texts, match_at_start, place_of, read_answer, text_cut}
 use Rattle.urlpattern_engine.proofs.TextParts.{text_parts}
 use Rattle.urlpattern_engine.proofs.ReadAnswers.{tree_answer, tree_as_read}

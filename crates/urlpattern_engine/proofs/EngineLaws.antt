@@ -7,10 +7,10 @@ use Rattle.std.specs.Str.{all_scalars}
 use lib.Utf8.{scalars}
 use Rattle.regex_syntax.specs.Grammar.{read}
 use Rattle.regex_syntax.specs.Verdict.{default_config}
-use Rattle.urlpattern_core.specs.Regexes.{regex_engine}
-use Rattle.urlpattern_core.specs.FirstWays.{AllAnswerAlike, ComponentsTakeGenerated, EachAnswersFirst, KeepsCase, MatchersTakeGenerated, ValuesAnswerAlike, ValuesAnswerByFlags, ValuesAnswerFirst}
-use Rattle.urlpattern_core.specs.Generated.{AreGenerated}
-use Rattle.urlpattern_core.proofs.FirstMatchers.{first_alike, made_first}
+use Rattle.urlpattern_matcher.specs.Regexes.{regex_engine}
+use Rattle.urlpattern_matcher.specs.FirstWays.{AllAnswerAlike, ComponentsTakeGenerated, EachAnswersFirst, KeepsCase, MatchersTakeGenerated, ValuesAnswerAlike, ValuesAnswerByFlags, ValuesAnswerFirst}
+use Rattle.urlpattern_printing.specs.Generated.{AreGenerated}
+use Rattle.urlpattern_matcher.proofs.FirstMatchers.{first_alike, made_first}
 use Rattle.urlpattern_meaning.specs.Dialect.{IsTreeOf, Items}
 use Rattle.urlpattern_meaning.specs.FirstAnswers.{AnswersFirst}
 use Rattle.urlpattern_meaning.specs.GeneratedTexts.{IsGenerated}
@@ -19,7 +19,7 @@ use Rattle.urlpattern_meaning.proofs.DialectUnique.{trees_are_one}
 use Rattle.urlpattern_meaning.proofs.OneMeaning.{is_tree_of}
 use Rattle.urlpattern_meaning.proofs.PartTrees.{tree_of}
 use Rattle.urlpattern_meaning.specs.Matching.{ValuesAgreeWithParts}
-use Rattle.urlpattern_core.specs.Components.{FlagsAgree, IsEngineOf, IsWholeEngineOf, engine_flags, has_regexp, ignores_case}
+use Rattle.urlpattern_matcher.specs.Components.{FlagsAgree, IsEngineOf, IsWholeEngineOf, engine_flags, has_regexp, ignores_case}
 use Rattle.urlpattern_syntax.specs.declared.parser.RegexSyntax.{RegexSyntax}
 use Rattle.urlpattern_syntax.specs.Errors.{ErrorView}
 use Rattle.urlpattern_syntax.specs.Options.{OptionsView}

@@ -20,11 +20,11 @@ use Rattle.regex.specs.Strings.{regex_names, regex_source}
 use Rattle.regex.specs.Writes.{both, group_of}
 use Rattle.regex.specs.declared.string.regex.Regex.{Regex}
 use Rattle.regex.proofs.ForCallers.{found_alike, is_match_alike}
-use Rattle.urlpattern_core.specs.Regexes.{IsRegexOf, group_texts, regex_answer, text_between}
-use Rattle.urlpattern_regex.proofs.Bytes.{bytes_below}
-use Rattle.urlpattern_regex.proofs.GroupsRefused.{tree_reads}
-use Rattle.urlpattern_regex.proofs.TreeSearch.{found_is_first}
-use Rattle.urlpattern_regex.proofs.TreesRead.{re_of, scalars_parts}
+use Rattle.urlpattern_matcher.specs.Regexes.{IsRegexOf, group_texts, regex_answer, text_between}
+use Rattle.urlpattern_engine.proofs.Bytes.{bytes_below}
+use Rattle.urlpattern_engine.proofs.GroupsRefused.{tree_reads}
+use Rattle.urlpattern_engine.proofs.TreeSearch.{found_is_first}
+use Rattle.urlpattern_engine.proofs.TreesRead.{re_of, scalars_parts}
 use Rattle.urlpattern_meaning.specs.Dialect.{IsTreeOf, Items, group_count, items_text}
 use Rattle.urlpattern_meaning.specs.PartMeaning.{Captures}
 use Rattle.urlpattern_meaning.specs.Ways.{first_way}

@@ -1,8 +1,8 @@
 -- What an `EcmaRegexp` is made of, and what it answers.
 use Rattle.std.specs.Prelude.{◌≡◌, ℕ, List, Option, IfSome, IsTrue, is_some, option_and_then}
 use Rattle.urlpattern_engine.specs.declared.ecma_regexp.EcmaRegexp.{EcmaRegexp}
-use Rattle.urlpattern_core.specs.declared.regexp.RegExp.{Ghosts as Engine}
-use Rattle.urlpattern_core.specs.Regexes.{IsRegexOf, regex_answer}
+use Rattle.urlpattern_matcher.specs.declared.regexp.RegExp.{Ghosts as Engine}
+use Rattle.urlpattern_matcher.specs.Regexes.{IsRegexOf, regex_answer}
 use Rattle.urlpattern_meaning.specs.PartMeaning.{Captures}
 use Rattle.urlpattern_syntax.specs.declared.parser.RegexSyntax.TheVariants.{EcmaScript}
 use Rattle.urlpattern_syntax.specs.Text.{text_of}

@@ -1,16 +1,16 @@
 -- What a value of the engine is made of, and what it answers.
 use Rattle.std.specs.Prelude.{◌≡◌, ℕ, Bool, List, Option, IsSome, string_bytes}
 use Rattle.regex_syntax.specs.Grammar.{read}
-use Rattle.urlpattern_core.specs.declared.regexp.RegExp.{Ghosts as Engine}
-use Rattle.urlpattern_core.specs.Components.{ignores_case}
-use Rattle.urlpattern_core.specs.Regexes.{regex_answer, regex_text}
+use Rattle.urlpattern_matcher.specs.declared.regexp.RegExp.{Ghosts as Engine}
+use Rattle.urlpattern_matcher.specs.Components.{ignores_case}
+use Rattle.urlpattern_matcher.specs.Regexes.{regex_answer, regex_text}
 use Rattle.urlpattern_engine.specs.Automatons.{IsNfaOf, IsRegexReadAs, automaton_answer, config_for, read_answer}
 use Rattle.urlpattern_engine.specs.Refusals.{HasFault}
 use Rattle.urlpattern_engine.specs.declared.pattern_regexp.Expression.{Expression}
 use Rattle.urlpattern_engine.specs.declared.pattern_regexp.Expression.TheVariants.{Own, Generated, Compiled, Other, Custom}
 use Rattle.urlpattern_engine.specs.declared.pattern_regexp.PatternRegexp.{PatternRegexp}
 use Rattle.urlpattern_meaning.specs.GeneratedTexts.{IsGenerated}
-use Rattle.urlpattern_walk.specs.ReadSteps.{AreStepsOf}
+use Rattle.urlpattern_steps.specs.ReadSteps.{AreStepsOf}
 use Rattle.urlpattern_steps.specs.Walk.{walk}
 use Rattle.urlpattern_meaning.specs.PartMeaning.{Captures}
 use Rattle.urlpattern_meaning.specs.Ways.{first_way_by}

@@ -6,9 +6,9 @@ use Rattle.regex_hir.specs.Find.{find_str}
 use Rattle.regex_hir.specs.Re.{Re}
 use Rattle.regex_syntax.specs.Grammar.{read}
 use Rattle.regex_syntax.specs.Verdict.{default_config}
-use Rattle.urlpattern_core.specs.Components.{engine_flags}
-use Rattle.urlpattern_core.specs.Regexes.{group_texts}
-use Rattle.urlpattern_core.specs.declared.regexp.RegExp.{Ghosts as Engine}
+use Rattle.urlpattern_matcher.specs.Components.{engine_flags}
+use Rattle.urlpattern_matcher.specs.Regexes.{group_texts}
+use Rattle.urlpattern_matcher.specs.declared.regexp.RegExp.{Ghosts as Engine}
 use Rattle.urlpattern_meaning.specs.PartMeaning.{AreGenerated, Captures}
 use Rattle.urlpattern_syntax.specs.{Options.OptionsView, Parts.PartView, RegexpText.regexp_text}
 

@@ -24,8 +24,8 @@ use regex_nfa::Nfa;
 use regex_syntax::{Config, ErrorKind, Parsed};
 use regex_vm::{Backtracker, Declined, PikeVm};
 use std::alloc::Global;
-use urlpattern_core::error::{OutOfMemory, RegExpError};
-use urlpattern_core::regexp::RegExp;
+use urlpattern_matcher::regexp::RegExp;
+use urlpattern_syntax::error::{OutOfMemory, RegExpError};
 
 /// The most bytes that the tables of an automaton may take, which is also the limit of `regex::Regex::new`.
 pub(crate) const SIZE_LIMIT: usize = 10 << 20;

@@ -2,9 +2,9 @@
 
 use regex::Regex;
 use std::alloc::Global;
-use urlpattern_core::RegexSyntax;
-use urlpattern_core::error::{OutOfMemory, RegExpError};
-use urlpattern_core::regexp::RegExp;
+use urlpattern_matcher::regexp::RegExp;
+use urlpattern_syntax::RegexSyntax;
+use urlpattern_syntax::error::{OutOfMemory, RegExpError};
 
 /// A regular expression in ECMAScript's syntax: its text and its flags, for a browser's own engine.
 ///

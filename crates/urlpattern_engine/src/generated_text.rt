@@ -11,9 +11,9 @@ ghost use Rattle.urlpattern_syntax.specs.Text.{text_of};
 
 use crate::steps::match_steps;
 use std::alloc::Global;
-use urlpattern_core::error::OutOfMemory;
-use urlpattern_walk::choices::strategy_of;
-use urlpattern_walk::reading::read_steps;
+use urlpattern_steps::choices::strategy_of;
+use urlpattern_steps::reading::read_steps;
+use urlpattern_syntax::error::OutOfMemory;
 
 /// The text of an expression that is generated of parts, none of them custom.
 #[derive(Drop)]

@@ -5,7 +5,7 @@ ghost use Rattle.std.specs.Str.{chars};
 ghost use Rattle.urlpattern_engine.specs.Refusals.{IsLarge, copies_in, number_from, room_of};
 
 use crate::automaton::SIZE_LIMIT;
-use urlpattern_syntax::tokenizer::split_first;
+use urlpattern_syntax::text::split_first;
 
 /// Whether an expression may take more room than an automaton has, by what its characters and
 /// numbers may take.

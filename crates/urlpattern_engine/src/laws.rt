@@ -3,9 +3,9 @@
 //! Each function here does nothing; what it promises is a theorem.
 
 ghost use Rattle.std.specs.Prelude.{⊤};
-ghost use Rattle.urlpattern_core.specs.Components.{FlagsAgree};
-ghost use Rattle.urlpattern_core.specs.Regexes.{regex_engine};
-ghost use Rattle.urlpattern_core.specs.FirstWays.{AllAnswerAlike, ComponentsTakeGenerated, EachAnswersFirst, KeepsCase, MatchersTakeGenerated, ValuesAnswerAlike, ValuesAnswerByFlags, ValuesAnswerFirst, ValuesFollowParts, ValuesFollowTexts};
+ghost use Rattle.urlpattern_matcher.specs.Components.{FlagsAgree};
+ghost use Rattle.urlpattern_matcher.specs.Regexes.{regex_engine};
+ghost use Rattle.urlpattern_matcher.specs.FirstWays.{AllAnswerAlike, ComponentsTakeGenerated, EachAnswersFirst, KeepsCase, MatchersTakeGenerated, ValuesAnswerAlike, ValuesAnswerByFlags, ValuesAnswerFirst, ValuesFollowParts, ValuesFollowTexts};
 ghost use Rattle.urlpattern_engine.specs.PatternRegexps.{pattern_engine};
 ghost use Rattle.urlpattern_engine.specs.Readings.{ExpressionsAnswerAlike, ValuesAnswerAsRead};
 ghost use Rattle.urlpattern_syntax.specs.declared.parser.RegexSyntax.{RegexSyntax};

@@ -15,6 +15,7 @@ mod generated_text;
 mod large;
 pub mod laws;
 mod pattern_regexp;
+pub mod regex_laws;
 mod steps;
 mod trial;
 

@@ -4,7 +4,7 @@ ghost use Rattle.std.specs.Prelude.{◌≡◌, Err, IfOk, IsSome};
 ghost use Rattle.std.specs.Str.{chars};
 ghost use Rattle.regex_syntax.specs.Grammar.{read};
 ghost use Rattle.urlpattern_meaning.specs.GeneratedTexts.{IsGenerated};
-ghost use Rattle.urlpattern_core.specs.Components.{ignores_case};
+ghost use Rattle.urlpattern_matcher.specs.Components.{ignores_case};
 ghost use Rattle.urlpattern_engine.specs.Automatons.{config_for};
 ghost use Rattle.urlpattern_engine.specs.PatternRegexps.{IsExpressionOf, pattern_engine};
 ghost use Rattle.urlpattern_engine.specs.Refusals.{HasFault};
@@ -17,10 +17,10 @@ use crate::large::is_large;
 use crate::steps::Steps;
 use regex::Regex;
 use std::alloc::{AllocError, Global};
-use urlpattern_core::RegexSyntax;
-use urlpattern_core::error::{OutOfMemory, RegExpError};
-use urlpattern_core::regexp::RegExp;
-use urlpattern_walk::reading::read_steps;
+use urlpattern_matcher::regexp::RegExp;
+use urlpattern_steps::reading::read_steps;
+use urlpattern_syntax::RegexSyntax;
+use urlpattern_syntax::error::{OutOfMemory, RegExpError};
 
 /// An engine that answers what `regex::Regex` answers.
 ///

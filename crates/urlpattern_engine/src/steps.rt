@@ -6,11 +6,11 @@ ghost use Rattle.urlpattern_meaning.specs.CaptureTexts.{captures_view};
 ghost use Rattle.urlpattern_steps.specs.Walk.{walk};
 
 use std::alloc::Global;
-use urlpattern_core::error::OutOfMemory;
+use urlpattern_steps::choices::{Strategy, strategy_of};
 use urlpattern_steps::step::Step;
-use urlpattern_walk::choices::{Strategy, strategy_of};
-use urlpattern_walk::walk::walk;
-use urlpattern_walk::walk_by_table;
+use urlpattern_steps::walk::walk;
+use urlpattern_steps::walk_by_table;
+use urlpattern_syntax::error::OutOfMemory;
 
 /// The text of an expression, its steps, and how a text is matched by them.
 #[derive(Drop)]

@@ -2,7 +2,7 @@
 use Rattle.std.proofs.Common.{◌≡◌, ◌⊎◌, ◌∙◌, ℕ, Bool, true, false, List, [], ◌∷◌, ◌++◌, append-nil, append_assoc, ap, inl, inr, refl, sym, subst, Option, Some, None}
 use Rattle.std.specs.Prelude.{◌&&◌}
 use Rattle.urlpattern_generate.specs.Asked.{capture_by_modifier, capture_not_given, empty_if, is_nameless}
-use Rattle.urlpattern_links.specs.Links.{OfEachGroup, OfFirst, captures_after, fewest_copies, text_of_group, text_of_part, text_of_parts}
+use Rattle.urlpattern_generate.specs.Links.{OfEachGroup, OfFirst, captures_after, fewest_copies, text_of_group, text_of_part, text_of_parts}
 use Rattle.urlpattern_meaning.specs.PartMeaning.{Captures, capture_of_none}
 use Rattle.urlpattern_syntax.specs.declared.parser.PartModifier.{PartModifier}
 use Rattle.urlpattern_syntax.specs.declared.parser.PartModifier.TheVariants as modifiers

@@ -4,7 +4,7 @@ use Rattle.std.proofs.lemmas.Bool.{false≢true}
 use Rattle.std.specs.Prelude.{◌↔◌, IfOk, IsTrue}
 use Rattle.std.specs.Str.{chars}
 use Rattle.url.specs.Parser.{Parsed}
-use Rattle.urlpattern_eight.specs.declared.eight.ComponentName.{ComponentName}
+use Rattle.urlpattern_components.specs.declared.eight.ComponentName.{ComponentName}
 use Rattle.urlpattern_generate.proofs.MadeMatchers.{made_finds}
 use Rattle.urlpattern_generate.specs.Asked.{AreAsked}
 use Rattle.urlpattern_generate.specs.Generating.{FindsAsked, FindsOther, IsNotCanonical, LacksText, ReadsWritten, TellsCanonical, TellsFound}

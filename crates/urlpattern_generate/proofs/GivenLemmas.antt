@@ -7,10 +7,10 @@ use Rattle.std.proofs.lemmas.List.{drop_all}
 use Rattle.std.specs.{Borrow.Bor, Str.chars}
 use Rattle.std.specs.Prelude.{IsTrue, codes, if◌then◌else◌}
 use Rattle.urlpattern_generate.specs.Manners.{given_groups, text_given, given_view, is_given_for}
-use Rattle.urlpattern_eight.proofs.EightLemmas.{by_name}
-use Rattle.urlpattern_eight.specs.Eight.{name_text}
-use Rattle.urlpattern_eight.specs.declared.eight.ComponentName.{ComponentName}
-use Rattle.urlpattern_eight.specs.declared.eight.ComponentName.TheVariants.{Protocol, Username, Password, Hostname, Port, Pathname, Search, Hash}
+use Rattle.urlpattern_components.proofs.EightLemmas.{by_name}
+use Rattle.urlpattern_components.specs.Eight.{name_text}
+use Rattle.urlpattern_components.specs.declared.eight.ComponentName.{ComponentName}
+use Rattle.urlpattern_components.specs.declared.eight.ComponentName.TheVariants.{Protocol, Username, Password, Hostname, Port, Pathname, Search, Hash}
 
 abbrev pub Group : Type 0
 Group = ComponentName × Bor (List ℕ) × Bor (List ℕ)

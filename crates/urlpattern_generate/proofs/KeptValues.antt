@@ -30,8 +30,8 @@ use Rattle.url.specs.declared.scheme.SchemeType.TheVariants.{SpecialNotFile}
 use Rattle.url.specs.declared.sets.TheConstants.{FORBIDDEN_DOMAIN, FRAGMENT, OPAQUE_PATH, PATH, SPECIAL_QUERY}
 use Rattle.urlpattern_canonical.proofs.CanonicalLemmas.{pathname_of-bare}
 use Rattle.urlpattern_canonical.specs.Canonical.{after, canonical_hostname, canonical_opaque_pathname, canonical_protocol, dummy_url, hostname_of, pathname_of, without_guard}
-use Rattle.urlpattern_eight.specs.declared.eight.ComponentName.{ComponentName}
-use Rattle.urlpattern_eight.specs.declared.eight.ComponentName.TheVariants.{Protocol, Username, Password, Hostname, Port, Pathname, Search, Hash}
+use Rattle.urlpattern_components.specs.declared.eight.ComponentName.{ComponentName}
+use Rattle.urlpattern_components.specs.declared.eight.ComponentName.TheVariants.{Protocol, Username, Password, Hostname, Port, Pathname, Search, Hash}
 use Rattle.urlpattern_generate.proofs.HostTexts.{host_visible, hostname_kept}
 use Rattle.urlpattern_generate.proofs.OpaquePaths.{path_canonical}
 use Rattle.urlpattern_generate.proofs.PortTexts.{port_digits, port_kept}

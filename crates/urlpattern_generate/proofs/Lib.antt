@@ -1,3 +1,9 @@
+pub mod CopyTexts
+pub mod CutTexts
+pub mod GroupLemmas
+pub mod LinkExamples
+pub mod LinkLaws
+pub mod SearchLemmas
 pub mod AskedLemmas
 pub mod FoundCaptures
 pub mod GeneratingLemmas
@@ -11,3 +17,4 @@ pub mod SetTests
 pub mod SetTexts
 pub mod TextLemmas
 pub mod WritingLemmas
+pub mod UrlLemmas

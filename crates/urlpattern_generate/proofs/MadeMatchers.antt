@@ -5,7 +5,7 @@ use Rattle.std.proofs.lemmas.Bool.Decides.{nat_tests}
 use Rattle.std.specs.Char.{is_ascii_alphabetic, to_ascii_lowercase}
 use Rattle.std.specs.Prelude.{◌||◌, IsTrue, map, option_to_list, unwrap_or}
 use Rattle.urlpattern_generate.specs.Generating.{ReadsWritten, has_one_case}
-use Rattle.urlpattern_links.specs.Links.{IsCopyText, MayCapture, MayCaptureAll, OfFirst, captures_after, fewest_copies, text_of_group, text_of_part, text_of_parts}
+use Rattle.urlpattern_generate.specs.Links.{IsCopyText, MayCapture, MayCaptureAll, OfFirst, captures_after, fewest_copies, text_of_group, text_of_part, text_of_parts}
 use Rattle.urlpattern_meaning.specs.Matching.{Answers, BeginsPlain, EndsPlain, IsMadeBetween, IsMadeByEngine, IsMadeOf, IsMadeOfOne, IsRemoved, MatcherView, MayBeEmpty, PassesFilter, end_text, folded, single_capture_matcher}
 use Rattle.urlpattern_meaning.specs.PartMeaning.{Allows, Captures}
 use Rattle.urlpattern_syntax.specs.declared.parser.PartModifier.{PartModifier}

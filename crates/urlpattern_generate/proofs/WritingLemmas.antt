@@ -4,13 +4,13 @@ use Rattle.std.proofs.Math.Seq.{drop-cons}
 use Rattle.std.proofs.lemmas.List.{map-append, take-append-drop, take_more}
 use Rattle.std.specs.Prelude.{◌&&◌, ◌↔◌, IfOk, IfSome, IsTrue}
 use Rattle.std.specs.{Borrow.Bor, Str.chars}
-use Rattle.urlpattern_eight.specs.declared.eight.ComponentName.{ComponentName}
+use Rattle.urlpattern_components.specs.declared.eight.ComponentName.{ComponentName}
 use Rattle.urlpattern_generate.proofs.AskedLemmas.{each_alone, each_joined, fixed_alone, fixed_text_alone, text_alone, texts_joined}
 use Rattle.urlpattern_generate.specs.Asked.{IsAsked, IsAskedBy}
 use Rattle.urlpattern_generate.specs.Manners.{WritingManner}
 use Rattle.urlpattern_generate.specs.Writing.{CannotWrite, IsWritten, RefusesPart}
 use Rattle.urlpattern_generate.specs.declared.error.GenerateError.{GenerateError}
-use Rattle.urlpattern_links.specs.Links.{IsCopyText, MayCapture, fewest_copies, text_of_group, text_of_parts}
+use Rattle.urlpattern_generate.specs.Links.{IsCopyText, MayCapture, fewest_copies, text_of_group, text_of_parts}
 use Rattle.urlpattern_meaning.specs.PartMeaning.{Allows}
 use Rattle.urlpattern_syntax.specs.declared.parser.Part.{Part}
 use Rattle.urlpattern_syntax.specs.declared.parser.PartModifier.TheVariants as modifiers

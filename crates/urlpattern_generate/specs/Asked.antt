@@ -4,7 +4,7 @@ use Rattle.std.specs.{Char.is_ascii_digit, Str.chars}
 use Rattle.url.specs.Parser.{Parsed}
 use Rattle.urlpattern_canonical.specs.Canonical.{IsRefusedByUrl}
 use Rattle.urlpattern_generate.specs.Manners.{WritingManner}
-use Rattle.urlpattern_links.specs.Links.{OfEachGroup}
+use Rattle.urlpattern_generate.specs.Links.{OfEachGroup}
 use Rattle.urlpattern_meaning.specs.PartMeaning.{Captures, capture_of_no_copies}
 use Rattle.urlpattern_syntax.specs.declared.parser.{PartModifier.PartModifier, PartType.PartType}
 use Rattle.urlpattern_syntax.specs.{Parts.PartView, RegexpText.is_empty, Text.begins_with}

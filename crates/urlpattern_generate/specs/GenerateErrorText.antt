@@ -1,6 +1,6 @@
 -- The text of a `GenerateError`, as the bytes that are printed.
 use Rattle.std.specs.Prelude.{ℕ, List, ◌++◌, codes, string_bytes}
-use Rattle.urlpattern_eight.specs.Eight.{name_text}
+use Rattle.urlpattern_components.specs.Eight.{name_text}
 use Rattle.urlpattern_generate.specs.declared.error.GenerateError.{GenerateError}
 use Rattle.urlpattern_generate.specs.declared.error.GenerateError.TheVariants as errors
 

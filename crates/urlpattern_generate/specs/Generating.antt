@@ -3,7 +3,7 @@ use Rattle.std.specs.Prelude.{◌≡◌, ◌≢◌, ◌⊎◌, ◌≤◌, ◌||�
 use Rattle.std.specs.{Char.is_ascii_alphabetic, Str.chars}
 use Rattle.url.specs.Parser.{Parsed}
 use Rattle.urlpattern_canonical.specs.Canonical.{long_text}
-use Rattle.urlpattern_eight.specs.declared.eight.ComponentName.{ComponentName}
+use Rattle.urlpattern_components.specs.declared.eight.ComponentName.{ComponentName}
 use Rattle.urlpattern_generate.specs.Asked.{AreAsked}
 use Rattle.urlpattern_generate.specs.Manners.{WritingManner}
 use Rattle.urlpattern_generate.specs.Writing.{CannotWrite, IsWritten}

@@ -1,6 +1,13 @@
+pub mod CopySearch
+pub mod LawsOfLinks
+pub mod Links
+pub mod Texts
 pub mod Asked
 pub mod GenerateErrorText
 pub mod Generating
 pub mod Kept
 pub mod Manners
 pub mod Writing
+pub mod NoLinkText
+pub mod UrlLines
+pub mod UrlsOfTexts

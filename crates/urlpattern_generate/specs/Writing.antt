@@ -4,13 +4,13 @@ use Rattle.std.specs.declared.alloc.Global.{Global}
 use Rattle.std.specs.declared.borrow.CowStr.{CowStr}
 use Rattle.std.specs.Cow.{cow_str_bytes}
 use Rattle.std.specs.Str.{chars}
-use Rattle.urlpattern_eight.specs.declared.eight.ComponentName.{ComponentName}
+use Rattle.urlpattern_components.specs.declared.eight.ComponentName.{ComponentName}
 use Rattle.urlpattern_generate.specs.Asked.{AreAsked, IsAsked, RefusesGiven}
 use Rattle.urlpattern_generate.specs.Manners.{WritingManner, given_groups, manner_for}
 use Rattle.urlpattern_generate.specs.declared.error.GenerateError.{GenerateError}
 use Rattle.urlpattern_generate.specs.declared.error.GenerateError.TheVariants.{Missing, NotCaptured, OutOfMemory}
 use Rattle.urlpattern_generate.specs.declared.writer.Writer.{Writer}
-use Rattle.urlpattern_links.specs.Links.{MayCapture, MayCaptureAll, OfFirst, captures_after, text_of_parts}
+use Rattle.urlpattern_generate.specs.Links.{MayCapture, MayCaptureAll, OfFirst, captures_after, text_of_parts}
 use Rattle.urlpattern_meaning.specs.PartMeaning.{Captures}
 use Rattle.urlpattern_syntax.specs.ComponentParts.{kept_options, kept_parts}
 use Rattle.urlpattern_syntax.specs.declared.parser.PartType.{PartType}

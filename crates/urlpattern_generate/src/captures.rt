@@ -7,7 +7,7 @@ ghost use Rattle.urlpattern_generate.specs.Asked.{capture_not_given, empty_if, i
 ghost use Rattle.urlpattern_syntax.specs.Parts.{part_view};
 ghost use Rattle.urlpattern_syntax.specs.Text.{begins_with, option_text, text_of};
 
-use urlpattern_links::is_bare;
+use crate::pieces::is_bare;
 use urlpattern_syntax::parser::{Part, PartModifier, PartType};
 
 /// What a group captures that is not given.

@@ -2,8 +2,8 @@
 
 ghost use Rattle.std.specs.Prelude.{IfErr, IfOk, false};
 ghost use Rattle.std.specs.Str.{chars};
-ghost use Rattle.urlpattern_core.specs.Components.{IsEngineOf, engine_flags};
-ghost use Rattle.urlpattern_core.specs.Matchers.{matcher_view};
+ghost use Rattle.urlpattern_matcher.specs.Components.{IsEngineOf, engine_flags};
+ghost use Rattle.urlpattern_matcher.specs.Matchers.{matcher_view};
 ghost use Rattle.urlpattern_generate.specs.Generating.{HasText, LacksText, TellsFound};
 ghost use Rattle.urlpattern_generate.specs.Manners.{given_groups, manner_for};
 ghost use Rattle.urlpattern_generate.specs.Writing.{CannotWrite, IsWritten, cow_text};
@@ -16,9 +16,9 @@ use crate::groups::GivenGroup;
 use crate::writer::Writer;
 use std::alloc::{AllocError, Global};
 use std::borrow::CowStr;
-use urlpattern_core::matcher::Matcher;
-use urlpattern_core::regexp::RegExp;
-use urlpattern_eight::ComponentName;
+use urlpattern_components::ComponentName;
+use urlpattern_matcher::matcher::Matcher;
+use urlpattern_matcher::regexp::RegExp;
 use urlpattern_syntax::parts::ComponentParts;
 
 /// The text of a component, of its parts and its matcher: the groups capture the canonical forms of what they are given.

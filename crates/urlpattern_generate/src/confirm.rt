@@ -2,8 +2,8 @@
 
 ghost use Rattle.std.specs.Prelude.{◌≡◌, ◌↔◌, ◌≤◌, false, length, map, IfOk, IfSome, IsTrue, Ok};
 ghost use Rattle.std.specs.Str.{chars};
-ghost use Rattle.urlpattern_core.specs.Components.{IsEngineOf, engine_flags};
-ghost use Rattle.urlpattern_core.specs.Matchers.{matcher_view};
+ghost use Rattle.urlpattern_matcher.specs.Components.{IsEngineOf, engine_flags};
+ghost use Rattle.urlpattern_matcher.specs.Matchers.{matcher_view};
 ghost use Rattle.urlpattern_generate.specs.Asked.{AreAsked, IsAsked};
 ghost use Rattle.urlpattern_generate.specs.Generating.{ReadsWritten, TellsFound, has_one_case};
 ghost use Rattle.urlpattern_generate.specs.Writing.{IsWritten, LeavesAsked, manner_of_writer};
@@ -16,8 +16,8 @@ use crate::captures::capture_not_given;
 use crate::groups::{given_text, is_same_text};
 use crate::writer::Writer;
 use std::alloc::AllocError;
-use urlpattern_core::matcher::{InnerMatcher, Matcher};
-use urlpattern_core::regexp::RegExp;
+use urlpattern_matcher::matcher::{InnerMatcher, Matcher};
+use urlpattern_matcher::regexp::RegExp;
 use urlpattern_syntax::parser::{Part, PartType};
 
 impl Writer<'_> {

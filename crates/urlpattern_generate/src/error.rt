@@ -6,7 +6,7 @@ ghost use Rattle.urlpattern_generate.specs.declared.error.GenerateError.TheVaria
 
 use std::alloc::AllocError;
 use std::{error, fmt};
-use urlpattern_eight::ComponentName;
+use urlpattern_components::ComponentName;
 
 /// Why a pattern has no text with the groups that are given.
 ///

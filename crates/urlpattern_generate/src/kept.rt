@@ -10,7 +10,7 @@ ghost use Rattle.urlpattern_generate.specs.Kept.{is_dot_mark, is_host_character,
 ghost use Rattle.urlpattern_syntax.specs.Text.{lacks, line_feed};
 
 use percent_encoding::{AsciiSet, CONTROLS, ascii_set};
-use urlpattern_eight::ComponentName;
+use urlpattern_components::ComponentName;
 
 /// The ASCII characters that a path, a search or a hash may escape.
 const ESCAPED: AsciiSet = ascii_set!(

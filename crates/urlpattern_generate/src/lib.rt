@@ -1,4 +1,7 @@
-//! The text of a component whose groups capture what is given.
+//! Texts and URLs made of a pattern and given groups: the inverse of what its parts mean.
+//!
+//! [`generate_component`] writes the text of one component, and [`url_of_texts`] makes the URL with
+//! eight given texts.
 #![tactic(auto)]
 
 mod captures;
@@ -7,9 +10,17 @@ mod confirm;
 mod error;
 mod groups;
 mod kept;
+pub mod laws;
+mod linked_url;
+mod no_link;
+mod part_text;
+mod pieces;
 mod text;
+mod url_line;
 mod writer;
 
 pub use component::{confirms, generate_component, written_component};
 pub use error::GenerateError;
 pub use groups::GivenGroup;
+pub use linked_url::url_of_texts;
+pub use no_link::NoLink;

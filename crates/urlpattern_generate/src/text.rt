@@ -12,9 +12,10 @@ ghost use Rattle.urlpattern_syntax.specs.Text.{lacks, line_feed, option_text, te
 use crate::captures::capture_not_given;
 use crate::error::GenerateError;
 use crate::groups::given_text;
+use crate::part_text::{push_fixed, push_group};
+use crate::pieces::is_bare;
 use crate::writer::Writer;
 use std::borrow::CowStr;
-use urlpattern_links::{is_bare, push_fixed, push_group};
 use urlpattern_syntax::Error;
 use urlpattern_syntax::parser::{Part, PartModifier, PartType};
 

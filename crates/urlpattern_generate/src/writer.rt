@@ -14,7 +14,7 @@ use crate::groups::{GivenGroup, is_same_text};
 use crate::kept::keeps;
 use std::alloc::{AllocError, Global};
 use urlpattern_canonical::canonicalize_and_process::{Canonicalizer, canonicalize_ipv6_hostname};
-use urlpattern_eight::ComponentName;
+use urlpattern_components::ComponentName;
 use urlpattern_syntax::Error;
 use urlpattern_syntax::parser::{Part, PartType};
 use urlpattern_syntax::parts::ComponentParts;

@@ -3,8 +3,8 @@ use Rattle.std.proofs.Common.{◌≡◌, ℕ, Bool, true, false, true≢false, a
 use Rattle.std.proofs.lemmas.List.{append-nil}
 use Rattle.std.proofs.lemmas.List.Elements.{All-cons, All-nil}
 use Rattle.std.specs.Prelude.{◌&&◌, ◌||◌, ◌≢◌, ◌<◌, ◌≤◌, length, slice_index_or, IsTrue, Ok, Err, Option, None, Some, Result, option_to_list, unwrap_or}
-use Rattle.urlpattern_core.specs.Components.{IsEngineOf, engine_flags, has_regexp, is_custom}
-use Rattle.urlpattern_core.specs.declared.regexp.RegExp.{Ghosts as Engine}
+use Rattle.urlpattern_matcher.specs.Components.{IsEngineOf, engine_flags, has_regexp, is_custom}
+use Rattle.urlpattern_matcher.specs.declared.regexp.RegExp.{Ghosts as Engine}
 use Rattle.urlpattern_index.specs.Known.{IsFirstText}
 use Rattle.urlpattern_index.specs.Paths.{FitsBy, FitsOnce, FitsPart, FitsParts}
 use Rattle.urlpattern_meaning.proofs.FirstAnswers.{middle_plain}

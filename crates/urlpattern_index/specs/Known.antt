@@ -1,8 +1,8 @@
 -- What is known of the texts that a component matches, by its parts.
 use Rattle.std.specs.Prelude.{◌≡◌, ℕ, false, true, List, [], ◌∷◌, IsTrue, Option}
-use Rattle.urlpattern_core.specs.Components.{IsComponentOf, component_view}
-use Rattle.urlpattern_core.specs.declared.component.Component.{Component}
-use Rattle.urlpattern_core.specs.declared.regexp.RegExp.{Ghosts as Engine}
+use Rattle.urlpattern_matcher.specs.Components.{IsComponentOf, component_view}
+use Rattle.urlpattern_matcher.specs.declared.component.Component.{Component}
+use Rattle.urlpattern_matcher.specs.declared.regexp.RegExp.{Ghosts as Engine}
 use Rattle.urlpattern_index.specs.Paths.{FitsParts}
 use Rattle.urlpattern_meaning.specs.Matching.{IsMatched}
 use Rattle.urlpattern_meaning.specs.PartMeaning.{Captures}

@@ -8,9 +8,9 @@ ghost use Rattle.urlpattern_syntax.specs.Parts.{parts_view};
 ghost use Rattle.urlpattern_syntax.specs.Text.{option_text};
 
 use crate::fixed::KnownPath;
-use urlpattern_core::component::{Component, is_plain};
-use urlpattern_core::matcher::InnerMatcher;
-use urlpattern_core::regexp::RegExp;
+use urlpattern_matcher::component::{Component, is_plain};
+use urlpattern_matcher::matcher::InnerMatcher;
+use urlpattern_matcher::regexp::RegExp;
 use urlpattern_syntax::ComponentParts;
 use urlpattern_syntax::parser::Part;
 

@@ -10,15 +10,15 @@ use Rattle.url.specs.Parts.{Parts, cannot_be_a_base}
 use Rattle.urlpattern_canonical.proofs.CanonicalLemmas.{answers-more, dummy_is_parsed, memory_alone}
 use Rattle.urlpattern_canonical.specs.Canonical.{IsAnswer, Reports, bytes_asked, dummy_url, processed_base, processed_pathname}
 use Rattle.std.proofs.lemmas.List.Elements.{All-head, All-tail}
-use Rattle.urlpattern_eight.proofs.EightLemmas.{at-each, by_name, same_values}
+use Rattle.urlpattern_components.proofs.EightLemmas.{at-each, by_name, same_values}
 use Rattle.urlpattern_syntax.proofs.StringTexts.{text-nil}
 use Rattle.urlpattern_syntax.proofs.TextLemmas.{byte_len-chars}
 use Rattle.urlpattern_syntax.specs.declared.error.Error.{Error}
-use Rattle.urlpattern_eight.specs.Eight.{Values, at, components, each}
+use Rattle.urlpattern_components.specs.Eight.{Values, at, components, each}
 use Rattle.urlpattern_syntax.specs.Text.{byte_len, text_of}
-use Rattle.urlpattern_eight.specs.declared.eight.ComponentName.{ComponentName}
-use Rattle.urlpattern_eight.specs.declared.eight.ComponentName.TheVariants.{Protocol, Username, Password, Hostname, Port, Pathname, Search, Hash}
-use Rattle.urlpattern_eight.specs.declared.eight.Eight.{Eight}
+use Rattle.urlpattern_components.specs.declared.eight.ComponentName.{ComponentName}
+use Rattle.urlpattern_components.specs.declared.eight.ComponentName.TheVariants.{Protocol, Username, Password, Hostname, Port, Pathname, Search, Hash}
+use Rattle.urlpattern_components.specs.declared.eight.Eight.{Eight}
 use Rattle.urlpattern_init.specs.Inheritance.{asked_bytes, bytes_of, first_refusal, value_given, given_bytes, given_text, is_absolute, is_slash, processed_text, processed_values, protocol_bytes, put_before, refusal_or, unless_refused, up_to_last_slash, value_or_none, processed_value}
 use Rattle.urlpattern_canonical.specs.declared.canonicalize_and_process.ProcessType.{ProcessType}
 use Rattle.urlpattern_canonical.specs.declared.canonicalize_and_process.ProcessType.TheVariants.{Pattern, Url}

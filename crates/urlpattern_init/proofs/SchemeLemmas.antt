@@ -12,10 +12,10 @@ use Rattle.urlpattern_meaning.proofs.Encodings.{Weakens, reads_weaker}
 use Rattle.urlpattern_meaning.proofs.MatchingLaws.{middle_kept}
 use Rattle.urlpattern_meaning.specs.Matching.{Accepts, HasMiddle, InnerView, IsMadeOf, IsSame, Literal, MatcherView}
 use Rattle.urlpattern_meaning.specs.PartMeaning.{Captures}
-use Rattle.urlpattern_core.specs.Components.{IsCompiledKeeping, IsEngineOf}
-use Rattle.urlpattern_core.specs.Matchers.{matcher_view}
-use Rattle.urlpattern_core.specs.declared.component.ComponentWithParts.{ComponentWithParts}
-use Rattle.urlpattern_core.specs.declared.regexp.RegExp.{Ghosts as Engine}
+use Rattle.urlpattern_matcher.specs.Components.{IsCompiledKeeping, IsEngineOf}
+use Rattle.urlpattern_matcher.specs.Matchers.{matcher_view}
+use Rattle.urlpattern_matcher.specs.declared.component.ComponentWithParts.{ComponentWithParts}
+use Rattle.urlpattern_matcher.specs.declared.regexp.RegExp.{Ghosts as Engine}
 use Rattle.urlpattern_syntax.specs.declared.error.Error.{Error}
 use Rattle.urlpattern_syntax.specs.Options.{OptionsView, default_options}
 use Rattle.urlpattern_syntax.specs.Parts.{PartView}

@@ -6,13 +6,13 @@ use Rattle.std.specs.Prelude.{codes, IsTrue, IsSomeAnd, Option, slice_get}
 use Rattle.urlpattern_meaning.proofs.PlainTexts.{letters, plain_cut}
 use Rattle.urlpattern_init.proofs.SplitUnique.{splits_one_given}
 use Rattle.urlpattern_init.specs.ConstructorString.{SplitsAs, SplitsInto}
-use Rattle.urlpattern_split.specs.Split.{EndsAt, IsAbsoluteSplit, IsRelativeSplit, IsTextBetween, ends_at, may_end}
-use Rattle.urlpattern_split.specs.declared.sections.Section.{Section}
-use Rattle.urlpattern_split.specs.declared.sections.Section.TheVariants.{Protocol, Authority, Username, Hostname, Port, Pathname, Search}
+use Rattle.urlpattern_constructor.specs.Split.{EndsAt, IsAbsoluteSplit, IsRelativeSplit, IsTextBetween, ends_at, may_end}
+use Rattle.urlpattern_constructor.specs.declared.sections.Section.{Section}
+use Rattle.urlpattern_constructor.specs.declared.sections.Section.TheVariants.{Protocol, Authority, Username, Hostname, Port, Pathname, Search}
 use Rattle.urlpattern_syntax.specs.declared.tokenizer.TokenType.{TokenType}
 use Rattle.urlpattern_syntax.specs.declared.tokenizer.TokenType.TheVariants.{End, EscapedChar, InvalidChar, Name, Open, OtherModifier}
 use Rattle.urlpattern_syntax.proofs.TokenExamples.{literals, name, no, none, token}
-use Rattle.urlpattern_eight.specs.Eight.{Values}
+use Rattle.urlpattern_components.specs.Eight.{Values}
 use Rattle.urlpattern_syntax.specs.Text.{byte_len}
 use Rattle.urlpattern_syntax.specs.Tokens.{AreLenientTokens, InvalidName, IsInvalidCharOf, IsTokenOf, TokenView}
 

@@ -3,17 +3,17 @@ use Rattle.std.proofs.Common.{◌≡◌, ℕ, zero, suc, ◌+◌, ◌<◌, ◌�
 use Rattle.std.proofs.lemmas.Bool.{and_from, and_parts, both_ways, cases_eq, cases_lt, false≢true, or_cases, or_left, or_right}
 use Rattle.std.specs.Prelude.{codes, IsSomeAnd, IsTrue}
 use Rattle.urlpattern_init.specs.ConstructorString.{SplitsAs}
-use Rattle.urlpattern_split.specs.Split.{AuthorityFrom, EndsAt, HashAt, HashFrom, HostnameFrom, IsAbsoluteSplit, IsRelativeSplit, PathnameAt, PathnameFrom, PortAt, SearchAt, SearchFrom, IsComponentBetween, UserinfoFrom, depth_before, ends_at, has_slashes, implied_pathname, is_at_sign, is_balanced, is_colon_sign, is_hash_sign, is_search_sign, is_slash_sign, may_end}
-use Rattle.urlpattern_split.proofs.ClosedTokens.{IsClosed}
-use Rattle.urlpattern_split.specs.Splitting.{may_follow}
-use Rattle.urlpattern_split.specs.declared.sections.Section.{Section}
-use Rattle.urlpattern_split.specs.declared.sections.Section.TheVariants.{Authority, Hash, Hostname, Pathname, Port, Protocol, Search, Username}
-use Rattle.urlpattern_split.proofs.SplitLemmas.{may_end_parts, port_sign, sign_goes_on, stops_cases, username_before}
+use Rattle.urlpattern_constructor.specs.Split.{AuthorityFrom, EndsAt, HashAt, HashFrom, HostnameFrom, IsAbsoluteSplit, IsRelativeSplit, PathnameAt, PathnameFrom, PortAt, SearchAt, SearchFrom, IsComponentBetween, UserinfoFrom, depth_before, ends_at, has_slashes, implied_pathname, is_at_sign, is_balanced, is_colon_sign, is_hash_sign, is_search_sign, is_slash_sign, may_end}
+use Rattle.urlpattern_constructor.proofs.ClosedTokens.{IsClosed}
+use Rattle.urlpattern_constructor.specs.Splitting.{may_follow}
+use Rattle.urlpattern_constructor.specs.declared.sections.Section.{Section}
+use Rattle.urlpattern_constructor.specs.declared.sections.Section.TheVariants.{Authority, Hash, Hostname, Pathname, Port, Protocol, Search, Username}
+use Rattle.urlpattern_constructor.proofs.SplitLemmas.{may_end_parts, port_sign, sign_goes_on, stops_cases, username_before}
 use Rattle.urlpattern_init.proofs.SplitUnique.{search_not_end}
-use Rattle.urlpattern_split.proofs.TextBetween.{are_closed, text_between}
+use Rattle.urlpattern_constructor.proofs.TextBetween.{are_closed, text_between}
 use Rattle.urlpattern_meaning.proofs.TokensExist.{lenient_tokens_exist}
 use Rattle.urlpattern_syntax.specs.Tokens.{AreLenientTokens, TokenView, end_of}
-use Rattle.urlpattern_eight.specs.Eight.{Values, each}
+use Rattle.urlpattern_components.specs.Eight.{Values, each}
 
 -- ---- components that are still to be found
 

@@ -6,18 +6,18 @@ use Rattle.std.proofs.lemmas.Slice.Eq.{bytes_eq-Decides}
 use Rattle.std.specs.Prelude.{codes, IsSomeAnd, IsTrue, slice_get}
 use Rattle.std.specs.Str.{bytes_eq}
 use Rattle.urlpattern_init.specs.ConstructorString.{SplitsAs, SplitsInto}
-use Rattle.urlpattern_split.specs.Split.{AuthorityFrom, EndsAt, HasProtocol, HashAt, HashFrom, HostnameFrom, IsAbsoluteSplit, IsRelativeSplit, IsSplit, IsTextBetween, PathnameAt, PathnameFrom, PortAt, SearchAt, SearchFrom, IsComponentBetween, UserinfoFrom, passes_at, ends_at, has_slashes, is_at_sign, is_character, is_colon_sign, is_end, is_hash_sign, is_search_sign, is_sign, is_slash_sign, follows_modified, depth_before}
-use Rattle.urlpattern_split.proofs.ClosedTokens.{IsClosed}
-use Rattle.urlpattern_split.specs.declared.sections.Section.{Section}
-use Rattle.urlpattern_split.specs.declared.sections.Section.TheVariants.{Authority, Hostname, Pathname, Port, Protocol, Search, Username}
-use Rattle.urlpattern_split.proofs.SplitLemmas.{found_at, sign_not_end, stops_cases}
-use Rattle.urlpattern_split.proofs.TextBetween.{IsLenient, are_closed, lenient_not_end}
-use Rattle.urlpattern_split.proofs.TokenPlaces.{at_view}
+use Rattle.urlpattern_constructor.specs.Split.{AuthorityFrom, EndsAt, HasProtocol, HashAt, HashFrom, HostnameFrom, IsAbsoluteSplit, IsRelativeSplit, IsSplit, IsTextBetween, PathnameAt, PathnameFrom, PortAt, SearchAt, SearchFrom, IsComponentBetween, UserinfoFrom, passes_at, ends_at, has_slashes, is_at_sign, is_character, is_colon_sign, is_end, is_hash_sign, is_search_sign, is_sign, is_slash_sign, follows_modified, depth_before}
+use Rattle.urlpattern_constructor.proofs.ClosedTokens.{IsClosed}
+use Rattle.urlpattern_constructor.specs.declared.sections.Section.{Section}
+use Rattle.urlpattern_constructor.specs.declared.sections.Section.TheVariants.{Authority, Hostname, Pathname, Port, Protocol, Search, Username}
+use Rattle.urlpattern_constructor.proofs.SplitLemmas.{found_at, sign_not_end, stops_cases}
+use Rattle.urlpattern_constructor.proofs.TextBetween.{IsLenient, are_closed, lenient_not_end}
+use Rattle.urlpattern_constructor.proofs.TokenPlaces.{at_view}
 use Rattle.urlpattern_meaning.proofs.TokensUnique.{lenient_tokens_one}
 use Rattle.urlpattern_syntax.proofs.TextLemmas.{byte_len-append, byte_len-nil, length-le-byte_len}
 use Rattle.urlpattern_syntax.specs.Text.{byte_len}
 use Rattle.urlpattern_syntax.specs.Tokens.{AreLenientTokens, IsCut, TokenView, end_of}
-use Rattle.urlpattern_eight.specs.Eight.{Values}
+use Rattle.urlpattern_components.specs.Eight.{Values}
 
 -- ---- texts
 

@@ -32,8 +32,8 @@ use Rattle.url.specs.declared.sets.TheConstants.{FORBIDDEN_DOMAIN, FRAGMENT, OPA
 use Rattle.url.specs.declared.slicing.Position.TheVariants.{AfterPort, BeforePort}
 use Rattle.urlpattern_init.specs.Inheritance.{texts_of_url}
 use Rattle.urlpattern_init.specs.UrlTexts.{IsLine, TextsOfUrlsAreLines}
-use Rattle.urlpattern_eight.proofs.EightLemmas.{by_name}
-use Rattle.urlpattern_eight.specs.Eight.{at}
+use Rattle.urlpattern_components.proofs.EightLemmas.{by_name}
+use Rattle.urlpattern_components.specs.Eight.{at}
 use Rattle.urlpattern_syntax.specs.Text.{lacks, line_feed}
 
 -- the byte is ASCII and no line feed

@@ -2,11 +2,11 @@
 use Rattle.std.specs.Prelude.{◌≡◌, ℕ, ◌*◌, ◌≤◌, ◌⊎◌, Bool, true, false, List, Option, None, length}
 use Rattle.url.specs.declared.Url.{Url}
 use Rattle.urlpattern_init.specs.SpecialProtocol.{RefusesProtocol}
-use Rattle.urlpattern_split.specs.Split.{HasProtocol, IsSplit, LacksProtocol}
-use Rattle.urlpattern_split.specs.Splitting.{split_values, text_of_source, tokens_of}
-use Rattle.urlpattern_split.specs.declared.{components.Split.Split, tokens.Source.Source}
+use Rattle.urlpattern_constructor.specs.Split.{HasProtocol, IsSplit, LacksProtocol}
+use Rattle.urlpattern_constructor.specs.Splitting.{split_values, text_of_source, tokens_of}
+use Rattle.urlpattern_constructor.specs.declared.{components.Split.Split, tokens.Source.Source}
 use Rattle.urlpattern_init.specs.declared.init.UrlPatternInit.{UrlPatternInit}
-use Rattle.urlpattern_eight.specs.Eight.{Values}
+use Rattle.urlpattern_components.specs.Eight.{Values}
 use Rattle.urlpattern_syntax.specs.Errors.{ErrorView}
 use Rattle.urlpattern_syntax.specs.Tokens.{AreLenientTokens, TokenView}
 

@@ -10,13 +10,13 @@ use Rattle.url.specs.Ascii.{backslash, slash}
 use Rattle.url.specs.Host.{host_text}
 use Rattle.url.specs.Parser.{Parsed, and_then}
 use Rattle.url.specs.Parts.{Parts, cannot_be_a_base, host_or_empty, text_between}
-use Rattle.urlpattern_eight.specs.declared.eight.ComponentName.TheVariants.{Protocol, Username, Password, Hostname, Port, Pathname, Search, Hash}
+use Rattle.urlpattern_components.specs.declared.eight.ComponentName.TheVariants.{Protocol, Username, Password, Hostname, Port, Pathname, Search, Hash}
 use Rattle.urlpattern_init.specs.declared.init.UrlPatternInit.{UrlPatternInit}
 use Rattle.urlpattern_canonical.specs.Canonical.{bytes_asked, left_brace, processed_base, processed_hash, processed_hostname, processed_password, processed_pathname, processed_port, processed_protocol, processed_search, processed_username, without_first}
 use Rattle.urlpattern_canonical.specs.declared.canonicalize_and_process.ProcessType.{ProcessType}
-use Rattle.urlpattern_eight.specs.declared.eight.ComponentName.{ComponentName}
-use Rattle.urlpattern_eight.specs.declared.eight.Eight.{Eight}
-use Rattle.urlpattern_eight.specs.Eight.{Texts, Values, at, components, each}
+use Rattle.urlpattern_components.specs.declared.eight.ComponentName.{ComponentName}
+use Rattle.urlpattern_components.specs.declared.eight.Eight.{Eight}
+use Rattle.urlpattern_components.specs.Eight.{Texts, Values, at, components, each}
 use Rattle.urlpattern_syntax.specs.Text.{begins_with, byte_len, chars, text_of}
 
 -- what an init has for each component

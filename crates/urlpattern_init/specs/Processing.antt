@@ -6,8 +6,8 @@ use Rattle.url.specs.Parser.{Parsed}
 use Rattle.urlpattern_canonical.specs.Canonical.{IsAnswer, Reports, bytes_asked}
 use Rattle.urlpattern_init.specs.declared.init.processing.Processing.{Processing}
 use Rattle.urlpattern_init.specs.Inheritance.{bytes_of, given_bytes, given_text, inherited, init_bytes, init_values, missing, processed_text, processed_value, values_view}
-use Rattle.urlpattern_eight.specs.declared.eight.ComponentName.{ComponentName}
-use Rattle.urlpattern_eight.specs.Eight.{Values}
+use Rattle.urlpattern_components.specs.declared.eight.ComponentName.{ComponentName}
+use Rattle.urlpattern_components.specs.Eight.{Values}
 use Rattle.urlpattern_syntax.specs.Errors.{MemoryOr}
 use Rattle.urlpattern_syntax.specs.declared.error.Error.{Error}
 use Rattle.urlpattern_syntax.specs.Text.{byte_len, option_text, text_of}

@@ -4,10 +4,10 @@ use Rattle.std.specs.Prelude.{◌≡◌, ℕ, ◌↔◌, Bool, false, List, Any,
 use Rattle.std.specs.{Borrow.Bor, Str.chars}
 use Rattle.std.specs.declared.alloc.Global.{Global}
 use Rattle.urlpattern_canonical.specs.Canonical.{IsAnswer, canonical_protocol, special_schemes}
-use Rattle.urlpattern_core.specs.{Matchers.matcher_view, Components.IsCompiledKeeping, Components.IsEngineOf}
-use Rattle.urlpattern_core.specs.declared.component.ComponentWithParts.{ComponentWithParts}
-use Rattle.urlpattern_core.specs.declared.matcher.Matcher.{Matcher}
-use Rattle.urlpattern_core.specs.declared.regexp.RegExp.{Ghosts as Engine}
+use Rattle.urlpattern_matcher.specs.{Matchers.matcher_view, Components.IsCompiledKeeping, Components.IsEngineOf}
+use Rattle.urlpattern_matcher.specs.declared.component.ComponentWithParts.{ComponentWithParts}
+use Rattle.urlpattern_matcher.specs.declared.matcher.Matcher.{Matcher}
+use Rattle.urlpattern_matcher.specs.declared.regexp.RegExp.{Ghosts as Engine}
 use Rattle.urlpattern_meaning.specs.Matching.{IsMadeOf, IsMatched, MatcherView}
 use Rattle.urlpattern_meaning.specs.PartMeaning.{Captures}
 use Rattle.urlpattern_syntax.specs.declared.error.Error.{Error}

@@ -3,8 +3,8 @@ use Rattle.std.specs.Prelude.{ℕ, List, IsTrue}
 use Rattle.std.specs.Str.{all_scalars}
 use Rattle.url.specs.Parts.{IsValid, Parts}
 use Rattle.urlpattern_init.specs.Inheritance.{texts_of_url}
-use Rattle.urlpattern_eight.specs.declared.eight.ComponentName.{ComponentName}
-use Rattle.urlpattern_eight.specs.Eight.{Texts, at}
+use Rattle.urlpattern_components.specs.declared.eight.ComponentName.{ComponentName}
+use Rattle.urlpattern_components.specs.Eight.{Texts, at}
 use Rattle.urlpattern_syntax.specs.Text.{lacks, line_feed}
 
 -- A line: characters, none of them a line feed.

@@ -5,11 +5,11 @@
 ghost use Rattle.std.specs.Prelude.{◌≡◌, IfErr, IfOk, IfSome, ◌*◌, ◌≤◌, length};
 ghost use Rattle.std.specs.Str.{chars};
 ghost use Rattle.urlpattern_init.specs.ConstructorString.{AreFewTurns, HasProtocolOrBase, IsSplitOf, RefusesString, SplitsInto};
-ghost use Rattle.urlpattern_eight.specs.Eight.{at};
+ghost use Rattle.urlpattern_components.specs.Eight.{at};
 ghost use Rattle.urlpattern_init.specs.Inheritance.{values_view};
 ghost use Rattle.urlpattern_init.specs.SpecialProtocol.{IsKnownProtocol, IsSpecialTo, RefusesProtocol};
-ghost use Rattle.urlpattern_split.specs.Split.{HasProtocol};
-ghost use Rattle.urlpattern_split.specs.Splitting.{IsOwned, IsSource, split_values, text_of_source};
+ghost use Rattle.urlpattern_constructor.specs.Split.{HasProtocol};
+ghost use Rattle.urlpattern_constructor.specs.Splitting.{IsOwned, IsSource, split_values, text_of_source};
 ghost use Rattle.urlpattern_syntax.specs.Errors.{MemoryOr, OnlyOutOfMemory};
 ghost use Rattle.urlpattern_syntax.specs.Text.{option_text};
 
@@ -20,12 +20,12 @@ pub use special_protocol::accepts_special_scheme;
 use special_protocol::is_special_protocol;
 use std::alloc::Global;
 use url::Url;
-use urlpattern_core::Error;
-use urlpattern_core::component::ComponentWithParts;
-use urlpattern_core::regexp::RegExp;
-use urlpattern_core::tokenizer::{TokenizePolicy, tokenize};
-use urlpattern_eight::{ComponentName, Eight};
-use urlpattern_split::{Position, Section, Source, Split};
+use urlpattern_components::{ComponentName, Eight};
+use urlpattern_constructor::{Position, Section, Source, Split};
+use urlpattern_matcher::component::ComponentWithParts;
+use urlpattern_matcher::regexp::RegExp;
+use urlpattern_parser::tokenizer::{TokenizePolicy, tokenize};
+use urlpattern_syntax::Error;
 
 impl UrlPatternInit {
     /// Splits a constructor string, the pattern of a whole URL, into the patterns of its components.

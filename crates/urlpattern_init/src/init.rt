@@ -5,13 +5,13 @@ mod processing;
 
 ghost use Rattle.std.specs.Prelude.{◌≡◌, IfOk, option_map};
 ghost use Rattle.urlpattern_init.specs.Inheritance.{values_of, values_view};
-ghost use Rattle.urlpattern_eight.specs.Eight.{at};
+ghost use Rattle.urlpattern_components.specs.Eight.{at};
 ghost use Rattle.urlpattern_syntax.specs.Text.{option_text, text_of};
 
 pub use processing::{process, process_values, url_text};
 use std::alloc::AllocError;
 use url::Url;
-use urlpattern_eight::{ComponentName, Eight, field_of, with_fields};
+use urlpattern_components::{ComponentName, Eight, field_of, with_fields};
 
 /// The components of a URL pattern, each with its own pattern, or those of a URL to be matched.
 ///

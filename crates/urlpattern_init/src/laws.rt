@@ -9,10 +9,10 @@ ghost use Rattle.urlpattern_init.specs.Inheritance.{texts_of_url};
 ghost use Rattle.urlpattern_init.specs.SpecialProtocol.{IsSpecialTo};
 ghost use Rattle.urlpattern_init.specs.UrlTexts.{EachIsLine, TextsOfUrlsAreLines};
 ghost use Rattle.urlpattern_meaning.specs.Laws.{AtMostOne};
-ghost use Rattle.urlpattern_eight.specs.Eight.{Values};
+ghost use Rattle.urlpattern_components.specs.Eight.{Values};
 
 use url::Url;
-use urlpattern_core::regexp::RegExp;
+use urlpattern_matcher::regexp::RegExp;
 
 /// A constructor string has one split under a given answer on whether its protocol is special. By the answers of a type of
 /// engines it has one at most, unless its protocol is special by them and also not.

@@ -6,10 +6,10 @@ use Rattle.urlpattern_inputs.specs.ReadResults.{IsUnread, ReturnsRead}
 use Rattle.urlpattern_inputs.specs.Trees.{◌>>=◌, read_each}
 use Rattle.urlpattern_inputs.specs.declared.reading.Unread.{Unread}
 use Rattle.urlpattern_inputs.specs.declared.reading.Unread.TheVariants.{OutOfMemory, Shape}
-use Rattle.urlpattern_eight.specs.Eight.{at, each}
-use Rattle.urlpattern_eight.specs.declared.eight.ComponentName.{ComponentName}
-use Rattle.urlpattern_eight.specs.declared.eight.ComponentName.TheVariants.{Protocol}
-use Rattle.urlpattern_eight.specs.declared.eight.Eight.{Eight}
+use Rattle.urlpattern_components.specs.Eight.{at, each}
+use Rattle.urlpattern_components.specs.declared.eight.ComponentName.{ComponentName}
+use Rattle.urlpattern_components.specs.declared.eight.ComponentName.TheVariants.{Protocol}
+use Rattle.urlpattern_components.specs.declared.eight.Eight.{Eight}
 
 -- a function sees the same of each component
 pub each-same : {A : Type 0} (first second : ComponentName → A) → ((name : ComponentName) → first name ≡ second name) → each first ≡ each second

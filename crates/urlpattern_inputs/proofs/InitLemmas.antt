@@ -10,7 +10,7 @@ use Rattle.urlpattern_inputs.specs.Trees.{optional_read, read_each}
 use Rattle.urlpattern_inputs.specs.declared.reading.Unread.{Unread}
 use Rattle.urlpattern_inputs.specs.declared.reading.Unread.TheVariants.{OutOfMemory, Shape}
 use Rattle.urlpattern_inputs.proofs.EachLemmas.{nothing}
-use Rattle.urlpattern_eight.specs.Eight.{name_text}
+use Rattle.urlpattern_components.specs.Eight.{name_text}
 
 -- a tree that is no text is an init or nothing
 pub input_read-init : (tree : Data) → as_str tree ≡ None → input_read tree ≡ option_map of_init (init_read tree)

@@ -2,7 +2,7 @@
 use Rattle.std.proofs.Common.{◌≡◌, None, Some, true, codes, refl}
 use Rattle.serde_json.specs.Data.{array, boolean, member, no_items, no_members, null, object}
 use Rattle.urlpattern_inputs.specs.InputJson.{init_read, init_tree, options_read}
-use Rattle.urlpattern_eight.specs.Eight.{each}
+use Rattle.urlpattern_components.specs.Eight.{each}
 use Rattle.urlpattern_syntax.specs.declared.parser.RegexSyntax.TheVariants.{Rust}
 
 -- nothing given, nothing written

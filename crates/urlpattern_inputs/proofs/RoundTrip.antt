@@ -9,10 +9,10 @@ use Rattle.urlpattern_inputs.specs.Trees.{each_member, found_read, optional_read
 use Rattle.urlpattern_inputs.proofs.EachLemmas.{read_each-all}
 use Rattle.urlpattern_inputs.proofs.InitLemmas.{init_from}
 use Rattle.urlpattern_inputs.proofs.TreeLemmas.{get_member-all_with, last_of, newer, newer-none, optional_string}
-use Rattle.urlpattern_eight.specs.Eight.{at, name_text}
-use Rattle.urlpattern_eight.specs.declared.eight.ComponentName.{ComponentName}
-use Rattle.urlpattern_eight.specs.declared.eight.ComponentName.TheVariants.{Protocol}
-use Rattle.urlpattern_eight.specs.declared.eight.Eight.{Eight}
+use Rattle.urlpattern_components.specs.Eight.{at, name_text}
+use Rattle.urlpattern_components.specs.declared.eight.ComponentName.{ComponentName}
+use Rattle.urlpattern_components.specs.declared.eight.ComponentName.TheVariants.{Protocol}
+use Rattle.urlpattern_components.specs.declared.eight.Eight.{Eight}
 use Rattle.urlpattern_syntax.specs.declared.parser.RegexSyntax.{RegexSyntax}
 use Rattle.urlpattern_syntax.specs.declared.parser.RegexSyntax.TheVariants.{EcmaScript, Rust}
 

@@ -5,8 +5,8 @@ use Rattle.serde_json.proofs.Views.{get_member-put, get_member-put_other}
 use Rattle.serde_json.specs.Data.{Data, Members, no_members, put, string}
 use Rattle.serde_json.specs.Find.{as_str, get_member}
 use Rattle.urlpattern_inputs.specs.Trees.{all_with, found_read, with}
-use Rattle.urlpattern_eight.specs.Eight.{name_text}
-use Rattle.urlpattern_eight.specs.declared.eight.ComponentName.{ComponentName}
+use Rattle.urlpattern_components.specs.Eight.{name_text}
+use Rattle.urlpattern_components.specs.declared.eight.ComponentName.{ComponentName}
 
 abbrev pub newer : Option Data → Option Data → Option Data
 newer None before = before

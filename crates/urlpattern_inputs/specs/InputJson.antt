@@ -6,8 +6,8 @@ use Rattle.serde_json.specs.Find.{as_object, as_str, get}
 use Rattle.urlpattern_inputs.specs.declared.options.UrlPatternOptions.{UrlPatternOptions}
 use Rattle.urlpattern_inputs.specs.InputValues.{InitView, InputView, of_text, of_init}
 use Rattle.urlpattern_inputs.specs.Trees.{◌>>=◌, each_member, flag_read, object_of, optional_read, read_each, text_read}
-use Rattle.urlpattern_eight.specs.declared.eight.Eight.{Eight}
-use Rattle.urlpattern_eight.specs.Eight.{at, name_text}
+use Rattle.urlpattern_components.specs.declared.eight.Eight.{Eight}
+use Rattle.urlpattern_components.specs.Eight.{at, name_text}
 use Rattle.urlpattern_syntax.specs.declared.parser.RegexSyntax.{RegexSyntax}
 
 -- ---- the trees

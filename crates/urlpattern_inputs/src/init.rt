@@ -6,7 +6,7 @@ ghost use Rattle.serde_json.specs.View.{members_view, view};
 ghost use Rattle.urlpattern_inputs.specs.InputJson.{init_read, init_tree};
 ghost use Rattle.urlpattern_inputs.specs.ReadResults.{ReturnsRead};
 ghost use Rattle.urlpattern_inputs.specs.InputValues.{plain_init_texts, init_view};
-ghost use Rattle.urlpattern_eight.specs.Eight.{at};
+ghost use Rattle.urlpattern_components.specs.Eight.{at};
 ghost use Rattle.urlpattern_syntax.specs.Errors.{OnlyOutOfMemory};
 
 use crate::reading::{Unread, optional_text_field, read_or_none};
@@ -14,7 +14,7 @@ use crate::writing::put_optional;
 use serde::{Deserialize, Serialize};
 use serde_json::{Map, Value};
 use std::alloc::{AllocError, Global};
-use urlpattern_eight::{ComponentName, Eight, field_of, with_fields};
+use urlpattern_components::{ComponentName, Eight, field_of, with_fields};
 use urlpattern_syntax::Error;
 
 /// The patterns of a URL's components, or its texts, and the text of a base URL. What is not given is `None`.

@@ -4,7 +4,7 @@ ghost use Rattle.serde_json.specs.View.{view};
 ghost use Rattle.urlpattern_inputs.specs.InputJson.{match_input_read, match_input_tree};
 ghost use Rattle.urlpattern_inputs.specs.ReadResults.{ReturnsRead};
 ghost use Rattle.urlpattern_inputs.specs.InputValues.{match_input_view, matched_texts};
-ghost use Rattle.urlpattern_eight.specs.Eight.{at, each};
+ghost use Rattle.urlpattern_components.specs.Eight.{at, each};
 ghost use Rattle.urlpattern_syntax.specs.Errors.{OnlyOutOfMemory};
 
 use crate::reading::{Unread, read_or_none, text_field};
@@ -12,7 +12,7 @@ use crate::writing::put_text;
 use serde::{Deserialize, Serialize};
 use serde_json::{Map, Value};
 use std::alloc::{AllocError, Global};
-use urlpattern_eight::{ComponentName, Eight, field_of, with_fields};
+use urlpattern_components::{ComponentName, Eight, field_of, with_fields};
 use urlpattern_syntax::Error;
 
 /// The texts of the components that a pattern is matched against.

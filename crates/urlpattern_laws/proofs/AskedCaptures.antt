@@ -6,7 +6,7 @@ use Rattle.url.specs.Parser.{Parsed}
 use Rattle.urlpattern_generate.specs.Asked.{AreAsked, IsAsked, IsAskedBy, capture_by_modifier}
 use Rattle.urlpattern_generate.specs.Manners.{WritingManner}
 use Rattle.urlpattern_laws.specs.LinkLaws.{AreCanonical, IsCanonicalCapture}
-use Rattle.urlpattern_links.specs.Links.{MayCapture, MayCaptureAll, OfFirst, captures_after}
+use Rattle.urlpattern_generate.specs.Links.{MayCapture, MayCaptureAll, OfFirst, captures_after}
 use Rattle.urlpattern_meaning.specs.PartMeaning.{Allows, Captures, capture_of_no_copies}
 use Rattle.urlpattern_syntax.specs.declared.parser.PartModifier.{PartModifier}
 use Rattle.urlpattern_syntax.specs.declared.parser.PartModifier.TheVariants as modifiers

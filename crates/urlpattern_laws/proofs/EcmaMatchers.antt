@@ -4,14 +4,14 @@ use Rattle.std.specs.Prelude.{IfSome, IsTrue, is_some, option_and_then}
 use Rattle.std.specs.Str.{all_scalars}
 use Rattle.regex.specs.declared.string.regex.Regex.{Regex}
 use Rattle.urlpattern_engine.specs.EcmaRegexps.{KeepsRegex, ecma_engine}
-use Rattle.urlpattern_core.specs.Regexes.{IsRegexOf, regex_answer}
-use Rattle.urlpattern_core.specs.FirstWays.{EachAnswersFirst}
+use Rattle.urlpattern_matcher.specs.Regexes.{IsRegexOf, regex_answer}
+use Rattle.urlpattern_matcher.specs.FirstWays.{EachAnswersFirst}
 use Rattle.urlpattern_meaning.specs.Dialect.{IsTreeOf, Items}
 use Rattle.urlpattern_meaning.specs.FirstAnswers.{TookText}
 use Rattle.urlpattern_meaning.specs.Ways.{first_way}
 use Rattle.urlpattern_syntax.proofs.TokenExamples.{no}
-use Rattle.urlpattern_core.proofs.FirstMatchers.{made_first}
-use Rattle.urlpattern_regex.proofs.RegexWays.{regex_answers_first}
+use Rattle.urlpattern_matcher.proofs.FirstMatchers.{made_first}
+use Rattle.urlpattern_engine.proofs.RegexWays.{regex_answers_first}
 
 -- the value that is kept answers the first way
 kept_first : (regexp : List ℕ) (kept : Option Regex) → IfSome kept (IsRegexOf regexp) → IsTrue (is_some kept) → (tree : Items) (text : List ℕ) → IsTreeOf regexp tree → IsTrue (all_scalars text)

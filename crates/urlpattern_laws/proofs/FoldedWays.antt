@@ -4,9 +4,9 @@ use Rattle.std.proofs.lemmas.List.{append-nil, length-append, length-drop, lengt
 use Rattle.std.proofs.lemmas.List.Elements.{All-cons, All-map, All-nil}
 use Rattle.std.specs.Prelude.{⊤, ◌-◌, All, codes, IfSome, Option, Some, None, Result, Ok, Err, IsTrue, option_map, option_to_list}
 use Rattle.std.specs.Str.{all_scalars}
-use Rattle.urlpattern_core.specs.Components.{IsEngineOf, engine_flags, ignores_case}
-use Rattle.urlpattern_core.specs.FirstWays.{MatchersTakeGenerated, ValuesAnswerByFlags}
-use Rattle.urlpattern_core.specs.declared.regexp.RegExp.{Ghosts as Engine}
+use Rattle.urlpattern_matcher.specs.Components.{IsEngineOf, engine_flags, ignores_case}
+use Rattle.urlpattern_matcher.specs.FirstWays.{MatchersTakeGenerated, ValuesAnswerByFlags}
+use Rattle.urlpattern_matcher.specs.declared.regexp.RegExp.{Ghosts as Engine}
 use Rattle.urlpattern_meaning.proofs.DialectUnique.{trees_are_one}
 use Rattle.urlpattern_meaning.proofs.FirstAnswers.{first_agrees, matcher_first, of_made}
 use Rattle.urlpattern_meaning.proofs.FoldedTrees.{first_way_folded}

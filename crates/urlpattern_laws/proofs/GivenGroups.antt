@@ -9,10 +9,10 @@ use Rattle.std.specs.List.{AllByRecursion, IsDistinct, flat_map, list_any}
 use Rattle.std.specs.Map.{keys_of, lookup}
 use Rattle.std.specs.Option.{option_flatten, option_or}
 use Rattle.std.specs.Prelude.{◌&&◌, ◌||◌, option_map}
-use Rattle.urlpattern_eight.proofs.EightLemmas.{by_name}
-use Rattle.urlpattern_eight.specs.declared.eight.ComponentName.{ComponentName}
-use Rattle.urlpattern_eight.specs.declared.eight.ComponentName.TheVariants.{Protocol, Username, Password, Hostname, Port, Pathname, Search, Hash}
-use Rattle.urlpattern_eight.specs.Eight.{components, name_text}
+use Rattle.urlpattern_components.proofs.EightLemmas.{by_name}
+use Rattle.urlpattern_components.specs.declared.eight.ComponentName.{ComponentName}
+use Rattle.urlpattern_components.specs.declared.eight.ComponentName.TheVariants.{Protocol, Username, Password, Hostname, Port, Pathname, Search, Hash}
+use Rattle.urlpattern_components.specs.Eight.{components, name_text}
 use Rattle.urlpattern_generate.specs.Manners.{GivenView, given_groups, given_view, text_given}
 use Rattle.urlpattern_laws.specs.MatchLinks.{Lent}
 use Rattle.urlpattern_matches.proofs.GroupLemmas.{lookup-append}

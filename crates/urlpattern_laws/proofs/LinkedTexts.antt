@@ -3,26 +3,26 @@ use Rattle.std.proofs.Common.{◌≡◌, ◌∙◌, ℕ, List, ap, refl, sym, su
 use Rattle.std.specs.Prelude.{MatchOption}
 use Rattle.url.specs.Parser.{Parsed, parse_url}
 use Rattle.url.specs.Parts.{Parts}
-use Rattle.urlpattern_create.specs.PatternViews.{eight_view}
-use Rattle.urlpattern_eight.proofs.EightLemmas.{same_values}
-use Rattle.urlpattern_eight.specs.declared.eight.ComponentName.{ComponentName}
-use Rattle.urlpattern_eight.specs.Eight.{Texts, at}
+use Rattle.urlpattern_compile.specs.PatternViews.{eight_view}
+use Rattle.urlpattern_components.proofs.EightLemmas.{same_values}
+use Rattle.urlpattern_components.specs.declared.eight.ComponentName.{ComponentName}
+use Rattle.urlpattern_components.specs.Eight.{Texts, at}
 use Rattle.urlpattern_generate.specs.Manners.{GivenView, WritingManner}
 use Rattle.urlpattern_generate.specs.Writing.{IsWritten}
 use Rattle.urlpattern_init.specs.Inheritance.{texts_of_url}
 use Rattle.urlpattern_laws.proofs.AskedCaptures.{asked_one, given_again}
 use Rattle.urlpattern_laws.specs.LinkLaws.{IsWrittenBack, LinksAreOne, LinksDiffer, LinksOfCapturesAreTheTexts}
-use Rattle.urlpattern_links.proofs.LinkLaws.{meant_captured, text_same}
-use Rattle.urlpattern_links.specs.Links.{text_of_parts}
+use Rattle.urlpattern_generate.proofs.LinkLaws.{meant_captured, text_same}
+use Rattle.urlpattern_generate.specs.Links.{text_of_parts}
 use Rattle.urlpattern_meaning.specs.Matching.{Answers, MatcherView}
 use Rattle.urlpattern_meaning.specs.PartMeaning.{Captures}
 use Rattle.urlpattern_pattern.proofs.LinkedLemmas.{answered_once}
 use Rattle.urlpattern_pattern.specs.GeneratedTexts.{HasParts, manner_in, parts_in}
 use Rattle.urlpattern_pattern.specs.LinkedUrls.{IsLink, IsLinkOf}
 use Rattle.urlpattern_pattern.specs.UrlPatterns.{UrlPattern}
-use Rattle.urlpattern_rules.specs.declared.pattern.PatternParts.{PatternParts}
+use Rattle.urlpattern_compare.specs.declared.pattern.PatternParts.{PatternParts}
 use Rattle.urlpattern_syntax.specs.Parts.{PartView}
-use Rattle.urlpattern_url.specs.UrlsOfTexts.{line_of}
+use Rattle.urlpattern_generate.specs.UrlsOfTexts.{line_of}
 
 -- ---- one text
 

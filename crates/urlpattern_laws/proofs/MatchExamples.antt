@@ -5,20 +5,20 @@ use Rattle.std.proofs.lemmas.List.Elements.{All-from_recursion}
 use Rattle.std.specs.Option.{option_flatten}
 use Rattle.std.specs.Prelude.{codes, is_some, option_map, Option, Some, None, Ok, Err}
 use Rattle.url.specs.Parts.{Parts}
-use Rattle.urlpattern_eight.specs.declared.eight.ComponentName.{ComponentName}
-use Rattle.urlpattern_eight.specs.declared.eight.ComponentName.TheVariants.{Protocol, Username, Password, Hostname, Port, Pathname, Search, Hash}
+use Rattle.urlpattern_components.specs.declared.eight.ComponentName.{ComponentName}
+use Rattle.urlpattern_components.specs.declared.eight.ComponentName.TheVariants.{Protocol, Username, Password, Hostname, Port, Pathname, Search, Hash}
 use Rattle.urlpattern_init.specs.declared.init.UrlPatternMatchInput.TheVariants.{Url}
 use Rattle.urlpattern_init.specs.Inheritance.{texts_of_url}
 use Rattle.urlpattern_pattern.specs.Match.{AsksAnEngine, HasMatch, HasNoMatch, IsMatchOf}
 use Rattle.urlpattern_matches.specs.ResultViews.{group_of}
 use Rattle.urlpattern_pattern.specs.Mismatch.{FindsMismatch}
 use Rattle.urlpattern_pattern.specs.Patterns.{PatternView}
-use Rattle.urlpattern_core.specs.Components.{ComponentView}
+use Rattle.urlpattern_matcher.specs.Components.{ComponentView}
 use Rattle.urlpattern_meaning.specs.Matching.{AsksEngine, InnerView, IsMatched, Literal, RegExp, SingleCapture}
 use Rattle.urlpattern_meaning.specs.PartMeaning.{Captures}
 use Rattle.urlpattern_meaning.proofs.MatchingLaws.{middle_kept}
 use Rattle.urlpattern_syntax.specs.Errors.{ErrorView as views}
-use Rattle.urlpattern_eight.specs.Eight.{Texts, at}
+use Rattle.urlpattern_components.specs.Eight.{Texts, at}
 
 -- ---- groups
 

@@ -9,9 +9,9 @@ use Rattle.std.specs.Option.{option_flatten}
 use Rattle.std.specs.Prelude.{AllPairs, String, option_map}
 use Rattle.std.specs.String.{string_eq}
 use Rattle.std.specs.declared.alloc.Global.{Global}
-use Rattle.urlpattern_core.specs.declared.regexp.RegExp.{Ghosts as Engine}
-use Rattle.urlpattern_eight.specs.declared.eight.ComponentName.{ComponentName}
-use Rattle.urlpattern_eight.specs.Eight.{at}
+use Rattle.urlpattern_matcher.specs.declared.regexp.RegExp.{Ghosts as Engine}
+use Rattle.urlpattern_components.specs.declared.eight.ComponentName.{ComponentName}
+use Rattle.urlpattern_components.specs.Eight.{at}
 use Rattle.urlpattern_generate.specs.Manners.{GivenView, text_given}
 use Rattle.urlpattern_laws.proofs.GivenGroups.{Distinct, Groups, captured_again, first_found, found_reversed, given_first, keys_of_zip, zip_distinct}
 use Rattle.urlpattern_laws.proofs.LinkedTexts.{links_of_captures}
@@ -23,7 +23,7 @@ use Rattle.urlpattern_matches.specs.ResultViews.{ResultView, group_of, results_o
 use Rattle.urlpattern_meaning.proofs.CaptureCount.{captures_counted}
 use Rattle.urlpattern_meaning.proofs.NameLaws.{names_distinct}
 use Rattle.urlpattern_meaning.specs.PartMeaning.{Captures}
-use Rattle.urlpattern_create.specs.Compiled.{canonical_encoding, manner_of}
+use Rattle.urlpattern_compile.specs.Compiled.{canonical_encoding, manner_of}
 use Rattle.urlpattern_pattern.specs.Match.{IsMatchOf}
 use Rattle.urlpattern_pattern.specs.GeneratedTexts.{manner_in, parts_in}
 use Rattle.urlpattern_pattern.specs.Patterns.{PatternView, pattern_view}

@@ -5,8 +5,8 @@ use Rattle.std.proofs.lemmas.List.Folds.{Any-from_list_any, list_any-from_Any}
 use Rattle.std.specs.List.{list_any}
 use Rattle.std.specs.Prelude.{⊤, Option, Some, None, Result, Ok, Err, IsOk, IsTrue, codes, is_some, option_to_list, unwrap_or}
 use Rattle.urlpattern_canonical.specs.Canonical.{special_schemes}
-use Rattle.urlpattern_core.specs.Components.{ComponentView, IsComponentOf, IsEngineOf, engine_flags, has_regexp}
-use Rattle.urlpattern_core.specs.declared.regexp.RegExp.{Ghosts as Engine}
+use Rattle.urlpattern_matcher.specs.Components.{ComponentView, IsComponentOf, IsEngineOf, engine_flags, has_regexp}
+use Rattle.urlpattern_matcher.specs.declared.regexp.RegExp.{Ghosts as Engine}
 use Rattle.urlpattern_init.proofs.InheritanceLemmas.{pattern-processed}
 use Rattle.urlpattern_init.specs.Inheritance.{values_view}
 use Rattle.urlpattern_init.specs.SpecialProtocol.{AcceptsSpecialScheme}
@@ -20,17 +20,17 @@ use Rattle.urlpattern_meaning.specs.Matching.{Answers, ArePeeled, EndsPlain, Inn
 use Rattle.urlpattern_meaning.specs.PartMeaning.{Captures}
 use Rattle.urlpattern_meaning.specs.Printing.{printed}
 use Rattle.urlpattern_pattern.proofs.MatchersDecide.{Decided, answered, bool_decided, text_decided}
-use Rattle.urlpattern_create.specs.Compiled.{FirstRefused, HasEngine, HasHierarchicalPath, IsComponentCompiled, IsComponentRefused, IsPathKind, IsPatternOfInit, Manner, RefusesInit, after_protocol, canonical_encoding, is_mark, manner_of, pattern_values, without_default_port}
+use Rattle.urlpattern_compile.specs.Compiled.{FirstRefused, HasEngine, HasHierarchicalPath, IsComponentCompiled, IsComponentRefused, IsPathKind, IsPatternOfInit, Manner, RefusesInit, after_protocol, canonical_encoding, is_mark, manner_of, pattern_values, without_default_port}
 use Rattle.urlpattern_pattern.specs.Meaning.{ReadsAs}
 use Rattle.urlpattern_laws.specs.Outcomes.{EngineAnswers, InitsHaveOutcomes, InitsHaveValues, IsOfTexts, UrlAnswers, of_texts}
 use Rattle.urlpattern_pattern.specs.Patterns.{PatternView}
-use Rattle.urlpattern_eight.specs.declared.eight.ComponentName.{ComponentName}
-use Rattle.urlpattern_eight.specs.declared.eight.ComponentName.TheVariants.{Protocol, Username, Password, Hostname, Port, Pathname, Search, Hash}
+use Rattle.urlpattern_components.specs.declared.eight.ComponentName.{ComponentName}
+use Rattle.urlpattern_components.specs.declared.eight.ComponentName.TheVariants.{Protocol, Username, Password, Hostname, Port, Pathname, Search, Hash}
 use Rattle.urlpattern_syntax.specs.declared.parser.PartModifier.{PartModifier}
 use Rattle.urlpattern_syntax.specs.declared.parser.PartModifier.TheVariants as modifiers
 use Rattle.urlpattern_syntax.specs.declared.parser.PartType.{PartType}
 use Rattle.urlpattern_syntax.specs.declared.parser.PartType.TheVariants.{SegmentWildcard, FullWildcard}
-use Rattle.urlpattern_eight.specs.Eight.{Values}
+use Rattle.urlpattern_components.specs.Eight.{Values}
 use Rattle.urlpattern_syntax.specs.Errors.{ErrorView, ErrorView as views}
 use Rattle.urlpattern_syntax.specs.Options.{OptionsView}
 use Rattle.urlpattern_syntax.specs.Parts.{PartView}

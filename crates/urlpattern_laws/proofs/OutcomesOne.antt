@@ -6,9 +6,9 @@ use Rattle.std.specs.declared.alloc.Global.{Global}
 use Rattle.url.specs.Parser.{Parsed}
 use Rattle.url.specs.declared.error.ParseError.{ParseError}
 use Rattle.urlpattern_canonical.specs.Canonical.{IsAnswer, Reports}
-use Rattle.urlpattern_core.proofs.FirstMatchers.{flags_agree}
-use Rattle.urlpattern_core.specs.Components.{ComponentView, IsComponentOf, IsEngineOf, IsWholeEngineOf, engine_flags, has_regexp}
-use Rattle.urlpattern_core.specs.declared.regexp.RegExp.{Ghosts as Engine}
+use Rattle.urlpattern_matcher.proofs.FirstMatchers.{flags_agree}
+use Rattle.urlpattern_matcher.specs.Components.{ComponentView, IsComponentOf, IsEngineOf, IsWholeEngineOf, engine_flags, has_regexp}
+use Rattle.urlpattern_matcher.specs.declared.regexp.RegExp.{Ghosts as Engine}
 use Rattle.urlpattern_init.specs.SpecialProtocol.{AcceptsSpecialScheme}
 use Rattle.urlpattern_init.specs.declared.init.UrlPatternInit.{UrlPatternInit}
 use Rattle.urlpattern_inputs.specs.declared.options.UrlPatternOptions.{UrlPatternOptions}
@@ -21,14 +21,14 @@ use Rattle.urlpattern_pattern.proofs.ByTextLemmas.{bool_one, component_by, schem
 use Rattle.urlpattern_pattern.proofs.MadeAlike.{took_too}
 use Rattle.urlpattern_pattern.proofs.MeaningLemmas.{read_once}
 use Rattle.urlpattern_pattern.specs.ByText.{AnswersByText, HasMeaning, MakesFirstWays}
-use Rattle.urlpattern_create.specs.Compiled.{AreCompiled, FirstRefused, HasEngine, HasHierarchicalPath, IsComponentCompiled, IsComponentRefused, IsPathKind, Manner, RefusesValues, after_protocol, canonical_encoding, manner_of, pattern_values}
+use Rattle.urlpattern_compile.specs.Compiled.{AreCompiled, FirstRefused, HasEngine, HasHierarchicalPath, IsComponentCompiled, IsComponentRefused, IsPathKind, Manner, RefusesValues, after_protocol, canonical_encoding, manner_of, pattern_values}
 use Rattle.urlpattern_pattern.specs.Meaning.{ReadsAs}
 use Rattle.urlpattern_laws.specs.Outcomes.{AcceptsAlike, Decides, FirstWaysDecide, InitRefusalsAreOne, IsOfTexts, PatternsExcludeRefusals, TakesOrRefuses, TakesOrRefusesText, of_texts}
 use Rattle.urlpattern_pattern.specs.Patterns.{PatternView}
-use Rattle.urlpattern_eight.specs.declared.eight.ComponentName.{ComponentName}
-use Rattle.urlpattern_eight.specs.declared.eight.ComponentName.TheVariants.{Protocol}
+use Rattle.urlpattern_components.specs.declared.eight.ComponentName.{ComponentName}
+use Rattle.urlpattern_components.specs.declared.eight.ComponentName.TheVariants.{Protocol}
 use Rattle.urlpattern_syntax.specs.declared.error.Error.{Error}
-use Rattle.urlpattern_eight.specs.Eight.{Values}
+use Rattle.urlpattern_components.specs.Eight.{Values}
 use Rattle.urlpattern_syntax.specs.Errors.{ErrorView, error_view, ErrorView as views}
 use Rattle.urlpattern_syntax.specs.Parts.{PartView}
 use Rattle.urlpattern_syntax.specs.Reading.{Refuses, answer_view}

@@ -8,10 +8,10 @@ use Rattle.std.specs.Prelude.{Option, IsTrue, codes, encode_utf8_all, false}
 use Rattle.std.specs.Str.{chars}
 use Rattle.url.specs.Parser.{Parsed}
 use Rattle.urlpattern_pattern.proofs.MeaningLemmas.{none_custom}
-use Rattle.urlpattern_create.specs.Compiled.{IsComponentCompiled, Manner, canonical_encoding}
+use Rattle.urlpattern_compile.specs.Compiled.{IsComponentCompiled, Manner, canonical_encoding}
 use Rattle.urlpattern_pattern.specs.Meaning.{ReadsAs}
-use Rattle.urlpattern_core.proofs.FirstMatchers.{flags_agree}
-use Rattle.urlpattern_core.specs.Components.{ComponentView, engine_flags, has_regexp}
+use Rattle.urlpattern_matcher.proofs.FirstMatchers.{flags_agree}
+use Rattle.urlpattern_matcher.specs.Components.{ComponentView, engine_flags, has_regexp}
 use Rattle.urlpattern_engine.proofs.EngineLaws.{taken_first}
 use Rattle.urlpattern_engine.specs.PatternRegexps.{pattern_answer, pattern_engine}
 use Rattle.urlpattern_engine.specs.declared.pattern_regexp.PatternRegexp.{PatternRegexp}

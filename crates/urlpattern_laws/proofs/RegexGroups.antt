@@ -2,13 +2,13 @@
 use Rattle.std.proofs.Common.{◌≡◌, ℕ, false, List, ap, subst, sym, ◌∙◌}
 use Rattle.std.specs.Prelude.{⊤, Some, Ok}
 use Rattle.regex.specs.declared.string.regex.Regex.{Regex}
-use Rattle.urlpattern_regex.proofs.RegexMatchers.{taken_first}
-use Rattle.urlpattern_regex.proofs.RegexWays.{regex_follows}
-use Rattle.urlpattern_core.specs.Components.{ComponentView, IsComponentOf, IsEngineOf, engine_flags}
-use Rattle.urlpattern_core.specs.Regexes.{regex_answer, regex_engine}
-use Rattle.urlpattern_core.specs.FirstWays.{IsTakenBy}
+use Rattle.urlpattern_engine.proofs.RegexMatchers.{taken_first}
+use Rattle.urlpattern_engine.proofs.RegexWays.{regex_follows}
+use Rattle.urlpattern_matcher.specs.Components.{ComponentView, IsComponentOf, IsEngineOf, engine_flags}
+use Rattle.urlpattern_matcher.specs.Regexes.{regex_answer, regex_engine}
+use Rattle.urlpattern_matcher.specs.FirstWays.{IsTakenBy}
 use Rattle.urlpattern_init.specs.declared.init.UrlPatternMatchInput.{UrlPatternMatchInput}
-use Rattle.urlpattern_eight.specs.declared.eight.ComponentName.{ComponentName}
+use Rattle.urlpattern_components.specs.declared.eight.ComponentName.{ComponentName}
 use Rattle.urlpattern_inputs.specs.declared.options.UrlPatternOptions.{UrlPatternOptions}
 use Rattle.urlpattern_meaning.proofs.FirstAnswers.{of_made}
 use Rattle.urlpattern_meaning.proofs.OneMeaning.{is_tree_of}
@@ -19,7 +19,7 @@ use Rattle.urlpattern_meaning.specs.Matching.{Answers, FollowsMiddle}
 use Rattle.urlpattern_meaning.specs.PartMeaning.{Captures}
 use Rattle.urlpattern_pattern.proofs.MatchLaws.{texts-one}
 use Rattle.urlpattern_pattern.proofs.MeaningLemmas.{none_custom, read_once}
-use Rattle.urlpattern_create.specs.Compiled.{AreCompiled, IsComponentCompiled, Manner, manner_of}
+use Rattle.urlpattern_compile.specs.Compiled.{AreCompiled, IsComponentCompiled, Manner, manner_of}
 use Rattle.urlpattern_pattern.specs.Match.{IsMatch}
 use Rattle.urlpattern_matches.specs.ResultViews.{IsResultOf, ResultView}
 use Rattle.urlpattern_matches.specs.MatchInput.{input_texts}
@@ -28,7 +28,7 @@ use Rattle.urlpattern_pattern.specs.Meaning.{MeaningPremises, RegexPremises}
 use Rattle.urlpattern_pattern.specs.Patterns.{PatternView}
 use Rattle.urlpattern_syntax.specs.Parts.{PartView}
 use Rattle.urlpattern_syntax.specs.RegexpText.{regexp_text}
-use Rattle.urlpattern_eight.specs.Eight.{Texts, Values, at}
+use Rattle.urlpattern_components.specs.Eight.{Texts, Values, at}
 
 module _ (manner : Manner) (compiled : ComponentView Regex) (is_compiled : IsComponentCompiled regex_engine manner compiled)
     (text : List ℕ) (premises : RegexPremises manner compiled text) where

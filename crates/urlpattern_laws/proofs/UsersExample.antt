@@ -5,8 +5,8 @@ use Rattle.std.specs.Prelude.{codes}
 use Rattle.std.specs.Str.{chars}
 use Rattle.url.proofs.OnLiterals.{url_on_literals}
 use Rattle.urlpattern_laws.proofs.ReadTexts.{IsOfParts, anything, anything_read, canonical_value, literal, literal_read, nothing_read, of_parts, text_and_segment}
-use Rattle.urlpattern_create.specs.Compiled.{AreCompiled, EachIsCompiled, IsPathKind, Manner, canonical_encoding, manner_of}
-use Rattle.urlpattern_create.specs.FromString.{IsPatternOfText}
+use Rattle.urlpattern_compile.specs.Compiled.{AreCompiled, EachIsCompiled, IsPathKind, Manner, canonical_encoding, manner_of}
+use Rattle.urlpattern_compile.specs.FromString.{IsPatternOfText}
 use Rattle.urlpattern_pattern.specs.KeptParts.{KeepsPartsOfText}
 use Rattle.urlpattern_pattern.specs.Patterns.{PatternView, pattern_view}
 use Rattle.urlpattern_pattern.specs.UrlPatterns.{UrlPattern}
@@ -25,14 +25,14 @@ use Rattle.urlpattern_syntax.proofs.PieceExamples.{PieceCut, bare, ends, piece, 
 use Rattle.urlpattern_syntax.proofs.ReadingExamples.{named}
 use Rattle.urlpattern_syntax.proofs.RegexpTextExamples.{group}
 use Rattle.urlpattern_syntax.proofs.TokenExamples.{no, token, users_front, users_tokens}
-use Rattle.urlpattern_eight.specs.Eight.{Values, at}
+use Rattle.urlpattern_components.specs.Eight.{Values, at}
 use Rattle.urlpattern_syntax.specs.Options.{OptionsView, default_options, hostname_options, pathname_options}
 use Rattle.urlpattern_syntax.specs.Parts.{PartView, fixed_text}
 use Rattle.urlpattern_syntax.specs.Pieces.{Bare, Piece, Stops, Text}
 use Rattle.urlpattern_syntax.specs.Reading.{AreParts, Reads, items_of}
 use Rattle.urlpattern_syntax.specs.RegexpText.{escaped}
-use Rattle.urlpattern_eight.specs.declared.eight.ComponentName.{ComponentName}
-use Rattle.urlpattern_eight.specs.declared.eight.ComponentName.TheVariants.{Protocol, Username, Password, Hostname, Port, Pathname, Search, Hash}
+use Rattle.urlpattern_components.specs.declared.eight.ComponentName.{ComponentName}
+use Rattle.urlpattern_components.specs.declared.eight.ComponentName.TheVariants.{Protocol, Username, Password, Hostname, Port, Pathname, Search, Hash}
 use Rattle.urlpattern_syntax.specs.declared.parser.PartModifier.TheVariants as modifiers
 use Rattle.urlpattern_syntax.specs.declared.parser.PartType.TheVariants.{SegmentWildcard}
 use Rattle.urlpattern_syntax.specs.declared.parser.RegexSyntax.TheVariants.{Rust}

@@ -1,13 +1,13 @@
 -- What a component answers where case is ignored: the texts are folded to be compared, and the captures are of the text itself.
 use Rattle.std.specs.Prelude.{◌≡◌, ◌⊎◌, All, ℕ, true, false, List, [], ◌∷◌, ◌++◌, length, map, Option, Some, None, IfSome, option_map}
-use Rattle.urlpattern_core.specs.Components.{ComponentView}
-use Rattle.urlpattern_core.specs.declared.regexp.RegExp.{Ghosts as Engine}
+use Rattle.urlpattern_matcher.specs.Components.{ComponentView}
+use Rattle.urlpattern_matcher.specs.declared.regexp.RegExp.{Ghosts as Engine}
 use Rattle.urlpattern_init.specs.UrlTexts.{IsLine}
 use Rattle.urlpattern_meaning.specs.{Dialect.IsTreeOf, Dialect.Items, FirstAnswers.IsFirstOf, PartMeaning.Captures, PartMeaning.PartMeans, Ways.first_way_by}
 use Rattle.urlpattern_meaning.specs.Matching.{Answers, ArePeeled, InnerView, IsSame, Literal, RegExp, SingleCapture, end_text, folded, folded_captures, folded_character}
 use Rattle.urlpattern_syntax.specs.{Options.OptionsView, Parts.PartView, RegexpText.regexp_text}
 use Rattle.urlpattern_pattern.specs.{ByText.ReadsNoCustom, Meaning.ReadsAs}
-use Rattle.urlpattern_create.specs.{Compiled.IsComponentCompiled, Compiled.Manner}
+use Rattle.urlpattern_compile.specs.{Compiled.IsComponentCompiled, Compiled.Manner}
 
 -- ---- what is compared
 

@@ -3,3 +3,10 @@ pub mod LinkLaws
 pub mod MatchLinks
 pub mod Outcomes
 pub mod PatternLaws
+pub mod Expressions
+pub mod PartTexts
+pub mod PartCaptures
+pub mod PartWays
+pub mod LawsOfTexts
+pub mod LawsOfWays
+pub mod Readings

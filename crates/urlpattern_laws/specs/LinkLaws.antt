@@ -2,13 +2,13 @@
 use Rattle.std.specs.Prelude.{◌≡◌, ◌≢◌, ℕ, All, IfSome, List, Option, Some, map}
 use Rattle.url.specs.Parser.{Parsed}
 use Rattle.url.specs.Parts.{Parts}
-use Rattle.urlpattern_eight.specs.declared.eight.ComponentName.{ComponentName}
-use Rattle.urlpattern_eight.specs.Eight.{Texts, at}
+use Rattle.urlpattern_components.specs.declared.eight.ComponentName.{ComponentName}
+use Rattle.urlpattern_components.specs.Eight.{Texts, at}
 use Rattle.urlpattern_generate.specs.Asked.{AreAsked}
 use Rattle.urlpattern_generate.specs.Generating.{IsCanonical}
 use Rattle.urlpattern_generate.specs.Manners.{GivenView, WritingManner}
 use Rattle.urlpattern_init.specs.Inheritance.{texts_of_url}
-use Rattle.urlpattern_links.specs.LawsOfLinks.{HavePlainTexts}
+use Rattle.urlpattern_generate.specs.LawsOfLinks.{HavePlainTexts}
 use Rattle.urlpattern_meaning.specs.Matching.{Answers, MatcherView}
 use Rattle.urlpattern_meaning.specs.PartMeaning.{Captures, PartsMean}
 use Rattle.urlpattern_pattern.specs.GeneratedTexts.{manner_in, parts_in}
@@ -16,7 +16,7 @@ use Rattle.urlpattern_pattern.specs.LinkedUrls.{IsLink}
 use Rattle.urlpattern_pattern.specs.Match.{AreAnswers}
 use Rattle.urlpattern_pattern.specs.Patterns.{pattern_view}
 use Rattle.urlpattern_pattern.specs.UrlPatterns.{UrlPattern}
-use Rattle.urlpattern_rules.specs.declared.pattern.PatternParts.{PatternParts}
+use Rattle.urlpattern_compare.specs.declared.pattern.PatternParts.{PatternParts}
 use Rattle.urlpattern_syntax.specs.{Parts.PartView, RegexpText.group_names}
 
 -- this is said of the parts of a component, in the manner in which its text is written with these groups

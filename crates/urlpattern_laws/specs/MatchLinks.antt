@@ -2,14 +2,14 @@
 use Rattle.std.specs.Prelude.{◌≡◌, ◌≢◌, ℕ, AllPairs, List, Option, Some, map}
 use Rattle.std.specs.{Borrow.Bor, Map.keys_of}
 use Rattle.url.specs.Parts.{Parts}
-use Rattle.urlpattern_core.specs.Components.{ComponentView}
-use Rattle.urlpattern_create.specs.Compiled.{AreCompiled}
-use Rattle.urlpattern_core.specs.declared.regexp.RegExp.{Ghosts as Engine}
+use Rattle.urlpattern_matcher.specs.Components.{ComponentView}
+use Rattle.urlpattern_compile.specs.Compiled.{AreCompiled}
+use Rattle.urlpattern_matcher.specs.declared.regexp.RegExp.{Ghosts as Engine}
 use Rattle.urlpattern_generate.specs.Manners.{GivenView, WritingManner, given_groups, text_given}
 use Rattle.urlpattern_init.specs.Inheritance.{texts_of_url}
 use Rattle.urlpattern_inputs.specs.declared.options.UrlPatternOptions.{UrlPatternOptions}
 use Rattle.urlpattern_laws.specs.LinkLaws.{AreCanonical, OfItsParts}
-use Rattle.urlpattern_links.specs.LawsOfLinks.{HavePlainTexts}
+use Rattle.urlpattern_generate.specs.LawsOfLinks.{HavePlainTexts}
 use Rattle.urlpattern_matches.specs.BorrowedMatches.{HasDistinctGroups, all_groups_view, all_listed_groups, groups_view, lent_group, pattern_captures_view, texts_captured}
 use Rattle.urlpattern_matches.specs.ResultViews.{ResultView, captured_text, result_view}
 use Rattle.urlpattern_matches.specs.declared.captures.UrlPatternCaptures.{UrlPatternCaptures}
@@ -20,8 +20,8 @@ use Rattle.urlpattern_pattern.specs.LinkedUrls.{IsLink}
 use Rattle.urlpattern_pattern.specs.Match.{AreGroupsInOrder, IsMatchOf}
 use Rattle.urlpattern_pattern.specs.Patterns.{PatternView, pattern_view}
 use Rattle.urlpattern_pattern.specs.UrlPatterns.{UrlPattern}
-use Rattle.urlpattern_eight.specs.declared.eight.ComponentName.{ComponentName}
-use Rattle.urlpattern_eight.specs.Eight.{Texts, Values, at, components}
+use Rattle.urlpattern_components.specs.declared.eight.ComponentName.{ComponentName}
+use Rattle.urlpattern_components.specs.Eight.{Texts, Values, at, components}
 use Rattle.urlpattern_syntax.specs.{Parts.PartView, RegexpText.group_names}
 
 -- ---- what the groups of a match are given

@@ -1,21 +1,21 @@
 -- The sentences of the laws on what becomes of an init: a pattern, or a refusal.
 use Rattle.std.specs.Prelude.{◌≡◌, ◌≢◌, ◌⊎◌, ℕ, Bool, false, List, ◌++◌, Result, Ok, Err}
 use Rattle.url.specs.declared.error.ParseError.TheVariants.{Overflow}
-use Rattle.urlpattern_core.specs.Components.{ComponentView, IsEngineOf, IsWholeEngineOf, engine_flags, has_regexp}
-use Rattle.urlpattern_core.specs.declared.regexp.RegExp.{Ghosts as Engine}
+use Rattle.urlpattern_matcher.specs.Components.{ComponentView, IsEngineOf, IsWholeEngineOf, engine_flags, has_regexp}
+use Rattle.urlpattern_matcher.specs.declared.regexp.RegExp.{Ghosts as Engine}
 use Rattle.urlpattern_init.specs.SpecialProtocol.{AcceptsSpecialScheme}
 use Rattle.urlpattern_init.specs.declared.init.UrlPatternInit.{UrlPatternInit}
 use Rattle.urlpattern_inputs.specs.declared.options.UrlPatternOptions.{UrlPatternOptions}
 use Rattle.urlpattern_meaning.specs.Laws.{AnswersAsked}
-use Rattle.urlpattern_eight.specs.declared.eight.ComponentName.{ComponentName}
-use Rattle.urlpattern_eight.specs.declared.eight.ComponentName.TheVariants.{Protocol}
-use Rattle.urlpattern_eight.specs.Eight.{Values}
+use Rattle.urlpattern_components.specs.declared.eight.ComponentName.{ComponentName}
+use Rattle.urlpattern_components.specs.declared.eight.ComponentName.TheVariants.{Protocol}
+use Rattle.urlpattern_components.specs.Eight.{Values}
 use Rattle.urlpattern_syntax.specs.Errors.{ErrorView, ErrorView as views}
 use Rattle.urlpattern_syntax.specs.Parts.{PartView}
 use Rattle.urlpattern_syntax.specs.Reading.{Encoding}
 use Rattle.urlpattern_syntax.specs.RegexpText.{regexp_text}
 use Rattle.urlpattern_pattern.specs.{ByText.MakesFirstWays, ByText.ReadsNoCustom, Meaning.ReadsAs, Patterns.PatternView}
-use Rattle.urlpattern_create.specs.Compiled.{IsComponentCompiled, IsPatternOfInit, Manner, RefusesInit, canonical_encoding, manner_of, pattern_values}
+use Rattle.urlpattern_compile.specs.Compiled.{IsComponentCompiled, IsPatternOfInit, Manner, RefusesInit, canonical_encoding, manner_of, pattern_values}
 
 -- ---- errors
 

@@ -11,15 +11,13 @@ ghost use Rattle.urlpattern_laws.specs.LinkLaws.{LinksAreOne, LinksDiffer, Links
 ghost use Rattle.urlpattern_laws.specs.MatchLinks.{GroupsOfCapturesAreGiven, GroupsOfMatchesDiffer, GroupsOfResultsAreGiven, LinksOfMatchesAreTheTexts};
 ghost use Rattle.urlpattern_laws.specs.Outcomes.{DecidesGenerated, FirstWaysDecide, InitRefusalsAreOne, InitsHaveOutcomes, InitsHaveValues, PatternsExcludeRefusals};
 ghost use Rattle.urlpattern_pattern.specs.ByTextLaws.{CompiledHaveMeaning, FindingsAreByText, FindingsAreOne, InputFindingsAreByText, PatternsAnswerAlike, PatternsAnswerByText, ReadingsAsAreOne, TakenPatternsAnswerByText};
-ghost use Rattle.urlpattern_core.specs.FirstWays.{EachAnswersFirst};
-ghost use Rattle.urlpattern_core.specs.Regexes.{regex_engine};
+ghost use Rattle.urlpattern_matcher.specs.FirstWays.{EachAnswersFirst};
+ghost use Rattle.urlpattern_matcher.specs.Regexes.{regex_engine};
 ghost use Rattle.urlpattern_engine.specs.PatternRegexps.{pattern_engine};
 ghost use Rattle.urlpattern_meaning.specs.FirstAnswers.{TookText};
 ghost use Rattle.urlpattern_meaning.specs.PartMeaning.{Captures};
 
-pub use urlpattern_compiled::laws::reading_undoes_writing;
-use urlpattern_core::regexp::RegExp;
-pub use urlpattern_custom::laws::{
+pub use crate::custom::{
     components_answer_the_first_way_of_parts, components_answer_what_parts_capture,
     expressions_are_read_in_groups, matchers_answer_the_first_way_of_parts,
     matchers_answer_the_texts_that_parts_take, matchers_answer_what_parts_capture,
@@ -31,7 +29,12 @@ pub use urlpattern_engine::laws::{
     pattern_regexps_answer_the_first_way, pattern_regexps_take_each_generated_text,
     values_of_one_expression_answer_alike,
 };
+pub use urlpattern_engine::regex_laws::{
+    matchers_by_regex_answer_the_first_way, regex_answers_the_first_way,
+    regex_refuses_no_generated_syntax,
+};
 pub use urlpattern_init::laws::{splits_are_one, texts_are_lines, texts_of_urls_are_lines};
+use urlpattern_matcher::regexp::RegExp;
 pub use urlpattern_matches::laws::results_are_read_back;
 pub use urlpattern_meaning::laws::{
     captures_are_as_many_as_names, copies_are_one_capture, dialect_trees_are_one,
@@ -44,10 +47,7 @@ pub use urlpattern_meaning::laws::{
     read_parts_are_pattern_parts, readings_are_one, readings_by_callbacks_are_one, tokens_are_one,
     tokens_lose_nothing,
 };
-pub use urlpattern_regex::laws::{
-    matchers_by_regex_answer_the_first_way, regex_answers_the_first_way,
-    regex_refuses_no_generated_syntax,
-};
+pub use urlpattern_plain::laws::reading_undoes_writing;
 
 /// What a pattern answers to an input is what its pattern texts mean. In a match each component's pattern text means the
 /// component's text, and the groups are the names of its parts beside the captures of one such meaning. No match is answered

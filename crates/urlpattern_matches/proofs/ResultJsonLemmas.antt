@@ -22,10 +22,10 @@ use Rattle.urlpattern_inputs.proofs.EachLemmas.{read_each-all}
 use Rattle.urlpattern_inputs.proofs.TreeLemmas.{get_member-all_with}
 use Rattle.urlpattern_inputs.specs.Trees.{◌>>=◌, each_member, member_read, object_of}
 use Rattle.urlpattern_matches.specs.ResultJson.{GroupsByName, IsComponentTree, IsResultTree, PlainResultView, are_captures, captured_read, component_result_read, group_member, groups_by_name, groups_of_members, groups_read, result_read}
-use Rattle.urlpattern_eight.specs.Eight.{at, name_text}
-use Rattle.urlpattern_eight.specs.declared.eight.ComponentName.{ComponentName}
-use Rattle.urlpattern_eight.specs.declared.eight.ComponentName.TheVariants.{Protocol}
-use Rattle.urlpattern_eight.specs.declared.eight.Eight.{Eight}
+use Rattle.urlpattern_components.specs.Eight.{at, name_text}
+use Rattle.urlpattern_components.specs.declared.eight.ComponentName.{ComponentName}
+use Rattle.urlpattern_components.specs.declared.eight.ComponentName.TheVariants.{Protocol}
+use Rattle.urlpattern_components.specs.declared.eight.Eight.{Eight}
 
 -- ---- a map that is copied entry by entry
 

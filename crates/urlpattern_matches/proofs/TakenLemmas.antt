@@ -6,11 +6,11 @@ use Rattle.std.proofs.lemmas.List.Elements.{filter_map-append}
 use Rattle.std.specs.List.{flat_map}
 use Rattle.std.specs.Prelude.{Option, None, Some, String}
 use Rattle.std.specs.declared.alloc.Global.{Global}
-use Rattle.urlpattern_eight.specs.Eight.{at}
+use Rattle.urlpattern_components.specs.Eight.{at}
 use Rattle.urlpattern_matches.specs.ResultViews.{results_of}
 use Rattle.urlpattern_syntax.specs.Text.{text_of}
 use Rattle.urlpattern_matches.specs.declared.result.UrlPatternResult.{UrlPatternResult}
-use Rattle.urlpattern_eight.specs.declared.eight.ComponentName.{ComponentName}
+use Rattle.urlpattern_components.specs.declared.eight.ComponentName.{ComponentName}
 use Rattle.urlpattern_matches.specs.BorrowedMatches.{GroupText, NamedGroup, all_listed_groups, lent_group, listed_entries, listed_groups, named_group_text, named_groups, text_captured, texts_captured}
 
 abbrev pub Lent : Type 0

@@ -2,7 +2,7 @@
 use Rattle.std.specs.Prelude.{◌≡◌, ℕ, List, ◌++◌, map, zip, IfOk, IfSome, Option, Result, String, option_map, string_eq}
 use Rattle.std.specs.{Borrow.Bor, HashMap.HashMap, HashMap.IsUnique, List.filter_map, List.flat_map, Slice.Iter.iter_rest, Str.chars}
 use Rattle.std.specs.declared.alloc.Global.{Global}
-use Rattle.urlpattern_eight.specs.declared.eight.ComponentName.{ComponentName}
+use Rattle.urlpattern_components.specs.declared.eight.ComponentName.{ComponentName}
 use Rattle.urlpattern_matches.specs.declared.captures.UrlPatternCaptures.{UrlPatternCaptures}
 use Rattle.urlpattern_matches.specs.declared.captures.groups.UrlPatternCapturesIter.{UrlPatternCapturesIter}
 use Rattle.urlpattern_matches.specs.declared.captures.groups.UrlPatternGroups.{UrlPatternGroups}
@@ -10,7 +10,7 @@ use Rattle.urlpattern_matches.specs.GroupTexts.{captures_of, texts_of}
 use Rattle.urlpattern_matches.specs.ResultViews.{IsSameResult, ResultView, group_of, result_view, results_of}
 use Rattle.urlpattern_matches.specs.declared.result.UrlPatternResult.{UrlPatternResult}
 use Rattle.urlpattern_syntax.specs.Text.{option_text, text_of}
-use Rattle.urlpattern_eight.specs.Eight.{at}
+use Rattle.urlpattern_components.specs.Eight.{at}
 
 -- the names of a component's groups
 abbrev pub names_view : UrlPatternCaptures → ComponentName → List (List ℕ)

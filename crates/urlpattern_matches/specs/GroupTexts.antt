@@ -2,18 +2,18 @@
 use Rattle.std.specs.Prelude.{◌≡◌, ℕ, List, [], ◌∷◌, map, Option, None, Some, Result, Ok, Err, IfOk, String, string_bytes}
 use Rattle.std.specs.{Borrow.Bor, HashMap.HashMap, Str.chars}
 use Rattle.std.specs.declared.alloc.{AllocError.AllocError, Global.Global}
-use Rattle.urlpattern_eight.specs.declared.eight.ComponentName.{ComponentName}
-use Rattle.urlpattern_eight.specs.declared.eight.Eight.{Eight}
+use Rattle.urlpattern_components.specs.declared.eight.ComponentName.{ComponentName}
+use Rattle.urlpattern_components.specs.declared.eight.Eight.{Eight}
 use Rattle.urlpattern_matches.specs.declared.{captures.GroupCaptures.GroupCaptures, captures.Missed.Missed}
 use Rattle.urlpattern_matches.specs.declared.captures.GroupCaptures.TheVariants as captured
 use Rattle.urlpattern_matches.specs.declared.captures.Missed.TheVariants as missed
 use Rattle.urlpattern_matches.specs.declared.result.UrlPatternResult.{UrlPatternResult}
 use Rattle.urlpattern_matches.specs.ResultViews.{group_in, group_of, result_view}
-use Rattle.urlpattern_core.specs.Looks.{look_answer, IsAsking}
-use Rattle.urlpattern_core.specs.declared.matcher.look.Look.{Look}
+use Rattle.urlpattern_matcher.specs.Looks.{look_answer, IsAsking}
+use Rattle.urlpattern_matcher.specs.declared.matcher.look.Look.{Look}
 use Rattle.urlpattern_meaning.specs.PartMeaning.{Captures}
 use Rattle.urlpattern_syntax.specs.Text.{option_text, text_of}
-use Rattle.urlpattern_eight.specs.Eight.{Texts, at, each}
+use Rattle.urlpattern_components.specs.Eight.{Texts, at, each}
 
 -- the texts that are lent
 abbrev pub borrowed_texts : Eight (Bor (List ℕ)) → Texts

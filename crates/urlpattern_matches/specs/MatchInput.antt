@@ -9,7 +9,7 @@ use Rattle.urlpattern_canonical.specs.declared.canonicalize_and_process.ProcessT
 use Rattle.urlpattern_inputs.specs.InputValues.{matched_texts}
 use Rattle.urlpattern_inputs.specs.declared.match_input.MatchInput.{MatchInput}
 use Rattle.urlpattern_syntax.specs.Text.{text_of}
-use Rattle.urlpattern_eight.specs.Eight.{Texts, at, each}
+use Rattle.urlpattern_components.specs.Eight.{Texts, at, each}
 
 -- the texts that an input has
 abbrev pub texts_view : MatchInput → Texts

@@ -4,13 +4,13 @@ use Rattle.std.specs.Prelude.{◌≡◌, ℕ, Bool, List, reverse, zip, bytes_eq
 use Rattle.std.specs.Option.{option_flatten}
 use Rattle.std.specs.{HashMap.HashMap, HashMap.get_by, Map.lookup}
 use Rattle.std.specs.declared.alloc.Global.{Global}
-use Rattle.urlpattern_eight.specs.declared.eight.ComponentName.{ComponentName}
-use Rattle.urlpattern_eight.specs.declared.eight.Eight.{Eight}
+use Rattle.urlpattern_components.specs.declared.eight.ComponentName.{ComponentName}
+use Rattle.urlpattern_components.specs.declared.eight.Eight.{Eight}
 use Rattle.urlpattern_matches.specs.declared.result.UrlPatternComponentResult.{UrlPatternComponentResult}
 use Rattle.urlpattern_matches.specs.declared.result.UrlPatternResult.{UrlPatternResult}
 use Rattle.urlpattern_meaning.specs.PartMeaning.{Captures}
 use Rattle.urlpattern_syntax.specs.Text.{text_of}
-use Rattle.urlpattern_eight.specs.Eight.{at}
+use Rattle.urlpattern_components.specs.Eight.{at}
 
 -- ---- groups
 

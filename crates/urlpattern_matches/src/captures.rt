@@ -7,7 +7,7 @@ ghost use Rattle.urlpattern_matches.specs.GroupTexts.{IsCapturedOf, captures_of,
 ghost use Rattle.urlpattern_matches.specs.ResultViews.{captured_text, component_result_view, group_of, took_part, IsSameResult};
 ghost use Rattle.urlpattern_syntax.specs.Text.{option_text};
 ghost use Rattle.urlpattern_syntax.specs.Errors.{OnlyOutOfMemory};
-ghost use Rattle.urlpattern_eight.specs.Eight.{at, components};
+ghost use Rattle.urlpattern_components.specs.Eight.{at, components};
 
 mod groups;
 
@@ -15,11 +15,11 @@ use crate::result::{UrlPatternComponentResult, UrlPatternResult, empty_result};
 pub use groups::{UrlPatternCapturesIter, UrlPatternGroups};
 use std::alloc::Global;
 use std::slice;
-use urlpattern_core::Error;
-use urlpattern_core::error::OutOfMemory;
-use urlpattern_core::matcher::Look;
-use urlpattern_core::regexp::RegExp;
-use urlpattern_eight::{ComponentName, Eight};
+use urlpattern_components::{ComponentName, Eight};
+use urlpattern_matcher::matcher::Look;
+use urlpattern_matcher::regexp::RegExp;
+use urlpattern_syntax::Error;
+use urlpattern_syntax::error::OutOfMemory;
 
 /// A match whose names are borrowed from the pattern, and whose texts and captures from what it matches.
 ///

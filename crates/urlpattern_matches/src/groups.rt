@@ -5,7 +5,7 @@ ghost use Rattle.urlpattern_syntax.specs.Text.{option_text, text_of};
 
 use std::alloc::{AllocError, Global};
 use std::collections::HashMap;
-use urlpattern_core::error::OutOfMemory;
+use urlpattern_syntax::error::OutOfMemory;
 
 /// What groups capture, by their names. A group that took no part has `None`.
 pub(crate) type Groups = HashMap<String, Option<String>>;

@@ -12,7 +12,7 @@ use crate::result::{UrlPatternComponentResult, UrlPatternResult};
 use serde_json::{Map, Value};
 use std::alloc::{AllocError, Global};
 use std::collections::HashMap;
-use urlpattern_eight::Eight;
+use urlpattern_components::Eight;
 use urlpattern_inputs::reading::{Unread, member, read_or_none, text_field};
 use urlpattern_inputs::writing::put_text;
 use urlpattern_syntax::Error;

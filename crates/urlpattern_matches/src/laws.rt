@@ -4,7 +4,7 @@
 ghost use Rattle.std.specs.Prelude.{◌≡◌, Some};
 ghost use Rattle.serde_json.specs.Data.{Data};
 ghost use Rattle.urlpattern_matches.specs.ResultJson.{component_result_read, result_read, IsComponentTree, IsResultTree, PlainResultView};
-ghost use Rattle.urlpattern_eight.specs.declared.eight.Eight.{Eight};
+ghost use Rattle.urlpattern_components.specs.declared.eight.Eight.{Eight};
 
 /// The tree of a result is read as this result, that of a component's result too.
 pub fn results_are_read_back()

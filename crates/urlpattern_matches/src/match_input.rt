@@ -9,10 +9,10 @@ use crate::texts::{copied, url_texts};
 use std::alloc::{AllocError, Global};
 use url::Url;
 use urlpattern_canonical::canonicalize_and_process::ProcessType;
-use urlpattern_core::Error;
-use urlpattern_eight::Eight;
+use urlpattern_components::Eight;
 use urlpattern_init::{UrlPatternMatchInput, process_values};
 use urlpattern_inputs::MatchInput;
+use urlpattern_syntax::Error;
 
 /// The texts of a URL.
 fn of_url(alloc: Global, url: &Url) -> Result<MatchInput, AllocError>

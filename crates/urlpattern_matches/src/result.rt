@@ -7,17 +7,17 @@ ghost use Rattle.std.specs.Str.{chars};
 ghost use Rattle.urlpattern_matches.specs.BorrowedMatches.{all_listed_groups, lent_group, listed_groups, texts_captured, GetTaken, HasDistinctGroups};
 ghost use Rattle.urlpattern_matches.specs.GroupTexts.{captured_bytes, lent_bytes, texts_of, AreGroups, HasNoGroups, IsWithoutGroups};
 ghost use Rattle.urlpattern_matches.specs.ResultViews.{captured_text, component_result_view, result_view, results_of, IsCopy};
-ghost use Rattle.urlpattern_eight.specs.Eight.{at, components};
-ghost use Rattle.urlpattern_eight.specs.declared.eight.ComponentName.{ComponentName as Name};
+ghost use Rattle.urlpattern_components.specs.Eight.{at, components};
+ghost use Rattle.urlpattern_components.specs.declared.eight.ComponentName.{ComponentName as Name};
 ghost use Rattle.urlpattern_syntax.specs.Errors.{OnlyOutOfMemory};
 ghost use Rattle.urlpattern_syntax.specs.Text.{text_of, option_text};
 
 use crate::groups::{Groups, add_groups};
 use std::alloc::{AllocError, Global};
 use std::collections::HashMap;
-use urlpattern_core::Error;
-use urlpattern_core::error::OutOfMemory;
-use urlpattern_eight::{ComponentName, Eight, field_of, with_fields};
+use urlpattern_components::{ComponentName, Eight, field_of, with_fields};
+use urlpattern_syntax::Error;
+use urlpattern_syntax::error::OutOfMemory;
 
 /// The result of a match, for each component.
 ///

@@ -5,11 +5,11 @@ ghost use Rattle.urlpattern_init.specs.Inheritance as inherited;
 ghost use Rattle.urlpattern_init.specs.Inheritance.{texts_of_url};
 ghost use Rattle.urlpattern_matches.specs.MatchInput.{pathname_alone, texts_view};
 ghost use Rattle.urlpattern_matches.specs.GroupTexts.{borrowed_texts, IsTextCopied};
-ghost use Rattle.urlpattern_eight.specs.Eight.{at};
+ghost use Rattle.urlpattern_components.specs.Eight.{at};
 
 use std::alloc::{AllocError, Global};
 use url::Url;
-use urlpattern_eight::{ComponentName, Eight};
+use urlpattern_components::{ComponentName, Eight};
 use urlpattern_init::url_text;
 use urlpattern_inputs::MatchInput;
 

@@ -13,7 +13,7 @@ use lexemes::{next_token, skip_ignored};
 use std::alloc::Global;
 use urlpattern_syntax::error::Error;
 pub use urlpattern_syntax::tokenizer::{
-    Token, TokenType, TokenizePolicy, before, is_name_part, is_name_start, split_first,
+    Token, TokenType, TokenizePolicy, is_name_part, is_name_start,
 };
 
 /// Cuts a text into tokens, the last of them `End`.

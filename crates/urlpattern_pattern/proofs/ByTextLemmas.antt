@@ -8,11 +8,11 @@ use Rattle.std.specs.List.{All, Any}
 use Rattle.std.specs.Str.{all_scalars}
 use Rattle.std.specs.Prelude.{◌&&◌, Option, Some, None, Result, Ok, Err, IsTrue, slice_index_or}
 use Rattle.urlpattern_canonical.specs.Canonical.{special_schemes}
-use Rattle.urlpattern_core.specs.Components.{ComponentView, IsComponentOf, IsEngineOf, engine_flags, has_regexp, is_custom}
-use Rattle.urlpattern_core.specs.FirstWays.{AnswersFirstWays, EachAnswersFirst, Taking}
-use Rattle.urlpattern_core.proofs.FirstMatchers.{flags_agree}
-use Rattle.urlpattern_core.specs.Generated.{AreGenerated}
-use Rattle.urlpattern_core.specs.declared.regexp.RegExp.{Ghosts as Engine}
+use Rattle.urlpattern_matcher.specs.Components.{ComponentView, IsComponentOf, IsEngineOf, engine_flags, has_regexp, is_custom}
+use Rattle.urlpattern_matcher.specs.FirstWays.{AnswersFirstWays, EachAnswersFirst, Taking}
+use Rattle.urlpattern_matcher.proofs.FirstMatchers.{flags_agree}
+use Rattle.urlpattern_printing.specs.Generated.{AreGenerated}
+use Rattle.urlpattern_matcher.specs.declared.regexp.RegExp.{Ghosts as Engine}
 use Rattle.urlpattern_init.specs.SpecialProtocol.{AcceptsSpecialScheme}
 use Rattle.urlpattern_init.specs.UrlTexts.{IsLine}
 use Rattle.urlpattern_init.specs.declared.init.UrlPatternInit.{UrlPatternInit}
@@ -21,11 +21,11 @@ use Rattle.urlpattern_meaning.proofs.FirstAnswers.{first_agrees, first_one, matc
 use Rattle.urlpattern_meaning.specs.FirstAnswers.{IsFirstOf}
 use Rattle.urlpattern_meaning.specs.Matching.{Answers, InnerView}
 use Rattle.urlpattern_meaning.specs.PartMeaning.{Captures}
-use Rattle.urlpattern_eight.specs.declared.eight.ComponentName.{ComponentName}
-use Rattle.urlpattern_eight.specs.declared.eight.ComponentName.TheVariants.{Protocol}
+use Rattle.urlpattern_components.specs.declared.eight.ComponentName.{ComponentName}
+use Rattle.urlpattern_components.specs.declared.eight.ComponentName.TheVariants.{Protocol}
 use Rattle.urlpattern_syntax.specs.declared.parser.PartType.{PartType}
 use Rattle.urlpattern_syntax.specs.declared.parser.PartType.TheVariants.{FixedText, Regexp, SegmentWildcard, FullWildcard}
-use Rattle.urlpattern_eight.specs.Eight.{Texts, Values, at}
+use Rattle.urlpattern_components.specs.Eight.{Texts, Values, at}
 use Rattle.urlpattern_syntax.specs.Parts.{PartView}
 use Rattle.urlpattern_syntax.specs.RegexpText.{group_names}
 use Rattle.urlpattern_syntax.specs.Text.{lacks, line_feed}
@@ -33,7 +33,7 @@ use Rattle.urlpattern_pattern.proofs.MatchersDecide.{answered}
 use Rattle.urlpattern_pattern.proofs.MatchLaws.{no_input-long, texts-one}
 use Rattle.urlpattern_pattern.proofs.MeaningLemmas.{executed_means, none_custom, read_once}
 use Rattle.urlpattern_pattern.specs.ByText.{AnswersByItsText, AnswersByText, EnginesAnswerFirst, HasMeaning, IsFirstResult, IsFirstWay, IsExecutedByMeaning, IsFoundByText, IsHierarchicalByText, MakesFirstWays}
-use Rattle.urlpattern_create.specs.Compiled.{AreCompiled, HasHierarchicalPath, IsComponentCompiled, IsPathKind, IsPatternOfInit, Manner, manner_of, pattern_values}
+use Rattle.urlpattern_compile.specs.Compiled.{AreCompiled, HasHierarchicalPath, IsComponentCompiled, IsPathKind, IsPatternOfInit, Manner, manner_of, pattern_values}
 use Rattle.urlpattern_pattern.specs.UrlPatterns.{UrlPattern}
 use Rattle.urlpattern_init.specs.declared.init.UrlPatternMatchInput.{UrlPatternMatchInput}
 use Rattle.urlpattern_matches.specs.MatchInput.{input_texts}

@@ -1,21 +1,21 @@
 -- Lemmas on patterns that keep their parts.
 use Rattle.std.proofs.Common.{◌≡◌, Bool, Ok, Some, subst, sym}
-use Rattle.urlpattern_core.specs.Components.{IsComponentOf, component_view}
-use Rattle.urlpattern_core.specs.declared.component.{Component.Component, ComponentWithParts.ComponentWithParts}
-use Rattle.urlpattern_core.specs.declared.regexp.RegExp.{Ghosts as Engine}
-use Rattle.urlpattern_create.proofs.CompiledLemmas.{kept_compiled}
-use Rattle.urlpattern_create.specs.Compiled.{AreCompiled, HasEngine, IsComponentCompiled, IsPathKind, IsPatternOfInit, manner_of, pattern_values}
-use Rattle.urlpattern_create.specs.Kept.{AreCompiledKeeping, IsKeptOfInit}
-use Rattle.urlpattern_create.specs.PatternViews.{eight_view}
-use Rattle.urlpattern_eight.specs.declared.eight.ComponentName.{ComponentName}
-use Rattle.urlpattern_eight.specs.declared.eight.ComponentName.TheVariants.{Protocol}
-use Rattle.urlpattern_eight.specs.declared.eight.Eight.{Eight}
-use Rattle.urlpattern_eight.specs.Eight.{Values, at}
+use Rattle.urlpattern_matcher.specs.Components.{IsComponentOf, component_view}
+use Rattle.urlpattern_matcher.specs.declared.component.{Component.Component, ComponentWithParts.ComponentWithParts}
+use Rattle.urlpattern_matcher.specs.declared.regexp.RegExp.{Ghosts as Engine}
+use Rattle.urlpattern_compile.proofs.CompiledLemmas.{kept_compiled}
+use Rattle.urlpattern_compile.specs.Compiled.{AreCompiled, HasEngine, IsComponentCompiled, IsPathKind, IsPatternOfInit, manner_of, pattern_values}
+use Rattle.urlpattern_compile.specs.Kept.{AreCompiledKeeping, IsKeptOfInit}
+use Rattle.urlpattern_compile.specs.PatternViews.{eight_view}
+use Rattle.urlpattern_components.specs.declared.eight.ComponentName.{ComponentName}
+use Rattle.urlpattern_components.specs.declared.eight.ComponentName.TheVariants.{Protocol}
+use Rattle.urlpattern_components.specs.declared.eight.Eight.{Eight}
+use Rattle.urlpattern_components.specs.Eight.{Values, at}
 use Rattle.urlpattern_init.specs.declared.init.UrlPatternInit.{UrlPatternInit}
 use Rattle.urlpattern_inputs.specs.declared.options.UrlPatternOptions.{UrlPatternOptions}
 use Rattle.urlpattern_pattern.specs.KeptParts.{AreParted, AreReadInManner, KeepsPartsOf}
 use Rattle.urlpattern_pattern.specs.UrlPatterns.{AreMadeOfParts, UrlPattern}
-use Rattle.urlpattern_rules.specs.declared.pattern.PatternParts.{PatternParts}
+use Rattle.urlpattern_compare.specs.declared.pattern.PatternParts.{PatternParts}
 use Rattle.urlpattern_syntax.specs.ComponentParts.{kept_options, kept_parts}
 use Rattle.urlpattern_syntax.specs.declared.parts.ComponentParts.{ComponentParts}
 

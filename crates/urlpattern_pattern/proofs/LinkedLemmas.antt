@@ -8,16 +8,16 @@ use Rattle.std.specs.Prelude.{IfErr, IfOk, IfSome, IsTrue, MatchOption}
 use Rattle.std.specs.declared.alloc.Global.{Global}
 use Rattle.std.specs.declared.borrow.CowStr.{CowStr}
 use Rattle.url.specs.Parts.{Parts}
-use Rattle.urlpattern_core.proofs.MatcherAnswers.{matches-accepts}
-use Rattle.urlpattern_core.specs.declared.component.Component.{Component}
-use Rattle.urlpattern_core.specs.declared.regexp.RegExp.{Ghosts as Engine}
-use Rattle.urlpattern_core.specs.Matchers.{matcher_view}
-use Rattle.urlpattern_create.specs.PatternViews.{PatternView, eight_view}
-use Rattle.urlpattern_eight.proofs.EightLemmas.{at-each, of_each}
-use Rattle.urlpattern_eight.specs.declared.eight.ComponentName.{ComponentName}
-use Rattle.urlpattern_eight.specs.declared.eight.ComponentName.TheVariants.{Protocol}
-use Rattle.urlpattern_eight.specs.declared.eight.Eight.{Eight}
-use Rattle.urlpattern_eight.specs.Eight.{IsFirstError, Texts, at, components}
+use Rattle.urlpattern_matcher.proofs.MatcherAnswers.{matches-accepts}
+use Rattle.urlpattern_matcher.specs.declared.component.Component.{Component}
+use Rattle.urlpattern_matcher.specs.declared.regexp.RegExp.{Ghosts as Engine}
+use Rattle.urlpattern_matcher.specs.Matchers.{matcher_view}
+use Rattle.urlpattern_compile.specs.PatternViews.{PatternView, eight_view}
+use Rattle.urlpattern_components.proofs.EightLemmas.{at-each, of_each}
+use Rattle.urlpattern_components.specs.declared.eight.ComponentName.{ComponentName}
+use Rattle.urlpattern_components.specs.declared.eight.ComponentName.TheVariants.{Protocol}
+use Rattle.urlpattern_components.specs.declared.eight.Eight.{Eight}
+use Rattle.urlpattern_components.specs.Eight.{IsFirstError, Texts, at, components}
 use Rattle.urlpattern_generate.specs.Generating.{TellsFound}
 use Rattle.urlpattern_generate.specs.Manners.{GivenView, manner_for, text_given}
 use Rattle.urlpattern_generate.specs.Writing.{CannotWrite, IsWritten, cow_text}
@@ -33,13 +33,13 @@ use Rattle.urlpattern_pattern.specs.GeneratedTexts.{HasParts, manner_in, parts_i
 use Rattle.urlpattern_pattern.specs.LinkedUrls.{AnswersParts, AreWritten, IsCapturedBy, IsConfirmed, IsConfirmedBefore, IsLink, IsLinkOf, IsOther, RefusesLink, RefusesLinkOf, ReturnsGiven, TellsConfirmed}
 use Rattle.urlpattern_pattern.specs.Match.{HasMatch, IsMatch}
 use Rattle.urlpattern_pattern.specs.UrlPatterns.{AreMadeOfParts, UrlPattern}
-use Rattle.urlpattern_rules.specs.declared.pattern.PatternParts.{PatternParts}
+use Rattle.urlpattern_compare.specs.declared.pattern.PatternParts.{PatternParts}
 use Rattle.urlpattern_syntax.specs.ComponentParts.{kept_options, kept_parts}
 use Rattle.urlpattern_syntax.specs.declared.parts.ComponentParts.{ComponentParts}
 use Rattle.urlpattern_syntax.specs.RegexpText.{group_names}
-use Rattle.urlpattern_url.specs.UrlsOfTexts.{IsReadOfTexts, RefusesTexts, cow_texts}
-use Rattle.urlpattern_url.specs.declared.error.NoLink.{NoLink}
-use Rattle.urlpattern_url.specs.declared.error.NoLink.TheVariants as links
+use Rattle.urlpattern_generate.specs.UrlsOfTexts.{IsReadOfTexts, RefusesTexts, cow_texts}
+use Rattle.urlpattern_generate.specs.declared.no_link.NoLink.{NoLink}
+use Rattle.urlpattern_generate.specs.declared.no_link.NoLink.TheVariants as links
 
 -- ---- one answer
 

@@ -2,23 +2,23 @@
 use Rattle.std.proofs.Common.{◌≡◌, ℕ, Bor, List, [], ◌∷◌, true, false, refl, sym, ◌∙◌, subst, inl, inr}
 use Rattle.std.specs.Prelude.{Bool, Option, Some, None, Result, Ok, Err, is_some, IfOk, IfNone, IfSome, IsSomeAnd, MatchBool, MatchOption, ◌⊎◌}
 use Rattle.std.specs.Str.{chars}
-use Rattle.urlpattern_eight.specs.declared.eight.ComponentName.{ComponentName}
+use Rattle.urlpattern_components.specs.declared.eight.ComponentName.{ComponentName}
 use Rattle.urlpattern_init.specs.declared.init.UrlPatternMatchInput.{UrlPatternMatchInput}
-use Rattle.urlpattern_eight.specs.declared.eight.Eight.{Eight}
-use Rattle.urlpattern_eight.proofs.EightLemmas.{by_name}
+use Rattle.urlpattern_components.specs.declared.eight.Eight.{Eight}
+use Rattle.urlpattern_components.proofs.EightLemmas.{by_name}
 use Rattle.urlpattern_pattern.specs.Calls.{AreLooks, AskWithCause}
 use Rattle.urlpattern_matches.specs.GroupTexts.{borrowed_texts}
 use Rattle.urlpattern_pattern.specs.Match.{AreMatched, AsksAnEngine, FindsInTexts, HasMatch, HasNoMatch, IsMatch, IsMatchOf, IsRefused}
 use Rattle.urlpattern_matches.specs.ResultViews.{IsSameResult, ResultView}
 use Rattle.urlpattern_matches.specs.MatchInput.{input_texts}
 use Rattle.urlpattern_pattern.specs.Patterns.{PatternView}
-use Rattle.urlpattern_core.specs.Looks.{IsAsking, look_answer}
-use Rattle.urlpattern_core.specs.declared.matcher.look.Look.{Look}
-use Rattle.urlpattern_core.specs.declared.matcher.look.Look.TheVariants as looks
+use Rattle.urlpattern_matcher.specs.Looks.{IsAsking, look_answer}
+use Rattle.urlpattern_matcher.specs.declared.matcher.look.Look.{Look}
+use Rattle.urlpattern_matcher.specs.declared.matcher.look.Look.TheVariants as looks
 use Rattle.urlpattern_meaning.specs.Matching.{Answers, AsksEngine, IsMatched, MatcherView}
 use Rattle.urlpattern_meaning.specs.PartMeaning.{Captures}
 use Rattle.urlpattern_syntax.specs.declared.error.Error.{Error}
-use Rattle.urlpattern_eight.specs.Eight.{Texts, at}
+use Rattle.urlpattern_components.specs.Eight.{Texts, at}
 
 -- whether something was found
 pub reports-some : {X : Type 0} (P : X → Type 0) (A B : Type 0) (found : Option X) (test : Bool) → test ≡ is_some found →

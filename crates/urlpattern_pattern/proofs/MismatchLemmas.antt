@@ -4,8 +4,8 @@ use Rattle.std.proofs.Math.Seq.{drop-cons}
 use Rattle.std.proofs.lemmas.List.{take-append-drop}
 use Rattle.std.specs.Prelude.{All, Option}
 use Rattle.std.specs.Str.{chars}
-use Rattle.urlpattern_core.specs.Matchers.{matcher_view}
-use Rattle.urlpattern_core.specs.declared.component.Component.{Component}
+use Rattle.urlpattern_matcher.specs.Matchers.{matcher_view}
+use Rattle.urlpattern_matcher.specs.declared.component.Component.{Component}
 use Rattle.urlpattern_meaning.specs.Matching.{IsMatched, MatcherView}
 use Rattle.urlpattern_meaning.specs.PartMeaning.{Captures}
 use Rattle.urlpattern_pattern.proofs.MatchSteps.{text-at}
@@ -13,11 +13,11 @@ use Rattle.urlpattern_matches.specs.GroupTexts.{borrowed_texts}
 use Rattle.urlpattern_pattern.specs.Mismatch.{MatchesBefore}
 use Rattle.urlpattern_pattern.specs.Patterns.{PatternView, components_of, pattern_view}
 use Rattle.urlpattern_pattern.specs.UrlPatterns.{UrlPattern}
-use Rattle.urlpattern_eight.proofs.EightLemmas.{by_name}
-use Rattle.urlpattern_eight.specs.declared.eight.ComponentName.{ComponentName}
-use Rattle.urlpattern_eight.specs.declared.eight.Eight.{Eight}
-use Rattle.urlpattern_eight.specs.declared.eight.ComponentName.TheVariants.{Protocol}
-use Rattle.urlpattern_eight.specs.Eight.{Texts, at, components}
+use Rattle.urlpattern_components.proofs.EightLemmas.{by_name}
+use Rattle.urlpattern_components.specs.declared.eight.ComponentName.{ComponentName}
+use Rattle.urlpattern_components.specs.declared.eight.Eight.{Eight}
+use Rattle.urlpattern_components.specs.declared.eight.ComponentName.TheVariants.{Protocol}
+use Rattle.urlpattern_components.specs.Eight.{Texts, at, components}
 
 -- what is before a component, and what is after it
 split_at : {X : Type 0} (xs : List X) (i : ℕ) (d : X) → i < length xs → xs ≡ take i xs ++ get_or xs i d ∷ drop (suc i) xs

@@ -1,18 +1,19 @@
 -- What patterns answer, in the words of their pattern texts: the first way of the parts that these read as.
 use Rattle.std.specs.Prelude.{◌≡◌, ◌↔◌, ◌⊎◌, ℕ, Any, Bool, false, List, [], Option, None, Some, Ok, IsTrue, codes, unwrap_or}
 use Rattle.urlpattern_canonical.specs.Canonical.{special_schemes}
-use Rattle.urlpattern_core.specs.{Components.ComponentView, Components.FlagsAgree, FirstWays.AnswersFirstWays, FirstWays.EachAnswersFirst, Generated.AreGenerated}
-use Rattle.urlpattern_core.specs.declared.regexp.RegExp.{Ghosts as Engine}
+use Rattle.urlpattern_matcher.specs.{Components.ComponentView, Components.FlagsAgree, FirstWays.AnswersFirstWays, FirstWays.EachAnswersFirst}
+use Rattle.urlpattern_printing.specs.{Generated.AreGenerated}
+use Rattle.urlpattern_matcher.specs.declared.regexp.RegExp.{Ghosts as Engine}
 use Rattle.urlpattern_init.specs.UrlTexts.{IsLine}
 use Rattle.urlpattern_init.specs.declared.init.{UrlPatternInit.UrlPatternInit, UrlPatternMatchInput.UrlPatternMatchInput}
 use Rattle.urlpattern_inputs.specs.declared.options.UrlPatternOptions.{UrlPatternOptions}
 use Rattle.urlpattern_meaning.specs.{FirstAnswers.AnswersFirstInMiddle, FirstAnswers.IsFirstOf, Matching.Agrees, PartMeaning.Captures}
-use Rattle.urlpattern_eight.specs.declared.eight.ComponentName.{ComponentName}
-use Rattle.urlpattern_eight.specs.declared.eight.ComponentName.TheVariants.{Protocol}
-use Rattle.urlpattern_eight.specs.Eight.{Texts, Values, at}
+use Rattle.urlpattern_components.specs.declared.eight.ComponentName.{ComponentName}
+use Rattle.urlpattern_components.specs.declared.eight.ComponentName.TheVariants.{Protocol}
+use Rattle.urlpattern_components.specs.Eight.{Texts, Values, at}
 use Rattle.urlpattern_syntax.specs.{Parts.PartView, RegexpText.group_names, Text.begins_with}
-use Rattle.urlpattern_create.specs.FromString.{IsInitOfText}
-use Rattle.urlpattern_create.specs.Compiled.{AreCompiled, IsPathKind, Manner, is_mark, manner_of, pattern_values}
+use Rattle.urlpattern_compile.specs.FromString.{IsInitOfText}
+use Rattle.urlpattern_compile.specs.Compiled.{AreCompiled, IsPathKind, Manner, is_mark, manner_of, pattern_values}
 use Rattle.urlpattern_pattern.specs.Match.{IsLongInput}
 use Rattle.urlpattern_matches.specs.ResultViews.{IsResultOf, ResultView}
 use Rattle.urlpattern_matches.specs.MatchInput.{input_texts}

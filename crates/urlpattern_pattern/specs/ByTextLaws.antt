@@ -1,16 +1,16 @@
 -- The sentences of the laws on patterns that answer by their texts.
 use Rattle.std.specs.Prelude.{◌≡◌, ℕ, false, List, Ok, Option, None, Some}
-use Rattle.urlpattern_core.specs.Components.{ComponentView}
-use Rattle.urlpattern_core.specs.declared.regexp.RegExp.{Ghosts as Engine}
+use Rattle.urlpattern_matcher.specs.Components.{ComponentView}
+use Rattle.urlpattern_matcher.specs.declared.regexp.RegExp.{Ghosts as Engine}
 use Rattle.urlpattern_init.specs.UrlTexts.{IsLine}
 use Rattle.urlpattern_init.specs.declared.init.{UrlPatternInit.UrlPatternInit, UrlPatternMatchInput.UrlPatternMatchInput}
 use Rattle.urlpattern_inputs.specs.declared.options.UrlPatternOptions.{UrlPatternOptions}
 use Rattle.urlpattern_meaning.specs.{Matching.InnerView, PartMeaning.Captures}
-use Rattle.urlpattern_eight.specs.declared.eight.ComponentName.{ComponentName}
-use Rattle.urlpattern_eight.specs.Eight.{Texts, Values, at}
+use Rattle.urlpattern_components.specs.declared.eight.ComponentName.{ComponentName}
+use Rattle.urlpattern_components.specs.Eight.{Texts, Values, at}
 use Rattle.urlpattern_syntax.specs.Parts.{PartView}
 use Rattle.urlpattern_pattern.specs.ByText.{AnswersByItsText, EnginesAnswerFirst, HasMeaning, IsFoundByText}
-use Rattle.urlpattern_create.specs.Compiled.{AreCompiled, IsComponentCompiled, IsPatternOfInit, Manner, manner_of, pattern_values}
+use Rattle.urlpattern_compile.specs.Compiled.{AreCompiled, IsComponentCompiled, IsPatternOfInit, Manner, manner_of, pattern_values}
 use Rattle.urlpattern_pattern.specs.Match.{FindsInTexts, IsLongInput}
 use Rattle.urlpattern_matches.specs.ResultViews.{IsSameResult, ResultView}
 use Rattle.urlpattern_matches.specs.MatchInput.{input_texts}

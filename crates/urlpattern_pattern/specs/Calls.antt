@@ -1,16 +1,16 @@
 -- What groups capture while a match is made: looks at the eight texts, and what is captured of them.
 use Rattle.std.specs.Prelude.{◌≡◌, ℕ, List, Option, Some, zip}
-use Rattle.urlpattern_eight.specs.declared.eight.ComponentName.{ComponentName}
-use Rattle.urlpattern_eight.specs.declared.eight.Eight.{Eight}
+use Rattle.urlpattern_components.specs.declared.eight.ComponentName.{ComponentName}
+use Rattle.urlpattern_components.specs.declared.eight.Eight.{Eight}
 use Rattle.urlpattern_matches.specs.declared.captures.GroupCaptures.{GroupCaptures}
 use Rattle.urlpattern_matches.specs.GroupTexts.{captures_of}
 use Rattle.urlpattern_matches.specs.ResultViews.{IsResultOf, ResultView}
-use Rattle.urlpattern_core.specs.Looks.{look_answer, IsAsking}
-use Rattle.urlpattern_core.specs.declared.matcher.look.Look.{Look}
+use Rattle.urlpattern_matcher.specs.Looks.{look_answer, IsAsking}
+use Rattle.urlpattern_matcher.specs.declared.matcher.look.Look.{Look}
 use Rattle.urlpattern_meaning.specs.{Matching.Answers, Matching.AsksEngine, PartMeaning.Captures}
 use Rattle.urlpattern_pattern.specs.Match.{AreAnswers}
 use Rattle.urlpattern_pattern.specs.Patterns.{PatternView}
-use Rattle.urlpattern_eight.specs.Eight.{Texts, at}
+use Rattle.urlpattern_components.specs.Eight.{Texts, at}
 
 -- the looks at the texts result in what the matchers of the pattern answer
 abbrev pub AreLooks : {E : Type 0} → (answer : E → List ℕ → Option Captures) → PatternView E → Texts → Eight (Look E) → Type 0

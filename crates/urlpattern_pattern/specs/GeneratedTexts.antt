@@ -1,15 +1,15 @@
 -- The text of a component of a pattern whose groups capture what is given.
 use Rattle.std.specs.Prelude.{◌≡◌, ℕ, List, MatchOption, Option}
-use Rattle.urlpattern_create.specs.PatternViews.{eight_view}
-use Rattle.urlpattern_eight.specs.declared.eight.ComponentName.{ComponentName}
-use Rattle.urlpattern_eight.specs.Eight.{at}
+use Rattle.urlpattern_compile.specs.PatternViews.{eight_view}
+use Rattle.urlpattern_components.specs.declared.eight.ComponentName.{ComponentName}
+use Rattle.urlpattern_components.specs.Eight.{at}
 use Rattle.urlpattern_generate.specs.Generating.{HasText, LacksText}
 use Rattle.urlpattern_generate.specs.Manners.{GivenView, WritingManner, manner_for}
 use Rattle.urlpattern_generate.specs.declared.error.GenerateError.{GenerateError}
 use Rattle.urlpattern_generate.specs.declared.error.GenerateError.TheVariants.{NoParts}
 use Rattle.urlpattern_meaning.specs.PartMeaning.{Captures}
 use Rattle.urlpattern_pattern.specs.UrlPatterns.{UrlPattern}
-use Rattle.urlpattern_rules.specs.declared.pattern.PatternParts.{PatternParts}
+use Rattle.urlpattern_compare.specs.declared.pattern.PatternParts.{PatternParts}
 use Rattle.urlpattern_syntax.specs.ComponentParts.{kept_options, kept_parts}
 use Rattle.urlpattern_syntax.specs.Parts.{PartView}
 

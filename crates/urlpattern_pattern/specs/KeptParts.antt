@@ -1,18 +1,18 @@
 -- The parts that a compiled pattern keeps: those that its texts read as, of which its components are made.
 use Rattle.std.specs.Prelude.{◌≡◌, ℕ, Bool, List, Ok, Option, Some}
-use Rattle.urlpattern_core.specs.declared.component.{Component.Component, ComponentWithParts.ComponentWithParts}
-use Rattle.urlpattern_core.specs.declared.regexp.RegExp.{Ghosts as Engine}
-use Rattle.urlpattern_create.specs.Compiled.{IsPathKind, Manner, ReadsAs, manner_of, pattern_values}
-use Rattle.urlpattern_create.specs.FromString.{IsInitOfText}
-use Rattle.urlpattern_eight.specs.declared.eight.ComponentName.{ComponentName}
-use Rattle.urlpattern_eight.specs.declared.eight.ComponentName.TheVariants.{Protocol}
-use Rattle.urlpattern_eight.specs.declared.eight.Eight.{Eight}
-use Rattle.urlpattern_eight.specs.Eight.{Values, at}
+use Rattle.urlpattern_matcher.specs.declared.component.{Component.Component, ComponentWithParts.ComponentWithParts}
+use Rattle.urlpattern_matcher.specs.declared.regexp.RegExp.{Ghosts as Engine}
+use Rattle.urlpattern_compile.specs.Compiled.{IsPathKind, Manner, ReadsAs, manner_of, pattern_values}
+use Rattle.urlpattern_compile.specs.FromString.{IsInitOfText}
+use Rattle.urlpattern_components.specs.declared.eight.ComponentName.{ComponentName}
+use Rattle.urlpattern_components.specs.declared.eight.ComponentName.TheVariants.{Protocol}
+use Rattle.urlpattern_components.specs.declared.eight.Eight.{Eight}
+use Rattle.urlpattern_components.specs.Eight.{Values, at}
 use Rattle.urlpattern_init.specs.declared.init.UrlPatternInit.{UrlPatternInit}
 use Rattle.urlpattern_inputs.specs.declared.options.UrlPatternOptions.{UrlPatternOptions}
 use Rattle.urlpattern_pattern.specs.Patterns.{pattern_view}
 use Rattle.urlpattern_pattern.specs.UrlPatterns.{AreMadeOfParts, UrlPattern}
-use Rattle.urlpattern_rules.specs.declared.pattern.PatternParts.{PatternParts}
+use Rattle.urlpattern_compare.specs.declared.pattern.PatternParts.{PatternParts}
 use Rattle.urlpattern_syntax.specs.ComponentParts.{kept_options, kept_parts}
 use Rattle.urlpattern_syntax.specs.declared.parts.ComponentParts.{ComponentParts}
 

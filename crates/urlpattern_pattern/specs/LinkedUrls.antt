@@ -4,9 +4,9 @@ use Rattle.std.specs.List.{list_any}
 use Rattle.std.specs.declared.alloc.Global.{Global}
 use Rattle.std.specs.declared.borrow.CowStr.{CowStr}
 use Rattle.url.specs.Parts.{Parts}
-use Rattle.urlpattern_create.specs.PatternViews.{PatternView, eight_view}
-use Rattle.urlpattern_eight.specs.declared.eight.ComponentName.{ComponentName}
-use Rattle.urlpattern_eight.specs.Eight.{IsFirstError, Texts, at, components}
+use Rattle.urlpattern_compile.specs.PatternViews.{PatternView, eight_view}
+use Rattle.urlpattern_components.specs.declared.eight.ComponentName.{ComponentName}
+use Rattle.urlpattern_components.specs.Eight.{IsFirstError, Texts, at, components}
 use Rattle.urlpattern_generate.specs.Generating.{FindsAsked, FindsOther}
 use Rattle.urlpattern_generate.specs.Manners.{GivenView, text_given}
 use Rattle.urlpattern_generate.specs.Writing.{CannotWrite, IsWritten, cow_text}
@@ -19,10 +19,10 @@ use Rattle.urlpattern_meaning.specs.PartMeaning.{Captures}
 use Rattle.urlpattern_pattern.specs.GeneratedTexts.{HasParts, manner_in, parts_in}
 use Rattle.urlpattern_pattern.specs.Match.{IsMatch}
 use Rattle.urlpattern_pattern.specs.UrlPatterns.{UrlPattern}
-use Rattle.urlpattern_rules.specs.declared.pattern.PatternParts.{PatternParts}
-use Rattle.urlpattern_url.specs.UrlsOfTexts.{IsReadOfTexts, RefusesTexts}
-use Rattle.urlpattern_url.specs.declared.error.NoLink.{NoLink}
-use Rattle.urlpattern_url.specs.declared.error.NoLink.TheVariants.{Component, OutOfMemory}
+use Rattle.urlpattern_compare.specs.declared.pattern.PatternParts.{PatternParts}
+use Rattle.urlpattern_generate.specs.UrlsOfTexts.{IsReadOfTexts, RefusesTexts}
+use Rattle.urlpattern_generate.specs.declared.no_link.NoLink.{NoLink}
+use Rattle.urlpattern_generate.specs.declared.no_link.NoLink.TheVariants.{Component, OutOfMemory}
 
 -- ---- links
 

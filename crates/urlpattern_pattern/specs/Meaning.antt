@@ -3,17 +3,17 @@
 use Rattle.std.specs.Prelude.{◌≡◌, ⊤, ℕ, false, List, Option, Some, None, MatchOption, IsTrue}
 use Rattle.std.specs.Str.{all_scalars}
 use Rattle.urlpattern_init.specs.declared.init.{UrlPatternMatchInput.UrlPatternMatchInput}
-use Rattle.urlpattern_eight.specs.declared.eight.ComponentName.{ComponentName}
+use Rattle.urlpattern_components.specs.declared.eight.ComponentName.{ComponentName}
 use Rattle.regex.specs.declared.string.regex.Regex.{Regex}
-use Rattle.urlpattern_core.specs.Components.{ComponentView}
+use Rattle.urlpattern_matcher.specs.Components.{ComponentView}
 use Rattle.urlpattern_meaning.specs.{FirstAnswers.TookText, Matching.FollowsMiddle, PartMeaning.Captures, PartMeaning.PartsMean}
-use Rattle.urlpattern_create.specs.Compiled.{Manner}
-pub use Rattle.urlpattern_create.specs.Compiled.{ReadsAs}
+use Rattle.urlpattern_compile.specs.Compiled.{Manner}
+pub use Rattle.urlpattern_compile.specs.Compiled.{ReadsAs}
 use Rattle.urlpattern_pattern.specs.Match.{HasNoMatch, IsMatch}
 use Rattle.urlpattern_matches.specs.ResultViews.{IsResultOf, ResultView}
 use Rattle.urlpattern_pattern.specs.{Patterns.PatternView}
 use Rattle.urlpattern_syntax.specs.{Parts.PartView, RegexpText.group_names, Text.lacks, Text.line_feed}
-use Rattle.urlpattern_eight.specs.Eight.{Texts, at}
+use Rattle.urlpattern_components.specs.Eight.{Texts, at}
 
 -- ---- what a pattern text means
 

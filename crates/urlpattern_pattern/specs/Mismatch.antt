@@ -3,8 +3,8 @@ use Rattle.std.specs.Prelude.{◌≡◌, All, ℕ, List, ◌∷◌, ◌++◌, Ma
 use Rattle.urlpattern_pattern.specs.{Match.AreMatched, Patterns.PatternView}
 use Rattle.urlpattern_meaning.specs.Matching.{Answers, AsksEngine, IsMatched}
 use Rattle.urlpattern_meaning.specs.PartMeaning.{Captures}
-use Rattle.urlpattern_eight.specs.declared.eight.ComponentName.{ComponentName}
-use Rattle.urlpattern_eight.specs.Eight.{Texts, at, components}
+use Rattle.urlpattern_components.specs.declared.eight.ComponentName.{ComponentName}
+use Rattle.urlpattern_components.specs.Eight.{Texts, at, components}
 
 -- the components before this one, in the order of the standard, match their texts
 abbrev pub MatchesBefore : {E : Type 0} → (answer : E → List ℕ → Option Captures) → PatternView E → Texts → ComponentName → Type 0

@@ -1,11 +1,11 @@
 -- A `UrlPattern` as its components, after the URLPattern Standard, section "URL patterns".
-use Rattle.urlpattern_eight.specs.declared.eight.ComponentName.{ComponentName}
-use Rattle.urlpattern_eight.specs.declared.eight.Eight.{Eight}
+use Rattle.urlpattern_components.specs.declared.eight.ComponentName.{ComponentName}
+use Rattle.urlpattern_components.specs.declared.eight.Eight.{Eight}
 use Rattle.std.specs.Prelude.{IfOk, Result}
-use Rattle.urlpattern_core.specs.declared.component.Component.{Component}
-use Rattle.urlpattern_core.specs.Components.{ComponentView}
-use Rattle.urlpattern_create.specs.PatternViews.{eight_view}
-pub use Rattle.urlpattern_create.specs.PatternViews.{PatternView, has_regexp_groups}
+use Rattle.urlpattern_matcher.specs.declared.component.Component.{Component}
+use Rattle.urlpattern_matcher.specs.Components.{ComponentView}
+use Rattle.urlpattern_compile.specs.PatternViews.{eight_view}
+pub use Rattle.urlpattern_compile.specs.PatternViews.{PatternView, has_regexp_groups}
 use Rattle.urlpattern_pattern.specs.UrlPatterns.{UrlPattern}
 
 -- the components of a pattern

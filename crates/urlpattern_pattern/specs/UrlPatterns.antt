@@ -1,13 +1,13 @@
 -- What a clause sees of a `UrlPattern`: its components, and the parts that they were made of.
 use Rattle.std.specs.Prelude.{IfSome, Option}
-use Rattle.urlpattern_core.specs.Components.{ComponentView, IsComponentOf}
-use Rattle.urlpattern_core.specs.declared.component.Component.{Component}
-use Rattle.urlpattern_core.specs.declared.regexp.RegExp.{Ghosts as Engine}
-use Rattle.urlpattern_create.specs.{Compiled.HasEngine, PatternViews.PatternView, PatternViews.eight_view}
-use Rattle.urlpattern_eight.specs.declared.eight.ComponentName.{ComponentName}
-use Rattle.urlpattern_eight.specs.declared.eight.Eight.{Eight}
-use Rattle.urlpattern_eight.specs.Eight.{at}
-use Rattle.urlpattern_rules.specs.declared.pattern.PatternParts.{PatternParts}
+use Rattle.urlpattern_matcher.specs.Components.{ComponentView, IsComponentOf}
+use Rattle.urlpattern_matcher.specs.declared.component.Component.{Component}
+use Rattle.urlpattern_matcher.specs.declared.regexp.RegExp.{Ghosts as Engine}
+use Rattle.urlpattern_compile.specs.{Compiled.HasEngine, PatternViews.PatternView, PatternViews.eight_view}
+use Rattle.urlpattern_components.specs.declared.eight.ComponentName.{ComponentName}
+use Rattle.urlpattern_components.specs.declared.eight.Eight.{Eight}
+use Rattle.urlpattern_components.specs.Eight.{at}
+use Rattle.urlpattern_compare.specs.declared.pattern.PatternParts.{PatternParts}
 use Rattle.urlpattern_syntax.specs.ComponentParts.{kept_options, kept_parts}
 use Rattle.urlpattern_syntax.specs.declared.parts.ComponentParts.{ComponentParts}
 

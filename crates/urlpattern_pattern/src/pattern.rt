@@ -1,11 +1,11 @@
 //! URL patterns: their eight components.
 ghost use Rattle.std.specs.Prelude.{◌≡◌, IfSome, None, Some, option_copied};
 ghost use Rattle.std.specs.Str.{chars};
-ghost use Rattle.urlpattern_create.specs.PatternViews.{eight_view};
+ghost use Rattle.urlpattern_compile.specs.PatternViews.{eight_view};
 ghost use Rattle.urlpattern_pattern.specs.Patterns.{components_of, has_regexp_groups, pattern_view};
 ghost use Rattle.urlpattern_pattern.specs.UrlPatterns.{AreMadeOfParts};
-ghost use Rattle.urlpattern_eight.specs.declared.eight.ComponentName.TheVariants as names;
-ghost use Rattle.urlpattern_eight.specs.Eight.{at};
+ghost use Rattle.urlpattern_components.specs.declared.eight.ComponentName.TheVariants as names;
+ghost use Rattle.urlpattern_components.specs.Eight.{at};
 
 mod compare;
 mod create;
@@ -18,10 +18,10 @@ mod mismatch;
 pub use compare::CompareError;
 pub use matching::captures_of_texts;
 use std::marker::Model;
-use urlpattern_core::component::Component;
-use urlpattern_core::regexp::RegExp;
-use urlpattern_eight::{ComponentName, Eight, field_of, with_fields};
-use urlpattern_rules::PatternParts;
+use urlpattern_compare::PatternParts;
+use urlpattern_components::{ComponentName, Eight, field_of, with_fields};
+use urlpattern_matcher::component::Component;
+use urlpattern_matcher::regexp::RegExp;
 
 /// A pattern that URLs are matched against, compiled component by component.
 ///

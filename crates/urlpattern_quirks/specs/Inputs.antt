@@ -7,17 +7,17 @@ use Rattle.urlpattern_init.specs.Inheritance.{values_of, values_view}
 use Rattle.urlpattern_init.specs.declared.init.{UrlPatternInit.UrlPatternInit, UrlPatternMatchInput.UrlPatternMatchInput}
 use Rattle.urlpattern_init.specs.declared.init.UrlPatternMatchInput.TheVariants as match_inputs
 use Rattle.urlpattern_canonical.specs.Canonical.{IsRefusedByUrl, Reports}
-use Rattle.urlpattern_core.specs.Regexes.{regex_engine}
+use Rattle.urlpattern_matcher.specs.Regexes.{regex_engine}
 use Rattle.urlpattern_inputs.specs.declared.init.UrlPatternInit.{UrlPatternInit as PlainInit}
 use Rattle.urlpattern_inputs.specs.declared.input.StringOrInit.{StringOrInit}
 use Rattle.urlpattern_inputs.specs.declared.input.StringOrInit.TheVariants as inputs
 use Rattle.urlpattern_inputs.specs.InputValues.{plain_init_texts, input_view}
 pub use Rattle.urlpattern_canonical.specs.BaseUrls.{IsRefusedText, parsed_base, parsed_text, text_bytes}
-pub use Rattle.urlpattern_create.specs.FromString.{RefusesText}
-use Rattle.urlpattern_create.specs.FromString.{IsInitOfText}
+pub use Rattle.urlpattern_compile.specs.FromString.{RefusesText}
+use Rattle.urlpattern_compile.specs.FromString.{IsInitOfText}
 use Rattle.urlpattern_syntax.specs.Errors.{ErrorView, ErrorView as views}
 use Rattle.urlpattern_syntax.specs.Text.{text_of}
-use Rattle.urlpattern_eight.specs.Eight.{Values}
+use Rattle.urlpattern_components.specs.Eight.{Values}
 
 -- ---- inits
 

@@ -1,16 +1,16 @@
 -- What browsers are answered.
 use Rattle.std.specs.Prelude.{◌≡◌, ℕ, List, Result, IfOk}
 use Rattle.urlpattern_pattern.specs.{Patterns.PatternView, Patterns.has_regexp_groups}
-use Rattle.urlpattern_create.specs.{Compiled.IsPatternOfInit}
-use Rattle.urlpattern_core.specs.Components.{component_view}
-use Rattle.urlpattern_core.specs.declared.component.Component.{Component}
-use Rattle.urlpattern_compiled.specs.Plain.{plain_component}
-use Rattle.urlpattern_compiled.specs.Values as plain
-use Rattle.urlpattern_compiled.specs.declared.pattern.{UrlPatternComponent.UrlPatternComponent, UrlPattern.UrlPattern}
-use Rattle.urlpattern_core.specs.declared.regexp.RegExp.{Ghosts as Engine}
+use Rattle.urlpattern_compile.specs.{Compiled.IsPatternOfInit}
+use Rattle.urlpattern_matcher.specs.Components.{component_view}
+use Rattle.urlpattern_matcher.specs.declared.component.Component.{Component}
+use Rattle.urlpattern_plain.specs.Plain.{plain_component}
+use Rattle.urlpattern_plain.specs.Values as plain
+use Rattle.urlpattern_plain.specs.declared.pattern.{UrlPatternComponent.UrlPatternComponent, UrlPattern.UrlPattern}
+use Rattle.urlpattern_matcher.specs.declared.regexp.RegExp.{Ghosts as Engine}
 use Rattle.urlpattern_init.specs.declared.init.UrlPatternInit.{UrlPatternInit}
 use Rattle.urlpattern_inputs.specs.declared.options.UrlPatternOptions.{UrlPatternOptions}
-use Rattle.urlpattern_eight.specs.Eight.{each}
+use Rattle.urlpattern_components.specs.Eight.{each}
 use Rattle.urlpattern_syntax.specs.Text.{text_of}
 use Rattle.urlpattern_syntax.specs.Errors.{OnlyOutOfMemory}
 use Rattle.urlpattern_syntax.specs.declared.error.Error.{Error}

@@ -4,7 +4,7 @@ ghost use Rattle.urlpattern_init.specs.Inheritance.{values_view};
 ghost use Rattle.urlpattern_quirks.specs.Inputs.{IsCopyOfText, FindsInput, IsConstructedFrom, IsInitOf, RefusesInput, RefusesSecondBase, parsed_base, plain_base, plain_values, text_bytes};
 ghost use Rattle.urlpattern_canonical.specs.Canonical.{Reports};
 ghost use Rattle.urlpattern_inputs.specs.declared.input.StringOrInit.TheVariants as plain_inputs;
-ghost use Rattle.urlpattern_eight.specs.Eight.{at};
+ghost use Rattle.urlpattern_components.specs.Eight.{at};
 ghost use Rattle.urlpattern_syntax.specs.Errors.{MemoryOr, OnlyOutOfMemory};
 ghost use Rattle.urlpattern_syntax.specs.Text.{option_text};
 
@@ -13,12 +13,12 @@ use std::alloc::{AllocError, Global};
 use std::borrow::CowStr;
 use url::Url;
 use urlpattern_canonical::{find_url, parse_base};
-use urlpattern_core::Error;
-use urlpattern_create::init_of_text;
-use urlpattern_eight::{ComponentName, Eight};
+use urlpattern_compile::init_of_text;
+use urlpattern_components::{ComponentName, Eight};
 use urlpattern_init as init;
 use urlpattern_init::UrlPatternMatchInput;
 use urlpattern_inputs::{Inputs, StringOrInit, UrlPatternInit};
+use urlpattern_syntax::Error;
 
 /// The init of a pattern: of a constructor string, with a base URL if there is one, or of components one by one.
 ///

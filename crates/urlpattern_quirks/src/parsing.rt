@@ -1,22 +1,22 @@
 //! Patterns for browsers: compiled, and as plain data.
 ghost use Rattle.std.specs.Prelude.{◌≡◌, IfErr, IfOk};
-ghost use Rattle.urlpattern_create.specs.Compiled.{IsPatternOfInit, RefusesInit};
+ghost use Rattle.urlpattern_compile.specs.Compiled.{IsPatternOfInit, RefusesInit};
 ghost use Rattle.urlpattern_pattern.specs.ByText.{AnswersByItsText, MakesFirstWays};
 ghost use Rattle.urlpattern_pattern.specs.KeptParts.{KeepsPartsOf};
 ghost use Rattle.urlpattern_pattern.specs.Patterns.{pattern_view, IfPattern};
 ghost use Rattle.urlpattern_quirks.specs.Quirks.{IsPlainOf, plain_pattern, IsPlainOfInit};
-ghost use Rattle.urlpattern_compiled.specs.Values.{pattern_by};
+ghost use Rattle.urlpattern_plain.specs.Values.{pattern_by};
 ghost use Rattle.urlpattern_syntax.specs.Errors.{MemoryOr, OnlyOutOfMemory};
 ghost use Rattle.urlpattern_syntax.specs.Text.{text_of};
 
 use std::alloc::Global;
-use urlpattern_compiled::{UrlPattern, UrlPatternComponent};
-use urlpattern_core::Error;
-use urlpattern_core::component::Component;
-use urlpattern_core::regexp::RegExp;
 use urlpattern_init::UrlPatternInit;
 use urlpattern_inputs::UrlPatternOptions;
+use urlpattern_matcher::component::Component;
+use urlpattern_matcher::regexp::RegExp;
 use urlpattern_pattern as pattern;
+use urlpattern_plain::{UrlPattern, UrlPatternComponent};
+use urlpattern_syntax::Error;
 
 /// Compiles a pattern from an init, and returns it as plain data.
 ///

@@ -6,7 +6,8 @@ ghost use Rattle.std.specs.Str.{chars};
 ghost use Rattle.urlpattern_steps.specs.Walk.{BeginsAs, BeginsWithCopies, IsEntryForRest, IsWithoutLast, going_on, literal_text, literals};
 
 use crate::step::Step;
-use crate::texts::{after_same, is_same, split_first, without_last};
+use crate::texts::{after_same, is_same, without_last};
+use urlpattern_syntax::text::split_first;
 
 /// The steps after the first so many, if there are more.
 pub fn pass(steps: &[Step], count: usize) -> &[Step]

@@ -6,8 +6,7 @@ ghost use Rattle.std.specs.Str.{chars, IsUtf8};
 ghost use Rattle.urlpattern_steps.specs.Walk.{BeginsAs, from_first, up_to_first};
 ghost use Rattle.urlpattern_meaning.specs.Matching.{is_same_character};
 
-use urlpattern_syntax::tokenizer::before;
-pub use urlpattern_syntax::tokenizer::split_first;
+use urlpattern_syntax::text::{before, split_first};
 
 /// What follows this character in a text that begins with it.
 pub fn after(text: &str, c: char) -> Option<&str>

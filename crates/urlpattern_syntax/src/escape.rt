@@ -9,7 +9,7 @@ ghost use Rattle.urlpattern_syntax.specs.Writing.{escaped_text, marks_of};
 
 use crate::error::Error;
 use crate::parser::{Options, RegexSyntax};
-use crate::tokenizer::{before, split_first};
+use crate::text::{before, split_first};
 use crate::writing::{Writable, Writer, written};
 use std::alloc::Global;
 

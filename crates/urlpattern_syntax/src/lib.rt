@@ -6,6 +6,7 @@ pub mod error;
 pub mod escape;
 pub mod parser;
 pub mod parts;
+pub mod text;
 pub mod tokenizer;
 pub mod writing;
 

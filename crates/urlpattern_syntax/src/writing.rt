@@ -8,7 +8,7 @@ ghost use Rattle.urlpattern_syntax.specs.Text.{text_of};
 ghost use Rattle.urlpattern_syntax.specs.Writing.{Appends, Compares, Counts, HasRoom, left_view};
 ghost use Rattle.urlpattern_syntax.specs.WritingLaws.{appends_both, appends_nothing, compares_both, compares_nothing, counts_both, counts_nothing, room_front, room_rest};
 
-use crate::tokenizer::split_first;
+use crate::text::split_first;
 use std::alloc::{AllocError, Global};
 
 /// Where a text is written: a counter of its bytes, or a `String` that has memory for it.

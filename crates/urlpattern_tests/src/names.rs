@@ -2,8 +2,8 @@
 
 use crate::given::expect_same;
 use std::test::Fail;
-use urlpattern_core::Error;
-use urlpattern_eight::ComponentName;
+use urlpattern_components::ComponentName;
+use urlpattern_syntax::Error;
 
 #[test]
 fn a_component_prints_as_its_name_and_is_read_from_it(rt: HostRuntime) -> Result<(), Fail> {

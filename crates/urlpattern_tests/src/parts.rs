@@ -2,7 +2,7 @@
 
 use crate::given::parts_of;
 use std::alloc::{AllocError, Global};
-use urlpattern_core::parser::Options;
+use urlpattern_parser::parser::Options;
 
 /// Appends copies of a piece.
 fn push_copies(text: &mut String, piece: &str, count: usize) -> Result<(), AllocError> {

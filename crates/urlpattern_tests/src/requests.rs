@@ -7,11 +7,11 @@ use crate::given::{expect_same, parts_of};
 use std::alloc::Global;
 use std::process::Abort;
 use std::test::Fail;
-use urlpattern_core::Error;
-use urlpattern_core::component::{
+use urlpattern_matcher::component::{
     generate_pattern_string, generate_regular_expression_and_name_list,
 };
-use urlpattern_core::parser::{Options, Part};
+use urlpattern_parser::parser::{Options, Part};
+use urlpattern_syntax::Error;
 
 /// A pathname pattern, its regular expression, and the bytes of that.
 type Case = (&'static str, &'static str, usize);

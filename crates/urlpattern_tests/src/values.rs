@@ -4,10 +4,10 @@ use crate::given::{expect_same, path_of};
 use std::test::Fail;
 use urlpattern::regexp::{PatternRegexp, RegExp};
 use urlpattern_canonical::canonicalize_and_process::{Canonicalizer, ProcessType};
-use urlpattern_core::RegexSyntax;
-use urlpattern_core::component::Component;
-use urlpattern_core::parser::{Options, PartModifier, PartType};
-use urlpattern_core::tokenizer::{TokenType, TokenizePolicy, tokenize};
+use urlpattern_matcher::component::Component;
+use urlpattern_parser::parser::{Options, PartModifier, PartType};
+use urlpattern_parser::tokenizer::{TokenType, TokenizePolicy, tokenize};
+use urlpattern_syntax::RegexSyntax;
 
 #[test]
 fn a_copy_of_options_has_each_field(rt: HostRuntime) -> Result<(), Fail> {

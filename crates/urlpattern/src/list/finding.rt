@@ -9,13 +9,13 @@ ghost use Rattle.urlpattern_syntax.specs.Errors.{OnlyOutOfMemory};
 
 use super::UrlPatternList;
 use std::alloc::Global;
-use urlpattern_core::Error;
-use urlpattern_core::error::OutOfMemory;
-use urlpattern_core::regexp::RegExp;
-use urlpattern_eight::Eight;
+use urlpattern_components::Eight;
 use urlpattern_index::{Address, AddressHashes};
+use urlpattern_matcher::regexp::RegExp;
 use urlpattern_matches::{UrlPatternCaptures, UrlPatternResult};
 use urlpattern_pattern::captures_of_texts;
+use urlpattern_syntax::Error;
+use urlpattern_syntax::error::OutOfMemory;
 
 impl<R: RegExp> UrlPatternList<R> {
     /// The first match of eight texts, copied. `None`: no pattern matches them.

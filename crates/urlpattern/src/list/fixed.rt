@@ -3,9 +3,9 @@ ghost use Rattle.urlpattern.specs.PatternKeys.{AreFixed};
 ghost use Rattle.urlpattern_index.specs.FixedTexts.{fixed_texts};
 ghost use Rattle.urlpattern_pattern.specs.Patterns.{pattern_view};
 
-use urlpattern_core::regexp::RegExp;
-use urlpattern_eight::ComponentName;
+use urlpattern_components::ComponentName;
 use urlpattern_index::{Fixed, fixed_text, known_path};
+use urlpattern_matcher::regexp::RegExp;
 use urlpattern_pattern::UrlPattern;
 
 /// What is fixed of the inputs that a pattern matches, by its parts: nothing, if it has none.

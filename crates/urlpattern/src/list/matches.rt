@@ -2,10 +2,10 @@
 
 use super::UrlPatternList;
 use std::alloc::Global;
-use urlpattern_core::Error;
-use urlpattern_core::regexp::RegExp;
-use urlpattern_eight::Eight;
+use urlpattern_components::Eight;
+use urlpattern_matcher::regexp::RegExp;
 use urlpattern_matches::UrlPatternCaptures;
+use urlpattern_syntax::Error;
 
 /// The matches of a URL that are left, in the order of the patterns, each with its pattern's index.
 ///

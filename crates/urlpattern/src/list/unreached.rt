@@ -4,9 +4,9 @@ ghost use Rattle.urlpattern.specs.Unreached.{AreUnreached, HaveAllParts, LacksPa
 
 use super::UrlPatternList;
 use std::alloc::Global;
-use urlpattern_core::regexp::RegExp;
+use urlpattern_compare::{PatternParts, Shadowed, unreachable};
+use urlpattern_matcher::regexp::RegExp;
 use urlpattern_pattern::{CompareError, UrlPattern};
-use urlpattern_rules::{PatternParts, Shadowed, unreachable};
 
 impl<R: RegExp> UrlPatternList<R> {
     /// Lists each pattern that one before it is known to cover, in their order: its index, and that of the first such one.

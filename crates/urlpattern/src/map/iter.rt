@@ -6,7 +6,7 @@ ghost use Rattle.std.specs.Slice.Iter.{iter_rest};
 
 use std::marker::Model;
 use std::slice;
-use urlpattern_core::regexp::RegExp;
+use urlpattern_matcher::regexp::RegExp;
 use urlpattern_pattern::UrlPattern;
 
 /// The patterns of a `UrlPatternMap` that are left, in their order, each with its value.

@@ -2,16 +2,16 @@
 ghost use Rattle.std.specs.Prelude.{◌↔◌, IfErr, IfOk, IfSome, MatchBool, IsTrue};
 ghost use Rattle.std.specs.Str.{chars};
 ghost use Rattle.urlpattern_init.specs.SpecialProtocol.{AcceptsAny, AcceptsOnly, AcceptsSpecialScheme, CanonicalizesProtocol, IsKnownProtocol, IsSpecialTo, RefusesProtocol};
-ghost use Rattle.urlpattern_core.specs.Matchers.{matcher_view};
+ghost use Rattle.urlpattern_matcher.specs.Matchers.{matcher_view};
 ghost use Rattle.urlpattern_syntax.specs.Errors.{MemoryOr, OnlyOutOfMemory};
 
 use std::alloc::Global;
 use urlpattern_canonical::canonicalize_and_process::{canonicalize_protocol, is_special_scheme};
-use urlpattern_core::Error;
-use urlpattern_core::component::{Component, ComponentWithParts, generate_matcher};
-use urlpattern_core::matcher::{InnerMatcher, Matcher};
-use urlpattern_core::parser::{Options, parse_pattern_string};
-use urlpattern_core::regexp::RegExp;
+use urlpattern_matcher::component::{Component, ComponentWithParts, generate_matcher};
+use urlpattern_matcher::matcher::{InnerMatcher, Matcher};
+use urlpattern_matcher::regexp::RegExp;
+use urlpattern_parser::parser::{Options, parse_pattern_string};
+use urlpattern_syntax::Error;
 
 /// Whether a protocol that is given as a pattern is special: its matcher accepts a special scheme.
 ///

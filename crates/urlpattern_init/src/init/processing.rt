@@ -5,8 +5,8 @@ ghost use Rattle.urlpattern_canonical.specs.Canonical.{Reports};
 ghost use Rattle.urlpattern_init.specs.Inheritance as spec;
 ghost use Rattle.urlpattern_init.specs.Inheritance.{bytes_of, init_bytes, init_values, is_inheritable, missing, must_lack, up_to_last_slash, values_of, values_view};
 ghost use Rattle.urlpattern_init.specs.Processing.{IsFailureIn, IsGivenPathnameAnswer, IsTextAnswer, IsValueAfter, bytes_in, given_values, lacking_in, optional_bytes, value_in, values_in};
-ghost use Rattle.urlpattern_eight.specs.declared.eight.ComponentName.{ComponentName};
-ghost use Rattle.urlpattern_eight.specs.Eight.{at};
+ghost use Rattle.urlpattern_components.specs.declared.eight.ComponentName.{ComponentName};
+ghost use Rattle.urlpattern_components.specs.Eight.{at};
 ghost use Rattle.urlpattern_syntax.specs.Errors.{MemoryOr, OnlyOutOfMemory};
 ghost use Rattle.urlpattern_syntax.specs.Text.{text_of, option_text};
 
@@ -16,8 +16,8 @@ use url::{Url, quirks};
 use urlpattern_canonical::canonicalize_and_process::{
     Canonicalizer, ProcessType, begins_with_slash, process_base_url, without_first,
 };
-use urlpattern_core::Error;
-use urlpattern_eight::{ComponentName, Eight};
+use urlpattern_components::{ComponentName, Eight};
+use urlpattern_syntax::Error;
 
 /// What an init must lack besides the component itself, so that it is inherited.
 fn must_lack(component: ComponentName) -> &'static [ComponentName]

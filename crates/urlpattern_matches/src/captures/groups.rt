@@ -2,7 +2,7 @@
 
 use super::UrlPatternCaptures;
 use std::slice;
-use urlpattern_eight::{COMPONENTS, ComponentName};
+use urlpattern_components::{COMPONENTS, ComponentName};
 
 /// The groups of a component that are left, in their order: each name, with what the group captured. `None`: the group took no
 /// part.
@@ -83,7 +83,7 @@ pub struct UrlPatternCapturesIter<'c, 'p, 'u> {
 impl<'c, 'p, 'u> UrlPatternCapturesIter<'c, 'p, 'u> {
     ghost use Rattle.std.specs.Prelude.{◌≡◌};
     ghost use Rattle.urlpattern_matches.specs.BorrowedMatches.{all_groups_left, all_groups_view};
-    ghost use Rattle.urlpattern_eight.specs.Eight.{components};
+    ghost use Rattle.urlpattern_components.specs.Eight.{components};
 
     /// All groups.
     pub(super) fn new(captures: &'c UrlPatternCaptures<'p, 'u>) -> Self

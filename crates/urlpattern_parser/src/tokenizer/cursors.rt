@@ -7,8 +7,9 @@ ghost use Rattle.urlpattern_syntax.specs.Text.{BeginsAt};
 ghost use Rattle.urlpattern_syntax.specs.Tokens.{Skips, ReportsFault, TokenView};
 
 use super::lexemes::{next_lexeme, skip_ignored};
-use super::{Token, TokenType, before, split_first};
+use super::{Token, TokenType};
 use urlpattern_syntax::error::Error;
+use urlpattern_syntax::text::{before, split_first};
 
 /// A place between the tokens of a text, from which its strict tokens are read one by one.
 ///

@@ -7,8 +7,9 @@ ghost use Rattle.urlpattern_syntax.specs.Text.{BeginsWith, is_among, is_name_par
 ghost use Rattle.urlpattern_syntax.specs.Tokens.{FaultView, IsFaultAt, IsInvalidChar, LacksEscaped, LacksQuestionMark, Skips, SkipsBy, fault_view, is_ignored};
 ghost use Rattle.urlpattern_parser.specs.Lexemes.{Lexes, LexesUnder};
 
-use super::{TokenType, TokenizePolicy, before, is_name_part, is_name_start, split_first};
+use super::{TokenType, TokenizePolicy, is_name_part, is_name_start};
 use urlpattern_syntax::error::{RegexFault, TokenizerError};
+use urlpattern_syntax::text::{before, split_first};
 
 /// The front of a text, as a token, and what follows it.
 #[derive(Clone, Copy)]

@@ -1,18 +1,18 @@
 //! Patterns compared by the parts that they were made of.
 ghost use Rattle.std.specs.Prelude.{◌≡◌, IfErr, IfOk, Some};
-ghost use Rattle.urlpattern_eight.specs.Eight.{at};
+ghost use Rattle.urlpattern_components.specs.Eight.{at};
 ghost use Rattle.urlpattern_pattern.specs.Comparing.{HaveParts, LackParts, OfBoth, compare_error_text};
 ghost use Rattle.urlpattern_pattern.specs.declared.pattern.compare.CompareError.TheVariants as errors;
-ghost use Rattle.urlpattern_rules.specs.Comparing.{IsPatternCovering, IsPatternOverlap};
-ghost use Rattle.urlpattern_rules.specs.Order.{parts_cmp};
+ghost use Rattle.urlpattern_compare.specs.Comparing.{IsPatternCovering, IsPatternOverlap};
+ghost use Rattle.urlpattern_compare.specs.Order.{parts_cmp};
 
 use super::UrlPattern;
 use std::alloc::{AllocError, Global};
 use std::cmp::Ordering;
 use std::{error, fmt};
-use urlpattern_core::regexp::RegExp;
-use urlpattern_eight::ComponentName;
-use urlpattern_rules::{PatternCovering, PatternOverlap, PatternParts};
+use urlpattern_compare::{PatternCovering, PatternOverlap, PatternParts};
+use urlpattern_components::ComponentName;
+use urlpattern_matcher::regexp::RegExp;
 
 /// Why two patterns are not compared.
 #[derive(Debug, Clone, Copy, PartialEq, Eq)]

@@ -2,8 +2,8 @@
 
 ghost use Rattle.std.specs.Prelude.{is_some, option_copied, option_map, IfErr, IfOk, IfSome, IsTrue};
 ghost use Rattle.std.specs.Str.{chars};
-ghost use Rattle.urlpattern_create.specs.Compiled.{IsPatternOfInit, RefusesInit};
-ghost use Rattle.urlpattern_create.specs.FromString.{IsPatternOfText, RefusesPatternOfText};
+ghost use Rattle.urlpattern_compile.specs.Compiled.{IsPatternOfInit, RefusesInit};
+ghost use Rattle.urlpattern_compile.specs.FromString.{IsPatternOfText, RefusesPatternOfText};
 ghost use Rattle.urlpattern_init.specs.SpecialProtocol.{IsKnownProtocol};
 ghost use Rattle.urlpattern_matches.specs.ResultViews.{result_view};
 ghost use Rattle.urlpattern_pattern.specs.ByText.{AnswersByItsText, AnswersByTextOf, IsExecutedByMeaning, MakesFirstWays};
@@ -13,15 +13,15 @@ ghost use Rattle.urlpattern_syntax.specs.Errors.{MemoryOr};
 
 use super::UrlPattern;
 use std::alloc::Global;
-use urlpattern_core::component::{Component, ComponentWithParts};
-use urlpattern_core::regexp::RegExp;
-use urlpattern_core::{Error, RegexSyntax};
-use urlpattern_create::{compile_init, init_of_text_keeping};
-use urlpattern_eight::Eight;
+use urlpattern_compare::PatternParts;
+use urlpattern_compile::{compile_init, init_of_text_keeping};
+use urlpattern_components::Eight;
 use urlpattern_init::{UrlPatternInit, UrlPatternMatchInput};
 use urlpattern_inputs::UrlPatternOptions;
+use urlpattern_matcher::component::{Component, ComponentWithParts};
+use urlpattern_matcher::regexp::RegExp;
 use urlpattern_matches::UrlPatternResult;
-use urlpattern_rules::PatternParts;
+use urlpattern_syntax::{Error, RegexSyntax};
 
 impl<R: RegExp> UrlPattern<R> {
     /// Compiles a pattern from an init: from its own texts, and from what they inherit from its base URL.

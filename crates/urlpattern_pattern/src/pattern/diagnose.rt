@@ -2,18 +2,18 @@
 
 ghost use Rattle.std.specs.Prelude.{option_copied};
 ghost use Rattle.std.specs.Str.{chars};
-ghost use Rattle.urlpattern_create.specs.Compiled.{RefusesInit};
-ghost use Rattle.urlpattern_create.specs.Diagnoses.{AcceptsInit, AcceptsPatternOfText, HasErrorOf, IfAccepted, IfRefused, IsWithinText, ShowsGiven, ShowsInit};
-ghost use Rattle.urlpattern_create.specs.FromString.{RefusesPatternOfText};
+ghost use Rattle.urlpattern_compile.specs.Compiled.{RefusesInit};
+ghost use Rattle.urlpattern_compile.specs.Diagnoses.{AcceptsInit, AcceptsPatternOfText, HasErrorOf, IfAccepted, IfRefused, IsWithinText, ShowsGiven, ShowsInit};
+ghost use Rattle.urlpattern_compile.specs.FromString.{RefusesPatternOfText};
 
 use super::UrlPattern;
 use std::alloc::Global;
-use urlpattern_core::error::OutOfMemory;
-use urlpattern_core::regexp::RegExp;
-use urlpattern_create::{diagnose_init, diagnose_text};
+use urlpattern_compile::{diagnose_init, diagnose_text};
 use urlpattern_diagnosis::Diagnosis;
 use urlpattern_init::UrlPatternInit;
 use urlpattern_inputs::UrlPatternOptions;
+use urlpattern_matcher::regexp::RegExp;
+use urlpattern_syntax::error::OutOfMemory;
 
 impl<R: RegExp> UrlPattern<R> {
     /// What is wrong with a constructor string, or with its base URL. `None`: it is accepted.

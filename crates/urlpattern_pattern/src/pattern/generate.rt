@@ -6,9 +6,9 @@ ghost use Rattle.urlpattern_syntax.specs.Text.{text_of};
 
 use super::UrlPattern;
 use std::alloc::Global;
-use urlpattern_core::regexp::RegExp;
-use urlpattern_eight::ComponentName;
+use urlpattern_components::ComponentName;
 use urlpattern_generate::{GenerateError, GivenGroup, generate_component};
+use urlpattern_matcher::regexp::RegExp;
 
 impl<R: RegExp> UrlPattern<R> {
     /// The text of a component that the component matches, with these groups: each captures the canonical form of the text that it

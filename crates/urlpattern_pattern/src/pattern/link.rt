@@ -1,23 +1,24 @@
 //! The URL of a pattern whose groups capture what is given.
 ghost use Rattle.std.specs.Prelude.{IfErr, IfOk};
-ghost use Rattle.urlpattern_eight.specs.Eight.{IsFirstError};
+ghost use Rattle.urlpattern_components.specs.Eight.{IsFirstError};
 ghost use Rattle.urlpattern_generate.specs.Manners.{given_groups};
 ghost use Rattle.urlpattern_init.specs.declared.init.UrlPatternMatchInput.TheVariants as inputs;
 ghost use Rattle.urlpattern_pattern.specs.LinkedUrls.{AnswersParts, AreWritten, IsConfirmedBefore, IsLink, RefusesLink, ReturnsGiven, TellsConfirmed};
 ghost use Rattle.urlpattern_pattern.specs.Match.{HasMatch};
 ghost use Rattle.urlpattern_pattern.specs.Patterns.{pattern_view};
 ghost use Rattle.urlpattern_pattern.specs.UrlPatterns.{AreMadeOfParts};
-ghost use Rattle.urlpattern_url.specs.UrlsOfTexts.{cow_texts};
+ghost use Rattle.urlpattern_generate.specs.UrlsOfTexts.{cow_texts};
 
 use super::UrlPattern;
 use std::alloc::{AllocError, Global};
 use std::borrow::CowStr;
 use url::Url;
-use urlpattern_core::regexp::RegExp;
-use urlpattern_eight::{ComponentName, Eight};
-use urlpattern_generate::{GenerateError, GivenGroup, confirms, written_component};
-use urlpattern_rules::PatternParts;
-use urlpattern_url::{NoLink, url_of_texts};
+use urlpattern_compare::PatternParts;
+use urlpattern_components::{ComponentName, Eight};
+use urlpattern_generate::{
+    GenerateError, GivenGroup, NoLink, confirms, url_of_texts, written_component,
+};
+use urlpattern_matcher::regexp::RegExp;
 
 impl<R: RegExp> UrlPattern<R> {
     /// The URL that the pattern matches, with these groups: each of its texts is that of the component's parts, and it is what `url`

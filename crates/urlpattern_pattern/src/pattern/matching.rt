@@ -2,7 +2,7 @@
 //!
 //! All components look at their texts before anything is made. Engines are asked last, and the first refusal ends it.
 ghost use Rattle.std.specs.Prelude.{◌≡◌, None, Some, IfErr, IfNone, IfOk, IfSome};
-ghost use Rattle.urlpattern_core.specs.Looks.{look_answer, IsAsking};
+ghost use Rattle.urlpattern_matcher.specs.Looks.{look_answer, IsAsking};
 ghost use Rattle.urlpattern_init.specs.declared.init.UrlPatternMatchInput.TheVariants as inputs;
 ghost use Rattle.urlpattern_init.specs.Inheritance.{texts_of_url};
 ghost use Rattle.urlpattern_matches.specs.BorrowedMatches.{IfMatch, groups_view, pattern_captures_view};
@@ -12,24 +12,24 @@ ghost use Rattle.urlpattern_matches.specs.MatchInput.{texts_view};
 ghost use Rattle.urlpattern_pattern.specs.Calls.{AreCaptured, AreLooks, AskWithCause, HasAnswers, HasCaptures, HasGroups};
 ghost use Rattle.urlpattern_matches.specs.GroupTexts.{borrowed_texts};
 ghost use Rattle.urlpattern_pattern.specs.Patterns.{components_of, pattern_view};
-ghost use Rattle.urlpattern_eight.specs.declared.eight.ComponentName.{ComponentName as Name};
+ghost use Rattle.urlpattern_components.specs.declared.eight.ComponentName.{ComponentName as Name};
 ghost use Rattle.urlpattern_syntax.specs.Errors.{OnlyOutOfMemory};
-ghost use Rattle.urlpattern_eight.specs.Eight.{at};
+ghost use Rattle.urlpattern_components.specs.Eight.{at};
 
 use super::UrlPattern;
 use std::alloc::Global;
 use url::Url;
-use urlpattern_core::Error;
-use urlpattern_core::error::OutOfMemory;
-use urlpattern_core::matcher::Look;
-use urlpattern_core::regexp::RegExp;
-use urlpattern_eight::{ComponentName, Eight, with_fields};
+use urlpattern_components::{ComponentName, Eight, with_fields};
 use urlpattern_init::UrlPatternMatchInput;
 use urlpattern_inputs::MatchInput;
+use urlpattern_matcher::matcher::Look;
+use urlpattern_matcher::regexp::RegExp;
 use urlpattern_matches::{
     GroupCaptures, Missed, UrlPatternCaptures, UrlPatternResult, captures_from, input_texts,
     parse_match_input, url_texts,
 };
+use urlpattern_syntax::Error;
+use urlpattern_syntax::error::OutOfMemory;
 
 impl<R: RegExp> UrlPattern<R> {
     /// Whether the pattern matches an input. A URL's texts are its own; an init's are those that it results in, with what it

@@ -8,10 +8,10 @@ ghost use Rattle.urlpattern_syntax.specs.Errors.{OnlyOutOfMemory};
 use super::UrlPattern;
 use std::alloc::Global;
 use url::Url;
-use urlpattern_core::Error;
-use urlpattern_core::regexp::RegExp;
-use urlpattern_eight::{ComponentName, Eight};
+use urlpattern_components::{ComponentName, Eight};
+use urlpattern_matcher::regexp::RegExp;
 use urlpattern_matches::url_texts;
+use urlpattern_syntax::Error;
 
 impl<R: RegExp> UrlPattern<R> {
     /// The first component that does not match its text of a URL, in the order protocol, user name, password, hostname, port,

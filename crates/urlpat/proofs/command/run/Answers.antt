@@ -1,5 +1,5 @@
 use Rattle.std.proofs.Common.{inl, inr}
-use Rattle.urlpat_words.specs.Words.{words_view}
+use Rattle.urlpat_lines.specs.Words.{words_view}
 use Rattle.urlpat.proofs.command.run.Goals as goal
 
 pub returns-in-Some-clause-quiet : goal.returns-in-Some-clause-quiet

@@ -4,7 +4,7 @@ use Rattle.urlpat_commands.proofs.AnswerLemmas.{first_answers, answers_match}
 use Rattle.urlpat_matching.proofs.MatchLemmas.{two_words_and_more}
 use Rattle.urlpat_commands.specs.Answers.{IsFirstText, IsUnmatchedByEach}
 use Rattle.urlpat_matching.specs.PatternWords.{base_of}
-use Rattle.urlpat_words.specs.Words.{words_view}
+use Rattle.urlpat_lines.specs.Words.{words_view}
 use Rattle.urlpat_commands.proofs.command.first_answer.Goals as goal
 
 pub returns-clause-answers : goal.returns-clause-answers

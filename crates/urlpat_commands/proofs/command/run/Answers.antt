@@ -1,5 +1,5 @@
 use Rattle.std.proofs.Common.{inl}
-use Rattle.urlpat_words.specs.Words.{words_view}
+use Rattle.urlpat_lines.specs.Words.{words_view}
 use Rattle.urlpat_commands.proofs.command.run.Goals as goal
 
 pub returns-in-Some-clause-answers : goal.returns-in-Some-clause-answers

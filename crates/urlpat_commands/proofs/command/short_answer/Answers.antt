@@ -3,7 +3,7 @@ use Rattle.std.specs.Prelude.{None, string_bytes}
 use Rattle.urlpat_commands.proofs.AnswerLemmas.{answers_match}
 use Rattle.urlpat_commands.proofs.ShortLemmas.{short_answers, short_fails}
 use Rattle.urlpat_matching.specs.MatchTexts.{IsMatchText, IsUnmatched}
-use Rattle.urlpat_words.proofs.WordLemmas.{one_word}
+use Rattle.urlpat_lines.proofs.WordLemmas.{one_word}
 use Rattle.urlpat_commands.proofs.command.short_answer.Goals as goal
 
 pub returns-in_err-lines-clause-fails : goal.returns-in_err-lines-clause-fails

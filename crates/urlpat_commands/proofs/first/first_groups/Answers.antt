@@ -2,7 +2,7 @@ use Rattle.std.proofs.Common.{subst}
 use Rattle.std.specs.Prelude.{MatchOption, string_bytes, option_copied}
 use Rattle.urlpattern.specs.FirstMatch.{patterns_view}
 use Rattle.urlpat_commands.specs.Answers.{IsFirstText, IsUnmatchedByEach}
-use Rattle.urlpat_words.specs.Words.{words_view}
+use Rattle.urlpat_lines.specs.Words.{words_view}
 use Rattle.urlpat_commands.proofs.FirstLemmas.{first_found_by}
 use Rattle.urlpat_commands.proofs.first.first_groups.Goals as goal
 

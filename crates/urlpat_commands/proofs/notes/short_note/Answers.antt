@@ -2,7 +2,7 @@ use Rattle.std.specs.Prelude.{None, string_bytes}
 use Rattle.urlpat_commands.proofs.ShortLemmas.{of_note, refused_short_input}
 use Rattle.urlpattern_canonical.specs.BaseUrls.{IsRefusedText}
 use Rattle.urlpat_commands.specs.Notes.{HasRefusedShortInput}
-use Rattle.urlpat_words.proofs.WordLemmas.{one_word}
+use Rattle.urlpat_lines.proofs.WordLemmas.{one_word}
 use Rattle.urlpat_commands.proofs.notes.short_note.Goals as goal
 
 pub returns : goal.returns

@@ -4,7 +4,7 @@ use Rattle.std.specs.Prelude.{Option, Some, option_copied}
 use Rattle.urlpat_explain.specs.Explained.{explained_view}
 use Rattle.urlpat_explain.specs.Explanations.{IsExplained, IsShown}
 use Rattle.urlpat_explain.specs.declared.explaining.Explanation.{Explanation}
-use Rattle.urlpattern_eight.specs.Eight.{Texts}
+use Rattle.urlpattern_components.specs.Eight.{Texts}
 use Rattle.urlpat_explain.proofs.explaining.answer.Goals as goal
 
 pub returns-clause-text : goal.returns-clause-text

@@ -8,11 +8,11 @@ use Rattle.serde_json.specs.View.{members_view}
 use Rattle.urlpat_explain.proofs.TreeLemmas.{object-of}
 use Rattle.urlpat_explain.specs.Explained.{explained_view, lent_texts}
 use Rattle.urlpat_explain.specs.Json.{AreInputMembers, AreMatchMembers, pattern_members}
-use Rattle.urlpattern_core.specs.Components.{component_view}
-use Rattle.urlpattern_core.specs.declared.component.Component.{Component}
-use Rattle.urlpattern_eight.proofs.EightLemmas.{at-each}
-use Rattle.urlpattern_eight.specs.Eight.{at}
-use Rattle.urlpattern_eight.specs.declared.eight.Eight.{Eight}
+use Rattle.urlpattern_matcher.specs.Components.{component_view}
+use Rattle.urlpattern_matcher.specs.declared.component.Component.{Component}
+use Rattle.urlpattern_components.proofs.EightLemmas.{at-each}
+use Rattle.urlpattern_components.specs.Eight.{at}
+use Rattle.urlpattern_components.specs.declared.eight.Eight.{Eight}
 use Rattle.urlpattern_engine.specs.declared.pattern_regexp.PatternRegexp.{PatternRegexp}
 use Rattle.urlpattern_inputs.specs.Trees.{all_with}
 use Rattle.urlpat_explain.proofs.json.component_tree.Goals as goal

@@ -5,8 +5,8 @@ use Rattle.serde_json.specs.View.{members_view}
 use Rattle.urlpat_explain.proofs.TreeLemmas.{HasTrees, trees-all, trees-more}
 use Rattle.urlpat_explain.specs.Explained.{explained_view, lent_texts}
 use Rattle.urlpat_explain.specs.Json.{IsExplainedTree}
-use Rattle.urlpattern_eight.specs.Eight.{components}
-use Rattle.urlpattern_eight.specs.declared.eight.ComponentName.{ComponentName}
+use Rattle.urlpattern_components.specs.Eight.{components}
+use Rattle.urlpattern_components.specs.declared.eight.ComponentName.{ComponentName}
 use Rattle.urlpat_explain.proofs.json.explanation_tree.Goals as goal
 
 pub loop-name-init : goal.loop-name-init

@@ -4,7 +4,7 @@ use Rattle.serde_json.specs.View.{members_view}
 use Rattle.urlpat_explain.specs.Explained.{explained_view}
 use Rattle.urlpat_explain.specs.Json.{place_members}
 use Rattle.urlpat_matching.proofs.MatchLemmas.{bytes_of_text}
-use Rattle.urlpattern_core.specs.declared.component.Component.{Component}
+use Rattle.urlpattern_matcher.specs.declared.component.Component.{Component}
 use Rattle.urlpattern_engine.specs.declared.pattern_regexp.PatternRegexp.{PatternRegexp}
 use Rattle.urlpattern_inputs.specs.Trees.{all_with}
 use Rattle.urlpattern_syntax.specs.Text.{text_of}

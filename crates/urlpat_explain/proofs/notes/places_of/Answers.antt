@@ -4,9 +4,9 @@ use Rattle.urlpat_explain.proofs.RowLemmas.{pieces-more}
 use Rattle.urlpat_explain.specs.Explained.{explained_view}
 use Rattle.urlpat_explain.specs.Places.{IsPlaceCell, place_cell}
 use Rattle.urlpat_explain.specs.Rows.{HasPieceForEach}
-use Rattle.urlpattern_eight.specs.Eight.{components}
-use Rattle.urlpattern_eight.specs.declared.eight.ComponentName.{ComponentName}
-use Rattle.urlpattern_eight.specs.declared.eight.ComponentName.TheVariants.{Protocol}
+use Rattle.urlpattern_components.specs.Eight.{components}
+use Rattle.urlpattern_components.specs.declared.eight.ComponentName.{ComponentName}
+use Rattle.urlpattern_components.specs.declared.eight.ComponentName.TheVariants.{Protocol}
 use Rattle.urlpat_explain.proofs.notes.places_of.Goals as goal
 
 pub loop-name-preserved : goal.loop-name-preserved

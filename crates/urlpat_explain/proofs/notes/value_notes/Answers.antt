@@ -1,7 +1,7 @@
 use Rattle.std.proofs.Common.{List, ap, ap₂, arith, length, string_bytes, take, take_all, ℕ, ◌++◌, ◌∙◌, ◌≡◌}
 use Rattle.urlpat_explain.specs.Notes.{inherited_names, left_out_names, names_line, port_note}
 use Rattle.urlpat_explain.specs.declared.notes.TheConstants.{INHERITED, LEFT_OUT}
-use Rattle.urlpattern_eight.specs.Eight.{components}
+use Rattle.urlpattern_components.specs.Eight.{components}
 use Rattle.urlpattern_init.specs.Inheritance.{values_view}
 use Rattle.urlpat_explain.proofs.notes.value_notes.Goals as goal
 

@@ -5,12 +5,12 @@ use Rattle.std.specs.Str.{chars}
 use Rattle.urlpat_explain.proofs.RowLemmas.{pieces-more, row-of}
 use Rattle.urlpat_explain.specs.Rows.{HasPieceForEach, IsMatchRow, IsVerdict, column, front_cells, pattern_cell, text_cell, widest}
 use Rattle.urlpat_explain.specs.declared.table.TheConstants.{NAME_WIDTH}
-use Rattle.urlpattern_core.specs.Components.{component_view}
-use Rattle.urlpattern_core.specs.declared.component.Component.{Component}
-use Rattle.urlpattern_eight.proofs.EightLemmas.{at-each}
-use Rattle.urlpattern_eight.specs.Eight.{at, components, name_text}
-use Rattle.urlpattern_eight.specs.declared.eight.ComponentName.{ComponentName}
-use Rattle.urlpattern_eight.specs.declared.eight.ComponentName.TheVariants.{Protocol}
+use Rattle.urlpattern_matcher.specs.Components.{component_view}
+use Rattle.urlpattern_matcher.specs.declared.component.Component.{Component}
+use Rattle.urlpattern_components.proofs.EightLemmas.{at-each}
+use Rattle.urlpattern_components.specs.Eight.{at, components, name_text}
+use Rattle.urlpattern_components.specs.declared.eight.ComponentName.{ComponentName}
+use Rattle.urlpattern_components.specs.declared.eight.ComponentName.TheVariants.{Protocol}
 use Rattle.urlpattern_engine.specs.declared.pattern_regexp.PatternRegexp.{PatternRegexp}
 use Rattle.urlpattern_matches.specs.GroupTexts.{borrowed_texts}
 use Rattle.urlpattern_pattern.specs.Patterns.{pattern_view}

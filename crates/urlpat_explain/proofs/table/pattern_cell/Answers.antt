@@ -1,7 +1,7 @@
 use Rattle.std.proofs.Common.{ap, encode_utf8_all, refl, ◌∙◌}
 use Rattle.urlpat_matching.proofs.MatchLemmas.{bytes_of_text}
 use Rattle.urlpat_explain.specs.Rows.{shown}
-use Rattle.urlpattern_core.specs.declared.component.Component.{Component}
+use Rattle.urlpattern_matcher.specs.declared.component.Component.{Component}
 use Rattle.urlpattern_engine.specs.declared.pattern_regexp.PatternRegexp.{PatternRegexp}
 use Rattle.urlpattern_syntax.specs.Text.{text_of}
 use Rattle.urlpat_explain.proofs.table.pattern_cell.Goals as goal

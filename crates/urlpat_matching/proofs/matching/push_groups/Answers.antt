@@ -6,7 +6,7 @@ use Rattle.std.specs.declared.alloc.Global.{Global}
 use Rattle.urlpat_matching.proofs.GroupNames.{lines-of_texts, only-line, only-name, texts}
 use Rattle.urlpat_matching.specs.GroupLines.{group_bytes, group_line}
 use Rattle.urlpattern_matches.specs.BorrowedMatches.{pattern_captures_view}
-use Rattle.urlpattern_eight.specs.Eight.{name_text}
+use Rattle.urlpattern_components.specs.Eight.{name_text}
 use Rattle.urlpat_matching.proofs.matching.push_groups.Goals as goal
 
 pub returns-in-Some : goal.returns-in-Some

@@ -3,7 +3,7 @@ use Rattle.std.specs.List.{flat_map}
 use Rattle.std.specs.Str.{chars}
 use Rattle.urlpat_matching.specs.GroupLines.{group_bytes, group_line}
 use Rattle.urlpattern_matches.specs.BorrowedMatches.{pattern_captures_view}
-use Rattle.urlpattern_eight.specs.Eight.{name_text}
+use Rattle.urlpattern_components.specs.Eight.{name_text}
 use Rattle.urlpat_matching.proofs.matching.push_groups.Given as goal
 
 abbrev pub invariant-loop-group : goal.invariant-loop-group

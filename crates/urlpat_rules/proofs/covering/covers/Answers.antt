@@ -1,5 +1,5 @@
 use Rattle.urlpat_rules.proofs.ListLemmas.{tells-whether}
-use Rattle.urlpat_words.proofs.WordLemmas.{two_words}
+use Rattle.urlpat_lines.proofs.WordLemmas.{two_words}
 use Rattle.urlpat_rules.proofs.covering.covers.Goals as goal
 
 pub returns-clause-answers : goal.returns-clause-answers

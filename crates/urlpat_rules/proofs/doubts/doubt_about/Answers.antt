@@ -1,7 +1,7 @@
 use Rattle.std.proofs.Common.{◌+◌, inl, length, refl, subst, sym}
 use Rattle.std.proofs.lemmas.Option.{slice_get_read}
 use Rattle.urlpat_rules.proofs.DoubtLemmas.{IsDoubtBelow, about-all, below-doubted, below-parted}
-use Rattle.urlpattern_rules.specs.Comparing.{IsPatternCovering}
+use Rattle.urlpattern_compare.specs.Comparing.{IsPatternCovering}
 use Rattle.urlpat_rules.proofs.doubts.doubt_about.Goals as goal
 use Rattle.urlpat_rules.proofs.doubts.doubt_about.Goals.{in-NotCovered, in-Unknown}
 

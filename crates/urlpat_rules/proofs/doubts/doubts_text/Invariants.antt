@@ -1,7 +1,7 @@
 use Rattle.std.proofs.Common.{◌≡◌, string_bytes, take}
 use Rattle.std.specs.List.{flat_map}
 use Rattle.urlpat_rules.specs.Doubts.{doubt_line}
-use Rattle.urlpat_tables.specs.Tables.{entries_view}
+use Rattle.urlpat_lines.specs.Tables.{entries_view}
 use Rattle.urlpat_rules.proofs.doubts.doubts_text.Given as goal
 
 -- the lines of the doubts so far

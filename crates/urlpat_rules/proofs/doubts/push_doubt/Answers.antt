@@ -1,7 +1,7 @@
 use Rattle.std.proofs.Common.{◌≡◌, ◌∙◌, append_assoc, string_bytes}
 use Rattle.urlpat_rules.proofs.DoubtLemmas.{line-pushed}
 use Rattle.urlpat_rules.specs.Doubts.{doubt_line}
-use Rattle.urlpat_tables.specs.Tables.{entries_view}
+use Rattle.urlpat_lines.specs.Tables.{entries_view}
 use Rattle.urlpat_rules.proofs.doubts.push_doubt.Goals as goal
 
 pub returns : goal.returns

@@ -4,7 +4,7 @@ use Rattle.serde_json.specs.Written.{has_float}
 use Rattle.urlpat_matching.proofs.JsonLemmas.{match-none}
 use Rattle.urlpat_matching.specs.MatchJson.{json_line}
 use Rattle.urlpat_rules.proofs.RouteLemmas.{route-none}
-use Rattle.urlpat_tables.specs.Tables.{entry_view}
+use Rattle.urlpat_lines.specs.Tables.{entry_view}
 use Rattle.urlpattern.specs.BorrowedMatches.{pattern_captures_view}
 use Rattle.urlpat_rules.proofs.row.push_route.Goals as goal
 

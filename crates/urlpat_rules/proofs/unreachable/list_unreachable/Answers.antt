@@ -1,7 +1,7 @@
 use Rattle.std.proofs.Common.{option_copied, subst}
 use Rattle.urlpat_rules.proofs.DoubtLemmas.{quiet-or}
 use Rattle.urlpat_rules.specs.Doubts.{HasDoubts, LeaveDoubts}
-use Rattle.urlpat_words.specs.Words.{words_view}
+use Rattle.urlpat_lines.specs.Words.{words_view}
 use Rattle.urlpat_rules.proofs.unreachable.list_unreachable.Goals as goal
 
 pub returns-clause-quiet : goal.returns-clause-quiet

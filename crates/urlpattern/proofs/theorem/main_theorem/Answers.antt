@@ -1,11 +1,11 @@
 use Rattle.std.specs.Prelude.{false}
-use Rattle.urlpattern_core.specs.Components.{IsEngineOf}
+use Rattle.urlpattern_matcher.specs.Components.{IsEngineOf}
 use Rattle.urlpattern_meaning.proofs.CallbackLaws.{outcome_one}
 use Rattle.urlpattern_meaning.proofs.CaptureCount.{captures_counted}
-use Rattle.urlpattern_custom.proofs.CaptureCounts.{captures_are_as_names}
-use Rattle.urlpattern_custom.proofs.CustomLaws.{pattern_matchers_capture, pattern_matchers_first, regex_matchers_capture, regex_matchers_first}
-use Rattle.urlpattern_custom.proofs.FirstOfTrees.{first_of_tree}
-use Rattle.urlpattern_regex.proofs.RegexMatchers.{taken_first}
+use Rattle.urlpattern_laws.proofs.CaptureCounts.{captures_are_as_names}
+use Rattle.urlpattern_laws.proofs.CustomLaws.{pattern_matchers_capture, pattern_matchers_first, regex_matchers_capture, regex_matchers_first}
+use Rattle.urlpattern_laws.proofs.FirstOfTrees.{first_of_tree}
+use Rattle.urlpattern_engine.proofs.RegexMatchers.{taken_first}
 use Rattle.urlpattern_engine.proofs.EngineLaws.{taken_first as taken_by_pattern_regexp_first}
 use Rattle.urlpattern_meaning.proofs.FirstAnswers.{first_one, matcher_first}
 use Rattle.urlpattern_meaning.proofs.MatcherMeaning.{matcher_means}

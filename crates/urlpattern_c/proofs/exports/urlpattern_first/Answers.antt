@@ -1,5 +1,5 @@
 use Rattle.std.proofs.Common.{subst}
-use Rattle.urlpattern_calls.specs.Calls.{IsFirstReported}
+use Rattle.urlpattern_ffi.specs.Calls.{IsFirstReported}
 use Rattle.urlpattern_c.proofs.exports.urlpattern_first.Goals as goal
 
 pub returns-clause-answer : goal.returns-clause-answer

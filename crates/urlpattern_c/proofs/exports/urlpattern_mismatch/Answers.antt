@@ -1,5 +1,5 @@
 use Rattle.std.proofs.Common.{subst}
-use Rattle.urlpattern_calls.specs.Mismatches.{IsMismatchReported}
+use Rattle.urlpattern_ffi.specs.Mismatches.{IsMismatchReported}
 use Rattle.urlpattern_c.proofs.exports.urlpattern_mismatch.Goals as goal
 
 pub returns-clause-answer : goal.returns-clause-answer

@@ -1,4 +1,4 @@
-use Rattle.urlpattern_core.proofs.FirstMatchers.{values_follow, values_follow_parts}
+use Rattle.urlpattern_matcher.proofs.FirstMatchers.{values_follow, values_follow_parts}
 use Rattle.urlpattern_engine.specs.PatternRegexps.{pattern_engine}
 use Rattle.urlpattern_engine.proofs.EngineLaws.{values_by_flags, values_first}
 use Rattle.urlpattern_engine.proofs.laws.pattern_regexps_answer_the_first_way.Goals as goal

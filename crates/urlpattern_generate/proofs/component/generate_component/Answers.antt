@@ -1,6 +1,6 @@
 use Rattle.std.proofs.Common.{ap, subst, sym}
 use Rattle.std.specs.Str.{chars}
-use Rattle.urlpattern_core.specs.Matchers.{matcher_view}
+use Rattle.urlpattern_matcher.specs.Matchers.{matcher_view}
 use Rattle.urlpattern_generate.proofs.GeneratingLemmas.{told_canonical, told_found}
 use Rattle.urlpattern_generate.specs.Generating.{TellsFound}
 use Rattle.urlpattern_generate.specs.Manners.{given_groups, manner_for}

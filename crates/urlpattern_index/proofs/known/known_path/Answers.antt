@@ -1,4 +1,4 @@
-use Rattle.urlpattern_core.specs.Components.{component_view}
+use Rattle.urlpattern_matcher.specs.Components.{component_view}
 use Rattle.urlpattern_index.proofs.KnownLemmas.{first_fits}
 use Rattle.urlpattern_syntax.specs.ComponentParts.{kept_options, kept_parts}
 use Rattle.urlpattern_syntax.specs.Parts.{parts_view}

@@ -1,8 +1,8 @@
 use Rattle.std.proofs.Common.{◌≡◌, ◌∙◌, refl, sym}
 use Rattle.std.specs.Prelude.{Result}
-use Rattle.urlpattern_core.specs.Components.{component_view}
-use Rattle.urlpattern_core.specs.Matchers.{inner_view}
-use Rattle.urlpattern_core.specs.declared.matcher.InnerMatcher.{InnerMatcher}
+use Rattle.urlpattern_matcher.specs.Components.{component_view}
+use Rattle.urlpattern_matcher.specs.Matchers.{inner_view}
+use Rattle.urlpattern_matcher.specs.declared.matcher.InnerMatcher.{InnerMatcher}
 use Rattle.urlpattern_index.proofs.KnownLemmas.{matched_fits, none_custom, not_true}
 use Rattle.urlpattern_meaning.specs.Matching.{HoldsEngine}
 use Rattle.urlpattern_syntax.specs.declared.error.Error.{Error}

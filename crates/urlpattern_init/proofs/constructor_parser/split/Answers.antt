@@ -1,10 +1,10 @@
 use Rattle.std.proofs.Common.{ap, sym, ◌∙◌, inl, inr, arith}
 use Rattle.std.proofs.lemmas.Result.{err_from_is_err_and}
 use Rattle.std.specs.Str.{chars}
-use Rattle.urlpattern_split.specs.Split.{is_colon_sign}
-use Rattle.urlpattern_split.specs.Splitting.{tokens_of}
-use Rattle.urlpattern_split.proofs.SplitLemmas.{colon_found}
-use Rattle.urlpattern_split.proofs.TextBetween.{source_closed}
+use Rattle.urlpattern_constructor.specs.Split.{is_colon_sign}
+use Rattle.urlpattern_constructor.specs.Splitting.{tokens_of}
+use Rattle.urlpattern_constructor.proofs.SplitLemmas.{colon_found}
+use Rattle.urlpattern_constructor.proofs.TextBetween.{source_closed}
 use Rattle.urlpattern_init.proofs.constructor_parser.split.Goals as goal
 
 pub absolute-requires-clause-sign : goal.absolute-requires-clause-sign

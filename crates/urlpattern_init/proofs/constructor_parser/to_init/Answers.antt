@@ -1,9 +1,9 @@
 use Rattle.std.proofs.Common.{◌∙◌, option_map}
 use Rattle.std.proofs.lemmas.Result.{err_from_is_err_and}
-use Rattle.urlpattern_eight.proofs.EightLemmas.{at-each, same_values}
-use Rattle.urlpattern_eight.specs.Eight.{at}
+use Rattle.urlpattern_components.proofs.EightLemmas.{at-each, same_values}
+use Rattle.urlpattern_components.specs.Eight.{at}
 use Rattle.urlpattern_syntax.specs.Text.{text_of}
-use Rattle.urlpattern_split.specs.Splitting.{split_values}
+use Rattle.urlpattern_constructor.specs.Splitting.{split_values}
 use Rattle.urlpattern_init.proofs.constructor_parser.to_init.Goals as goal
 
 pub returns-in_err-values-clause-memory : goal.returns-in_err-values-clause-memory

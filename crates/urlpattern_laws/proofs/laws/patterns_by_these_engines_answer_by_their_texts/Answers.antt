@@ -2,8 +2,8 @@ use Rattle.std.specs.Prelude.{⊤}
 use Rattle.urlpattern_pattern.proofs.ByTextLemmas.{taken_by_text}
 use Rattle.urlpattern_laws.proofs.EcmaMatchers.{kept_by_ecma_first}
 use Rattle.urlpattern_engine.specs.EcmaRegexps.{KeepsRegex, ecma_engine}
-use Rattle.urlpattern_regex.proofs.RegexMatchers.{taken_first}
-use Rattle.urlpattern_core.specs.Regexes.{regex_engine}
+use Rattle.urlpattern_engine.proofs.RegexMatchers.{taken_first}
+use Rattle.urlpattern_matcher.specs.Regexes.{regex_engine}
 use Rattle.urlpattern_engine.proofs.EngineLaws.{taken_first as taken_by_pattern_regexp_first}
 use Rattle.urlpattern_meaning.specs.FirstAnswers.{TookText}
 use Rattle.urlpattern_laws.proofs.laws.patterns_by_these_engines_answer_by_their_texts.Goals as goal

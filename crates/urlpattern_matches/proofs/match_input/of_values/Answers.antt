@@ -1,8 +1,8 @@
 use Rattle.std.proofs.Common.{[], option_map, unwrap_or, ◌∙◌, ap, sym}
 use Rattle.urlpattern_init.specs.Inheritance.{values_of}
 use Rattle.urlpattern_inputs.proofs.EachLemmas.{each-same}
-use Rattle.urlpattern_eight.proofs.EightLemmas.{at-each}
-use Rattle.urlpattern_eight.specs.Eight.{at, each}
+use Rattle.urlpattern_components.proofs.EightLemmas.{at-each}
+use Rattle.urlpattern_components.specs.Eight.{at, each}
 use Rattle.urlpattern_syntax.specs.Text.{text_of}
 use Rattle.urlpattern_matches.proofs.match_input.of_values.Goals as goal
 

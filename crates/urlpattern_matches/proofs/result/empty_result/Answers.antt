@@ -1,4 +1,4 @@
-use Rattle.urlpattern_eight.proofs.EightLemmas.{by_name}
+use Rattle.urlpattern_components.proofs.EightLemmas.{by_name}
 use Rattle.urlpattern_matches.proofs.result.empty_result.Goals as goal
 
 pub returns : goal.returns

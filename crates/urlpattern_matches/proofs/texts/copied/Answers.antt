@@ -1,7 +1,7 @@
 use Rattle.std.proofs.Common.{◌∙◌, ap}
 use Rattle.urlpattern_matches.specs.GroupTexts.{borrowed_texts}
-use Rattle.urlpattern_eight.proofs.EightLemmas.{at-each, same_values}
-use Rattle.urlpattern_eight.specs.Eight.{at, each}
+use Rattle.urlpattern_components.proofs.EightLemmas.{at-each, same_values}
+use Rattle.urlpattern_components.specs.Eight.{at, each}
 use Rattle.urlpattern_syntax.specs.Text.{text_of}
 use Rattle.urlpattern_matches.proofs.texts.copied.Goals as goal
 

@@ -1,8 +1,8 @@
 use Rattle.std.proofs.Common.{◌∙◌}
 use Rattle.std.specs.Str.{chars}
 use Rattle.urlpattern_matches.specs.MatchInput.{texts_view}
-use Rattle.urlpattern_eight.proofs.EightLemmas.{at-each, same_values}
-use Rattle.urlpattern_eight.specs.Eight.{at}
+use Rattle.urlpattern_components.proofs.EightLemmas.{at-each, same_values}
+use Rattle.urlpattern_components.specs.Eight.{at}
 use Rattle.urlpattern_matches.proofs.texts.input_texts.Goals as goal
 
 pub returns : goal.returns

@@ -1,7 +1,7 @@
 use Rattle.std.specs.Str.{chars}
 use Rattle.urlpattern_init.specs.Inheritance.{url_text}
 use Rattle.urlpattern_inputs.proofs.EachLemmas.{each-same}
-use Rattle.urlpattern_eight.specs.Eight.{at}
+use Rattle.urlpattern_components.specs.Eight.{at}
 use Rattle.urlpattern_matches.proofs.texts.url_texts.Goals as goal
 
 pub returns : goal.returns

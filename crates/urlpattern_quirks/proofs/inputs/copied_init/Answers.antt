@@ -1,7 +1,7 @@
 use Rattle.std.proofs.Common.{option_map, ◌∙◌}
 use Rattle.urlpattern_quirks.specs.Inputs.{plain_values}
-use Rattle.urlpattern_eight.proofs.EightLemmas.{at-each, same_values}
-use Rattle.urlpattern_eight.specs.Eight.{at}
+use Rattle.urlpattern_components.proofs.EightLemmas.{at-each, same_values}
+use Rattle.urlpattern_components.specs.Eight.{at}
 use Rattle.urlpattern_syntax.specs.Text.{text_of}
 use Rattle.urlpattern_quirks.proofs.inputs.copied_init.Goals as goal
 

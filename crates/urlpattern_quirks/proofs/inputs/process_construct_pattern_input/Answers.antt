@@ -1,9 +1,9 @@
 use Rattle.std.proofs.Common.{List, ℕ, subst}
 use Rattle.std.specs.Prelude.{IfErr, IfOk, option_copied}
 use Rattle.std.specs.Str.{chars}
-use Rattle.urlpattern_create.specs.FromString.{IsInitOfText}
+use Rattle.urlpattern_compile.specs.FromString.{IsInitOfText}
 use Rattle.urlpattern_quirks.specs.Inputs.{RefusesText}
-use Rattle.urlpattern_core.specs.Regexes.{regex_engine}
+use Rattle.urlpattern_matcher.specs.Regexes.{regex_engine}
 use Rattle.urlpattern_syntax.specs.Errors.{MemoryOr}
 use Rattle.urlpattern_quirks.proofs.inputs.process_construct_pattern_input.Goals as goal
 

@@ -1,12 +1,12 @@
 use Rattle.std.proofs.Common.{◌∙◌, ap}
 use Rattle.urlpattern_pattern.specs.Patterns.{pattern_view}
-use Rattle.urlpattern_core.specs.Components.{component_view}
-use Rattle.urlpattern_core.specs.declared.component.Component.{Component}
+use Rattle.urlpattern_matcher.specs.Components.{component_view}
+use Rattle.urlpattern_matcher.specs.declared.component.Component.{Component}
 use Rattle.urlpattern_inputs.proofs.EachLemmas.{each-same}
-use Rattle.urlpattern_compiled.specs.Plain.{plain_component}
-use Rattle.urlpattern_compiled.specs.Values.{component_by}
-use Rattle.urlpattern_eight.specs.Eight.{at, each}
-use Rattle.urlpattern_eight.specs.declared.eight.Eight.{Eight}
+use Rattle.urlpattern_plain.specs.Plain.{plain_component}
+use Rattle.urlpattern_plain.specs.Values.{component_by}
+use Rattle.urlpattern_components.specs.Eight.{at, each}
+use Rattle.urlpattern_components.specs.declared.eight.Eight.{Eight}
 use Rattle.urlpattern_syntax.specs.Text.{text_of}
 use Rattle.urlpattern_quirks.proofs.parsing.plain_pattern.Goals as goal
 

@@ -2,7 +2,7 @@ use Rattle.std.proofs.Common.{ap, rules, sym, ◌∙◌}
 use Rattle.std.specs.Str.{IsUtf8}
 use Rattle.urlpat_explain.proofs.PlaceLemmas.{place-of}
 use Rattle.urlpat_explain.specs.Explained.{explained_view}
-use Rattle.urlpattern_eight.specs.Eight.{at}
+use Rattle.urlpattern_components.specs.Eight.{at}
 use Rattle.urlpattern_syntax.specs.Text.{option_text}
 use Rattle.urlpat_explain.proofs.explained.Explained.place.Goals as goal
 

@@ -2,7 +2,7 @@ use Rattle.std.proofs.Common.{subst}
 use Rattle.urlpattern_pattern.proofs.Results.{if_err}
 use Rattle.urlpattern.specs.FirstMatch.{AsksBeforeMatch, IsFirstMatchOf, first_captures_view, patterns_view}
 use Rattle.urlpattern.proofs.list.UrlPatternList.first_captures_of_input.Goals as goal
-use Rattle.urlpattern_eight.specs.Eight.{Texts}
+use Rattle.urlpattern_components.specs.Eight.{Texts}
 
 pub returns-clause-first : goal.returns-clause-first
 returns-clause-first g c =

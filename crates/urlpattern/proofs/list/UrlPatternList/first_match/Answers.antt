@@ -6,7 +6,7 @@ use Rattle.urlpattern.specs.FirstMatch.{CopiesFirstMatch, patterns_view}
 use Rattle.urlpattern_matches.specs.ResultViews.{result_view}
 use Rattle.urlpattern_matches.specs.declared.result.UrlPatternResult.{UrlPatternResult}
 use Rattle.urlpattern_matches.specs.MatchInput.{input_texts}
-use Rattle.urlpattern_eight.specs.Eight.{Texts}
+use Rattle.urlpattern_components.specs.Eight.{Texts}
 use Rattle.urlpattern.proofs.list.UrlPatternList.first_match.Goals as goal
 
 pub returns-in-Url-clause-first : goal.returns-in-Url-clause-first

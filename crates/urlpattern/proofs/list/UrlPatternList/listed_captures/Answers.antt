@@ -1,5 +1,5 @@
 use Rattle.std.proofs.Common.{ap, subst, sym, ◌∙◌}
-use Rattle.urlpattern_eight.specs.Eight.{Texts}
+use Rattle.urlpattern_components.specs.Eight.{Texts}
 use Rattle.urlpattern_index.specs.Keys.{hashes_of}
 use Rattle.urlpattern_pattern.proofs.Results.{if_err}
 use Rattle.urlpattern.specs.FirstMatch.{first_captures_view, patterns_view, HasGroupsInOrder}

@@ -1,16 +1,16 @@
 use Rattle.std.proofs.Common.{◌≡◌, ◌∙◌, ℕ, List, ap, subst, sym}
 use Rattle.std.specs.Prelude.{IfSome, Option, Some, option_copied}
-use Rattle.urlpattern_core.specs.Components.{IsComponentOf, component_view}
-use Rattle.urlpattern_core.specs.declared.component.Component.{Component}
-use Rattle.urlpattern_core.specs.declared.regexp.RegExp.{Ghosts as Engine}
-use Rattle.urlpattern_eight.specs.Eight.{at}
-use Rattle.urlpattern_eight.specs.declared.eight.ComponentName.{ComponentName}
-use Rattle.urlpattern_eight.specs.declared.eight.ComponentName.TheVariants.{Hostname, Pathname, Protocol}
+use Rattle.urlpattern_matcher.specs.Components.{IsComponentOf, component_view}
+use Rattle.urlpattern_matcher.specs.declared.component.Component.{Component}
+use Rattle.urlpattern_matcher.specs.declared.regexp.RegExp.{Ghosts as Engine}
+use Rattle.urlpattern_components.specs.Eight.{at}
+use Rattle.urlpattern_components.specs.declared.eight.ComponentName.{ComponentName}
+use Rattle.urlpattern_components.specs.declared.eight.ComponentName.TheVariants.{Hostname, Pathname, Protocol}
 use Rattle.urlpattern_index.specs.FixedTexts.{AddressTexts}
 use Rattle.urlpattern_meaning.specs.Matching.{IsMatched}
 use Rattle.urlpattern_meaning.specs.PartMeaning.{Captures}
 use Rattle.urlpattern_pattern.specs.{Patterns.pattern_view, UrlPatterns.AreMadeOfParts, UrlPatterns.UrlPattern}
-use Rattle.urlpattern_rules.specs.declared.pattern.PatternParts.{PatternParts}
+use Rattle.urlpattern_compare.specs.declared.pattern.PatternParts.{PatternParts}
 use Rattle.urlpattern_syntax.specs.ComponentParts.{kept_options, kept_parts}
 use Rattle.urlpattern.proofs.list.fixed.fixed_of.Goals as goal
 

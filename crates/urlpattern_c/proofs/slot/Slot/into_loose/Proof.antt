@@ -26,8 +26,8 @@ use Rattle.std.specs.contracts.alloc.Global as global
 use Rattle.std.proofs.alloc.Global.TheLaws as global_laws
 use Rattle.std.specs.contracts.impls.GlobalAllocator.TheImpl.{ghosts}
 use Rattle.urlpattern_c.specs.Memory.{heap, leads_to}
-use Rattle.urlpattern_calls.specs.contracts.kept.Kept as kept
-use Rattle.urlpattern_calls.specs.declared.kept.Kept.{Kept}
+use Rattle.urlpattern_ffi.specs.contracts.kept.Kept as kept
+use Rattle.urlpattern_ffi.specs.declared.kept.Kept.{Kept}
 use Rattle.urlpattern_c.proofs.Values.{both, single, Slot, loose_good, loose_in, slot_out, filled}
 use Rattle.urlpattern_c.specs.contracts.slot.Slot.into_loose.{ended, clauses}
 use Rattle.urlpattern_c.specs.contracts.slot.Slot.into_loose.Key.{name as #self}

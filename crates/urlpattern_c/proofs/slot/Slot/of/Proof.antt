@@ -22,7 +22,7 @@ use Rattle.std.proofs.raw_atomic.Walks.{proved_at, leaves}
 use Rattle.std.specs.contracts.alloc.Global as global
 use Rattle.std.proofs.alloc.Global.TheLaws as global_laws
 use Rattle.std.specs.contracts.impls.GlobalAllocator.TheImpl.{ghosts}
-use Rattle.urlpattern_calls.specs.contracts.kept.Kept as kept
+use Rattle.urlpattern_ffi.specs.contracts.kept.Kept as kept
 use Rattle.urlpattern_c.proofs.Values.{both, single, Loose, loose_good, loose_out, slot_in}
 use Rattle.urlpattern_c.specs.contracts.slot.Slot.of.{ended, clauses}
 use Rattle.urlpattern_c.specs.contracts.slot.Slot.of.Key.{name as #self}

@@ -1,6 +1,6 @@
 use Rattle.std.proofs.Common.{sym, subst}
 use Rattle.std.proofs.lemmas.Result.{IfOk-weaker}
-use Rattle.urlpattern_faults.specs.Faults.{IsFaultIn, IsUrlFault}
+use Rattle.urlpattern_diagnosis.specs.Faults.{IsFaultIn, IsUrlFault}
 use Rattle.urlpattern_diagnosis.proofs.diagnosis.Diagnosis.whole.Goals as goal
 
 pub returns-clause-fault : goal.returns-clause-fault

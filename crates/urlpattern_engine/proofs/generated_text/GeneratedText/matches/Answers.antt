@@ -7,7 +7,7 @@ use Rattle.urlpattern_meaning.specs.Ways.{first_way_by}
 use Rattle.urlpattern_meaning.proofs.DialectUnique.{trees_are_one}
 use Rattle.urlpattern_steps.specs.Walk.{walk}
 use Rattle.urlpattern_steps.specs.declared.step.Step.{Step}
-use Rattle.urlpattern_walk.specs.ReadSteps.{AreStepsOf}
+use Rattle.urlpattern_steps.specs.ReadSteps.{AreStepsOf}
 use Rattle.urlpattern_engine.proofs.generated_text.GeneratedText.matches.Goals as goal
 
 -- steps that were read answer the first way of the tree

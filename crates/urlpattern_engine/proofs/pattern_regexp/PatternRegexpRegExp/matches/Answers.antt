@@ -2,7 +2,7 @@ use Rattle.std.proofs.Common.{◌≡◌, sym, subst}
 use Rattle.std.specs.Prelude.{IfOk}
 use Rattle.std.specs.Str.{chars}
 use Rattle.urlpattern_meaning.specs.CaptureTexts.{captures_view}
-use Rattle.urlpattern_core.specs.Regexes.{regex_answer}
+use Rattle.urlpattern_matcher.specs.Regexes.{regex_answer}
 use Rattle.urlpattern_engine.specs.Automatons.{automaton_answer, read_answer}
 use Rattle.urlpattern_engine.specs.PatternRegexps.{expression_answer, pattern_answer}
 use Rattle.urlpattern_steps.specs.Walk.{walk}

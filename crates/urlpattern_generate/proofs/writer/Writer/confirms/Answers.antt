@@ -1,5 +1,5 @@
 use Rattle.std.specs.Str.{chars}
-use Rattle.urlpattern_core.specs.Matchers.{matcher_view}
+use Rattle.urlpattern_matcher.specs.Matchers.{matcher_view}
 use Rattle.urlpattern_generate.proofs.GeneratingLemmas.{written_found}
 use Rattle.urlpattern_generate.specs.Writing.{manner_of_writer}
 use Rattle.urlpattern_syntax.specs.ComponentParts.{kept_parts}

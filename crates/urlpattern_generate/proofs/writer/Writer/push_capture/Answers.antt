@@ -4,7 +4,7 @@ use Rattle.std.specs.Str.{chars}
 use Rattle.urlpattern_generate.proofs.WritingLemmas.{group_written}
 use Rattle.urlpattern_generate.specs.Asked.{IsAsked}
 use Rattle.urlpattern_generate.specs.Writing.{manner_of_writer}
-use Rattle.urlpattern_links.specs.Links.{MayCapture, text_of_group}
+use Rattle.urlpattern_generate.specs.Links.{MayCapture, text_of_group}
 use Rattle.urlpattern_syntax.specs.Parts.{part_view}
 use Rattle.urlpattern_syntax.specs.Text.{option_text}
 use Rattle.urlpattern_generate.proofs.writer.Writer.push_capture.Goals as goal

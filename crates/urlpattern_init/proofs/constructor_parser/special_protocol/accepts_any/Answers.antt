@@ -1,7 +1,7 @@
 use Rattle.std.proofs.Common.{Bor, List, ℕ}
 use Rattle.std.proofs.lemmas.Bool.{both_ways}
 use Rattle.std.specs.Str.{chars}
-use Rattle.urlpattern_core.specs.Matchers.{matcher_view}
+use Rattle.urlpattern_matcher.specs.Matchers.{matcher_view}
 use Rattle.urlpattern_meaning.specs.Matching.{IsMatched}
 use Rattle.urlpattern_init.proofs.SchemeLemmas.{none_all, none_more}
 use Rattle.urlpattern_init.proofs.constructor_parser.special_protocol.accepts_any.Goals as goal

@@ -2,7 +2,7 @@ use Rattle.std.proofs.Common.{[], ◌∷◌, codes, subst, sym}
 use Rattle.std.specs.Prelude.{◌↔◌, Any, IsTrue}
 use Rattle.std.specs.Str.{chars}
 use Rattle.urlpattern_canonical.specs.Canonical.{special_schemes}
-use Rattle.urlpattern_core.specs.Matchers.{matcher_view}
+use Rattle.urlpattern_matcher.specs.Matchers.{matcher_view}
 use Rattle.urlpattern_meaning.specs.Matching.{IsMatched}
 use Rattle.urlpattern_init.proofs.SchemeLemmas.{lent, only_among, schemes_answer, schemes_shown}
 use Rattle.urlpattern_init.proofs.constructor_parser.special_protocol.accepts_special_scheme.Goals as goal

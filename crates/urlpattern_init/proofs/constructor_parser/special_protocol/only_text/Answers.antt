@@ -1,6 +1,6 @@
 use Rattle.std.proofs.Common.{rules, ap, sym, ◌∙◌, ◌≡◌}
 use Rattle.std.specs.Str.{chars}
-use Rattle.urlpattern_core.specs.Matchers.{inner_view, matcher_view}
+use Rattle.urlpattern_matcher.specs.Matchers.{inner_view, matcher_view}
 use Rattle.urlpattern_init.proofs.SchemeLemmas.{literal_only}
 use Rattle.urlpattern_meaning.specs.Matching.{Literal}
 use Rattle.urlpattern_syntax.proofs.StringTexts.{is_empty-text, nothing_from_is_empty}

@@ -3,9 +3,9 @@ use Rattle.std.proofs.lemmas.List.{length-map}
 use Rattle.std.proofs.lemmas.Result.{err_from_is_err_and}
 use Rattle.std.specs.Str.{chars}
 use Rattle.urlpattern_init.specs.SpecialProtocol.{IsSpecialTo}
-use Rattle.urlpattern_split.specs.Split.{IsSplit}
-use Rattle.urlpattern_split.specs.Splitting.{split_values}
-use Rattle.urlpattern_split.proofs.SplitLemmas.{lacks_protocol, missing_is_none, none_of}
+use Rattle.urlpattern_constructor.specs.Split.{IsSplit}
+use Rattle.urlpattern_constructor.specs.Splitting.{split_values}
+use Rattle.urlpattern_constructor.proofs.SplitLemmas.{lacks_protocol, missing_is_none, none_of}
 use Rattle.urlpattern_syntax.specs.Tokens.{AreLenientTokens, token_view}
 use Rattle.urlpattern_syntax.specs.declared.tokenizer.Token.{Token}
 use Rattle.urlpattern_init.proofs.init.UrlPatternInit.parse_constructor_string_keeping.Goals as goal

@@ -2,8 +2,8 @@ use Rattle.std.proofs.Common.{◌≡◌, ap, rules, option_map, ◌∙◌}
 use Rattle.std.proofs.Math.Path.{fun_ext}
 use Rattle.urlpattern_init.specs.Inheritance.{values_view}
 use Rattle.urlpattern_syntax.specs.Text.{text_of}
-use Rattle.urlpattern_eight.specs.Eight.{at, each}
-use Rattle.urlpattern_eight.specs.declared.eight.ComponentName.{ComponentName}
+use Rattle.urlpattern_components.specs.Eight.{at, each}
+use Rattle.urlpattern_components.specs.declared.eight.ComponentName.{ComponentName}
 use Rattle.urlpattern_init.proofs.init.UrlPatternInitClone.clone.Goals as goal
 
 pub returns : goal.returns

@@ -2,7 +2,7 @@ use Rattle.std.proofs.Common.{max, None}
 use Rattle.std.proofs.lemmas.Result.{err_from_is_err_and}
 use Rattle.urlpattern_canonical.proofs.CanonicalLemmas.{reports-more, reports-through}
 use Rattle.urlpattern_init.proofs.InheritanceLemmas.{given-le, refused-protocol}
-use Rattle.urlpattern_eight.specs.declared.eight.ComponentName.TheVariants.{Protocol}
+use Rattle.urlpattern_components.specs.declared.eight.ComponentName.TheVariants.{Protocol}
 use Rattle.urlpattern_init.specs.Inheritance.{asked_bytes, given_bytes, processed_values, processed_value, values_view}
 use Rattle.urlpattern_canonical.specs.Canonical.{bytes_asked}
 use Rattle.urlpattern_init.proofs.init.processing.process_values.Goals as goal

@@ -6,8 +6,8 @@ use Rattle.urlpattern_inputs.specs.InputValues.{init_view}
 use Rattle.urlpattern_inputs.specs.Trees.{optional_read}
 use Rattle.urlpattern_inputs.proofs.EachLemmas.{passed_on, read_each-fails, read_each-seen}
 use Rattle.urlpattern_inputs.proofs.InitLemmas.{init_fails, init_from}
-use Rattle.urlpattern_eight.specs.Eight.{at, each, name_text}
-use Rattle.urlpattern_eight.specs.declared.eight.ComponentName.{ComponentName}
+use Rattle.urlpattern_components.specs.Eight.{at, each, name_text}
+use Rattle.urlpattern_components.specs.declared.eight.ComponentName.{ComponentName}
 use Rattle.urlpattern_inputs.proofs.init.UrlPatternInit.read.Goals as goal
 
 pub returns-in_err-texts : goal.returns-in_err-texts

@@ -1,7 +1,7 @@
 use Rattle.std.proofs.Common.{ap, rules, option_map, string_bytes, ◌∙◌}
 use Rattle.urlpattern_inputs.specs.InputValues.{plain_init_texts}
 use Rattle.urlpattern_inputs.proofs.EachLemmas.{each-same}
-use Rattle.urlpattern_eight.specs.Eight.{at, each}
+use Rattle.urlpattern_components.specs.Eight.{at, each}
 use Rattle.urlpattern_inputs.proofs.init.UrlPatternInitClone.clone.Goals as goal
 
 pub returns : goal.returns

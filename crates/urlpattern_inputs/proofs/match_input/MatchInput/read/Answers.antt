@@ -3,8 +3,8 @@ use Rattle.serde_json.specs.View.{view}
 use Rattle.urlpattern_inputs.specs.InputValues.{match_input_view}
 use Rattle.urlpattern_inputs.specs.Trees.{read_each, text_read}
 use Rattle.urlpattern_inputs.proofs.EachLemmas.{passed_on, read_each-fails, read_each-seen}
-use Rattle.urlpattern_eight.specs.Eight.{at, each, name_text}
-use Rattle.urlpattern_eight.specs.declared.eight.ComponentName.{ComponentName}
+use Rattle.urlpattern_components.specs.Eight.{at, each, name_text}
+use Rattle.urlpattern_components.specs.declared.eight.ComponentName.{ComponentName}
 use Rattle.urlpattern_inputs.proofs.match_input.MatchInput.read.Goals as goal
 
 pub returns-in_err-texts : goal.returns-in_err-texts

@@ -3,7 +3,7 @@ use Rattle.serde_json.specs.Data.{string}
 use Rattle.serde_json.specs.View.{members_view}
 use Rattle.urlpattern_inputs.specs.InputValues.{match_input_view}
 use Rattle.urlpattern_inputs.proofs.TreeLemmas.{with_each}
-use Rattle.urlpattern_eight.specs.Eight.{at}
+use Rattle.urlpattern_components.specs.Eight.{at}
 use Rattle.urlpattern_inputs.proofs.match_input.MatchInput.tree.Given as goal
 
 abbrev pub invariant-loop-name : goal.invariant-loop-name

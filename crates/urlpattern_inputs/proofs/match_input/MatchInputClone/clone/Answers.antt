@@ -1,7 +1,7 @@
 use Rattle.std.proofs.Common.{ap, rules, string_bytes, ◌∙◌}
 use Rattle.urlpattern_inputs.specs.InputValues.{matched_texts}
 use Rattle.urlpattern_inputs.proofs.EachLemmas.{each-same}
-use Rattle.urlpattern_eight.specs.Eight.{at, each}
+use Rattle.urlpattern_components.specs.Eight.{at, each}
 use Rattle.urlpattern_inputs.proofs.match_input.MatchInputClone.clone.Goals as goal
 
 pub returns : goal.returns

@@ -1,4 +1,4 @@
-use Rattle.urlpattern_eight.specs.declared.eight.ComponentName.TheVariants.{Protocol, Username, Password, Hostname, Port, Pathname, Search, Hash}
+use Rattle.urlpattern_components.specs.declared.eight.ComponentName.TheVariants.{Protocol, Username, Password, Hostname, Port, Pathname, Search, Hash}
 use Rattle.urlpattern_matches.proofs.captures.UrlPatternCaptures.copy_to.Goals as goal
 
 pub copy_component-requires : goal.copy_component-requires

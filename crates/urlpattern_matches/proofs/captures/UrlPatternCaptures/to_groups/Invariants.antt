@@ -1,5 +1,5 @@
 use Rattle.std.proofs.Common.{◌≡◌, ◌++◌, map}
-use Rattle.urlpattern_eight.specs.Eight.{components}
+use Rattle.urlpattern_components.specs.Eight.{components}
 use Rattle.urlpattern_matches.specs.BorrowedMatches.{all_groups_left, all_groups_view, lent_group, texts_captured}
 use Rattle.urlpattern_matches.proofs.captures.UrlPatternCaptures.to_groups.Given as goal
 

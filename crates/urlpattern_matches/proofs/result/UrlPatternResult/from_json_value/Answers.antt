@@ -5,8 +5,8 @@ use Rattle.urlpattern_inputs.specs.Trees.{member_read}
 use Rattle.urlpattern_inputs.specs.declared.reading.Unread.{Unread}
 use Rattle.urlpattern_inputs.proofs.EachLemmas.{read_each-none, read_each-seen}
 use Rattle.urlpattern_matches.specs.ResultJson.{component_result_read, plain_result_view}
-use Rattle.urlpattern_eight.specs.Eight.{at, each, name_text}
-use Rattle.urlpattern_eight.specs.declared.eight.ComponentName.{ComponentName}
+use Rattle.urlpattern_components.specs.Eight.{at, each, name_text}
+use Rattle.urlpattern_components.specs.declared.eight.ComponentName.{ComponentName}
 use Rattle.urlpattern_matches.proofs.result.UrlPatternResult.from_json_value.Goals as goal
 
 pub returns-in-Ok-clause-read : goal.returns-in-Ok-clause-read

@@ -3,8 +3,8 @@ use Rattle.std.proofs.lemmas.List.Elements.{All-more}
 use Rattle.std.specs.HashMap.{IsUnique}
 use Rattle.std.specs.List.{All}
 use Rattle.std.specs.String.{string_eq}
-use Rattle.urlpattern_eight.proofs.EightLemmas.{of_each}
-use Rattle.urlpattern_eight.specs.declared.eight.ComponentName.TheVariants.{Protocol}
+use Rattle.urlpattern_components.proofs.EightLemmas.{of_each}
+use Rattle.urlpattern_components.specs.declared.eight.ComponentName.TheVariants.{Protocol}
 use Rattle.urlpattern_matches.proofs.TakenLemmas.{component-more}
 use Rattle.urlpattern_matches.specs.BorrowedMatches.{HasDistinctGroups, all_listed_groups, lent_group, listed_groups, named_groups, texts_captured}
 use Rattle.urlpattern_matches.specs.declared.result.UrlPatternComponentResult.{UrlPatternComponentResult}

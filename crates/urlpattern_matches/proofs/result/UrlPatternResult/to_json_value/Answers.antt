@@ -1,10 +1,10 @@
 use Rattle.std.proofs.Common.{refl}
 use Rattle.serde_json.proofs.Views.{view-Object}
 use Rattle.serde_json.specs.Data.{Data}
-use Rattle.urlpattern_eight.proofs.EightLemmas.{by_name}
+use Rattle.urlpattern_components.proofs.EightLemmas.{by_name}
 use Rattle.urlpattern_matches.specs.ResultJson.{IsComponentTree, plain_results_view}
-use Rattle.urlpattern_eight.specs.Eight.{at}
-use Rattle.urlpattern_eight.specs.declared.eight.Eight.{Eight}
+use Rattle.urlpattern_components.specs.Eight.{at}
+use Rattle.urlpattern_components.specs.declared.eight.Eight.{Eight}
 use Rattle.urlpattern_matches.proofs.result.UrlPatternResult.to_json_value.Goals as goal
 
 pub returns-clause-tree : goal.returns-clause-tree

@@ -8,7 +8,7 @@ use Rattle.urlpattern_pattern.proofs.MatchSteps.{asks-an_engine}
 use Rattle.urlpattern_matches.specs.GroupTexts.{borrowed_texts}
 use Rattle.urlpattern_pattern.specs.Patterns.{pattern_view}
 use Rattle.urlpattern_pattern.proofs.pattern.UrlPattern.captured.Goals as goal
-use Rattle.urlpattern_eight.specs.Eight.{at}
+use Rattle.urlpattern_components.specs.Eight.{at}
 
 pub returns-clause-answers : goal.returns-clause-answers
 returns-clause-answers g c =

@@ -4,7 +4,7 @@ use Rattle.urlpattern_matches.specs.BorrowedMatches.{pattern_captures_view}
 use Rattle.urlpattern_pattern.specs.Match.{IsMatchOf, IsRefused}
 use Rattle.urlpattern_pattern.specs.Patterns.{pattern_view}
 use Rattle.urlpattern_pattern.proofs.pattern.UrlPattern.captures_of_input.Goals as goal
-use Rattle.urlpattern_eight.specs.Eight.{Texts}
+use Rattle.urlpattern_components.specs.Eight.{Texts}
 
 pub returns-clause-matched : goal.returns-clause-matched
 returns-clause-matched g c =

@@ -7,7 +7,7 @@ use Rattle.urlpattern_pattern.specs.Match.{CopiesMatch}
 use Rattle.urlpattern_matches.specs.ResultViews.{result_view}
 use Rattle.urlpattern_matches.specs.declared.result.UrlPatternResult.{UrlPatternResult}
 use Rattle.urlpattern_pattern.specs.Patterns.{pattern_view}
-use Rattle.urlpattern_eight.specs.Eight.{Texts}
+use Rattle.urlpattern_components.specs.Eight.{Texts}
 use Rattle.urlpattern_pattern.proofs.pattern.UrlPattern.exec_url.Goals as goal
 
 pub returns-clause-matched : goal.returns-clause-matched

@@ -4,7 +4,7 @@ use Rattle.urlpattern_pattern.proofs.LinkedLemmas.{link_matched, link_returns, l
 use Rattle.urlpattern_pattern.specs.LinkedUrls.{IsConfirmedBefore}
 use Rattle.urlpattern_pattern.specs.Patterns.{pattern_view}
 use Rattle.urlpattern_pattern.specs.UrlPatterns.{AreMadeOfParts}
-use Rattle.urlpattern_url.specs.UrlsOfTexts.{cow_texts}
+use Rattle.urlpattern_generate.specs.UrlsOfTexts.{cow_texts}
 use Rattle.urlpattern_pattern.proofs.pattern.UrlPattern.link.Goals as goal
 
 pub returns-in-Err : goal.returns-in-Err

@@ -1,11 +1,11 @@
-use Rattle.urlpattern_eight.specs.declared.eight.ComponentName.TheVariants.{Protocol, Username, Password, Hostname, Port, Pathname, Search, Hash}
+use Rattle.urlpattern_components.specs.declared.eight.ComponentName.TheVariants.{Protocol, Username, Password, Hostname, Port, Pathname, Search, Hash}
 use Rattle.std.proofs.Common.{subst}
 use Rattle.urlpattern_matches.specs.GroupTexts.{borrowed_texts}
 use Rattle.urlpattern_pattern.proofs.Results.{if_none}
 use Rattle.urlpattern_pattern.specs.Calls.{AreLooks, AskWithCause}
 use Rattle.urlpattern_pattern.specs.Match.{IsRefused}
 use Rattle.urlpattern_pattern.specs.Patterns.{pattern_view}
-use Rattle.urlpattern_eight.proofs.EightLemmas.{by_name}
+use Rattle.urlpattern_components.proofs.EightLemmas.{by_name}
 use Rattle.urlpattern_pattern.proofs.pattern.UrlPattern.look.Goals as goal
 
 pub returns-in_err-look-clause-none : goal.returns-in_err-look-clause-none

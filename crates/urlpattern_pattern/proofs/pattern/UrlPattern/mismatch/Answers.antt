@@ -2,7 +2,7 @@ use Rattle.std.proofs.Common.{subst}
 use Rattle.std.specs.Prelude.{IfErr}
 use Rattle.urlpattern_pattern.specs.Mismatch.{AsksInTurn}
 use Rattle.urlpattern_pattern.specs.Patterns.{pattern_view}
-use Rattle.urlpattern_eight.specs.Eight.{Texts}
+use Rattle.urlpattern_components.specs.Eight.{Texts}
 use Rattle.urlpattern_pattern.proofs.pattern.UrlPattern.mismatch.Goals as goal
 
 pub returns-clause-asked : goal.returns-clause-asked

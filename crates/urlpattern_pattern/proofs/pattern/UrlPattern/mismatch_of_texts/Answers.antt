@@ -7,9 +7,9 @@ use Rattle.urlpattern_pattern.proofs.MismatchLemmas.{matches_before, of_each, of
 use Rattle.urlpattern_pattern.proofs.Results.{if_err}
 use Rattle.urlpattern_matches.specs.GroupTexts.{borrowed_texts}
 use Rattle.urlpattern_pattern.specs.Patterns.{pattern_view}
-use Rattle.urlpattern_eight.specs.declared.eight.ComponentName.{ComponentName}
-use Rattle.urlpattern_eight.specs.declared.eight.ComponentName.TheVariants.{Protocol}
-use Rattle.urlpattern_eight.specs.Eight.{at}
+use Rattle.urlpattern_components.specs.declared.eight.ComponentName.{ComponentName}
+use Rattle.urlpattern_components.specs.declared.eight.ComponentName.TheVariants.{Protocol}
+use Rattle.urlpattern_components.specs.Eight.{at}
 use Rattle.urlpattern_pattern.proofs.pattern.UrlPattern.mismatch_of_texts.Goals as goal
 
 pub returns-in_err-accepts-clause-asked : goal.returns-in_err-accepts-clause-asked

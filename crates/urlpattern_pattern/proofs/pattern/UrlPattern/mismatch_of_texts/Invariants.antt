@@ -3,7 +3,7 @@ use Rattle.std.specs.Prelude.{All}
 use Rattle.urlpattern_meaning.specs.Matching.{IsMatched}
 use Rattle.urlpattern_matches.specs.GroupTexts.{borrowed_texts}
 use Rattle.urlpattern_pattern.specs.Patterns.{pattern_view}
-use Rattle.urlpattern_eight.specs.Eight.{at}
+use Rattle.urlpattern_components.specs.Eight.{at}
 use Rattle.urlpattern_pattern.proofs.pattern.UrlPattern.mismatch_of_texts.Given as goal
 
 -- the components so far match their texts

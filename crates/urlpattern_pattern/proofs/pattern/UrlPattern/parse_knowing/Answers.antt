@@ -1,6 +1,6 @@
 use Rattle.std.proofs.Common.{sym, subst}
-use Rattle.urlpattern_create.specs.Compiled.{IsPatternOfInit}
-use Rattle.urlpattern_create.specs.PatternViews.{eight_view}
+use Rattle.urlpattern_compile.specs.Compiled.{IsPatternOfInit}
+use Rattle.urlpattern_compile.specs.PatternViews.{eight_view}
 use Rattle.urlpattern_pattern.proofs.ByTextLemmas.{init_by_text}
 use Rattle.urlpattern_pattern.proofs.KeptLemmas.{keeps_parts, parted_pattern, parts_are_own}
 use Rattle.urlpattern_pattern.specs.Patterns.{pattern_view}

@@ -1,13 +1,13 @@
 use Rattle.std.proofs.Common.{◌≡◌, ◌<◌, ◌≤◌, ◌∙◌, ap, arith, get_or, length, subst, sym, take, take_all}
 use Rattle.std.proofs.lemmas.List.Elements.{All-more}
 use Rattle.std.specs.Prelude.{All, Some}
-use Rattle.urlpattern_eight.specs.declared.eight.ComponentName.TheVariants.{Protocol}
-use Rattle.urlpattern_eight.specs.Eight.{components}
+use Rattle.urlpattern_components.specs.declared.eight.ComponentName.TheVariants.{Protocol}
+use Rattle.urlpattern_components.specs.Eight.{components}
 use Rattle.urlpattern_generate.specs.Manners.{given_groups}
 use Rattle.urlpattern_pattern.proofs.LinkedLemmas.{all_confirmed, confirmed_if, first_other, other_if}
 use Rattle.urlpattern_pattern.specs.LinkedUrls.{IsConfirmed, IsConfirmedBefore, IsOther}
 use Rattle.urlpattern_pattern.specs.Patterns.{pattern_view}
-use Rattle.urlpattern_url.specs.UrlsOfTexts.{cow_texts}
+use Rattle.urlpattern_generate.specs.UrlsOfTexts.{cow_texts}
 use Rattle.urlpattern_pattern.proofs.pattern.UrlPattern.unconfirmed.Goals as goal
 
 pub returns-then-not-branch : goal.returns-then-not-branch

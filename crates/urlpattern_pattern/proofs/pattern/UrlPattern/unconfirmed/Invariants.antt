@@ -3,7 +3,7 @@ use Rattle.std.specs.Prelude.{All}
 use Rattle.urlpattern_generate.specs.Manners.{given_groups}
 use Rattle.urlpattern_pattern.specs.LinkedUrls.{IsConfirmed}
 use Rattle.urlpattern_pattern.specs.Patterns.{pattern_view}
-use Rattle.urlpattern_url.specs.UrlsOfTexts.{cow_texts}
+use Rattle.urlpattern_generate.specs.UrlsOfTexts.{cow_texts}
 use Rattle.urlpattern_pattern.proofs.pattern.UrlPattern.unconfirmed.Given as goal
 
 -- the matchers of the components so far find what is asked

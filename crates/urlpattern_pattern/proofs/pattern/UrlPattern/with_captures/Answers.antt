@@ -2,9 +2,9 @@ use Rattle.std.proofs.Common.{String, Vec, List, ℕ, ap, map, sym, zip, ◌∙�
 use Rattle.std.specs.Borrow.{Bor}
 use Rattle.std.specs.Str.{chars}
 use Rattle.std.specs.declared.alloc.Global.{Global}
-use Rattle.urlpattern_eight.proofs.EightLemmas.{at-each}
-use Rattle.urlpattern_eight.specs.Eight.{at}
-use Rattle.urlpattern_eight.specs.declared.eight.Eight.{Eight}
+use Rattle.urlpattern_components.proofs.EightLemmas.{at-each}
+use Rattle.urlpattern_components.specs.Eight.{at}
+use Rattle.urlpattern_components.specs.declared.eight.Eight.{Eight}
 use Rattle.urlpattern_matches.specs.GroupTexts.{captures_of}
 use Rattle.urlpattern_matches.specs.ResultViews.{group_of}
 use Rattle.urlpattern_matches.specs.declared.captures.GroupCaptures.{GroupCaptures}

@@ -1,6 +1,6 @@
 use Rattle.std.proofs.Common.{refl, [], ◌∷◌}
-use Rattle.urlpattern_eight.proofs.EightLemmas.{passed_on}
-use Rattle.urlpattern_eight.specs.declared.eight.ComponentName.TheVariants.{Protocol, Username, Password, Hostname, Port, Pathname, Search, Hash}
+use Rattle.urlpattern_components.proofs.EightLemmas.{passed_on}
+use Rattle.urlpattern_components.specs.declared.eight.ComponentName.TheVariants.{Protocol, Username, Password, Hostname, Port, Pathname, Search, Hash}
 use Rattle.urlpattern_generate.specs.Manners.{given_groups}
 use Rattle.urlpattern_pattern.specs.LinkedUrls.{AnswersParts}
 use Rattle.urlpattern_pattern.proofs.pattern.link.written_each.Goals as goal

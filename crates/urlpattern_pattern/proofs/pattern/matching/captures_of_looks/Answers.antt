@@ -2,7 +2,7 @@ use Rattle.std.proofs.Common.{rules, subst}
 use Rattle.std.specs.Prelude.{Err}
 use Rattle.urlpattern_matches.specs.GroupTexts.{IsCapturedOf}
 use Rattle.urlpattern_matches.specs.declared.captures.Missed.{Missed}
-use Rattle.urlpattern_eight.specs.Eight.{at}
+use Rattle.urlpattern_components.specs.Eight.{at}
 use Rattle.urlpattern_pattern.proofs.pattern.matching.captures_of_looks.Goals as goal
 
 pub returns-in-Ok-clause-some : goal.returns-in-Ok-clause-some

@@ -1,6 +1,6 @@
 use Rattle.urlpattern_matches.specs.GroupTexts.{captures_of}
 use Rattle.urlpattern_pattern.proofs.pattern.matching.captures_of_texts.Goals as goal
-use Rattle.urlpattern_eight.specs.Eight.{at}
+use Rattle.urlpattern_components.specs.Eight.{at}
 
 pub returns-in-Some-clause-matched : goal.returns-in-Some-clause-matched
 returns-in-Some-clause-matched g c = record {

@@ -2,13 +2,13 @@ use Rattle.std.proofs.Common.{◌∙◌, Ok, Option, String, ap, option_map, rul
 use Rattle.std.proofs.lemmas.List.Elements.{All-weaker}
 use Rattle.std.proofs.lemmas.Result.{err_from_is_err_and}
 use Rattle.urlpattern_canonical.proofs.CanonicalLemmas.{reports-more, reports-through}
-use Rattle.urlpattern_eight.proofs.EightLemmas.{at-each}
-use Rattle.urlpattern_eight.specs.Eight.{at}
+use Rattle.urlpattern_components.proofs.EightLemmas.{at-each}
+use Rattle.urlpattern_components.specs.Eight.{at}
 use Rattle.urlpattern_syntax.specs.Text.{text_of}
 use Rattle.urlpattern_init.proofs.InheritanceLemmas.{asked-le, has_value, is_value, kept, processed, refused-after}
 use Rattle.urlpattern_init.specs.Inheritance.{bytes_of, values_of}
 use Rattle.std.specs.declared.alloc.Global.{Global}
-use Rattle.urlpattern_eight.specs.declared.eight.ComponentName.{ComponentName}
+use Rattle.urlpattern_components.specs.declared.eight.ComponentName.{ComponentName}
 use Rattle.urlpattern_init.specs.Processing.{IsValueAfter, bytes_in, component_bytes, given_values, value_in, values_in}
 use Rattle.urlpattern_init.proofs.init.processing.Processing.values.Goals as goal
 

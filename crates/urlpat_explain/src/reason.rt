@@ -1,0 +1,28 @@
+//! Why there is no URL, for a reader.
+
+use crate::linking::Unlinked;
+use std::io;
+use std::io::Write;
+use urlpattern_generate::{GenerateError, NoLink};
+
+/// Writes why there is no URL, as a line.
+pub(crate) fn write_reason<Err: Write>(reason: &Unlinked<'_>, err: &mut Err) -> io::Result<()> {
+    match reason {
+        Unlinked::Word(word) => writeln!(
+            err,
+            "`{word}` gives nothing: write COMPONENT.NAME=VALUE, or NAME=VALUE where one component alone has that group"
+        ),
+        Unlinked::NoLink(error) => write_refusal(error, err),
+        Unlinked::OutOfMemory => err.write_all(b"out of memory\n"),
+    }
+}
+
+/// Writes why there is no URL, and what to give for a group that is missing.
+fn write_refusal<Err: Write>(refusal: &NoLink, err: &mut Err) -> io::Result<()> {
+    match refusal {
+        NoLink::Component(GenerateError::Missing(component, name)) => {
+            writeln!(err, "{refusal}: give {component}.{name}=VALUE")
+        }
+        _ => writeln!(err, "{refusal}"),
+    }
+}

@@ -1,0 +1,15 @@
+-- Lemmas on words that ask for nothing.
+use Rattle.std.proofs.Common.{◌≢◌, ℕ, List, codes, inl, inr}
+use Rattle.std.specs.Prelude.{IfNone, None, Option, Some}
+use Rattle.urlpat_lines.specs.Queries.{AsksNothing, IsAskedByTwo, NamesGroup}
+
+-- what follows where nothing is found
+pub if_none : {X : Type 0} (found : Option X) (P Q : Type 0) → (P → Q) → IfNone found P → IfNone found Q
+if_none None P Q f h = f h
+if_none (Some x) P Q f h = h
+
+-- two words of which the first is neither flag ask for a group or for nothing
+pub groups_alone : (first second : List ℕ) → first ≢ codes "--not" → first ≢ codes "--count" → AsksNothing (NamesGroup second) → AsksNothing (IsAskedByTwo first second)
+groups_alone first second other_one other_two none asked (inl (inl both, is)) = absurd (other_one both.0)
+groups_alone first second other_one other_two none asked (inl (inr both, is)) = absurd (other_two both.0)
+groups_alone first second other_one other_two none asked (inr names) = none asked names.1

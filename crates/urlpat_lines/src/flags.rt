@@ -1,0 +1,94 @@
+//! The words that hold for the patterns, the answers and the errors of a command. They may stand
+//! anywhere.
+
+ghost use Rattle.std.specs.Prelude.{◌≡◌, option_copied};
+ghost use Rattle.urlpat_lines.specs.Flags.{AreFlagsOf, MayHave, TakesFlag, TakesFlags, command_of, is_flag};
+
+use crate::words::take_word;
+
+/// The word for patterns that ignore case.
+const IGNORE_CASE: &str = "--ignore-case";
+
+/// The word for answers that are JSON.
+const JSON: &str = "--json";
+
+/// The word for errors that are explained.
+const EXPLAIN_ERRORS: &str = "--explain-errors";
+
+/// What words say of the patterns, the answers and the errors of a command.
+#[derive(Clone, Copy)]
+pub struct Flags {
+    /// Whether patterns ignore case.
+    pub ignore_case: bool,
+    /// Whether answers are printed as JSON.
+    pub json: bool,
+    /// Whether errors are explained where a command prints them alone.
+    pub explain_errors: bool,
+}
+
+/// Takes the flags out of the words, if their command has such.
+pub fn take_flags(words: &mut Vec<String>) -> Flags
+    ensures { TakesFlags words.old.items words.new.items result }
+{
+    let may = flags_of(words);
+    let ignore_case = take_flag(words, may.ignore_case, IGNORE_CASE);
+    let json = take_flag(words, may.json, JSON);
+    let explain_errors = take_flag(words, may.explain_errors, EXPLAIN_ERRORS);
+    Flags {
+        ignore_case,
+        json,
+        explain_errors,
+    }
+}
+
+/// Takes a flag out of the words, if their command may have it, and returns whether it was there.
+fn take_flag(words: &mut Vec<String>, may: bool, flag: &str) -> bool
+    ensures { TakesFlag may flag.now words.old.items words.new.items result }
+{
+    if may { take_word(words, flag) } else { false }
+}
+
+/// The flags that the command of the words may have.
+fn flags_of(words: &[String]) -> Flags
+    ensures { AreFlagsOf (command_of words.now) result }
+{
+    match command_of(words) {
+        Some(command) => command_flags(command),
+        None => Flags {
+            ignore_case: false,
+            json: false,
+            explain_errors: false,
+        },
+    }
+}
+
+/// The command of the words: the first that is no flag.
+fn command_of(words: &[String]) -> Option<&String>
+    ensures { option_copied result ≡ command_of words.now }
+{
+    words.iter().find(|word| !is_flag(word))
+}
+
+/// Whether a word is a flag.
+fn is_flag(word: &str) -> bool
+    ensures { result ≡ is_flag word.now }
+{
+    matches!(word, IGNORE_CASE | JSON | EXPLAIN_ERRORS)
+}
+
+/// The flags that a command may have.
+fn command_flags(command: &str) -> Flags
+    ensures { MayHave command.now result }
+{
+    let (matches, alone) = match command {
+        "component" => (false, true),
+        "covers" | "link" | "unreachable" => (false, false),
+        "filter" | "route" | "explain" => (true, false),
+        _ => (true, true),
+    };
+    Flags {
+        ignore_case: matches,
+        json: matches,
+        explain_errors: alone,
+    }
+}

@@ -1,0 +1,127 @@
+//! What the words after `filter` ask for.
+
+ghost use Rattle.std.specs.Prelude.{◌≡◌, true, false, IfNone, IfSome};
+ghost use Rattle.urlpat_lines.specs.Queries.{AsksNothing, AskForNoQuery, IsQuery, IsAskedByFlags, IsAskedByOne, IsAskedByTwo, IsQueryOf, NamesGroup};
+ghost use Rattle.urlpat_lines.specs.declared.query.Shape.TheVariants as shapes;
+ghost use Rattle.urlpat_lines.specs.Words.{words_view};
+
+use urlpattern_components::ComponentName;
+
+/// What is printed of a line that is looked for.
+#[derive(Clone, Copy)]
+pub enum Shape<'a> {
+    /// The line as it is.
+    Line,
+    /// Nothing: they are counted.
+    Count,
+    /// What a group captured.
+    Group(ComponentName, &'a str),
+    /// The match, as JSON.
+    Json,
+}
+
+/// What the words after `filter` ask for.
+#[derive(Clone, Copy)]
+pub struct Query<'a> {
+    /// The pattern.
+    pub pattern: &'a str,
+    /// The word for its base URL.
+    pub base: &'a str,
+    /// Whether the lines that do not match are looked for.
+    pub inverted: bool,
+    /// What is printed of a line that is looked for.
+    pub shape: Shape<'a>,
+}
+
+/// What the words after `filter` ask for, with JSON as the answer or not. `None`: they are not such words.
+pub fn query_of(words: &[String], json: bool) -> Option<Query<'_>>
+    ensures asked { IfSome result (IsQueryOf json (words_view words.now)) }
+    ensures other { IfNone result (AskForNoQuery json (words_view words.now)) }
+{
+    let [pattern, base, rest @ ..] = words else {
+        return None;
+    };
+    let (inverted, shape) = if json {
+        asked_as_json(rest)?
+    } else {
+        asked_by(rest)?
+    };
+    Some(Query {
+        pattern,
+        base,
+        inverted,
+        shape,
+    })
+}
+
+/// What the words after the base ask for, with JSON as the answer: there are none, and the match is printed.
+fn asked_as_json(words: &[String]) -> Option<(bool, Shape<'_>)>
+    ensures asked { IfSome result (IsQuery true (words_view words.now)) }
+    ensures other { IfNone result (AsksNothing (IsQuery true (words_view words.now))) }
+{
+    if words.is_empty() {
+        Some((false, Shape::Json))
+    } else {
+        None
+    }
+}
+
+/// What the words after the base ask for: whether lines that do not match are looked for, and what is printed of a line.
+fn asked_by(flags: &[String]) -> Option<(bool, Shape<'_>)>
+    ensures asked { IfSome result (IsAskedByFlags (words_view flags.now)) }
+    ensures other { IfNone result (AsksNothing (IsAskedByFlags (words_view flags.now))) }
+{
+    match flags {
+        [] => Some((false, Shape::Line)),
+        [flag] => asked_by_one(flag),
+        [first, second] => asked_by_two(first, second),
+        _ => None,
+    }
+}
+
+/// The same of one word.
+fn asked_by_one(flag: &str) -> Option<(bool, Shape<'_>)>
+    ensures asked { IfSome result (IsAskedByOne flag.now) }
+    ensures other { IfNone result (AsksNothing (IsAskedByOne flag.now)) }
+{
+    match flag {
+        "--not" => Some((true, Shape::Line)),
+        "--count" => Some((false, Shape::Count)),
+        _ => None,
+    }
+}
+
+/// The same of two words: flags in any order, or one with a group.
+fn asked_by_two<'a>(first: &str, second: &'a str) -> Option<(bool, Shape<'a>)>
+    ensures asked { IfSome result (IsAskedByTwo first.now second.now) }
+    ensures other { IfNone result (AsksNothing (IsAskedByTwo first.now second.now)) }
+{
+    match first {
+        "--not" => others_counted(second == "--count"),
+        "--count" => others_counted(second == "--not"),
+        "--group" => group_of(second),
+        _ => None,
+    }
+}
+
+/// The count of the lines that do not match, if both flags for it are there.
+fn others_counted<'a>(both: bool) -> Option<(bool, Shape<'a>)>
+    ensures asked { IfSome result (λ asked. (both ≡ true) × (asked ≡ (true, shapes.Count))) }
+    ensures other { IfNone result (both ≡ false) }
+{
+    if both {
+        Some((true, Shape::Count))
+    } else {
+        None
+    }
+}
+
+/// The group of a name, after that of its component and a dot.
+fn group_of(word: &str) -> Option<(bool, Shape<'_>)>
+    ensures asked { IfSome result (NamesGroup word.now) }
+    ensures other { IfNone result (AsksNothing (NamesGroup word.now)) }
+{
+    let (component, name) = word.split_once('.')?;
+    let component = ComponentName::from_name(component)?;
+    Some((false, Shape::Group(component, name)))
+}

@@ -1,0 +1,98 @@
+//! The entries of a table.
+
+ghost use Rattle.std.specs.Prelude.{◌≡◌, ◌++◌, All, IfErr, IfOk, OnOk};
+ghost use Rattle.std.specs.Str.{IsUtf8};
+ghost use Rattle.urlpat_lines.specs.Tables.{HasNoEntries, entries_view, entry_view, is_skipped, line_entries, line_entry, table_entries, table_lines};
+
+use bstr::ByteSlice;
+use std::alloc::{AllocError, Global};
+use std::str;
+
+/// A pattern of a table.
+#[derive(Clone, Copy)]
+pub struct Entry<'t> {
+    /// The number of its line, from 1 on.
+    pub number: u64,
+    /// The pattern.
+    pub pattern: &'t str,
+    /// Its name, or nothing.
+    pub name: &'t str,
+}
+
+/// Why a table has no entries.
+#[derive(Clone, Copy)]
+pub enum NoTable {
+    /// The line of this number is not UTF-8.
+    NotUtf8(u64),
+    /// Memory ran out.
+    OutOfMemory,
+}
+
+impl From<AllocError> for NoTable {
+    ghost use Rattle.urlpat_lines.specs.declared.table.NoTable.TheVariants as refusals;
+
+    ghost from_gives = { λ _ refused. refused ≡ refusals.OutOfMemory };
+
+    fn from(_error: AllocError) -> NoTable {
+        NoTable::OutOfMemory
+    }
+}
+
+/// The entries of a table, in its order. A line that is empty, or that begins with `#`, has none. Of any other the pattern is what stands
+/// before the first tab, and the name what stands after it.
+///
+/// The error is that a line is not UTF-8, or that memory ran out.
+pub fn entries_of<'t>(alloc: Global, table: &'t [u8]) -> Result<Vec<Entry<'t>>, NoTable>
+    ensures entries { IfOk result (λ entries. entries_view entries.items ≡ table_entries table.now) }
+    ensures text { IfOk result (λ entries. All IsUtf8 (table_lines table.now)) }
+    ensures refused { IfErr result (HasNoEntries table.now) }
+{
+    let mut entries = Vec::new(alloc);
+    let mut number = 0u64;
+    for line in table.lines() {
+        number += 1;
+        let Ok(text) = str::from_utf8(line) else {
+            return Err(NoTable::NotUtf8(number));
+        };
+        add(&mut entries, number, text)?;
+    }
+    Ok(entries)
+}
+
+/// Adds the entry of a line, if it has one.
+fn add<'t>(entries: &mut Vec<Entry<'t>>, number: u64, line: &'t str) -> Result<(), AllocError>
+    ensures { OnOk result (entries_view entries.new.items ≡ entries_view entries.old.items ++ line_entries number line.now) }
+{
+    if !is_skipped(line) {
+        entries.push(entry_of(number, line))?;
+    }
+    Ok(())
+}
+
+/// Whether a line has no entry.
+fn is_skipped(line: &str) -> bool
+    ensures { result ≡ is_skipped line.now }
+{
+    match line.as_bytes() {
+        [] => true,
+        [first, ..] => *first == b'#',
+    }
+}
+
+/// The entry of a line.
+fn entry_of(number: u64, line: &str) -> Entry<'_>
+    ensures { entry_view result ≡ line_entry number line.now }
+{
+    match line.split_once('\t') {
+        Some((pattern, name)) => Entry {
+            number,
+            pattern,
+            name,
+        },
+        None => Entry {
+            number,
+            pattern: line,
+            name: "",
+        },
+    }
+}

@@ -1,2 +1,0 @@
-pub mod GivenLemmas
-pub mod LinkLemmas

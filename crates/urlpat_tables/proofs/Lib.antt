@@ -1,2 +1,0 @@
-pub mod TableLemmas
-mod TableExamples

@@ -1,4 +1,0 @@
-pub mod Flags
-pub mod Help
-pub mod Queries
-pub mod Words

@@ -1,0 +1,84 @@
+-- What a search found, as an answer.
+use Rattle.std.proofs.Common.{◌≡◌, ◌≢◌, ℕ, Bool, true, false, List, [], ◌∷◌, refl, sym, subst, ap, ◌∙◌, ◌↔◌, inl, inr, Option, Some, None, Result, Ok, Err, IfOk, IfSome}
+use Rattle.std.specs.declared.alloc.{AllocError.AllocError}
+use Rattle.std.proofs.lemmas.List.Elements.{All-cons, All-head, All-nil, All-tail}
+use Rattle.std.specs.List.{list_any}
+use Rattle.std.specs.Prelude.{◌||◌, not}
+use Rattle.urlpattern_compare.specs.Answers.{IsSought, answer_of, is_custom_part, is_custom_kind}
+use Rattle.urlpattern_compare.specs.Automata.{AcceptsText, IsWhether, IsWithin}
+use Rattle.urlpattern_compare.specs.Searching.{IsFoundBy}
+use Rattle.urlpattern_compare.specs.Meaning.{MeansText}
+use Rattle.urlpattern_compare.specs.Making.{made, made_view}
+use Rattle.urlpattern_compare.specs.declared.automaton.Automaton.{Automaton}
+use Rattle.urlpattern_compare.specs.declared.parts.Answer.{Answer}
+use Rattle.urlpattern_compare.specs.declared.search.Found.{Found}
+use Rattle.urlpattern_compare.specs.declared.search.Found.TheVariants.{Text, Nothing, TooMany}
+use Rattle.urlpattern_compare.proofs.PairLemmas.{whether_by}
+use Rattle.urlpattern_compare.proofs.PartsRead.{parts_accepted, parts_within}
+use Rattle.urlpattern_meaning.specs.PartMeaning.{AreGenerated}
+use Rattle.urlpattern_syntax.specs.declared.parser.PartType.{PartType}
+use Rattle.urlpattern_syntax.specs.{Options.OptionsView, Parts.PartView, Parts.part_view, Parts.parts_view}
+use Rattle.urlpattern_syntax.specs.declared.parser.Part.{Part}
+
+-- ---- custom regular expressions
+
+kind_other : (kind : PartType) → is_custom_kind kind ≡ false → kind ≢ PartType.Regexp
+kind_other kind e same = let custom : is_custom_kind kind ≡ true = ap is_custom_kind same in absurd cc
+
+kind_custom : (kind : PartType) → is_custom_kind kind ≡ true → kind ≡ PartType.Regexp
+kind_custom PartType.Regexp e = refl
+kind_custom PartType.FixedText e = absurd cc
+kind_custom PartType.SegmentWildcard e = absurd cc
+kind_custom PartType.FullWildcard e = absurd cc
+
+generated_cases : (part : Part) (parts : List Part) (b : Bool) → is_custom_part part ≡ b → (b || list_any is_custom_part parts) ≡ false → (list_any is_custom_part parts ≡ false → AreGenerated (parts_view parts)) → AreGenerated (parts_view (part ∷ parts))
+generated_cases part parts true e none later = absurd cc
+generated_cases part parts false e none later = All-cons (λ (it : PartView). it.kind ≢ PartType.Regexp) (part_view part) (parts_view parts) (kind_other part.kind e) (later none)
+
+pub generated : (parts : List Part) → list_any is_custom_part parts ≡ false → AreGenerated (parts_view parts)
+generated [] none = All-nil (λ (it : PartView). it.kind ≢ PartType.Regexp)
+generated (part ∷ parts) none = generated_cases part parts (is_custom_part part) refl none (generated parts)
+
+custom_cases : (part : Part) (parts : List Part) (b : Bool) → is_custom_part part ≡ b → (b || list_any is_custom_part parts) ≡ true → (list_any is_custom_part parts ≡ true → ¬ AreGenerated (parts_view parts)) → ¬ AreGenerated (parts_view (part ∷ parts))
+custom_cases part parts true e some later are = All-head (λ (it : PartView). it.kind ≢ PartType.Regexp) (part_view part) (parts_view parts) are (kind_custom part.kind e)
+custom_cases part parts false e some later are = later some (All-tail (λ (it : PartView). it.kind ≢ PartType.Regexp) (part_view part) (parts_view parts) are)
+
+pub custom : (parts : List Part) → list_any is_custom_part parts ≡ true → ¬ AreGenerated (parts_view parts)
+custom [] some are = absurd cc
+custom (part ∷ parts) some are = custom_cases part parts (is_custom_part part) refl some (custom parts) are
+
+-- ---- answers
+
+pub found_answer : (options : OptionsView) (parts : List PartView) (other_options : OptionsView) (others : List PartView) (is_meant : Bool) (one other : Automaton) (found : Found) →
+    AreGenerated parts → AreGenerated others → made_view one ≡ made options parts → made_view other ≡ made other_options others → IsFoundBy one other is_meant found →
+    IsSought options parts other_options others is_meant (answer_of found)
+found_answer options parts other_options others is_meant one other (Text text) gen other_gen same other_same is =
+    let here = parts_accepted options parts one gen same text.items in
+    let there = parts_accepted other_options others other other_gen other_same text.items in
+    (here.0 is.0, whether_by is_meant (AcceptsText other text.items) (MeansText other_options others text.items) there is.1, is.2)
+found_answer options parts other_options others is_meant one other Nothing gen other_gen same other_same is = λ text fine plain meant.
+    let here = parts_accepted options parts one gen same text in
+    let there = parts_accepted other_options others other other_gen other_same text in
+    whether_by (not is_meant) (AcceptsText other text) (MeansText other_options others text) there (is text fine plain (here.1 meant))
+found_answer options parts other_options others is_meant one other TooMany gen other_gen same other_same is = inr (inl (one, other, same, other_same, is))
+
+-- ---- what was made
+
+pub made_within : (options : OptionsView) (parts : List PartView) (result : Result (Option Automaton) AllocError) →
+    IfOk result (λ found. IfSome found (λ automaton. made_view automaton ≡ made options parts)) → IfOk result (λ found. IfSome found IsWithin)
+made_within options parts (Err e) is = is
+made_within options parts (Ok None) is = is
+made_within options parts (Ok (Some automaton)) is = parts_within options parts automaton is
+
+pub made_accepts : (options : OptionsView) (parts : List PartView) (result : Result (Option Automaton) AllocError) → AreGenerated parts →
+    IfOk result (λ found. IfSome found (λ automaton. made_view automaton ≡ made options parts)) →
+    IfOk result (λ found. IfSome found (λ automaton. (text : List ℕ) → AcceptsText automaton text ↔ MeansText options parts text))
+made_accepts options parts (Err e) gen is = is
+made_accepts options parts (Ok None) gen is = is
+made_accepts options parts (Ok (Some automaton)) gen is = parts_accepted options parts automaton gen is
+
+pub found_parts : (options : OptionsView) (parts : List PartView) (other_options : OptionsView) (others : List PartView) (is_meant : Bool) (one other : Automaton) (found : Found) (answer : Answer) →
+    answer ≡ answer_of found → AreGenerated parts → AreGenerated others → made_view one ≡ made options parts → made_view other ≡ made other_options others → IsFoundBy one other is_meant found →
+    IsSought options parts other_options others is_meant answer
+found_parts options parts other_options others is_meant one other found answer e gen other_gen same other_same is =
+    subst (IsSought options parts other_options others is_meant) (sym e) (found_answer options parts other_options others is_meant one other found gen other_gen same other_same is)

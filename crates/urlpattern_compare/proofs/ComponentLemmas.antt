@@ -1,0 +1,87 @@
+-- What is known of one component.
+use Rattle.std.proofs.Common.{◌≡◌, ℕ, List, [], ◌∷◌, ◌++◌, inl, inr, refl, sym, subst, append-nil, Some}
+use Rattle.std.specs.Prelude.{IsTrue}
+use Rattle.urlpattern_compare.specs.Answers.{IsCovering, IsOverlap, IsReason, IsTooMuch}
+use Rattle.urlpattern_compare.specs.Meaning.{MeansText}
+use Rattle.urlpattern_compare.specs.declared.parts.Covering.{Covering}
+use Rattle.urlpattern_compare.specs.declared.parts.Covering.TheVariants as coverings
+use Rattle.urlpattern_compare.specs.declared.parts.Overlap.{Overlap}
+use Rattle.urlpattern_compare.specs.declared.parts.Overlap.TheVariants as overlaps
+use Rattle.urlpattern_compare.specs.declared.parts.Reason.TheVariants as reasons
+use Rattle.urlpattern_compare.specs.Comparing.{AreSame, IsComponentCovering, IsComponentOverlap, IsExample, IsKnown, TakesEachLine, anything_part}
+use Rattle.urlpattern_syntax.specs.declared.parts.ComponentParts.{ComponentParts}
+use Rattle.urlpattern_syntax.specs.{Options.OptionsView, Options.default_options, Options.options_view, Parts.PartView, Parts.parts_view, Text.lacks, Text.line_feed}
+
+-- ---- a full wildcard
+
+pub wildcard_means : (options : OptionsView) (text : List ℕ) → IsTrue (lacks line_feed text) → MeansText options (anything_part ∷ []) text
+wildcard_means options text line =
+    let whole : text ≡ text ++ [] = sym (append-nil text) in (
+      Some text ∷ [],
+      (
+        text,
+        [],
+        Some text ∷ [],
+        [],
+        whole,
+        refl,
+        record {
+          count = 1;
+          allowed = refl;
+          are_copies = (text, [], whole, (text, whole, line), refl);
+          are_captures = (Some text, (text, whole, refl), refl);
+        },
+        (refl, refl),
+      ),
+    )
+
+-- ---- answers of lists of parts
+
+pub covering_known : (component asked : ComponentParts) (covering : Covering) → IsKnown component → IsKnown asked → ¬ AreSame component asked →
+    IsCovering (options_view component.options) (parts_view component.parts.items) (options_view asked.options) (parts_view asked.parts.items) covering →
+    IsComponentCovering component asked covering
+covering_known component asked coverings.Covered known asked_known apart is = inr (inl (record { known = known; asked_known = asked_known; within = is }))
+covering_known component asked (coverings.NotCovered text) known asked_known apart is =
+    record { known = known; meant = record { known = asked_known; means = is.0; line = is.2 }; not_meant = is.1 }
+covering_known component asked (coverings.Unknown reason) known asked_known apart is = (is, apart)
+
+too_much_flips : (options : OptionsView) (parts : List PartView) (other_options : OptionsView) (others : List PartView) →
+    IsTooMuch options parts other_options others → IsTooMuch other_options others options parts
+too_much_flips options parts other_options others (inl (inl states)) = inl (inr states)
+too_much_flips options parts other_options others (inl (inr states)) = inl (inl states)
+too_much_flips options parts other_options others (inr (inl long)) = inr (inr long)
+too_much_flips options parts other_options others (inr (inr long)) = inr (inl long)
+
+pub overlap_known : (component other : ComponentParts) (overlap : Overlap) → IsKnown component → IsKnown other →
+    IsOverlap (options_view component.options) (parts_view component.parts.items) (options_view other.options) (parts_view other.parts.items) overlap →
+    IsComponentOverlap component other overlap
+overlap_known component other overlaps.Apart known other_known is = record { known = known; other_known = other_known; apart = is }
+overlap_known component other (overlaps.Common text) known other_known is =
+    (record { known = known; means = is.0; line = is.2 }, record { known = other_known; means = is.1; line = is.2 })
+overlap_known component other (overlaps.Unknown reasons.CustomExpression) known other_known is = λ both. is (both.1, both.0)
+overlap_known component other (overlaps.Unknown reasons.IgnoredCase) known other_known (inl e) = inr e
+overlap_known component other (overlaps.Unknown reasons.IgnoredCase) known other_known (inr e) = inl e
+overlap_known component other (overlaps.Unknown reasons.TooMany) known other_known is = too_much_flips (options_view component.options) (parts_view component.parts.items) (options_view other.options) (parts_view other.parts.items) is
+
+-- what covers a full wildcard takes each line
+pub each_line : (component anything : ComponentParts) → IsKnown component → parts_view anything.parts.items ≡ anything_part ∷ [] →
+    IsCovering (options_view component.options) (parts_view component.parts.items) (options_view anything.options) (parts_view anything.parts.items) coverings.Covered → TakesEachLine component
+each_line component anything known are is = record {
+  known = known;
+  takes = λ text fine line. is text fine line (subst (λ parts. MeansText (options_view anything.options) parts text) (sym are) (wildcard_means (options_view anything.options) text line));
+}
+
+-- what overlaps a full wildcard has an example
+pub example_known : (component anything : ComponentParts) (overlap : Overlap) → IsKnown component →
+    options_view anything.options ≡ default_options → parts_view anything.parts.items ≡ anything_part ∷ [] →
+    IsOverlap (options_view component.options) (parts_view component.parts.items) (options_view anything.options) (parts_view anything.parts.items) overlap → IsExample component overlap
+example_known component anything overlaps.Apart known options are is = record {
+  known = known;
+  takes_none = λ text fine line means. is text fine line means (subst (λ parts. MeansText (options_view anything.options) parts text) (sym are) (wildcard_means (options_view anything.options) text line));
+}
+example_known component anything (overlaps.Common text) known options are is = record { known = known; means = is.0; line = is.2 }
+example_known component anything (overlaps.Unknown reason) known options are is =
+    let own = options_view component.options in
+    let parts = parts_view component.parts.items in
+    subst (λ (o : OptionsView). IsReason own parts o (anything_part ∷ []) reason) options
+    (subst (λ (ps : List PartView). IsReason own parts (options_view anything.options) ps reason) are is)

@@ -1,0 +1,16 @@
+pub mod StateSets
+pub mod CharacterClasses
+pub mod PairLemmas
+pub mod MadeStates
+pub mod CellTexts
+pub mod Blocks
+pub mod Copies
+pub mod PartTexts
+pub mod PartsRead
+pub mod AnswerLemmas
+pub mod ComponentLemmas
+pub mod ListLemmas
+pub mod OrderLemmas
+pub mod PatternLemmas
+pub mod NamelessParts
+pub mod SameParts

@@ -1,0 +1,177 @@
+-- An automaton of parts accepts what they mean.
+use Rattle.std.proofs.Common.{◌≡◌, ◌≢◌, ℕ, zero, suc, ◌+◌, ◌<◌, ◌≤◌, Bool, true, false, List, [], ◌∷◌, ◌++◌, length, refl, sym, subst, ap, ◌∙◌, ◌⊎◌, inl, inr, ◌↔◌, arith, append_assoc, reverse, get_or}
+use Rattle.std.proofs.lemmas.List.Elements.{Contains-append_cases, Contains-get_or}
+use Rattle.std.specs.List.{All, Contains}
+use Rattle.std.specs.Prelude.{◌&&◌, if◌then◌else◌}
+use Rattle.urlpattern_compare.specs.Automata.{AcceptsText, IsWithin, Leads, LeadsFrom}
+use Rattle.urlpattern_compare.specs.Cells.{cells_of, has_one}
+use Rattle.urlpattern_compare.specs.Making.{HasManyStates, Made, heads, made, made_view, may_miss, repeats, with_again, with_cell, with_cells, with_copies, with_missing}
+use Rattle.urlpattern_compare.specs.declared.automaton.Automaton.{Automaton}
+use Rattle.urlpattern_compare.specs.declared.automaton.Edge.{Edge}
+use Rattle.urlpattern_compare.specs.declared.cells.Cell.{Cell}
+use Rattle.urlpattern_compare.specs.declared.cells.Cell.TheVariants.{One, Many}
+use Rattle.urlpattern_compare.proofs.Blocks.{IsMade, from_one}
+use Rattle.urlpattern_compare.proofs.Copies.{CopiesThen, copies_before, copies_made, copies_read}
+use Rattle.urlpattern_compare.proofs.CellTexts.{times_map}
+use Rattle.urlpattern_compare.proofs.MadeStates.{IsPartOf, cell_count, cell_edges, edges_to_has, targets, test_of}
+use Rattle.urlpattern_compare.proofs.PartTexts.{PartsThen, absorbs, parts_then}
+use Rattle.urlpattern_compare.proofs.StateSets.{contains_cons}
+use Rattle.urlpattern_meaning.specs.PartMeaning.{AreGenerated, Captures, PartsMean}
+use Rattle.urlpattern_syntax.specs.{Options.OptionsView, Parts.PartView}
+use Rattle.urlpattern_syntax.specs.declared.parser.PartModifier.{PartModifier}
+
+-- ---- what is accepted
+
+pub parts_made : (options : OptionsView) (parts : List PartView) → IsMade (made options parts)
+parts_made options [] = record { below = λ edge (k, lt, e). absurd (omega arith); some = omega arith }
+parts_made options (part ∷ parts) = copies_made (made options parts) part.modifier (reverse (cells_of options part.kind part)) (parts_made options parts)
+
+end_read : (all : List Edge) (options : OptionsView) → IsPartOf all (made options []) → (text : List ℕ) → Leads all 0 text ↔ (text ≡ [])
+end_read all options part [] = (λ leads. refl, λ e. refl)
+end_read all options part (c ∷ text) = (
+  λ (edge, has, from, passed, leads). let (k, lt, e) = part.only edge (omega arith) has in absurd (omega arith),
+  λ e. absurd cc,
+)
+
+pub parts_read : (all : List Edge) (options : OptionsView) (parts : List PartView) → IsPartOf all (made options parts) → (text : List ℕ) →
+    LeadsFrom all (made options parts).starts text ↔ PartsThen options parts text
+parts_read all options [] part text =
+    let one = from_one all 0 text in
+    let end = end_read all options part text in
+    (λ leads. end.0 (one.0 leads), λ e. one.1 (end.1 e))
+parts_read all options (first ∷ parts) part text =
+    let cells = reverse (cells_of options first.kind first) in
+    let rest = made options parts in
+    let before = copies_before all rest first.modifier cells (parts_made options parts) part in
+    let reads = copies_read all rest first.modifier cells (parts_made options parts) part (absorbs options first (LeadsFrom all rest.starts)) text in
+    let same = parts_read all options parts before in (
+      λ leads. let (n, allowed, times) = reads.0 leads in (n, allowed, times_map cells n (LeadsFrom all rest.starts) (PartsThen options parts) (λ t. (same t).0) text times),
+      λ (n, allowed, times). reads.1 (n, allowed, times_map cells n (PartsThen options parts) (LeadsFrom all rest.starts) (λ t. (same t).1) text times),
+    )
+
+-- the automaton of parts accepts the texts that they mean, and no others
+pub parts_accepted : (options : OptionsView) (parts : List PartView) (automaton : Automaton) → AreGenerated parts → made_view automaton ≡ made options parts → (text : List ℕ) →
+    AcceptsText automaton text ↔ ((captures : Captures) × PartsMean options parts text captures)
+parts_accepted options parts automaton generated same text =
+    let all = (made options parts).edges in
+    let is = parts_made options parts in
+    let part : IsPartOf all (made options parts) = record { kept = λ edge has. has; only = λ edge lt has. has; below = is.below; some = is.some } in
+    let reads = parts_read all options parts part text in
+    let means = parts_then options parts generated text in
+    let both : AcceptsText automaton text ≡ LeadsFrom all (made options parts).starts text = ap (λ (it : Made). LeadsFrom it.edges it.starts text) same in (
+      λ accepts. means.0 (reads.0 (subst (λ (T : Type 0). T) both accepts)),
+      λ meant. subst (λ (T : Type 0). T) (sym both) (reads.1 (means.1 meant)),
+    )
+
+-- ---- states below their number
+
+record IsBelow (limit : ℕ) (made : Made) : Type 0 where
+  edges : (edge : Edge) → Contains made.edges edge → edge.to < limit
+  starts : (state : ℕ) → Contains made.starts state → state < limit
+
+with_one : (limit count : ℕ) (starts : List ℕ) → count < limit → ((state : ℕ) → Contains starts state → state < limit) → (state : ℕ) → Contains (starts ++ count ∷ []) state → state < limit
+with_one limit count starts lt all state has = elim (Contains-append_cases starts (count ∷ []) state has) [
+  | inl before ↦ all state before
+  | inr new ↦ elim (contains_cons count state [] new) [
+    | inl e ↦ subst (λ s. s < limit) e lt
+    | inr (k, none, e) ↦ absurd (omega arith)
+  ]
+]
+
+targets_below : (limit : ℕ) (made : Made) (cell : Cell) → IsBelow limit made → made.count < limit → (state : ℕ) → Contains (targets made cell) state → state < limit
+targets_below limit made (One test) below lt state has = below.starts state has
+targets_below limit made (Many test) below lt state has = with_one limit made.count made.starts lt below.starts state has
+
+starts_below : (limit : ℕ) (made : Made) (cell : Cell) → IsBelow limit made → made.count < limit → (state : ℕ) → Contains (with_cell made cell).starts state → state < limit
+starts_below limit made (One test) below lt state has = with_one limit made.count [] lt (λ s (k, none, e). absurd (omega arith)) state has
+starts_below limit made (Many test) below lt state has = with_one limit made.count made.starts lt below.starts state has
+
+cell_below : (limit : ℕ) (made : Made) (cell : Cell) → IsBelow limit made → made.count < limit → IsBelow limit (with_cell made cell)
+cell_below limit made cell below lt = record {
+  edges = λ edge has. elim (Contains-append_cases made.edges _ edge (subst (λ l. Contains l edge) (cell_edges made cell) has)) [
+    | inl before ↦ below.edges edge before
+    | inr new ↦ targets_below limit made cell below lt edge.to (edges_to_has made.count (test_of cell) (targets made cell) edge new).2
+  ];
+  starts = starts_below limit made cell below lt;
+}
+
+pub cells_count : (made : Made) (cells : List Cell) → (with_cells made cells).count ≡ made.count + length cells
+cells_count made [] = omega arith
+cells_count made (cell ∷ cells) = let e = cells_count (with_cell made cell) cells in let f = cell_count made cell in omega arith
+
+cells_below : (limit : ℕ) (made : Made) (cells : List Cell) → IsBelow limit made → made.count + length cells ≤ limit → IsBelow limit (with_cells made cells)
+cells_below limit made [] below le = below
+cells_below limit made (cell ∷ cells) below le =
+    let f = cell_count made cell in
+    cells_below limit (with_cell made cell) cells (cell_below limit made cell below (omega arith)) (omega arith)
+
+heads_below : (limit : ℕ) (starts : List ℕ) (count : ℕ) (cells : List Cell) → ((state : ℕ) → Contains starts state → state < limit) → count + length cells ≤ limit →
+    (state : ℕ) → Contains (heads starts count cells) state → state < limit
+heads_below limit starts count [] all le state has = all state has
+heads_below limit starts count (One test ∷ cells) all le state has =
+    heads_below limit (count ∷ []) (count + 1) cells (with_one limit count [] (omega arith) (λ s (k, none, e). absurd (omega arith))) (omega arith) state has
+heads_below limit starts count (Many test ∷ cells) all le state has =
+    heads_below limit (starts ++ count ∷ []) (count + 1) cells (with_one limit count starts (omega arith) all) (omega arith) state has
+
+if_below : (limit : ℕ) (b : Bool) (states : List ℕ) → ((state : ℕ) → Contains states state → state < limit) → (state : ℕ) → Contains (if b then states else []) state → state < limit
+if_below limit true states all state has = all state has
+if_below limit false states all state (k, none, e) = absurd (omega arith)
+
+copies_below : (made : Made) (modifier : PartModifier) (cells : List Cell) → IsBelow made.count made → IsBelow (with_copies made modifier cells).count (with_copies made modifier cells)
+copies_below made modifier cells below =
+    let outer = with_again made (repeats modifier) cells in
+    let count = cells_count outer cells in
+    let limit = (with_cells outer cells).count in
+    let more = (λ (state : ℕ) (lt : state < made.count). let h : state < limit = omega arith in h) in
+    let none = (λ (s : ℕ) (it : Contains [] s). absurd {A = s < limit} (let lt = it.1 in omega arith)) in
+    let first : IsBelow limit outer = record {
+      edges = λ edge has. more edge.to (below.edges edge has);
+      starts = λ state has. elim (Contains-append_cases made.starts _ state has) [
+        | inl before ↦ more state (below.starts state before)
+        | inr new ↦ if_below limit (repeats modifier && has_one cells) (heads [] made.count cells) (heads_below limit [] made.count cells none (omega arith)) state new
+      ];
+    } in
+    let inner = cells_below limit outer cells first (omega arith) in
+    record {
+      edges = inner.edges;
+      starts = λ state has. elim (Contains-append_cases (with_cells outer cells).starts _ state has) [
+        | inl before ↦ inner.starts state before
+        | inr new ↦ if_below limit (may_miss modifier && has_one cells) made.starts (λ s it. more s (below.starts s it)) state new
+      ];
+    }
+
+parts_below : (options : OptionsView) (parts : List PartView) → IsBelow (made options parts).count (made options parts)
+parts_below options [] = record {
+  edges = λ edge (k, lt, e). absurd (omega arith);
+  starts = λ state has. elim (contains_cons 0 state [] has) [ inl e ↦ subst (λ s. s < 1) e (omega arith) | inr (k, none, e) ↦ absurd (omega arith) ];
+}
+parts_below options (part ∷ parts) = copies_below (made options parts) part.modifier (reverse (cells_of options part.kind part)) (parts_below options parts)
+
+-- the automaton of parts names no other states
+pub parts_within : (options : OptionsView) (parts : List PartView) (automaton : Automaton) → made_view automaton ≡ made options parts → IsWithin automaton
+parts_within options parts automaton same =
+    let below : IsBelow automaton.states (made_view automaton) = subst (λ (it : Made). IsBelow it.count it) (sym same) (parts_below options parts) in
+    record {
+      edges = λ k d lt. below.edges (get_or automaton.edges.items k d) (Contains-get_or automaton.edges.items k d lt);
+      starts = λ k d lt. below.starts (get_or automaton.starts.items k d) (Contains-get_or automaton.starts.items k d lt);
+    }
+
+-- ---- how many states there are
+
+part_count : (options : OptionsView) (part : PartView) (parts : List PartView) → (made options (part ∷ parts)).count ≡ (made options parts).count + length (reverse (cells_of options part.kind part))
+part_count options part parts =
+    let cells = reverse (cells_of options part.kind part) in
+    cells_count (with_again (made options parts) (repeats part.modifier) cells) cells
+
+parts_count : (options : OptionsView) (front back : List PartView) → (made options back).count ≤ (made options (front ++ back)).count
+parts_count options [] back = omega arith
+parts_count options (part ∷ front) back = let e = part_count options part (front ++ back) in let le = parts_count options front back in omega arith
+
+-- a part of many cells, or one before many states
+pub many_states : (options : OptionsView) (parts before rest : List PartView) (part : PartView) → parts ≡ (before ++ part ∷ []) ++ rest →
+    (10000 < length (reverse (cells_of options part.kind part))) ⊎ (10000 < (made options rest).count) → HasManyStates options parts
+many_states options parts before rest part e many =
+    let count = part_count options part rest in
+    let le = parts_count options before (part ∷ rest) in
+    let enough : 10000 < (made options (part ∷ rest)).count = elim many [ inl cells ↦ omega arith | inr states ↦ omega arith ] in
+    subst (λ (all : List PartView). HasManyStates options all) (sym (e ∙ append_assoc before (part ∷ []) rest)) (let h : 10000 < (made options (before ++ part ∷ rest)).count = omega arith in h)

@@ -1,0 +1,92 @@
+-- Components whose parts are the same but for names.
+use Rattle.std.proofs.Common.{◌≡◌, ◌≢◌, ◌∙◌, ◌↔◌, ◌⊎◌, ℕ, Bool, true, false, List, ap, inl, inr, refl, subst, sym, true≢false, ◌+◌, ◌<◌, get_or, length, take}
+use Rattle.std.proofs.lemmas.List.{get_or-map, length-map, take_more_same}
+use Rattle.std.specs.List.{list_any}
+use Rattle.std.specs.Prelude.{IsTrue, not, String, encode_utf8_all, string_bytes}
+use Rattle.std.specs.Str.{chars}
+use Rattle.std.specs.Cmp.Lexicographic.{bytes_decides}
+use Rattle.std.specs.String.{string_eq}
+use Rattle.std.specs.declared.alloc.Global.{Global}
+use Rattle.urlpattern_compare.specs.Answers.{is_custom_part}
+use Rattle.urlpattern_meaning.specs.PartMeaning.{PartsMean}
+use Rattle.urlpattern_compare.proofs.AnswerLemmas.{custom, generated}
+use Rattle.urlpattern_compare.proofs.NamelessParts.{all_nameless, generated_renamed, renamed, unnamed_views}
+use Rattle.urlpattern_compare.specs.Comparing.{AreSame, IsKnown, IsSettled, MeansAllOf, unnamed, unnamed_view}
+use Rattle.urlpattern_syntax.specs.declared.parts.ComponentParts.{ComponentParts}
+use Rattle.urlpattern_syntax.proofs.StringTexts.{text_bytes}
+use Rattle.urlpattern_syntax.specs.declared.parser.Part.{Part}
+use Rattle.urlpattern_syntax.specs.{Options.OptionsView, Options.options_view, Parts.PartView, Parts.parts_view, Text.text_of}
+
+-- ---- tests
+
+pub apart_false : {V : Type 0} (view other : V) → view ≢ other → IsTrue false ↔ (view ≡ other)
+apart_false view other apart = (λ never. absurd (true≢false (sym never)), λ same. absurd (apart same))
+
+-- strings of the same bytes have the same text, and no others
+pub same_text : (string other : String Global) → IsTrue (string_eq string other) ↔ text_of string ≡ text_of other
+same_text string other =
+    let (same, equal) = bytes_decides (string_bytes string) (string_bytes other) in
+    (λ is. ap chars (same is), λ is. equal (sym (text_bytes string) ∙ ap encode_utf8_all is ∙ text_bytes other))
+
+-- ---- lists of parts
+
+pub unnamed_more : (parts others : List Part) (i : ℕ) (part other : Part) → i < length parts → i < length others → part ≡ get_or parts i part → other ≡ get_or others i other
+    → take i (unnamed parts) ≡ take i (unnamed others) → unnamed_view part ≡ unnamed_view other → take (i + 1) (unnamed parts) ≡ take (i + 1) (unnamed others)
+unnamed_more parts others i part other within within_others at_i at_others same now =
+    let d = unnamed_view part in
+    let here : get_or (unnamed parts) i d ≡ unnamed_view part = get_or-map unnamed_view parts i part d within ∙ ap unnamed_view (sym at_i) in
+    let there : get_or (unnamed others) i d ≡ unnamed_view other = get_or-map unnamed_view others i other d within_others ∙ ap unnamed_view (sym at_others) in
+    take_more_same (unnamed parts) (unnamed others) i d (subst (λ (n : ℕ). i < n) (sym (length-map parts unnamed_view)) within)
+    (subst (λ (n : ℕ). i < n) (sym (length-map others unnamed_view)) within_others) same (here ∙ now ∙ sym there)
+
+-- a part that differs
+pub unnamed_apart : (parts others : List Part) (i : ℕ) (part other : Part) → i < length parts → i < length others → part ≡ get_or parts i part → other ≡ get_or others i other
+    → unnamed_view part ≢ unnamed_view other → unnamed parts ≢ unnamed others
+unnamed_apart parts others i part other within within_others at_i at_others apart same =
+    let d = unnamed_view part in
+    let here : get_or (unnamed parts) i d ≡ unnamed_view part = get_or-map unnamed_view parts i part d within ∙ ap unnamed_view (sym at_i) in
+    let there : get_or (unnamed others) i d ≡ unnamed_view other = get_or-map unnamed_view others i other d within_others ∙ ap unnamed_view (sym at_others) in
+    apart (sym here ∙ ap (λ (views : List PartView). get_or views i d) same ∙ there)
+
+-- ---- components
+
+pub same_nameless : (component asked : ComponentParts) → AreSame component asked → all_nameless (parts_view component.parts.items) ≡ all_nameless (parts_view asked.parts.items)
+same_nameless component asked same = sym (unnamed_views component.parts.items) ∙ same.parts ∙ unnamed_views asked.parts.items
+
+-- what they mean is known, or not
+pub known_or_not : (component : ComponentParts) → IsKnown component ⊎ ¬ IsKnown component
+known_or_not component = by component.options.ignore_case refl (list_any is_custom_part component.parts.items) refl
+  where
+    by : (ignored : Bool) → component.options.ignore_case ≡ ignored → (some : Bool) → list_any is_custom_part component.parts.items ≡ some → IsKnown component ⊎ ¬ IsKnown component
+    by true e some f = inr (λ known. true≢false (sym e ∙ known.case_kept))
+    by false e true f = inr (λ known. custom component.parts.items f known.generated)
+    by false e false f = inl (record { generated = generated component.parts.items f; case_kept = e })
+
+-- case is ignored: it is settled where no part is custom
+pub settled_by : (component : ComponentParts) (some : Bool) → component.options.ignore_case ≡ true → some ≡ list_any is_custom_part component.parts.items → IsTrue (not some) ↔ IsSettled component
+settled_by component true ignored e = (
+  λ never. absurd (true≢false (sym never)),
+  λ settled. elim settled [
+    | inl kept ↦ absurd (true≢false (sym ignored ∙ kept))
+    | inr generated ↦ absurd (custom component.parts.items (sym e) generated)
+  ],
+)
+settled_by component false ignored e = (λ is. inr (generated component.parts.items (sym e)), λ settled. refl)
+
+-- the same parts mean the same, where that is known
+pub same_within : (component asked : ComponentParts) → AreSame component asked → IsKnown component → MeansAllOf component asked
+same_within component asked same known =
+    let parts = parts_view component.parts.items in
+    let others = parts_view asked.parts.items in
+    let nameless = same_nameless component asked same in
+    record {
+      known = known;
+      asked_known = record {
+        generated = generated_renamed others parts (sym nameless) known.generated;
+        case_kept = sym (ap (λ (o : OptionsView). o.ignore_case) same.options) ∙ known.case_kept;
+      };
+      within = λ text fine line means. (
+        means.0,
+        subst (λ (o : OptionsView). PartsMean o parts text means.0) (sym same.options) (renamed (options_view asked.options) parts others nameless text means.0 means.1),
+      );
+    }

@@ -1,0 +1,8 @@
+pub mod Answers
+pub mod Automata
+pub mod Cells
+pub mod Making
+pub mod Meaning
+pub mod Searching
+pub mod Comparing
+pub mod Order

@@ -1,0 +1,85 @@
+//! Texts in the order of their characters, as an automaton is made of them.
+
+ghost use Rattle.std.specs.Prelude.{◌≡◌, ◌++◌, IfOk, OnOk, reverse};
+ghost use Rattle.std.specs.Str.{chars};
+ghost use Rattle.urlpattern_compare.specs.Cells.{cells_of, has_one, is_one, text_cells, wildcard_cells};
+ghost use Rattle.urlpattern_syntax.specs.{Options.options_view, Parts.part_view};
+
+use crate::automaton::Test;
+use std::alloc::{AllocError, Global};
+use urlpattern_syntax::parser::{Options, Part, PartType};
+
+/// What takes characters of a text.
+#[derive(Clone, Copy, Debug)]
+pub(crate) enum Cell {
+    /// One character that passes.
+    One(Test),
+    /// Any number of characters that pass.
+    Many(Test),
+}
+
+/// The cells of one copy of a part, the last first.
+///
+/// A custom regular expression has those of its prefix and suffix alone.
+pub(crate) fn cells_of(
+    alloc: Global,
+    options: &Options,
+    part: &Part,
+) -> Result<Vec<Cell>, AllocError>
+    ensures { IfOk result (λ cells. cells.items ≡ reverse (cells_of (options_view options.now) part.now.kind (part_view part.now))) }
+{
+    let mut cells = Vec::new(alloc);
+    match part.kind {
+        PartType::FixedText => add_text(alloc, &mut cells, &part.value)?,
+        _ => {
+            add_text(alloc, &mut cells, &part.prefix)?;
+            add_wildcard(&mut cells, options, &part.kind)?;
+            add_text(alloc, &mut cells, &part.suffix)?;
+        }
+    }
+    cells.reverse();
+    Ok(cells)
+}
+
+/// Adds the cells of a text.
+fn add_text(alloc: Global, cells: &mut Vec<Cell>, text: &str) -> Result<(), AllocError>
+    ensures { OnOk result (cells.new.items ≡ cells.old.items ++ text_cells (chars text.now)) }
+{
+    for c in text.chars() {
+        cells.push(Cell::One(Test::Only(c)))?;
+    }
+    Ok(())
+}
+
+/// Adds the cells of a wildcard.
+fn add_wildcard(cells: &mut Vec<Cell>, options: &Options, kind: &PartType) -> Result<(), AllocError>
+    ensures { OnOk result (cells.new.items ≡ cells.old.items ++ wildcard_cells (options_view options.now) kind.now) }
+{
+    match kind {
+        PartType::SegmentWildcard => {
+            let test = Test::AnyBut(options.delimiter_code_point.unwrap_or('\n'));
+            cells.push(Cell::One(test))?;
+            cells.push(Cell::Many(test))?;
+            Ok(())
+        }
+        PartType::FullWildcard => {
+            cells.push(Cell::Many(Test::AnyBut('\n')))?;
+            Ok(())
+        }
+        _ => Ok(()),
+    }
+}
+
+/// Whether one of the cells takes one character.
+pub(crate) fn has_one(cells: &[Cell]) -> bool
+    ensures { result ≡ has_one cells.now }
+{
+    cells.iter().any(|cell| is_one(*cell))
+}
+
+/// Whether the cell takes one character.
+fn is_one(cell: Cell) -> bool
+    ensures { result ≡ is_one cell }
+{
+    matches!(cell, Cell::One(_))
+}

@@ -1,0 +1,84 @@
+//! Characters of which one is like each character that an automaton can read.
+
+ghost use Rattle.std.specs.Prelude.{◌≡◌, ◌<◌, ◌≤◌, ℕ, false, true, IfOk, IfNone, IfSome, OnOk, ◌∷◌, []};
+ghost use Rattle.std.specs.Char.{IsScalar};
+ghost use Rattle.urlpattern_compare.specs.Searching.{AreClasses, with_named};
+ghost use Rattle.urlpattern_syntax.specs.Text.{is_among, line_feed};
+
+use crate::automaton::Edge;
+use std::alloc::{AllocError, Global};
+
+/// One character for each class that the tests of the edges tell apart: those that they name, a line feed, and one other.
+pub(crate) fn classes(
+    alloc: Global,
+    edges: &[Edge],
+    others: &[Edge],
+) -> Result<Vec<char>, AllocError>
+    ensures { IfOk result (λ classes. AreClasses edges.now others.now classes.items) }
+{
+    let mut marks = line_feed(alloc)?;
+    add_named(&mut marks, edges)?;
+    add_named(&mut marks, others)?;
+    match other_than(&marks) {
+        Some(c) => {
+            marks.push(c)?;
+            Ok(marks)
+        }
+        None => Ok(marks),
+    }
+}
+
+/// A line feed alone.
+fn line_feed(alloc: Global) -> Result<Vec<char>, AllocError>
+    ensures { IfOk result (λ marks. marks.items ≡ line_feed ∷ []) }
+{
+    let mut marks = Vec::new(alloc);
+    marks.push('\n')?;
+    Ok(marks)
+}
+
+/// Adds the characters that the tests name.
+fn add_named(marks: &mut Vec<char>, edges: &[Edge]) -> Result<(), AllocError>
+    ensures { OnOk result (marks.new.items ≡ with_named marks.old.items edges.now) }
+{
+    for edge in edges {
+        let c = edge.test.character();
+        if !is_among(marks, c) {
+            marks.push(c)?;
+        }
+    }
+    Ok(())
+}
+
+/// Whether the character is one of these.
+fn is_among(marks: &[char], c: char) -> bool
+    ensures { result ≡ is_among marks.now c }
+{
+    marks.iter().any(|mark| *mark == c)
+}
+
+/// A character that is none of these, a small letter if one is left. `None`: each character is one of them.
+fn other_than(marks: &[char]) -> Option<char>
+    ensures some { IfSome result (λ c. is_among marks.now c ≡ false) }
+    ensures none { IfNone result ((c : ℕ) → IsScalar c → is_among marks.now c ≡ true) }
+{
+    if let Some(c) = other_within(marks, u32::from('a'), u32::from('z') + 1) {
+        return Some(c);
+    }
+    other_within(marks, 0, u32::from(char::MAX) + 1)
+}
+
+/// The first character that is none of these, from a code up to another.
+fn other_within(marks: &[char], first: u32, end: u32) -> Option<char>
+    ensures some { IfSome result (λ c. is_among marks.now c ≡ false) }
+    ensures none { IfNone result ((c : ℕ) → IsScalar c → first ≤ c → c < end → is_among marks.now c ≡ true) }
+{
+    for code in first..end {
+        if let Some(c) = char::from_u32(code)
+            && !is_among(marks, c)
+        {
+            return Some(c);
+        }
+    }
+    None
+}

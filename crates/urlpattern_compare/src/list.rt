@@ -1,0 +1,78 @@
+//! Lists of patterns: which cover which.
+
+ghost use Rattle.std.specs.Prelude.{◌≡◌, map, IfOk, OnOk};
+ghost use Rattle.urlpattern_compare.specs.Comparing.{AreUnreachable, IsFirstCovering, Tells, with_found};
+
+use crate::pattern::{PatternCovering, PatternParts};
+use std::alloc::{AllocError, Global};
+
+/// A pattern of a list that one before it covers.
+#[derive(Clone, Copy, Debug, PartialEq, Eq)]
+pub struct Shadowed {
+    /// The index of the pattern.
+    pub pattern: usize,
+    /// The index of the first that is known to cover it.
+    pub by: usize,
+}
+
+/// Returns the index of the first of these patterns that is known to cover the asked one.
+///
+/// Each pattern before it does not mean some eight texts that the asked one means, or it is not known whether it does.
+pub fn first_covering(
+    alloc: Global,
+    patterns: &[&PatternParts],
+    asked: &PatternParts,
+) -> Result<Option<usize>, AllocError>
+    ensures { IfOk result (IsFirstCovering (map (λ pattern. pattern.now) patterns.now) asked.now) }
+{
+    for index in 0..patterns.len() {
+        let covers = is_known_to_cover(alloc, patterns[index], asked)?;
+        if covers {
+            return Ok(Some(index));
+        }
+    }
+    Ok(None)
+}
+
+/// Whether it is known that the pattern covers the asked one.
+fn is_known_to_cover(
+    alloc: Global,
+    pattern: &PatternParts,
+    asked: &PatternParts,
+) -> Result<bool, AllocError>
+    ensures { IfOk result (Tells pattern.now asked.now) }
+{
+    let covering = pattern.covers(alloc, asked)?;
+    match covering {
+        PatternCovering::Covered => Ok(true),
+        PatternCovering::NotCovered(parting) => {
+            drop(parting);
+            Ok(false)
+        }
+        PatternCovering::Unknown(_, _) => Ok(false),
+    }
+}
+
+/// Lists each pattern that one before it is known to cover, in their order, with the index of the first such one.
+///
+/// In a list whose first match counts these are never found. A pattern that several others cover only together is not listed.
+pub fn unreachable(alloc: Global, patterns: &[&PatternParts]) -> Result<Vec<Shadowed>, AllocError>
+    ensures { IfOk result (λ found. AreUnreachable (map (λ pattern. pattern.now) patterns.now) found.items) }
+{
+    let mut found = Vec::new(alloc);
+    for index in 0..patterns.len() {
+        let by = first_covering(alloc, &patterns[..index], patterns[index])?;
+        add(&mut found, index, by)?;
+    }
+    Ok(found)
+}
+
+/// Adds a pattern that this one covers, if one does.
+fn add(found: &mut Vec<Shadowed>, pattern: usize, by: Option<usize>) -> Result<(), AllocError>
+    ensures { OnOk result (found.new.items ≡ with_found found.old.items pattern by) }
+{
+    if let Some(by) = by {
+        found.push(Shadowed { pattern, by })?;
+    }
+    Ok(())
+}

@@ -1,0 +1,187 @@
+//! An automaton is made of parts, from the last to the first.
+
+ghost use Rattle.std.specs.Prelude.{◌≡◌, ◌≤◌, ◌<◌, ◌+◌, ◌++◌, ℕ, [], IfNone, IfOk, OnOk, length};
+ghost use Rattle.urlpattern_compare.specs.{Answers.AcceptsMeaning, Answers.IfMade, Automata.IsWithin};
+ghost use Rattle.urlpattern_compare.specs.Making.{HasManyStates, edges_to, heads, made, made_view, may_miss, repeats, with_again, with_cell, with_cells, with_copies};
+ghost use Rattle.urlpattern_meaning.specs.PartMeaning.{AreGenerated};
+ghost use Rattle.urlpattern_syntax.specs.{Options.options_view, Parts.parts_view};
+
+use crate::automaton::{Automaton, Edge, Test};
+use crate::cells::{Cell, cells_of, has_one};
+use std::alloc::{AllocError, Global};
+use urlpattern_syntax::parser::{Options, Part, PartModifier};
+
+/// The number of states that an automaton of parts may have: one for each character of their texts, two for each wildcard, and one.
+pub const MOST_STATES: usize = 10_000;
+
+/// Makes the automaton of parts. `None`: it would have more than [`MOST_STATES`] states.
+pub(crate) fn make(
+    alloc: Global,
+    options: &Options,
+    parts: &[Part],
+) -> Result<Option<Automaton>, AllocError>
+    ensures made { IfMade result (λ automaton. made_view automaton ≡ made (options_view options.now) (parts_view parts.now)) }
+    ensures many { IfOk result (λ found. IfNone found (HasManyStates (options_view options.now) (parts_view parts.now))) }
+{
+    let mut automaton = Automaton {
+        edges: Vec::new(alloc),
+        starts: vec![in alloc; 0]?,
+        states: 1,
+    };
+    let mut left = parts;
+    while let Some((part, before)) = left.split_last() {
+        let cells = cells_of(alloc, options, part)?;
+        if cells.len() > MOST_STATES || automaton.states > MOST_STATES {
+            return Ok(None);
+        }
+        automaton.add_copies(alloc, part.modifier, &cells)?;
+        left = before;
+    }
+    Ok(Some(automaton))
+}
+
+impl Automaton {
+    /// Makes the automaton of parts. `None`: it would have more than [`MOST_STATES`] states; where it has less than twice as many, it
+    /// may be made all the same.
+    ///
+    /// It accepts what the parts mean, if none of them is a custom regular expression.
+    pub fn of_parts(
+        alloc: Global,
+        options: &Options,
+        parts: &[Part],
+    ) -> Result<Option<Self>, AllocError>
+        ensures within { IfMade result IsWithin }
+        ensures many { IfOk result (λ found. IfNone found (HasManyStates (options_view options.now) (parts_view parts.now))) }
+        ensures accepts { AreGenerated (parts_view parts.now) → IfMade result (AcceptsMeaning (options_view options.now) (parts_view parts.now)) }
+    {
+        make(alloc, options, parts)
+    }
+
+    /// Puts copies of the cells before it, as many as the modifier allows.
+    fn add_copies(
+        &mut self,
+        alloc: Global,
+        modifier: PartModifier,
+        cells: &[Cell],
+    ) -> Result<(), AllocError>
+        requires { self.old.states + length cells.now ≤ usize.MAX }
+        ensures { OnOk result (made_view self.new ≡ with_copies (made_view self.old) modifier cells.now) }
+    {
+        let missing = if may_miss(modifier) && has_one(cells) {
+            Vec::from_slice(alloc, &self.starts)?
+        } else {
+            Vec::new(alloc)
+        };
+        self.add_again(alloc, repeats(modifier), cells)?;
+        self.add_cells(cells)?;
+        self.starts.extend_from_slice(&missing)
+    }
+
+    /// Lets the cells that come before it stand again where they stood.
+    fn add_again(&mut self, alloc: Global, again: bool, cells: &[Cell]) -> Result<(), AllocError>
+        requires { self.old.states + length cells.now ≤ usize.MAX }
+        ensures { OnOk result (made_view self.new ≡ with_again (made_view self.old) again cells.now) }
+    {
+        if again && has_one(cells) {
+            let heads = heads(alloc, self.states, cells)?;
+            self.starts.extend_from_slice(&heads)?;
+        }
+        Ok(())
+    }
+
+    /// Puts the cells before it, the last first.
+    fn add_cells(&mut self, cells: &[Cell]) -> Result<(), AllocError>
+        requires { self.old.states + length cells.now ≤ usize.MAX }
+        ensures { OnOk result (made_view self.new ≡ with_cells (made_view self.old) cells.now) }
+    {
+        for cell in cells {
+            match *cell {
+                Cell::One(test) => self.add_one(test)?,
+                Cell::Many(test) => self.add_many(test)?,
+            }
+        }
+        Ok(())
+    }
+
+    /// Puts one character before it.
+    fn add_one(&mut self, test: Test) -> Result<(), AllocError>
+        requires { self.old.states < usize.MAX }
+        ensures { OnOk result (made_view self.new ≡ with_cell (made_view self.old) (Cell.One test)) }
+    {
+        self.add_edges(test)?;
+        self.starts.clear();
+        self.starts.push(self.states)?;
+        self.states += 1;
+        Ok(())
+    }
+
+    /// Puts any number of characters before it.
+    fn add_many(&mut self, test: Test) -> Result<(), AllocError>
+        requires { self.old.states < usize.MAX }
+        ensures { OnOk result (made_view self.new ≡ with_cell (made_view self.old) (Cell.Many test)) }
+    {
+        self.starts.push(self.states)?;
+        self.add_edges(test)?;
+        self.states += 1;
+        Ok(())
+    }
+
+    /// Adds edges from a new state to the starts.
+    fn add_edges(&mut self, test: Test) -> Result<(), AllocError>
+        ensures edges { OnOk result (self.new.edges.items ≡ self.old.edges.items ++ edges_to self.old.states test self.old.starts.items) }
+        ensures starts { OnOk result (self.new.starts.items ≡ self.old.starts.items) }
+        ensures states { OnOk result (self.new.states ≡ self.old.states) }
+    {
+        add_edges(&mut self.edges, self.states, test, &self.starts)
+    }
+}
+
+/// Adds edges from a state to others.
+fn add_edges(
+    edges: &mut Vec<Edge>,
+    from: usize,
+    test: Test,
+    others: &[usize],
+) -> Result<(), AllocError>
+    ensures { OnOk result (edges.new.items ≡ edges.old.items ++ edges_to from test others.now) }
+{
+    for to in others {
+        edges.push(Edge {
+            from,
+            test,
+            to: *to,
+        })?;
+    }
+    Ok(())
+}
+
+/// The states from which the cells are read that are made after so many states, the last first.
+fn heads(alloc: Global, states: usize, cells: &[Cell]) -> Result<Vec<usize>, AllocError>
+    requires { states + length cells.now ≤ usize.MAX }
+    ensures { IfOk result (λ starts. starts.items ≡ heads [] states cells.now) }
+{
+    let mut starts = Vec::new(alloc);
+    let mut count = states;
+    for cell in cells {
+        if let Cell::One(_) = cell {
+            starts.clear();
+        }
+        starts.push(count)?;
+        count += 1;
+    }
+    Ok(starts)
+}
+
+/// Whether a copy of a part may stand again where one stood.
+fn repeats(modifier: PartModifier) -> bool
+    ensures { result ≡ repeats modifier }
+{
+    matches!(modifier, PartModifier::ZeroOrMore | PartModifier::OneOrMore)
+}
+
+/// Whether a part may be left out.
+fn may_miss(modifier: PartModifier) -> bool
+    ensures { result ≡ may_miss modifier }
+{
+    matches!(modifier, PartModifier::Optional | PartModifier::ZeroOrMore)
+}

@@ -1,0 +1,153 @@
+//! What parts mean, compared.
+
+ghost use Rattle.std.specs.Prelude.{◌≡◌, IfOk, false, true};
+ghost use Rattle.std.specs.List.{list_any};
+ghost use Rattle.urlpattern_compare.specs.Answers.{IsCoveringOf, IsOverlapOf, IsSoughtOf, answer_of, is_custom_part};
+
+use crate::making::make;
+use crate::search::Found;
+use std::alloc::{AllocError, Global};
+use urlpattern_syntax::parser::{Options, Part, PartType};
+
+/// Whether each text that is asked for is meant.
+#[derive(Debug, Drop)]
+pub enum Covering {
+    /// Each is.
+    Covered,
+    /// This one is not: its characters.
+    NotCovered(Vec<char>),
+    /// It is not known.
+    Unknown(Reason),
+}
+
+/// Whether both mean a text.
+#[derive(Debug, Drop)]
+pub enum Overlap {
+    /// They mean none.
+    Apart,
+    /// Both mean this one: its characters.
+    Common(Vec<char>),
+    /// It is not known.
+    Unknown(Reason),
+}
+
+/// Why it is not known.
+#[derive(Clone, Copy, Debug, PartialEq, Eq)]
+pub enum Reason {
+    /// One of the parts is a custom regular expression.
+    CustomExpression,
+    /// Case is ignored.
+    IgnoredCase,
+    /// The parts have more than [`MOST_STATES`](crate::MOST_STATES) characters and wildcards, or a search
+    /// comes to more than [`MOST_PAIRS`](crate::MOST_PAIRS) pairs.
+    TooMany,
+}
+
+/// What is known of texts.
+#[derive(Debug, Drop)]
+pub(crate) enum Answer {
+    /// This text.
+    Text(Vec<char>),
+    /// There is no such text.
+    Nothing,
+    /// It is not known.
+    Unknown(Reason),
+}
+
+/// Returns whether each text without line feed that the asked parts mean is meant by the parts.
+///
+/// `NotCovered` has one of the shortest texts that are not.
+pub fn covers(
+    alloc: Global,
+    options: &Options,
+    parts: &[Part],
+    asked_options: &Options,
+    asked: &[Part],
+) -> Result<Covering, AllocError>
+    ensures { IfOk result (IsCoveringOf options.now parts.now asked_options.now asked.now) }
+{
+    let answer = find_meant(alloc, asked_options, asked, options, parts, false)?;
+    match answer {
+        Answer::Nothing => Ok(Covering::Covered),
+        Answer::Text(text) => Ok(Covering::NotCovered(text)),
+        Answer::Unknown(reason) => Ok(Covering::Unknown(reason)),
+    }
+}
+
+/// Returns whether both lists of parts mean a text without line feed.
+///
+/// `Common` has one of the shortest such texts.
+pub fn overlaps(
+    alloc: Global,
+    options: &Options,
+    parts: &[Part],
+    other_options: &Options,
+    others: &[Part],
+) -> Result<Overlap, AllocError>
+    ensures { IfOk result (IsOverlapOf options.now parts.now other_options.now others.now) }
+{
+    let answer = find_meant(alloc, options, parts, other_options, others, true)?;
+    match answer {
+        Answer::Nothing => Ok(Overlap::Apart),
+        Answer::Text(text) => Ok(Overlap::Common(text)),
+        Answer::Unknown(reason) => Ok(Overlap::Unknown(reason)),
+    }
+}
+
+/// Finds a text that the parts mean, and others mean or do not.
+fn find_meant(
+    alloc: Global,
+    options: &Options,
+    parts: &[Part],
+    other_options: &Options,
+    others: &[Part],
+    is_meant: bool,
+) -> Result<Answer, AllocError>
+    ensures { IfOk result (IsSoughtOf options.now parts.now other_options.now others.now is_meant) }
+{
+    if options.ignore_case {
+        return Ok(Answer::Unknown(Reason::IgnoredCase));
+    }
+    if other_options.ignore_case {
+        return Ok(Answer::Unknown(Reason::IgnoredCase));
+    }
+    if has_custom(parts) {
+        return Ok(Answer::Unknown(Reason::CustomExpression));
+    }
+    if has_custom(others) {
+        return Ok(Answer::Unknown(Reason::CustomExpression));
+    }
+    let Some(one) = make(alloc, options, parts)? else {
+        return Ok(Answer::Unknown(Reason::TooMany));
+    };
+    let Some(other) = make(alloc, other_options, others)? else {
+        return Ok(Answer::Unknown(Reason::TooMany));
+    };
+    let found = one.find(alloc, &other, is_meant)?;
+    Ok(answer_of(found))
+}
+
+/// What a search found.
+fn answer_of(found: Found) -> Answer
+    ensures { result ≡ answer_of found }
+{
+    match found {
+        Found::Text(text) => Answer::Text(text),
+        Found::Nothing => Answer::Nothing,
+        Found::TooMany => Answer::Unknown(Reason::TooMany),
+    }
+}
+
+/// Whether one of the parts is a custom regular expression.
+fn has_custom(parts: &[Part]) -> bool
+    ensures { result ≡ list_any is_custom_part parts.now }
+{
+    parts.iter().any(|part| is_custom(part))
+}
+
+/// Whether the part is a custom regular expression.
+fn is_custom(part: &Part) -> bool
+    ensures { result ≡ is_custom_part part.now }
+{
+    matches!(part.kind, PartType::Regexp)
+}

@@ -1,0 +1,198 @@
+//! A search for a text that one automaton accepts, and another accepts or does not.
+
+ghost use Rattle.std.specs.Prelude.{◌≡◌, ◌≢◌, ◌↔◌, ℕ, All, Contains, IfOk, OnOk, IsTrue};
+ghost use Rattle.urlpattern_compare.specs.Automata.{IsWithin};
+ghost use Rattle.urlpattern_compare.specs.Searching.{AreUnlike, IsBy, IsFoundBy, IsExtended, IsFollowed, IsFollowedBy, IsGrownBy, IsReached, IsSeen, IsStep, IsStepBy, starts_of};
+ghost use Rattle.urlpattern_syntax.specs.Text.{line_feed};
+
+use crate::automaton::{Automaton, Edge};
+use crate::classes::classes;
+use crate::states::{is_in, moved, set_of};
+use std::alloc::{AllocError, Global};
+
+/// What a search found.
+#[derive(Debug, Drop)]
+pub enum Found {
+    /// This text.
+    Text(Vec<char>),
+    /// There is no such text.
+    Nothing,
+    /// The search came to its bound.
+    TooMany,
+}
+
+/// The number of pairs after which a search is given up.
+pub const MOST_PAIRS: usize = 10_000;
+
+/// A state of one automaton and the states of another in which a text may leave them.
+#[derive(Debug, Drop)]
+pub(crate) struct Pair {
+    pub(crate) state: usize,
+    pub(crate) states: Vec<bool>,
+    pub(crate) text: Vec<char>,
+}
+
+impl Automaton {
+    /// Finds a text without line feed that this automaton accepts and the other accepts, or does not accept.
+    ///
+    /// It is one of the shortest. The search is given up where it comes to more than [`MOST_PAIRS`] pairs of a state and states.
+    pub fn find(
+        &self,
+        alloc: Global,
+        other: &Automaton,
+        is_accepted: bool,
+    ) -> Result<Found, AllocError>
+        requires one { IsWithin self.now }
+        requires two { IsWithin other.now }
+        ensures { IfOk result (IsFoundBy self.now other.now is_accepted) }
+    {
+        let classes = classes(alloc, &self.edges, &other.edges)?;
+        let mut pairs = first_pairs(alloc, self, other)?;
+        let mut next = 0;
+        while next < pairs.len() && pairs.len() <= MOST_PAIRS {
+            let pair = copy_of(alloc, &pairs[next])?;
+            if pair.state == 0 && is_in(&pair.states, 0) == is_accepted {
+                return Ok(Found::Text(pair.text));
+            }
+            follow(alloc, self, other, &classes, &pair, &mut pairs)?;
+            next += 1;
+        }
+        if next < pairs.len() {
+            return Ok(Found::TooMany);
+        }
+        Ok(Found::Nothing)
+    }
+}
+
+/// The pairs before the first character.
+fn first_pairs(alloc: Global, one: &Automaton, other: &Automaton) -> Result<Vec<Pair>, AllocError>
+    requires { IsWithin other.now }
+    ensures reached { IfOk result (λ pairs. All (IsReached one.now other.now) pairs.items) }
+    ensures starts { IfOk result (λ pairs.
+        (state : ℕ) → Contains one.now.starts.items state → IsSeen pairs.items state (starts_of other.now)) }
+    ensures unlike { IfOk result (λ pairs. AreUnlike pairs.items) }
+{
+    let mut pairs = Vec::new(alloc);
+    for state in &one.starts {
+        let states = set_of(alloc, &other.starts, other.states)?;
+        if is_seen(&pairs, *state, &states) {
+            continue;
+        }
+        pairs.push(Pair {
+            state: *state,
+            states,
+            text: Vec::new(alloc),
+        })?;
+    }
+    Ok(pairs)
+}
+
+/// Adds the pairs to which one of the characters leads from a pair.
+fn follow(
+    alloc: Global,
+    one: &Automaton,
+    other: &Automaton,
+    classes: &[char],
+    pair: &Pair,
+    pairs: &mut Vec<Pair>,
+) -> Result<(), AllocError>
+    requires within { IsWithin other.now }
+    requires pair { IsReached one.now other.now pair.now }
+    requires pairs { All (IsReached one.now other.now) pairs.old.items }
+    ensures reached { OnOk result (All (IsReached one.now other.now) pairs.new.items) }
+    ensures kept { OnOk result (IsExtended pairs.old.items pairs.new.items) }
+    ensures followed { OnOk result (IsFollowed one.now other.now classes.now pairs.new.items pair.now) }
+    ensures unlike { OnOk result (AreUnlike pairs.old.items → AreUnlike pairs.new.items) }
+{
+    for c in classes {
+        follow_by(alloc, one, other, *c, pair, pairs)?;
+    }
+    Ok(())
+}
+
+/// Adds the pairs to which the character leads from a pair, unless it is a line feed.
+fn follow_by(
+    alloc: Global,
+    one: &Automaton,
+    other: &Automaton,
+    c: char,
+    pair: &Pair,
+    pairs: &mut Vec<Pair>,
+) -> Result<(), AllocError>
+    requires within { IsWithin other.now }
+    requires pair { IsReached one.now other.now pair.now }
+    requires pairs { All (IsReached one.now other.now) pairs.old.items }
+    ensures reached { OnOk result (All (IsReached one.now other.now) pairs.new.items) }
+    ensures kept { OnOk result (IsExtended pairs.old.items pairs.new.items) }
+    ensures followed { OnOk result (c ≢ line_feed → IsFollowedBy one.now other.now c pairs.new.items pair.now) }
+    ensures unlike { OnOk result (AreUnlike pairs.old.items → AreUnlike pairs.new.items) }
+{
+    if c == '\n' {
+        return Ok(());
+    }
+    let states = moved(alloc, &other.edges, &pair.states, c)?;
+    for edge in &one.edges {
+        follow_edge(alloc, *edge, pair, &states, c, pairs)?;
+    }
+    Ok(())
+}
+
+/// Adds the pair to which an edge leads by the character, if it leads there and the pair is not there yet.
+fn follow_edge(
+    alloc: Global,
+    edge: Edge,
+    pair: &Pair,
+    states: &[bool],
+    c: char,
+    pairs: &mut Vec<Pair>,
+) -> Result<(), AllocError>
+    ensures kept { OnOk result (IsExtended pairs.old.items pairs.new.items) }
+    ensures seen { OnOk result (IsBy edge pair.now c → IsSeen pairs.new.items edge.to states.now) }
+    ensures others { OnOk result (IsGrownBy (IsStepBy edge pair.now c states.now) pairs.old.items pairs.new.items) }
+    ensures unlike { OnOk result (AreUnlike pairs.old.items → AreUnlike pairs.new.items) }
+{
+    if edge.from != pair.state || !edge.test.passes(c) {
+        return Ok(());
+    }
+    if is_seen(pairs, edge.to, states) {
+        return Ok(());
+    }
+    let mut text = Vec::from_slice(alloc, &pair.text)?;
+    text.push(c)?;
+    pairs.push(Pair {
+        state: edge.to,
+        states: Vec::from_slice(alloc, states)?,
+        text,
+    })?;
+    Ok(())
+}
+
+/// A copy of a pair.
+fn copy_of(alloc: Global, pair: &Pair) -> Result<Pair, AllocError>
+    ensures { IfOk result (IsStep pair.now.state pair.now.states.items pair.now.text.items) }
+{
+    Ok(Pair {
+        state: pair.state,
+        states: Vec::from_slice(alloc, &pair.states)?,
+        text: Vec::from_slice(alloc, &pair.text)?,
+    })
+}
+
+/// Whether one of the pairs has this state and these states.
+fn is_seen(pairs: &[Pair], state: usize, states: &[bool]) -> bool
+    ensures { IsTrue result ↔ IsSeen pairs.now state states.now }
+{
+    for pair in pairs {
+        if pair.state == state && are_same(&pair.states, states) {
+            return true;
+        }
+    }
+    false
+}
+
+/// Whether the sets of states are the same.
+fn are_same(states: &[bool], others: &[bool]) -> bool
+    ensures { IsTrue result ↔ states.now ≡ others.now }
+{
+    states == others
+}

@@ -1,0 +1,63 @@
+//! Sets of an automaton's states, with a flag for each state.
+
+ghost use Rattle.std.specs.Prelude.{◌≡◌, IfOk, false, replicate, slice_set, true};
+ghost use Rattle.urlpattern_compare.specs.Searching.{is_in, moved, with_states};
+
+use crate::automaton::Edge;
+use std::alloc::{AllocError, Global};
+
+/// Whether the state is in the set.
+pub(crate) fn is_in(flags: &[bool], state: usize) -> bool
+    ensures { result ≡ is_in flags.now state }
+{
+    state < flags.len() && flags[state]
+}
+
+/// Adds a state.
+fn add(flags: &mut [bool], state: usize)
+    ensures { flags.new ≡ slice_set flags.old state true }
+{
+    if state < flags.len() {
+        flags[state] = true;
+    }
+}
+
+/// No state, of so many.
+fn none(alloc: Global, states: usize) -> Result<Vec<bool>, AllocError>
+    ensures { IfOk result (λ flags. flags.items ≡ replicate states false) }
+{
+    vec![in alloc; false; states]
+}
+
+/// These states, of so many.
+pub(crate) fn set_of(
+    alloc: Global,
+    starts: &[usize],
+    states: usize,
+) -> Result<Vec<bool>, AllocError>
+    ensures { IfOk result (λ flags. flags.items ≡ with_states (replicate states false) starts.now) }
+{
+    let mut flags = none(alloc, states)?;
+    for state in starts {
+        add(&mut flags, *state);
+    }
+    Ok(flags)
+}
+
+/// The states to which the edges lead from these by the character.
+pub(crate) fn moved(
+    alloc: Global,
+    edges: &[Edge],
+    from: &[bool],
+    c: char,
+) -> Result<Vec<bool>, AllocError>
+    ensures { IfOk result (λ flags. flags.items ≡ moved edges.now from.now c) }
+{
+    let mut flags = none(alloc, from.len())?;
+    for edge in edges {
+        if is_in(from, edge.from) && edge.test.passes(c) {
+            add(&mut flags, edge.to);
+        }
+    }
+    Ok(flags)
+}

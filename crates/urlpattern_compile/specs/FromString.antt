@@ -1,0 +1,45 @@
+-- What a pattern is that is compiled from a constructor string, after the URLPattern Standard, section "The URLPattern
+-- class", at "create a URL pattern".
+use Rattle.std.specs.Prelude.{◌≡◌, ◌⊎◌, ℕ, List, Option, Ok}
+use Rattle.url.specs.Parts.{Parts}
+use Rattle.urlpattern_canonical.specs.BaseUrls.{parsed_base, text_bytes}
+use Rattle.urlpattern_canonical.specs.Canonical.{Reports}
+use Rattle.urlpattern_matcher.specs.declared.regexp.RegExp.{Ghosts as Engine}
+use Rattle.urlpattern_init.specs.ConstructorString.{HasProtocolOrBase, RefusesString, SplitsInto}
+use Rattle.urlpattern_init.specs.{Inheritance.values_view, SpecialProtocol.IsSpecialTo}
+use Rattle.urlpattern_init.specs.declared.init.UrlPatternInit.{UrlPatternInit}
+use Rattle.urlpattern_inputs.specs.declared.options.UrlPatternOptions.{UrlPatternOptions}
+use Rattle.urlpattern_compile.specs.PatternViews.{PatternView}
+use Rattle.urlpattern_compile.specs.{Compiled.IsPatternOfInit, Compiled.RefusesInit}
+use Rattle.urlpattern_syntax.specs.Errors.{ErrorView}
+
+-- ---- inits
+
+-- The init of a constructor string with this base URL; the engine decides which protocols are special.
+pub record IsInitOfText {E : Type 0} (engine : Engine E) (text : List ℕ) (base : Option (List ℕ)) (init : UrlPatternInit) : Type 0 where
+  pub has_base : parsed_base base ≡ Ok init.base_url
+  pub is_split : SplitsInto (IsSpecialTo engine) text (values_view init)
+  pub is_complete : HasProtocolOrBase init
+
+-- a constructor string whose base URL is parsed is refused with this error
+abbrev pub RefusesSplit : (text : List ℕ) → (base : Option (List ℕ)) → ErrorView → Type 0
+RefusesSplit text base error = (url : Option Parts) × (parsed_base base ≡ Ok url) × RefusesString text url error
+
+-- a constructor string is refused with this error, that of its base URL or its own
+abbrev pub RefusesText : (text : List ℕ) → (base : Option (List ℕ)) → ErrorView → Type 0
+RefusesText text base error =
+    Reports (parsed_base base) (text_bytes base) error ⊎ RefusesSplit text base error
+
+-- ---- patterns
+
+-- The constructor string with this base URL is compiled to the pattern.
+pub record IsPatternOfText {E : Type 0} (engine : Engine E) (text : List ℕ) (base : Option (List ℕ)) (asked : UrlPatternOptions) (pattern : PatternView E) : Type 0 where
+  pub init : UrlPatternInit
+  pub is_constructed : IsInitOfText engine text base init
+  pub is_compiled : IsPatternOfInit engine init asked pattern
+
+-- it is refused with this error, as a constructor string or when it is compiled
+abbrev pub RefusesPatternOfText : {E : Type 0} → Engine E → (text : List ℕ) → (base : Option (List ℕ)) → UrlPatternOptions → ErrorView → Type 0
+RefusesPatternOfText engine text base asked error =
+    RefusesText text base error
+    ⊎ ((init : UrlPatternInit) × IsInitOfText engine text base init × RefusesInit engine init asked error)

@@ -1,0 +1,391 @@
+//! Compiles a pattern from an init.
+
+ghost use Rattle.std.specs.Prelude.{◌≡◌, ◌↔◌, ⊤, [], codes, false, length, option_copied, option_map, unwrap_or, IfErr, IfOk, IfSome, IsAscii, IsTrue, MatchBool, Some};
+ghost use Rattle.std.specs.Str.{chars};
+ghost use Rattle.urlpattern_canonical.specs.Canonical.{IsAnswer};
+ghost use Rattle.urlpattern_matcher.specs.Components.{component_view, pattern_text};
+ghost use Rattle.urlpattern_matcher.specs.Matchers.{matcher_view};
+ghost use Rattle.urlpattern_meaning.specs.FirstAnswers.{TookText};
+ghost use Rattle.urlpattern_init.specs.{Inheritance.values_view, SpecialProtocol.IsKnownProtocol};
+ghost use Rattle.urlpattern_compile.specs.Compiled.{FirstRefused, HasEngine, IsComponentRefused, IsPathKind, RefusesInit, RefusesValues, after_protocol, canonical_in_hostname, has_default_port, is_ipv6_pattern, is_mark, is_same, pattern_of, pattern_values, without_default_port};
+ghost use Rattle.urlpattern_compile.specs.CompilerSteps.{IsCompiledWith, IsRefusedWith, compiled_values, manner_by};
+ghost use Rattle.urlpattern_compile.specs.Kept.{AreCompiledKeeping, EachIsKept, IsKept, IsKeptOfInit};
+ghost use Rattle.urlpattern_components.specs.declared.eight.ComponentName.{ComponentName};
+ghost use Rattle.urlpattern_syntax.specs.Errors.{MemoryOr, OnlyOutOfMemory};
+ghost use Rattle.urlpattern_syntax.specs.Options.{options_view};
+ghost use Rattle.urlpattern_syntax.specs.Reading.{encoding_by};
+ghost use Rattle.urlpattern_syntax.specs.Text.{begins_with, text_of};
+
+use std::alloc::Global;
+use urlpattern_canonical::canonicalize_and_process::{
+    Canonicalizer, ProcessType, begins_with_slash, canonicalize_ipv6_hostname, is_special_scheme,
+    special_scheme_default_port, without_first,
+};
+use urlpattern_components::{ComponentName, Eight};
+use urlpattern_init::{UrlPatternInit, accepts_special_scheme, process};
+use urlpattern_inputs::UrlPatternOptions;
+use urlpattern_matcher::component::{Component, ComponentWithParts};
+use urlpattern_matcher::matcher::{InnerMatcher, Matcher};
+use urlpattern_matcher::regexp::RegExp;
+use urlpattern_parser::parser::Options;
+use urlpattern_syntax::{Error, RegexSyntax};
+
+/// Compiles the components of a pattern from an init: from its own texts, and from what they inherit from its base URL.
+///
+/// The error is that of the first component that is refused, or that memory ran out. The protocol is compiled first, then
+/// the hostname and the pathname, and then the others as they stand in a URL. A component is refused for its text, by
+/// `url` for a fixed text in it, or by the engine for its regular expression.
+///
+/// A protocol may be known, as that of a constructor string is: its text, and what it was compiled
+/// to. It is not compiled again if the processed text and the options are the same.
+///
+/// <https://urlpattern.spec.whatwg.org/#url-pattern-create>
+pub fn compile_init<R: RegExp>(
+    alloc: Global,
+    init: UrlPatternInit,
+    known: Option<(&str, ComponentWithParts<R>)>,
+    options: UrlPatternOptions,
+) -> Result<Eight<ComponentWithParts<R>>, Error>
+    requires { IfSome known (IsKnownProtocol R.RegExp) }
+    ensures compiled { IfOk result (IsKeptOfInit R.RegExp init options) }
+    ensures refused { IfErr result (MemoryOr (RefusesInit R.RegExp init options)) }
+{
+    let values = pattern_values(alloc, &init);
+    drop(init);
+    let values = values?;
+    let components = compile_values(alloc, &values, known, &options);
+    drop(values);
+    components
+}
+
+/// The components that the values are compiled to.
+///
+/// The error is that of the first component that is refused, or that memory ran out.
+fn compile_values<R: RegExp>(
+    alloc: Global,
+    values: &UrlPatternInit,
+    known: Option<(&str, ComponentWithParts<R>)>,
+    options: &UrlPatternOptions,
+) -> Result<Eight<ComponentWithParts<R>>, Error>
+    requires { IfSome known (IsKnownProtocol R.RegExp) }
+    ensures compiled { IfOk result (AreCompiledKeeping R.RegExp options.now (values_view values.now)) }
+    ensures refused { IfErr result (MemoryOr (RefusesValues R.RegExp options.now (values_view values.now))) }
+{
+    let canonicalizer = Canonicalizer::shared(alloc)?;
+    let compiler = Compiler {
+        alloc,
+        canonicalizer,
+        values,
+        options,
+    };
+    compiler.components(known)
+}
+
+/// The values of an init as a pattern, where a default port is emptied.
+///
+/// The error is that memory ran out.
+pub fn pattern_values(alloc: Global, init: &UrlPatternInit) -> Result<UrlPatternInit, Error>
+    ensures ok { IfOk result (λ values. pattern_values init.now ≡ Ok (values_view values)) }
+    ensures memory { OnlyOutOfMemory result }
+{
+    let values = process(alloc, init, &ProcessType::Pattern)?;
+    Ok(without_default_port(alloc, values))
+}
+
+/// The values, where a default port is emptied.
+fn without_default_port(alloc: Global, mut values: UrlPatternInit) -> UrlPatternInit
+    ensures { values_view result ≡ without_default_port (values_view values) }
+{
+    if has_default_port(&values) {
+        values.port = Some(String::new(alloc));
+    }
+    values
+}
+
+/// Whether the port of an init is this one, or both are missing.
+fn is_port(port: &Option<String>, default: Option<&str>) -> bool
+    requires { IfSome (option_copied default) IsAscii }
+    ensures { result ≡ is_same (option_map text_of port.now) (option_copied default.entry) }
+{
+    match (port, default) {
+        (Some(port), Some(default)) => port.as_str() == default,
+        (None, None) => true,
+        _ => false,
+    }
+}
+
+/// Whether the protocol is special and the port is its default one.
+fn has_default_port(values: &UrlPatternInit) -> bool
+    ensures { result ≡ has_default_port (values_view values.now).protocol (values_view values.now).port }
+{
+    match &values.protocol {
+        Some(protocol) => {
+            is_special_scheme(protocol)
+                && is_port(&values.port, special_scheme_default_port(protocol))
+        }
+        None => false,
+    }
+}
+
+/// Whether the text begins with an opening square bracket.
+fn begins_with_bracket(text: &str) -> bool
+    ensures { result ≡ begins_with (is_mark (codes "[")) (chars text.now) }
+{
+    matches!(text.as_bytes(), [b'[', ..])
+}
+
+/// Whether the pattern of a hostname begins as an IPv6 address does.
+///
+/// <https://urlpattern.spec.whatwg.org/#hostname-pattern-is-an-ipv6-address>
+fn is_ipv6_pattern(pattern: &str) -> bool
+    ensures { result ≡ is_ipv6_pattern (chars pattern.now) }
+{
+    pattern != "["
+        && (begins_with_bracket(without_first(pattern, b'{'))
+            || begins_with_bracket(without_first(pattern, b'\\')))
+}
+
+/// The pattern text of a component, if it has one.
+pub fn pattern_of(values: &UrlPatternInit, component: ComponentName) -> Option<&str>
+    ensures { pattern_text result ≡ pattern_of (values_view values.now) component }
+{
+    values.get(component)
+}
+
+/// The component of a pattern text, with its parts. A regular expression that the engine refuses is an error, the whole one or that of
+/// the matcher.
+#[inline(always)]
+fn compile_component<R: RegExp, F: Fn(&str) -> Result<String, Error> + Drop>(
+    alloc: Global,
+    pattern: Option<&str>,
+    encoding_callback: F,
+    options: Options,
+) -> Result<ComponentWithParts<R>, Error>
+    requires { F.IsAlwaysCallable encoding_callback }
+    ensures compiled { IfOk result (IsCompiledWith R.RegExp pattern.entry options (encoding_by F.Fn encoding_callback)) }
+    ensures engine { IfOk result (λ made. HasEngine (component_view made.component)) }
+    ensures refused { IfErr result (MemoryOr (IsRefusedWith R.RegExp pattern.entry options (encoding_by F.Fn encoding_callback))) }
+{
+    let compiled = Component::compile_with_parts(alloc, pattern, encoding_callback, options);
+    if lacks_engine(&compiled) {
+        drop(compiled);
+        return Err(Error::RegExp(()));
+    }
+    compiled
+}
+
+/// Whether a component was compiled of which the engine refused a regular expression.
+#[inline(always)]
+fn lacks_engine<R: RegExp>(compiled: &Result<ComponentWithParts<R>, Error>) -> bool
+    ensures compiled { IfOk compiled.now (λ made. MatchBool result (¬ HasEngine (component_view made.component)) (HasEngine (component_view made.component))) }
+    ensures refused { IfErr compiled.now (λ _. result ≡ false) }
+{
+    match compiled {
+        Ok(made) => made.component.regexp.is_err() || holds_error(&made.component.matcher),
+        Err(_) => false,
+    }
+}
+
+/// Whether a matcher holds an error in place of the engine that it needs.
+#[inline(always)]
+fn holds_error<R: RegExp>(matcher: &Matcher<R>) -> bool
+    ensures { MatchBool result (¬ TookText (λ value. ⊤) (matcher_view matcher.now).inner) (TookText (λ value. ⊤) (matcher_view matcher.now).inner) }
+{
+    match &matcher.inner {
+        InnerMatcher::RegExp { regexp } => regexp.is_err(),
+        _ => false,
+    }
+}
+
+/// The values that are compiled to a pattern, under its options.
+#[derive(Drop)]
+pub struct Compiler<'a> {
+    /// The allocator.
+    pub alloc: Global,
+    /// What makes values canonical.
+    pub canonicalizer: Canonicalizer,
+    /// The values.
+    pub values: &'a UrlPatternInit,
+    /// The options.
+    pub options: &'a UrlPatternOptions,
+}
+
+impl Compiler<'_> {
+    /// The components: the protocol is compiled first, since it decides whether the pathname is hierarchical.
+    ///
+    /// The error is that of the first component that is refused, or that memory ran out.
+    pub(crate) fn components<R: RegExp>(
+        &self,
+        known: Option<(&str, ComponentWithParts<R>)>,
+    ) -> Result<Eight<ComponentWithParts<R>>, Error>
+        requires { IfSome known (IsKnownProtocol R.RegExp) }
+        ensures compiled { IfOk result (AreCompiledKeeping R.RegExp self.now.options.now (compiled_values self.now)) }
+        ensures refused { IfErr result (MemoryOr (RefusesValues R.RegExp self.now.options.now (compiled_values self.now))) }
+    {
+        let protocol = self.protocol(known)?;
+        let hierarchical = self.is_hierarchical(&protocol.component)?;
+        self.after_protocol(protocol, hierarchical)
+    }
+
+    /// The component of the protocol: what is known, if it is of this text and these options.
+    ///
+    /// The error is that its text or its regular expression is refused, or that memory ran out.
+    fn protocol<R: RegExp>(
+        &self,
+        known: Option<(&str, ComponentWithParts<R>)>,
+    ) -> Result<ComponentWithParts<R>, Error>
+        requires { IfSome known (IsKnownProtocol R.RegExp) }
+        ensures compiled { IfOk result (IsKept R.RegExp (manner_by self.now false ComponentName.Protocol)) }
+        ensures refused { IfErr result (MemoryOr (IsComponentRefused R.RegExp (manner_by self.now false ComponentName.Protocol))) }
+    {
+        if let (Some((text, made)), Some(own), RegexSyntax::Rust) =
+            (known, &self.values.protocol, self.options.regex_syntax)
+            && own.as_str() == text
+        {
+            let made = Ok(made);
+            if !lacks_engine(&made) {
+                return made;
+            }
+        }
+        self.component(ComponentName::Protocol, false)
+    }
+
+    /// The components with this protocol.
+    ///
+    /// The error is that of the first component that is refused, or that memory ran out.
+    fn after_protocol<R: RegExp>(
+        &self,
+        protocol: ComponentWithParts<R>,
+        hierarchical: bool,
+    ) -> Result<Eight<ComponentWithParts<R>>, Error>
+        requires { IsKept R.RegExp (manner_by self.now hierarchical ComponentName.Protocol) protocol }
+        ensures protocol { IfOk result (λ made. component_view made.protocol.component ≡ component_view protocol.component) }
+        ensures compiled { IfOk result (EachIsKept R.RegExp (manner_by self.now hierarchical)) }
+        ensures refused { IfErr result (MemoryOr (FirstRefused R.RegExp (manner_by self.now hierarchical) after_protocol)) }
+    {
+        Ok(Eight {
+            protocol,
+            hostname: self.component(ComponentName::Hostname, hierarchical)?,
+            pathname: self.component(ComponentName::Pathname, hierarchical)?,
+            username: self.component(ComponentName::Username, hierarchical)?,
+            password: self.component(ComponentName::Password, hierarchical)?,
+            port: self.component(ComponentName::Port, hierarchical)?,
+            search: self.component(ComponentName::Search, hierarchical)?,
+            hash: self.component(ComponentName::Hash, hierarchical)?,
+        })
+    }
+
+    /// The component of the pattern.
+    ///
+    /// The error is that its text or its regular expression is refused, or that memory ran out.
+    pub(crate) fn component<R: RegExp>(
+        &self,
+        component: ComponentName,
+        hierarchical: bool,
+    ) -> Result<ComponentWithParts<R>, Error>
+        ensures compiled { IfOk result (IsKept R.RegExp (manner_by self.now hierarchical component)) }
+        ensures refused { IfErr result (MemoryOr (IsComponentRefused R.RegExp (manner_by self.now hierarchical component))) }
+    {
+        let options = self.options_of(component, hierarchical)?;
+        let canonicalize = |text: &str| -> Result<String, Error>
+            ensures { IsAnswer ((manner_by self.entry.now hierarchical component).canonical (chars text.now)) (length text.now) result }
+        { self.canonical(component, hierarchical, text) };
+        let pattern = pattern_of(self.values, component);
+        compile_component(self.alloc, pattern, canonicalize, options)
+    }
+
+    /// The options that the pattern of the component is read under.
+    ///
+    /// The error is that memory ran out.
+    pub fn options_of(&self, component: ComponentName, hierarchical: bool) -> Result<Options, Error>
+        ensures ok { IfOk result (λ options. options_view options ≡ (manner_by self.now hierarchical component).options) }
+        ensures memory { OnlyOutOfMemory result }
+    {
+        let standard = match component {
+            ComponentName::Hostname => Options::hostname(self.alloc),
+            ComponentName::Pathname if hierarchical => Options::pathname(self.alloc)?,
+            _ => Options::default(self.alloc),
+        };
+        let takes_case = matches!(
+            component,
+            ComponentName::Pathname | ComponentName::Search | ComponentName::Hash
+        );
+        Ok(Options {
+            regex_syntax: self.options.regex_syntax,
+            ignore_case: takes_case && self.options.ignore_case,
+            ..standard
+        })
+    }
+
+    /// The canonical value of a fixed text in the pattern of the component.
+    ///
+    /// The error is the refusal of `url`, or that memory ran out.
+    pub fn canonical(
+        &self,
+        component: ComponentName,
+        hierarchical: bool,
+        text: &str,
+    ) -> Result<String, Error>
+        ensures { IsAnswer ((manner_by self.now hierarchical component).canonical (chars text.now)) (length text.now) result }
+    {
+        let values = &self.canonicalizer;
+        match component {
+            ComponentName::Protocol => values.protocol(text),
+            ComponentName::Username => values.username(text),
+            ComponentName::Password => values.password(text),
+            ComponentName::Hostname => self.canonical_in_hostname(text),
+            ComponentName::Port => values.port(text, None),
+            ComponentName::Pathname if hierarchical => values.pathname(text),
+            ComponentName::Pathname => values.opaque_pathname(text),
+            ComponentName::Search => values.search(text),
+            ComponentName::Hash => values.hash(text),
+        }
+    }
+
+    /// The canonical value of a fixed text in the pattern of the hostname, which may be that of an IPv6 address.
+    ///
+    /// The error is the refusal of `url`, or that memory ran out.
+    fn canonical_in_hostname(&self, text: &str) -> Result<String, Error>
+        ensures { IsAnswer (canonical_in_hostname (unwrap_or (compiled_values self.now).hostname []) (chars text.now)) (length text.now) result }
+    {
+        match &self.values.hostname {
+            Some(pattern) if is_ipv6_pattern(pattern) => {
+                canonicalize_ipv6_hostname(self.alloc, text)
+            }
+            _ => self.canonicalizer.hostname(text),
+        }
+    }
+
+    /// Whether the pathname of the pattern is hierarchical, by what its protocol was compiled to.
+    ///
+    /// The error is that memory ran out.
+    pub fn is_hierarchical<R: RegExp>(&self, protocol: &Component<R>) -> Result<bool, Error>
+        ensures path_kind { IfOk result (IsPathKind R.answer (compiled_values self.now) (component_view protocol.now).matcher) }
+        ensures memory { OnlyOutOfMemory result }
+    {
+        if is_there_and_empty(&self.values.protocol) || is_there_with_slash(&self.values.pathname) {
+            return Ok(true);
+        }
+        accepts_special_scheme(self.alloc, &protocol.matcher)
+    }
+}
+
+/// Whether a text is there and empty.
+fn is_there_and_empty(text: &Option<String>) -> bool
+    ensures { IsTrue result ↔ (option_map text_of text.now ≡ Some []) }
+{
+    match text {
+        Some(text) => text.is_empty(),
+        None => false,
+    }
+}
+
+/// Whether a text is there and begins with a slash.
+fn is_there_with_slash(text: &Option<String>) -> bool
+    ensures { result ≡ begins_with (is_mark (codes "/")) (unwrap_or (option_map text_of text.now) []) }
+{
+    match text {
+        Some(text) => begins_with_slash(text),
+        None => false,
+    }
+}

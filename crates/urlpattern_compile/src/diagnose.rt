@@ -1,0 +1,345 @@
+//! What is wrong with a pattern that is refused.
+
+ghost use Rattle.std.specs.Prelude.{◌≡◌, option_copied, string_bytes, IfOk, IfSome};
+ghost use Rattle.std.specs.Str.{chars};
+ghost use Rattle.urlpattern_diagnosis.specs.declared.diagnosis.Subject.TheVariants as subjects;
+ghost use Rattle.urlpattern_init.specs.Inheritance.{values_view};
+ghost use Rattle.urlpattern_compile.specs.Compiled.{RefusesInit, RefusesValues};
+ghost use Rattle.urlpattern_compile.specs.CompilerSteps.{compiled_values, manner_by};
+ghost use Rattle.urlpattern_diagnosis.specs.Faults.{IsColonFault, IsFaultIn};
+ghost use Rattle.urlpattern_compile.specs.Diagnoses.{AcceptsInit, AcceptsPatternOfText, AcceptsValues, HasErrorOf, IfAccepted, IfRefused, IsOf, IsPartOfRefused, IsWithinText, ShowsGiven, ShowsInit, ShowsPattern, ShowsProtocol, ShowsValues};
+ghost use Rattle.urlpattern_compile.specs.FromString.{RefusesPatternOfText};
+ghost use Rattle.urlpattern_syntax.specs.Errors.{error_view};
+
+use crate::compile::{Compiler, pattern_of, pattern_values};
+use crate::refusal::{Refusal, not_memory};
+use std::alloc::Global;
+use urlpattern_canonical::canonicalize_and_process::Canonicalizer;
+use urlpattern_canonical::parse_base;
+use urlpattern_components::{ComponentName, Eight};
+use urlpattern_diagnosis::{
+    Diagnosis, Fault, Place, Subject, component_start, fault_of, fault_of_expression,
+    fault_of_host, refused_expression, refused_row,
+};
+use urlpattern_init::{UrlPatternInit, protocol_of};
+use urlpattern_inputs::UrlPatternOptions;
+use urlpattern_matcher::regexp::RegExp;
+use urlpattern_parser::tokenizer::{TokenizePolicy, tokenize};
+use urlpattern_syntax::Error;
+use urlpattern_syntax::error::{OutOfMemory, RegExpError};
+
+/// What is wrong with a constructor string, or with its base URL. `None`: it is accepted.
+///
+/// A string that is refused is read a second time. The error is that memory ran out.
+pub fn diagnose_text<R: RegExp>(
+    alloc: Global,
+    pattern: &str,
+    base_url: Option<&str>,
+    options: UrlPatternOptions,
+) -> Result<Option<Diagnosis>, OutOfMemory>
+    ensures accepted { IfAccepted result (AcceptsPatternOfText R.RegExp (chars pattern.now) (option_copied base_url.entry) options) }
+    ensures refused { IfRefused result (HasErrorOf (RefusesPatternOfText R.RegExp (chars pattern.now) (option_copied base_url.entry) options)) }
+    ensures shows { IfRefused result (ShowsGiven R.RegExp pattern.now (option_copied base_url.entry) options) }
+    ensures within { IfRefused result IsWithinText }
+{
+    let base = match parse_base(alloc, base_url) {
+        Ok(base) => base,
+        Err(error) => {
+            let error = not_memory(error)?;
+            let text = base_url.unwrap_or("");
+            return Ok(Some(Diagnosis::whole(alloc, error, Subject::Base, text)?));
+        }
+    };
+    let init = match UrlPatternInit::parse_constructor_string::<R>(alloc, pattern, base) {
+        Ok(init) => init,
+        Err(error) => {
+            let error = not_memory(error)?;
+            return Ok(Some(protocol_diagnosis(alloc, error, pattern)?));
+        }
+    };
+    let found = init_diagnosis::<R>(alloc, &init, &options, Some(pattern));
+    drop(init);
+    found
+}
+
+/// What is wrong with an init. `None`: it is accepted.
+///
+/// The text of the diagnosis is the value of the component that is refused. An init that is refused is read a second
+/// time. The error is that memory ran out.
+pub fn diagnose_init<R: RegExp>(
+    alloc: Global,
+    init: &UrlPatternInit,
+    options: UrlPatternOptions,
+) -> Result<Option<Diagnosis>, OutOfMemory>
+    ensures accepted { IfAccepted result (AcceptsInit R.RegExp init.now options) }
+    ensures refused { IfRefused result (HasErrorOf (RefusesInit R.RegExp init.now options)) }
+    ensures shows { IfRefused result (ShowsInit R.RegExp init.now options) }
+    ensures within { IfRefused result IsWithinText }
+{
+    init_diagnosis::<R>(alloc, init, &options, None)
+}
+
+/// What is wrong with a constructor string that is refused when it is split.
+///
+/// The error is that memory ran out.
+fn protocol_diagnosis(alloc: Global, error: Error, text: &str) -> Result<Diagnosis, OutOfMemory>
+    ensures error { IfOk result (λ diagnosis. diagnosis.error ≡ error) }
+    ensures text { IfOk result (λ diagnosis. string_bytes diagnosis.text ≡ text.now) }
+    ensures shows { IfOk result (λ diagnosis. ShowsProtocol (chars text.now) diagnosis.subject diagnosis) }
+    ensures within { IfOk result IsWithinText }
+{
+    let Ok(found) = protocol_of(alloc, text) else {
+        return Err(OutOfMemory);
+    };
+    match found {
+        Some(protocol) if !lacks_colon(text, &error) => match colon_fault(text, protocol, &error) {
+            Some(fault) => Ok(Diagnosis::of_colon(alloc, error, text, fault)?),
+            None => {
+                let name = ComponentName::Protocol;
+                let fault = fault_of(alloc, Some(name), protocol, "", &error)?;
+                let place = Place::of_component(text, protocol, name, 0, protocol.len());
+                let subject = Subject::Component(name);
+                Ok(Diagnosis::of_part(alloc, error, subject, text, protocol, fault, place)?)
+            }
+        },
+        _ => Ok(Diagnosis::whole(alloc, error, Subject::Whole, text)?),
+    }
+}
+
+/// The fault of the colon after what is no protocol, unless this error is of a token before it.
+fn colon_fault(text: &str, protocol: &str, error: &Error) -> Option<Fault>
+    ensures fault { IfSome result (IsColonFault text.now protocol.now) }
+    ensures within { IfSome result (IsFaultIn text.now) }
+{
+    match error {
+        Error::Tokenizer(_, _) => None,
+        _ => Fault::of_colon(text, protocol),
+    }
+}
+
+/// Whether a text that is refused with this error has no protocol, or no colon after it, or `;` in its place.
+fn lacks_colon(text: &str, error: &Error) -> bool {
+    matches!(error, Error::BaseUrlRequired) || Fault::of_url(text) != Fault::whole(text)
+}
+
+/// What is wrong with an init, in a constructor string or else in its own values.
+///
+/// The error is that memory ran out.
+fn init_diagnosis<R: RegExp>(
+    alloc: Global,
+    init: &UrlPatternInit,
+    options: &UrlPatternOptions,
+    string: Option<&str>,
+) -> Result<Option<Diagnosis>, OutOfMemory>
+    ensures accepted { IfAccepted result (AcceptsInit R.RegExp init.now options.now) }
+    ensures refused { IfRefused result (HasErrorOf (RefusesInit R.RegExp init.now options.now)) }
+    ensures shows { IfRefused result (ShowsInit R.RegExp init.now options.now) }
+    ensures text { IfRefused result (IsOf (option_copied string.entry)) }
+    ensures within { IfRefused result IsWithinText }
+{
+    let Ok(values) = pattern_values(alloc, init) else {
+        return Err(OutOfMemory);
+    };
+    let given = Given { string, init };
+    let found = values_diagnosis::<R>(alloc, &values, options, given);
+    drop(values);
+    found
+}
+
+/// What is wrong with values.
+///
+/// The error is that memory ran out.
+fn values_diagnosis<R: RegExp>(
+    alloc: Global,
+    values: &UrlPatternInit,
+    options: &UrlPatternOptions,
+    given: Given<'_>,
+) -> Result<Option<Diagnosis>, OutOfMemory>
+    ensures accepted { IfAccepted result (AcceptsValues R.RegExp options.now (values_view values.now)) }
+    ensures refused { IfRefused result (HasErrorOf (RefusesValues R.RegExp options.now (values_view values.now))) }
+    ensures shows { IfRefused result (ShowsValues R.RegExp options.now (values_view values.now)) }
+    ensures text { IfRefused result (IsOf (option_copied given.entry.string)) }
+    ensures within { IfRefused result IsWithinText }
+{
+    let Ok(canonicalizer) = Canonicalizer::shared(alloc) else {
+        return Err(OutOfMemory);
+    };
+    let compiler = Compiler {
+        alloc,
+        canonicalizer,
+        values,
+        options,
+    };
+    match compiler.components::<R>(None) {
+        Ok(made) => {
+            drop(made);
+            Ok(None)
+        }
+        Err(error) => {
+            let error = not_memory(error)?;
+            Ok(Some(compiler.diagnosis::<R>(error, given)?))
+        }
+    }
+}
+
+/// What is given as a pattern: an init, and the constructor string that it is of, if there is one.
+#[derive(Clone, Copy)]
+struct Given<'a> {
+    string: Option<&'a str>,
+    init: &'a UrlPatternInit,
+}
+
+impl<'a> Given<'a> {
+    /// The value of a component, if it is given.
+    fn value(&self, component: ComponentName) -> Option<&'a str> {
+        self.init.get(component)
+    }
+
+    /// Where the value of a component begins: a byte index.
+    fn start(&self, component: ComponentName) -> usize {
+        let Some(string) = self.string else {
+            return 0;
+        };
+        let values = Eight {
+            protocol: self.value(ComponentName::Protocol),
+            username: self.value(ComponentName::Username),
+            password: self.value(ComponentName::Password),
+            hostname: self.value(ComponentName::Hostname),
+            port: self.value(ComponentName::Port),
+            pathname: self.value(ComponentName::Pathname),
+            search: self.value(ComponentName::Search),
+            hash: self.value(ComponentName::Hash),
+        };
+        component_start(string, &values, component)
+    }
+}
+
+impl Compiler<'_> {
+    /// What is wrong with values that are refused with this error.
+    ///
+    /// The error is that memory ran out.
+    fn diagnosis<R: RegExp>(&self, error: Error, given: Given<'_>) -> Result<Diagnosis, OutOfMemory>
+        requires { RefusesValues R.RegExp self.now.options.now (compiled_values self.now) (error_view error) }
+        ensures refused { IfOk result (HasErrorOf (RefusesValues R.RegExp self.now.options.now (compiled_values self.now))) }
+        ensures shows { IfOk result (ShowsValues R.RegExp self.now.options.now (compiled_values self.now)) }
+        ensures text { IfOk result (IsOf (option_copied given.entry.string)) }
+        ensures within { IfOk result IsWithinText }
+    {
+        match self.first_refused::<R>()? {
+            Some(refusal) => self.component_diagnosis::<R>(refusal, given),
+            None => {
+                let text = given.string.unwrap_or("");
+                Ok(Diagnosis::whole(self.alloc, error, Subject::Whole, text)?)
+            }
+        }
+    }
+
+    /// What is wrong with a component that is refused.
+    ///
+    /// The error is that memory ran out.
+    fn component_diagnosis<R: RegExp>(
+        &self,
+        refusal: Refusal,
+        given: Given<'_>,
+    ) -> Result<Diagnosis, OutOfMemory>
+        ensures error { IfOk result (λ diagnosis. diagnosis.error ≡ refusal.error) }
+        ensures subject { IfOk result (λ diagnosis. diagnosis.subject ≡ subjects.Component refusal.component) }
+        ensures shows { IfOk result (ShowsPattern refusal.component (manner_by self.now refusal.hierarchical refusal.component)) }
+        ensures text { IfOk result (IsOf (option_copied given.entry.string)) }
+        ensures within { IfOk result IsWithinText }
+    {
+        let Refusal {
+            component,
+            hierarchical,
+            error,
+        } = refusal;
+        let Ok(options) = self.options_of(component, hierarchical) else {
+            return Err(OutOfMemory);
+        };
+        let pattern = pattern_of(self.values, component).unwrap_or("*");
+        let point = options.prefix_code_point.as_str();
+        let refused = self.refused_part::<R>(component, hierarchical, pattern, &error)?;
+        let fault = match refused {
+            Some(fault) => fault,
+            None => fault_of(self.alloc, Some(component), pattern, point, &error)?,
+        };
+        let value = given.value(component).unwrap_or(pattern);
+        let text = given.string.unwrap_or(value);
+        let start = given.start(component);
+        let place = Place::of_component(text, pattern, component, start, value.len());
+        let subject = Subject::Component(component);
+        Ok(Diagnosis::of_part(self.alloc, error, subject, text, pattern, fault, place)?)
+    }
+
+    /// The part of a pattern that is refused by itself: a custom expression by the engine, or a row of characters by `url`.
+    ///
+    /// The error is that memory ran out.
+    fn refused_part<R: RegExp>(
+        &self,
+        component: ComponentName,
+        hierarchical: bool,
+        pattern: &str,
+        error: &Error,
+    ) -> Result<Option<Fault>, OutOfMemory>
+        ensures part { IfOk result (λ found. IfSome found (IsPartOfRefused pattern.now error.now)) }
+        ensures within { IfOk result (λ found. IfSome found (IsFaultIn pattern.now)) }
+    {
+        match error {
+            Error::RegExp(()) => self.refused_expression::<R>(pattern),
+            Error::Url(_) => self.refused_row(component, hierarchical, pattern),
+            _ => Ok(None),
+        }
+    }
+
+    /// The first custom expression of a pattern that the engine refuses by itself, and what is at fault in it.
+    ///
+    /// The error is that memory ran out.
+    fn refused_expression<R: RegExp>(&self, pattern: &str) -> Result<Option<Fault>, OutOfMemory>
+        ensures { IfOk result (λ found. IfSome found (IsFaultIn pattern.now)) }
+    {
+        let Ok(tokens) = tokenize(self.alloc, pattern, TokenizePolicy::Strict) else {
+            return Err(OutOfMemory);
+        };
+        let refuses = |text: &str| -> Result<bool, OutOfMemory> {
+            match R::parse(self.alloc, text, "u", true) {
+                Ok(_) => Ok(false),
+                Err(RegExpError::Pattern) => Ok(true),
+                Err(RegExpError::OutOfMemory) => Err(OutOfMemory),
+            }
+        };
+        match refused_expression(pattern, &tokens, refuses)? {
+            Some(body) => Ok(Some(fault_of_expression(self.alloc, pattern, body)?)),
+            None => Ok(None),
+        }
+    }
+
+    /// The first row of characters of a pattern that `url` refuses by itself, and what is at fault in it.
+    ///
+    /// The error is that memory ran out.
+    fn refused_row(
+        &self,
+        component: ComponentName,
+        hierarchical: bool,
+        pattern: &str,
+    ) -> Result<Option<Fault>, OutOfMemory>
+        ensures { IfOk result (λ found. IfSome found (IsFaultIn pattern.now)) }
+    {
+        let Ok(tokens) = tokenize(self.alloc, pattern, TokenizePolicy::Strict) else {
+            return Err(OutOfMemory);
+        };
+        let refuses = |text: &str| -> Result<bool, OutOfMemory> {
+            match self.canonical(component, hierarchical, text) {
+                Ok(_) => Ok(false),
+                Err(Error::OutOfMemory) => Err(OutOfMemory),
+                Err(_) => Ok(true),
+            }
+        };
+        match refused_row(self.alloc, pattern, &tokens, refuses)? {
+            Some(row) if component == ComponentName::Hostname => {
+                Ok(Some(fault_of_host(pattern, row)))
+            }
+            Some(row) => Ok(Some(Fault::of_span(row))),
+            None => Ok(None),
+        }
+    }
+}

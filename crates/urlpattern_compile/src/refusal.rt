@@ -1,0 +1,132 @@
+//! The component for which a pattern is refused.
+
+ghost use Rattle.std.specs.Prelude.{◌≡◌, ◌≢◌, false, IfNone, IfOk, IfSome};
+ghost use Rattle.urlpattern_compile.specs.CompilerSteps.{compiled_values, manner_by};
+ghost use Rattle.urlpattern_compile.specs.Diagnoses.{AcceptsComponent, IsFirstRefusal, IsRefusalOf, RefusesComponent};
+ghost use Rattle.urlpattern_compile.specs.Kept.{IsKept};
+ghost use Rattle.urlpattern_components.specs.declared.eight.ComponentName.TheVariants as names;
+ghost use Rattle.urlpattern_syntax.specs.Errors.{ErrorView as views, error_view};
+
+use crate::compile::Compiler;
+use urlpattern_components::ComponentName;
+use urlpattern_matcher::component::ComponentWithParts;
+use urlpattern_matcher::regexp::RegExp;
+use urlpattern_syntax::Error;
+use urlpattern_syntax::error::OutOfMemory;
+
+/// The components in the order in which they are compiled after the protocol.
+const AFTER_PROTOCOL: [ComponentName; 7] = [
+    ComponentName::Hostname,
+    ComponentName::Pathname,
+    ComponentName::Username,
+    ComponentName::Password,
+    ComponentName::Port,
+    ComponentName::Search,
+    ComponentName::Hash,
+];
+
+/// A component that is refused.
+#[derive(Drop)]
+pub(super) struct Refusal {
+    /// Which one it is.
+    pub(super) component: ComponentName,
+    /// Whether the pathname is hierarchical, as far as the protocol was compiled.
+    pub(super) hierarchical: bool,
+    /// The error.
+    pub(super) error: Error,
+}
+
+impl Compiler<'_> {
+    /// The first component that is refused, in the order in which they are compiled.
+    ///
+    /// The error is that memory ran out.
+    pub(super) fn first_refused<R: RegExp>(&self) -> Result<Option<Refusal>, OutOfMemory>
+        ensures { IfOk result (λ found. IfSome found (IsRefusalOf R.RegExp self.now.options.now (compiled_values self.now))) }
+    {
+        match self.component::<R>(ComponentName::Protocol, false) {
+            Ok(protocol) => self.first_refused_after::<R>(protocol),
+            Err(error) => {
+                let error = not_memory(error)?;
+                Ok(Some(Refusal {
+                    component: ComponentName::Protocol,
+                    hierarchical: false,
+                    error,
+                }))
+            }
+        }
+    }
+
+    /// The first component that is refused after this protocol.
+    ///
+    /// The error is that memory ran out.
+    fn first_refused_after<R: RegExp>(
+        &self,
+        protocol: ComponentWithParts<R>,
+    ) -> Result<Option<Refusal>, OutOfMemory>
+        requires { IsKept R.RegExp (manner_by self.now false names.Protocol) protocol }
+        ensures { IfOk result (λ found. IfSome found (IsRefusalOf R.RegExp self.now.options.now (compiled_values self.now))) }
+    {
+        match self.is_hierarchical(&protocol.component) {
+            Ok(hierarchical) => self.first_refused_of::<R>(hierarchical, &AFTER_PROTOCOL),
+            Err(_) => Err(OutOfMemory),
+        }
+    }
+
+    /// The first of these components that is refused.
+    ///
+    /// The error is that memory ran out.
+    fn first_refused_of<R: RegExp>(
+        &self,
+        hierarchical: bool,
+        names: &[ComponentName],
+    ) -> Result<Option<Refusal>, OutOfMemory>
+        ensures first { IfOk result (λ found. IfSome found (IsFirstRefusal R.RegExp (manner_by self.now hierarchical) names.now)) }
+        ensures refused { IfOk result (λ found. IfSome found (RefusesComponent R.RegExp (manner_by self.now hierarchical) hierarchical)) }
+    {
+        for name in names {
+            match self.refused::<R>(hierarchical, *name)? {
+                Some(refusal) => return Ok(Some(refusal)),
+                None => {}
+            }
+        }
+        Ok(None)
+    }
+
+    /// The refusal of a component, if it is refused.
+    ///
+    /// The error is that memory ran out.
+    fn refused<R: RegExp>(
+        &self,
+        hierarchical: bool,
+        component: ComponentName,
+    ) -> Result<Option<Refusal>, OutOfMemory>
+        ensures refused { IfOk result (λ found. IfSome found (RefusesComponent R.RegExp (manner_by self.now hierarchical) hierarchical)) }
+        ensures name { IfOk result (λ found. IfSome found (λ refusal. refusal.component ≡ component)) }
+        ensures compiled { IfOk result (λ found. IfNone found (AcceptsComponent R.RegExp (manner_by self.now hierarchical component))) }
+    {
+        match self.component::<R>(component, hierarchical) {
+            Ok(compiled) => {
+                drop(compiled);
+                Ok(None)
+            }
+            Err(error) => {
+                let error = not_memory(error)?;
+                Ok(Some(Refusal {
+                    component,
+                    hierarchical,
+                    error,
+                }))
+            }
+        }
+    }
+}
+
+/// An error that is not that memory ran out.
+pub(super) fn not_memory(error: Error) -> Result<Error, OutOfMemory>
+    ensures { IfOk result (λ other. (other ≡ error) × (error_view error ≢ views.OutOfMemory)) }
+{
+    match error {
+        Error::OutOfMemory => Err(OutOfMemory),
+        _ => Ok(error),
+    }
+}

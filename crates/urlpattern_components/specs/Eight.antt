@@ -1,0 +1,59 @@
+-- The eight components of a URL, and a value for each of them.
+use Rattle.std.specs.Prelude.{◌≡◌, ◌≢◌, All, ℕ, List, [], ◌∷◌, ◌++◌, codes, map, MatchOption, Option, Result, Ok, Err}
+pub use Rattle.urlpattern_components.specs.declared.eight.ComponentName.{ComponentName}
+pub use Rattle.urlpattern_components.specs.declared.eight.Eight.{Eight}
+use Rattle.urlpattern_components.specs.declared.eight.ComponentName.TheVariants.{Protocol, Username, Password, Hostname, Port, Pathname, Search, Hash}
+
+-- the components in the order of the standard
+abbrev pub components : List ComponentName
+components = Protocol ∷ Username ∷ Password ∷ Hostname ∷ Port ∷ Pathname ∷ Search ∷ Hash ∷ []
+
+-- the name of a component in lower case
+abbrev pub name_text : ComponentName → List ℕ
+name_text Protocol = codes "protocol"
+name_text Username = codes "username"
+name_text Password = codes "password"
+name_text Hostname = codes "hostname"
+name_text Port = codes "port"
+name_text Pathname = codes "pathname"
+name_text Search = codes "search"
+name_text Hash = codes "hash"
+
+-- the component that this text names, or none where no component has this name
+abbrev pub NamesComponent : (text : List ℕ) → Option ComponentName → Type 0
+NamesComponent text found = MatchOption found ((component : ComponentName) → text ≢ name_text component) (λ component. text ≡ name_text component)
+
+-- the value of one component
+abbrev pub at : {A : Type 0} → Eight A → ComponentName → A
+at values Protocol = values.protocol
+at values Username = values.username
+at values Password = values.password
+at values Hostname = values.hostname
+at values Port = values.port
+at values Pathname = values.pathname
+at values Search = values.search
+at values Hash = values.hash
+
+-- the values of these components, each beside its name
+abbrev pub named_values : {A : Type 0} → Eight A → List ComponentName → List (ComponentName × A)
+named_values values names = map (λ name. (name, at values name)) names
+
+-- a value for each component
+abbrev pub each : {A : Type 0} → (ComponentName → A) → Eight A
+each value = record { protocol = value Protocol; username = value Username; password = value Password; hostname = value Hostname; port = value Port; pathname = value Pathname; search = value Search; hash = value Hash }
+
+-- the texts of the components
+abbrev pub Texts : Type 0
+Texts = Eight (List ℕ)
+
+-- the texts of the components, where they are there
+abbrev pub Values : Type 0
+Values = Eight (Option (List ℕ))
+
+-- a component may be answered by this error, and those before it by values
+abbrev pub IsFirstError : {A E : Type 0} → (Answers : ComponentName → Result A E → Type 0) → E → Type 0
+IsFirstError {A} Answers error =
+    (before after : List ComponentName) × (name : ComponentName)
+    × (components ≡ before ++ name ∷ after)
+    × All (λ earlier. (value : A) × Answers earlier (Ok value)) before
+    × Answers name (Err error)

@@ -1,0 +1,280 @@
+//! The components that are found in a constructor string.
+ghost use Rattle.std.specs.Prelude.{◌≡◌, Some, ◌+◌, ◌*◌, ◌<◌, ◌≤◌, length, IsTrue, None};
+ghost use Rattle.std.specs.Str.{chars};
+ghost use Rattle.urlpattern_constructor.specs.declared.sections.Section.TheVariants.{Hostname, Pathname, Port, Search};
+ghost use Rattle.urlpattern_constructor.specs.Split.{AuthorityFrom, EndsAt, HashAt, HashFrom, HostnameFrom, IsAbsoluteSplit, IsRelativeSplit, IsTextBetween, NoAuthority, PathnameAt, PathnameFrom, PortAt, SearchAt, SearchFrom, UserinfoFrom, depth_before, ends_at, implied_pathname, is_at_sign, is_colon_sign, is_slash_sign};
+ghost use Rattle.urlpattern_constructor.specs.Splitting.{CanRead, HasRead, HasTurnForSlash, HasTurns, IsSource, NoPathname, NoSearch, may_follow, split_values, text_of_source, tokens_of};
+
+use crate::sections::{Position, Section};
+use crate::tokens::Source;
+use urlpattern_components::{ComponentName, Eight};
+
+/// The components that were found, and how many looks at a token that took.
+#[derive(Drop)]
+pub struct Split<'a> {
+    pub values: Eight<Option<&'a str>>,
+    pub turns: usize,
+}
+
+impl<'a> Split<'a> {
+    /// No component.
+    fn nothing(turns: usize) -> Split<'a>
+        ensures nothing { NoSearch (split_values result) }
+        ensures hash { (split_values result).hash ≡ None }
+        ensures turns { result.turns ≡ turns }
+    {
+        let none = |_name: ComponentName| -> Option<&str>
+            ensures { result ≡ None }
+        { None };
+        Split {
+            values: Eight::from_fn(none),
+            turns,
+        }
+    }
+}
+
+impl<'t, 'a> Source<'t, 'a> {
+    /// The components of a text with a protocol, which ends at a colon.
+    pub fn absolute(&self, colon: Position, protocol: &'a str, special: bool) -> Split<'a>
+        requires source { IsSource self.now }
+        requires protocol { IsTextBetween (text_of_source self.now) (tokens_of self.now) 0 colon.index (chars protocol.now) }
+        requires ends { EndsAt Section.Protocol (tokens_of self.now) 0 0 colon.index }
+        requires sign { IsTrue (is_colon_sign (tokens_of self.now) colon.index) }
+        requires turns { colon.turns ≤ 2 * (colon.index + 1) }
+        ensures split { IsAbsoluteSplit (text_of_source self.now) (tokens_of self.now) special colon.index (split_values result) }
+        ensures protocol { (split_values result).protocol ≡ Some (chars protocol.now) }
+        ensures turns { result.turns ≤ 2 * length self.now.tokens.now }
+    {
+        if self.has_slashes(colon.index) {
+            let Split { mut values, turns } = self.authority_from(colon.after(3), special);
+            values.protocol = Some(protocol);
+            return Split { values, turns };
+        }
+        if special {
+            let Split { mut values, turns } = self.authority_from(colon.after(1), special);
+            values.protocol = Some(protocol);
+            return Split { values, turns };
+        }
+        let Split { mut values, turns } = self.pathname_from(colon.after(1));
+        values.protocol = Some(protocol);
+        values.hostname = Some("");
+        values.port = Some("");
+        Split { values, turns }
+    }
+
+    /// The components of a text in which no protocol was found, read up to its end.
+    pub fn relative(&self, end: Position) -> Split<'a>
+        requires source { IsSource self.now }
+        requires ends { EndsAt Section.Protocol (tokens_of self.now) 0 0 end.index }
+        requires end { IsTrue (ends_at (tokens_of self.now) end.index) }
+        requires depth { end.depth ≡ depth_before (tokens_of self.now) 0 0 end.index }
+        requires shallow { end.depth ≤ end.index }
+        requires turns { end.turns ≤ length self.now.tokens.now }
+        ensures split { IsRelativeSplit (text_of_source self.now) (tokens_of self.now) (split_values result) }
+        ensures turns { result.turns ≤ 2 * length self.now.tokens.now }
+    {
+        if self.is_sign(0, b'#') {
+            return self.hash_from(Position { index: 1, ..end });
+        }
+        if self.is_search_sign(0) {
+            return self.search_from(Position { index: 1, ..end });
+        }
+        self.pathname_from(Position { index: 0, ..end })
+    }
+
+    /// The authority, which begins at a position, and what stands after it.
+    fn authority_from(&self, from: Position, special: bool) -> Split<'a>
+        requires source { IsSource self.now }
+        requires within { from.index < length self.now.tokens.now }
+        requires level { from.depth ≡ 0 }
+        requires turns { from.turns ≤ 2 * from.index }
+        ensures split { AuthorityFrom (text_of_source self.now) (tokens_of self.now) special from.index (split_values result) }
+        ensures turns { result.turns ≤ 2 * length self.now.tokens.now }
+    {
+        let end = self.end_of(Section::Authority, from);
+        if self.is_sign(end.index, b'@') {
+            let back = Position {
+                turns: end.turns,
+                ..from
+            };
+            return self.userinfo_from(back, end.index, special);
+        }
+        let back = Position {
+            index: from.index,
+            ..end
+        };
+        let Split { mut values, turns } = self.hostname_from(back, special);
+        values.username = None;
+        values.password = None;
+        Split { values, turns }
+    }
+
+    /// The username and the password, which begin at a position, where the hostname follows the sign `until`, and what
+    /// stands after them.
+    fn userinfo_from(&self, from: Position, until: usize, special: bool) -> Split<'a>
+        requires source { IsSource self.now }
+        requires ends { EndsAt Section.Authority (tokens_of self.now) from.index 0 until }
+        requires sign { IsTrue (is_at_sign (tokens_of self.now) until) }
+        requires level { from.depth ≡ 0 }
+        requires turns { from.turns ≤ from.index + until + 1 }
+        ensures userinfo { UserinfoFrom (text_of_source self.now) (tokens_of self.now) from.index until (split_values result) }
+        ensures hostname { HostnameFrom (text_of_source self.now) (tokens_of self.now) special (until + 1) 0 (split_values result) }
+        ensures turns { result.turns ≤ 2 * length self.now.tokens.now }
+    {
+        let end = self.end_of(Section::Username, from);
+        let username = Some(self.text_between(from.index, end.index));
+        if !self.is_sign(end.index, b':') {
+            let Split { mut values, turns } = self.hostname_from(end.after(1), special);
+            values.username = username;
+            values.password = None;
+            return Split { values, turns };
+        }
+        let password_from = end.after(1);
+        let password_end = self.end_of(Section::Password, password_from);
+        let password = Some(self.text_between(password_from.index, password_end.index));
+        let Split { mut values, turns } = self.hostname_from(password_end.after(1), special);
+        values.username = username;
+        values.password = password;
+        Split { values, turns }
+    }
+
+    /// The hostname, which begins at a position, and what stands after it.
+    fn hostname_from(&self, from: Position, special: bool) -> Split<'a>
+        requires source { IsSource self.now }
+        requires reads { CanRead self.now from }
+        requires slash { HasTurnForSlash self.now from.index from.depth (from.turns + 1) }
+        ensures split { HostnameFrom (text_of_source self.now) (tokens_of self.now) special from.index from.depth (split_values result) }
+        ensures turns { result.turns ≤ 2 * length self.now.tokens.now }
+    {
+        let end = self.end_of(Section::Hostname, from);
+        let Split { mut values, turns } = self.port_at(end, special);
+        values.hostname = Some(self.text_between(from.index, end.index));
+        Split { values, turns }
+    }
+
+    /// The port, if a colon stands at a position, and what stands after it.
+    fn port_at(&self, end: Position, special: bool) -> Split<'a>
+        requires source { IsSource self.now }
+        requires reads { HasRead self.now end }
+        requires sign { IsTrue (may_follow Hostname (tokens_of self.now) end.index) }
+        requires slash { HasTurnForSlash self.now end.index 0 end.turns }
+        ensures split { PortAt (text_of_source self.now) (tokens_of self.now) special end.index (split_values result) }
+        ensures turns { result.turns ≤ 2 * length self.now.tokens.now }
+    {
+        if self.is_sign(end.index, b':') {
+            let from = end.after(1);
+            let end = self.end_of(Section::Port, from);
+            let Split { mut values, turns } = self.pathname_at(end, special);
+            values.port = Some(self.text_between(from.index, end.index));
+            return Split { values, turns };
+        }
+        let Split { mut values, turns } = self.pathname_at(end, special);
+        values.port = Some("");
+        Split { values, turns }
+    }
+
+    /// What stands after the hostname and the port: the pathname, if it begins at a position, the search and the hash.
+    fn pathname_at(&self, end: Position, special: bool) -> Split<'a>
+        requires source { IsSource self.now }
+        requires reads { HasRead self.now end }
+        requires sign { IsTrue (may_follow Port (tokens_of self.now) end.index) }
+        requires slash { IsTrue (is_slash_sign (tokens_of self.now) end.index) → HasTurns self.now end.index end.turns }
+        ensures split { PathnameAt (text_of_source self.now) (tokens_of self.now) special end.index (split_values result) }
+        ensures nothing { NoAuthority (split_values result) }
+        ensures turns { result.turns ≤ 2 * length self.now.tokens.now }
+    {
+        if self.is_sign(end.index, b'/') {
+            return self.pathname_from(end.after(0));
+        }
+        if self.is_search_sign(end.index) || self.is_sign(end.index, b'#') {
+            let Split { mut values, turns } = self.search_at(end);
+            values.pathname = Some(implied_pathname(special));
+            return Split { values, turns };
+        }
+        Split::nothing(end.turns)
+    }
+
+    /// The pathname, which begins at a position, the search and the hash.
+    fn pathname_from(&self, from: Position) -> Split<'a>
+        requires source { IsSource self.now }
+        requires reads { CanRead self.now from }
+        ensures split { PathnameFrom (text_of_source self.now) (tokens_of self.now) from.index from.depth (split_values result) }
+        ensures nothing { NoAuthority (split_values result) }
+        ensures turns { result.turns ≤ 2 * length self.now.tokens.now }
+    {
+        let end = self.end_of(Section::Pathname, from);
+        let Split { mut values, turns } = self.search_at(end);
+        values.pathname = Some(self.text_between(from.index, end.index));
+        Split { values, turns }
+    }
+
+    /// The search and the hash, if they begin after the token at a position.
+    fn search_at(&self, end: Position) -> Split<'a>
+        requires source { IsSource self.now }
+        requires reads { HasRead self.now end }
+        requires sign { IsTrue (may_follow Pathname (tokens_of self.now) end.index) }
+        ensures split { SearchAt (text_of_source self.now) (tokens_of self.now) end.index (split_values result) }
+        ensures nothing { NoPathname (split_values result) }
+        ensures turns { result.turns ≤ 2 * length self.now.tokens.now }
+    {
+        if self.is_search_sign(end.index) {
+            return self.search_from(end.after(1));
+        }
+        if self.is_sign(end.index, b'#') {
+            let Split { mut values, turns } = self.hash_from(end.after(1));
+            values.search = Some("");
+            return Split { values, turns };
+        }
+        Split::nothing(end.turns)
+    }
+
+    /// The search, which begins at a position, and the hash.
+    fn search_from(&self, from: Position) -> Split<'a>
+        requires source { IsSource self.now }
+        requires reads { CanRead self.now from }
+        ensures split { SearchFrom (text_of_source self.now) (tokens_of self.now) from.index from.depth (split_values result) }
+        ensures nothing { NoPathname (split_values result) }
+        ensures turns { result.turns ≤ 2 * length self.now.tokens.now }
+    {
+        let end = self.end_of(Section::Search, from);
+        let Split { mut values, turns } = self.hash_at(end);
+        values.search = Some(self.text_between(from.index, end.index));
+        Split { values, turns }
+    }
+
+    /// The hash, if it begins after the token at a position.
+    fn hash_at(&self, end: Position) -> Split<'a>
+        requires source { IsSource self.now }
+        requires reads { HasRead self.now end }
+        requires sign { IsTrue (may_follow Search (tokens_of self.now) end.index) }
+        ensures split { HashAt (text_of_source self.now) (tokens_of self.now) end.index (split_values result) }
+        ensures nothing { NoSearch (split_values result) }
+        ensures turns { result.turns ≤ 2 * length self.now.tokens.now }
+    {
+        if self.is_sign(end.index, b'#') {
+            return self.hash_from(end.after(1));
+        }
+        Split::nothing(end.turns)
+    }
+
+    /// The hash, which begins at a position.
+    fn hash_from(&self, from: Position) -> Split<'a>
+        requires source { IsSource self.now }
+        requires reads { CanRead self.now from }
+        ensures split { HashFrom (text_of_source self.now) (tokens_of self.now) from.index (split_values result) }
+        ensures nothing { NoSearch (split_values result) }
+        ensures turns { result.turns ≤ 2 * length self.now.tokens.now }
+    {
+        let end = self.end_of(Section::Hash, from);
+        let Split { mut values, turns } = Split::nothing(end.turns);
+        values.hash = Some(self.text_between(from.index, end.index));
+        Split { values, turns }
+    }
+}
+
+/// The pathname where a search or a hash begins without one.
+fn implied_pathname(special: bool) -> &'static str
+    ensures { chars result.now ≡ implied_pathname special }
+{
+    if special { "/" } else { "" }
+}

@@ -1,0 +1,160 @@
+//! The sections of a constructor string, and where each ends.
+ghost use Rattle.std.specs.Prelude.{◌≡◌, ◌+◌, ◌*◌, ◌^◌, ◌<◌, ◌≤◌, ◌∷◌, ◌&&◌, ◌==◌, not, if◌then◌else◌, [], length};
+ghost use Rattle.urlpattern_constructor.specs.Split.{EndsAt, passes_at, depth_before, depth_after, is_end, is_ending, is_open, is_sign};
+ghost use Rattle.urlpattern_constructor.specs.Splitting.{IsSource, is_hostname, tokens_of};
+
+use crate::tokens::Source;
+use urlpattern_syntax::tokenizer::TokenType;
+
+/// A stretch of a constructor string, which ends at signs of its own.
+///
+/// <https://urlpattern.spec.whatwg.org/#constructor-string-parser-state>
+#[derive(Clone, Copy, PartialEq, Eq)]
+pub enum Section {
+    Protocol,
+    Authority,
+    Username,
+    Password,
+    Hostname,
+    Port,
+    Pathname,
+    Search,
+    Hash,
+}
+
+/// How far the tokens have been read.
+#[derive(Clone, Copy)]
+pub struct Position {
+    /// The index of the token to be read next.
+    pub index: usize,
+    /// How many groups are open before it.
+    pub depth: usize,
+    /// How many looks at a token were taken.
+    pub turns: usize,
+}
+
+impl Position {
+    /// The position so many tokens after this one, outside of all groups.
+    pub fn after(self, count: usize) -> Position
+        requires { self.index + count < 2 ^ 64 }
+        ensures index { result.index ≡ self.index + count }
+        ensures depth { result.depth ≡ 0 }
+        ensures turns { result.turns ≡ self.turns }
+    {
+        Position {
+            index: self.index + count,
+            depth: 0,
+            turns: self.turns,
+        }
+    }
+}
+
+impl<'t, 'a> Source<'t, 'a> {
+    /// The token with which a section ends that begins at a position: the first that is seen and is one of its signs, or
+    /// the end. Every token up to there is looked at once.
+    pub fn end_of(&self, section: Section, from: Position) -> Position
+        requires source { IsSource self.now }
+        requires within { from.index < length self.now.tokens.now }
+        requires shallow { from.depth ≤ length self.now.tokens.now }
+        requires turns { from.turns ≤ 2 * length self.now.tokens.now }
+        ensures ends { EndsAt section (tokens_of self.now) from.index from.depth result.index }
+        ensures depth { result.depth ≡ depth_before (tokens_of self.now) from.index from.depth result.index }
+        ensures shallow { result.depth + from.index ≤ from.depth + result.index }
+        ensures turns { result.turns + from.index ≡ from.turns + result.index + 1 }
+    {
+        let mut position = from;
+        let mut opened = 0;
+        let mut closed = 0;
+        loop {
+            let kind = self.tokens[position.index].kind;
+            position.turns += 1;
+            if is_end(kind) {
+                return position;
+            }
+            let is_seen = is_seen(kind, position.depth);
+            if is_seen && self.is_ending(section, opened == closed, position.index) {
+                return position;
+            }
+            opened = self.count_bracket(section, is_seen, position.index, b'[', opened);
+            closed = self.count_bracket(section, is_seen, position.index, b']', closed);
+            position.depth = depth_after(kind, position.depth);
+            position.index += 1;
+        }
+    }
+
+    /// Whether a section ends with the token at the index, where `balanced` says that a colon there is outside of
+    /// square brackets.
+    fn is_ending(&self, section: Section, balanced: bool, index: usize) -> bool
+        ensures { result ≡ is_ending section balanced (tokens_of self.now) index }
+    {
+        match section {
+            Section::Protocol => self.is_sign(index, b':'),
+            Section::Authority => {
+                self.is_sign(index, b'@')
+                    || self.is_sign(index, b'/')
+                    || self.is_search_sign(index)
+                    || self.is_sign(index, b'#')
+            }
+            Section::Username => self.is_sign(index, b':') || self.is_sign(index, b'@'),
+            Section::Password => self.is_sign(index, b'@'),
+            Section::Hostname => {
+                (balanced && self.is_sign(index, b':'))
+                    || self.is_sign(index, b'/')
+                    || self.is_search_sign(index)
+                    || self.is_sign(index, b'#')
+            }
+            Section::Port => {
+                self.is_sign(index, b'/') || self.is_search_sign(index) || self.is_sign(index, b'#')
+            }
+            Section::Pathname => self.is_search_sign(index) || self.is_sign(index, b'#'),
+            Section::Search => self.is_sign(index, b'#'),
+            Section::Hash => false,
+        }
+    }
+
+    /// Counts the token at the index, if it is seen, stands for this bracket and counts in the section.
+    fn count_bracket(
+        &self,
+        section: Section,
+        is_seen: bool,
+        index: usize,
+        mark: u8,
+        count: usize,
+    ) -> usize
+        requires ascii { mark < 128 }
+        requires room { count + 1 < 2 ^ 64 }
+        ensures { result ≡ count + (if is_hostname section && is_seen && passes_at (is_sign (mark ∷ [])) (tokens_of self.now) index then 1 else 0) }
+    {
+        if matches!(section, Section::Hostname) && is_seen && self.is_sign(index, mark) {
+            count + 1
+        } else {
+            count
+        }
+    }
+}
+
+/// Whether the kind is that of the last token.
+fn is_end(kind: TokenType) -> bool
+    ensures { result ≡ is_end kind }
+{
+    matches!(kind, TokenType::End)
+}
+
+/// Whether a token of the kind is seen at a depth of groups, where it is not the last.
+fn is_seen(kind: TokenType, depth: usize) -> bool
+    ensures { result ≡ (not (is_open kind) && depth == 0) }
+{
+    !matches!(kind, TokenType::Open) && depth == 0
+}
+
+/// The depth of groups after a token.
+fn depth_after(kind: TokenType, depth: usize) -> usize
+    requires { depth + 1 < 2 ^ 64 }
+    ensures { result ≡ depth_after kind depth }
+{
+    match kind {
+        TokenType::Open => depth + 1,
+        TokenType::Close => depth.saturating_sub(1),
+        _ => depth,
+    }
+}

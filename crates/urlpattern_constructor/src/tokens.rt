@@ -1,0 +1,107 @@
+//! A constructor string with its tokens, and the signs that they stand for.
+ghost use Rattle.std.specs.Prelude.{◌≡◌, ◌+◌, ◌^◌, ◌<◌, ◌≤◌, ◌∷◌, [], length};
+ghost use Rattle.std.specs.Str.{bytes_eq, chars};
+ghost use Rattle.urlpattern_constructor.specs.Split.{IsTextBetween, passes_at, follows_modified, has_slashes, is_character, is_search_sign, is_sign, takes_modifier};
+ghost use Rattle.urlpattern_constructor.specs.Splitting.{IsSource, text_of_source, tokens_of};
+
+use urlpattern_syntax::tokenizer::{Token, TokenType};
+
+/// A constructor string and its lenient tokens.
+#[derive(Clone, Copy)]
+pub struct Source<'t, 'a> {
+    pub input: &'a str,
+    pub tokens: &'t [Token<'a>],
+}
+
+impl<'t, 'a> Source<'t, 'a> {
+    /// Whether the token at the index stands for this ASCII character.
+    pub fn is_sign(&self, index: usize, mark: u8) -> bool
+        requires { mark < 128 }
+        ensures { result ≡ passes_at (is_sign (mark ∷ [])) (tokens_of self.now) index }
+    {
+        match self.tokens.get(index) {
+            Some(token) => is_character(token.kind) && is_mark(token.value, mark),
+            None => false,
+        }
+    }
+
+    /// Whether the search begins after the token at the index.
+    ///
+    /// <https://urlpattern.spec.whatwg.org/#is-a-search-prefix>
+    pub fn is_search_sign(&self, index: usize) -> bool
+        ensures { result ≡ is_search_sign (tokens_of self.now) index }
+    {
+        match self.tokens.get(index) {
+            Some(token) => {
+                is_mark(token.value, b'?')
+                    && (is_character(token.kind) || !self.follows_modified(index))
+            }
+            None => false,
+        }
+    }
+
+    /// Whether the token before the index takes a question mark there as a modifier.
+    fn follows_modified(&self, index: usize) -> bool
+        ensures { result ≡ follows_modified (tokens_of self.now) index }
+    {
+        if index == 0 {
+            return false;
+        }
+        match self.tokens.get(index - 1) {
+            Some(token) => takes_modifier(token.kind),
+            None => false,
+        }
+    }
+
+    /// Whether two slashes follow the token at the index.
+    ///
+    /// <https://urlpattern.spec.whatwg.org/#next-is-authority-slashes>
+    pub fn has_slashes(&self, index: usize) -> bool
+        requires { index + 2 < 2 ^ 64 }
+        ensures { result ≡ has_slashes (tokens_of self.now) index }
+    {
+        self.is_sign(index + 1, b'/') && self.is_sign(index + 2, b'/')
+    }
+
+    /// The text from the index of one token up to that of another.
+    ///
+    /// <https://urlpattern.spec.whatwg.org/#make-a-component-string>
+    pub fn text_between(&self, from: usize, until: usize) -> &'a str
+        requires source { IsSource self.now }
+        requires order { from ≤ until }
+        requires within { until < length self.now.tokens.now }
+        ensures { IsTextBetween (text_of_source self.now) (tokens_of self.now) from until (chars result.now) }
+    {
+        &self.input[self.tokens[from].index..self.tokens[until].index]
+    }
+}
+
+/// Whether a token of the kind stands for one character as it is.
+///
+/// <https://urlpattern.spec.whatwg.org/#is-a-non-special-pattern-char>
+fn is_character(kind: TokenType) -> bool
+    ensures { result ≡ is_character kind }
+{
+    matches!(
+        kind,
+        TokenType::Char | TokenType::EscapedChar | TokenType::InvalidChar
+    )
+}
+
+/// Whether a question mark after a token of the kind is a modifier.
+fn takes_modifier(kind: TokenType) -> bool
+    ensures { result ≡ takes_modifier kind }
+{
+    matches!(
+        kind,
+        TokenType::Name | TokenType::Regexp | TokenType::Close | TokenType::Asterisk
+    )
+}
+
+/// Whether the text is this ASCII character.
+fn is_mark(text: &str, mark: u8) -> bool
+    requires { mark < 128 }
+    ensures { result ≡ bytes_eq (chars text.now) (mark ∷ []) }
+{
+    text.as_bytes() == [mark].as_slice()
+}

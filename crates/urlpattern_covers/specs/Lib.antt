@@ -1,6 +1,0 @@
-pub mod Answers
-pub mod Automata
-pub mod Cells
-pub mod Making
-pub mod Meaning
-pub mod Searching

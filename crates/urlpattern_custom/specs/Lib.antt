@@ -1,6 +1,0 @@
-pub mod Expressions
-pub mod PartTexts
-pub mod PartCaptures
-pub mod PartWays
-pub mod LawsOfTexts
-pub mod LawsOfWays

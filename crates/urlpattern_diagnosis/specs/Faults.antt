@@ -1,0 +1,221 @@
+-- Where the pattern text of a component is at fault. Texts are their bytes.
+use Rattle.std.specs.Prelude.{◌≡◌, ℕ, ◌+◌, ◌⊎◌, ◌&&◌, ◌==◌, Bool, true, false, List, [], ◌∷◌, length, map, filter, take, drop, min, bytes_eq, IsTrue, Option, Some, None, IsSomeAnd, IfSome, MatchBool, string_bytes, ◌++◌, ◌≤◌, ◌||◌, MatchOption, codes, if◌then◌else◌, nat_eq}
+use Rattle.std.specs.List.{list_any, starts_with}
+use Rattle.std.specs.Str.{chars}
+use Rattle.urlpattern_diagnosis.specs.Spans.{IsSpanAt, IsSpanIn, whole_span}
+use Rattle.urlpattern_components.specs.declared.eight.ComponentName.{ComponentName}
+use Rattle.urlpattern_components.specs.declared.eight.ComponentName.TheVariants.{Hostname}
+use Rattle.urlpattern_diagnosis.specs.declared.fault.Fault.{Fault}
+use Rattle.urlpattern_diagnosis.specs.declared.span.Span.{Span}
+use Rattle.urlpattern_syntax.specs.declared.error.Error.{Error}
+use Rattle.urlpattern_syntax.specs.declared.error.Error.TheVariants as errors
+use Rattle.urlpattern_syntax.specs.declared.error.ParserError.{ParserError}
+use Rattle.urlpattern_syntax.specs.declared.error.ParserError.TheVariants as parser_errors
+use Rattle.urlpattern_parser.specs.declared.parser.stop.Stop.{Stop}
+use Rattle.urlpattern_syntax.specs.declared.tokenizer.TokenType.TheVariants.{End, EscapedChar, Name, Regexp}
+use Rattle.urlpattern_syntax.specs.Stops.{IsStopOf}
+use Rattle.urlpattern_syntax.specs.declared.tokenizer.{Token.Token, TokenType.TokenType}
+use Rattle.urlpattern_syntax.specs.Text.{BeginsAt, BeginsWith, byte_len, is_among}
+use Rattle.urlpattern_syntax.specs.Tokens.{AreTokens, FaultView, IncompleteEscapeCode, InvalidName, InvalidRegex, IsFault, IsRegexpFront, TokenView, is_question_mark, token_view}
+
+-- ---- tokens
+
+-- how many bytes of a token's spelling are none of its value: a colon, a backslash, or two brackets
+abbrev pub marks_len : TokenType → ℕ
+marks_len Name = 1
+marks_len EscapedChar = 1
+marks_len Regexp = 2
+marks_len kind = 0
+
+-- the span of a token's spelling
+abbrev pub IsSpanOfToken : (bytes : List ℕ) → Token → Span → Type 0
+IsSpanOfToken bytes token span = IsSpanAt bytes token.index (length token.value.now + marks_len token.kind) span
+
+-- the span of a custom expression, between its parentheses
+abbrev pub IsSpanOfBody : (bytes : List ℕ) → Token → Span → Type 0
+IsSpanOfBody bytes token span = IsSpanAt bytes (token.index + 1) (length token.value.now) span
+
+-- ---- faults
+
+-- both spans lie in the text
+abbrev pub IsFaultIn : (bytes : List ℕ) → Fault → Type 0
+IsFaultIn bytes fault = IsSpanIn bytes fault.span × IfSome fault.earlier (IsSpanIn bytes)
+
+-- there is one span, which is so
+abbrev pub IsAlone : (Is : Span → Type 0) → Fault → Type 0
+IsAlone Is fault = Is fault.span × (fault.earlier ≡ None)
+
+-- the whole text is at fault
+abbrev pub IsWholeFault : (bytes : List ℕ) → Fault → Type 0
+IsWholeFault bytes fault = IsAlone (λ span. span ≡ whole_span bytes) fault
+
+-- ---- where a URL is expected
+
+abbrev pub begins : (bytes front : List ℕ) → Bool
+begins bytes front = starts_with nat_eq bytes front
+
+-- how long the special scheme at the front of a text is, or the pattern of two, if two slashes follow it: the place where its colon
+-- is missing
+abbrev pub missing_colon : (bytes : List ℕ) → Option ℕ
+missing_colon bytes =
+    if begins bytes (codes "http{s}?//") then Some 8
+    else if begins bytes (codes "https//") then Some 5
+    else if begins bytes (codes "http//") || begins bytes (codes "file//") then Some 4
+    else if begins bytes (codes "wss//") || begins bytes (codes "ftp//") then Some 3
+    else if begins bytes (codes "ws//") then Some 2
+    else None
+
+-- how long the special scheme at the front of a text is, if a `;` and two slashes follow it: the place of the `;`
+abbrev pub mistyped_colon : (bytes : List ℕ) → Option ℕ
+mistyped_colon bytes =
+    if begins bytes (codes "https;//") then Some 5
+    else if begins bytes (codes "http;//") || begins bytes (codes "file;//") then Some 4
+    else if begins bytes (codes "wss;//") || begins bytes (codes "ftp;//") then Some 3
+    else if begins bytes (codes "ws;//") then Some 2
+    else None
+
+-- the `;` in the place of the colon after a scheme is at fault, or else the whole text
+abbrev pub IsSignFault : (bytes : List ℕ) → Fault → Type 0
+IsSignFault bytes fault =
+    MatchOption (mistyped_colon bytes) (IsWholeFault bytes fault) (λ place. IsAlone (IsSpanAt bytes place 1) fault)
+
+-- the place where the colon after a scheme is missing is at fault, or what is in its place, or else the whole text
+abbrev pub IsUrlFault : (bytes : List ℕ) → Fault → Type 0
+IsUrlFault bytes fault =
+    MatchOption (missing_colon bytes) (IsSignFault bytes fault) (λ place. IsAlone (IsSpanAt bytes place 0) fault)
+
+-- a character of a path, a search or a hash that no protocol has
+abbrev pub is_path_sign : ℕ → Bool
+is_path_sign c = is_among (codes "/#=") c
+
+-- the colon after a text that has such a character is at fault: it ends no protocol
+abbrev pub IsColonFault : (bytes before : List ℕ) → Fault → Type 0
+IsColonFault bytes before fault = IsTrue (list_any is_path_sign before) × IsAlone (IsSpanAt bytes (length before) 1) fault
+
+-- ---- where no token begins
+
+-- this is left of what follows a `(`, after a front that may be there before a fault
+abbrev pub IsAfterFront : (rest left : List ℕ) → Type 0
+IsAfterFront rest left = (front : List ℕ) × IsRegexpFront front × (rest ≡ front ++ left)
+
+-- A custom expression does not go on with so many bytes at the front of this: a character that is not ASCII, that after a backslash,
+-- or a `(` that no `?` follows.
+abbrev pub IsRefusedFront : (left : List ℕ) → (len : ℕ) → Type 0
+IsRefusedFront left len =
+    ((c : ℕ) × (more : List ℕ) × (left ≡ c ∷ more) × (128 ≤ c) × (len ≡ byte_len (c ∷ [])))
+    ⊎ ((c : ℕ) × (more : List ℕ) × (left ≡ codes "\\" ++ c ∷ more) × (128 ≤ c) × (len ≡ 1 + byte_len (c ∷ [])))
+    ⊎ ((more : List ℕ) × (left ≡ codes "(" ++ more) × ¬ BeginsWith is_question_mark more × (len ≡ 1))
+
+-- What follows a `(` at this place is no custom expression: it is empty, or begins with `?`; or it does not end, and the `(` is
+-- at fault; or else a part of it is at fault, and at odds with the `(`.
+abbrev pub IsBodyFault : (bytes : List ℕ) → (place : ℕ) → (rest : List ℕ) → Fault → Type 0
+IsBodyFault bytes place rest fault =
+    (BeginsWith (is_among (codes "?)")) rest × IsAlone (IsSpanAt bytes place 2) fault)
+    ⊎ (IsRegexpFront rest × IsAlone (IsSpanAt bytes place 1) fault)
+    ⊎ ((left : List ℕ) × (start len : ℕ) × IsAfterFront rest left × IsRefusedFront left len × BeginsAt (chars bytes) left start
+    × IsSpanAt bytes start len fault.span × IsSomeAnd fault.earlier (IsSpanAt bytes place 1))
+
+abbrev pub is_bracket : ℕ → Bool
+is_bracket c = is_among (codes "[]") c
+
+-- the text has this bracket at the place, and none after it
+abbrev pub IsLastBracket : (bracket bytes : List ℕ) → (place : ℕ) → Type 0
+IsLastBracket bracket bytes place =
+    (rest : List ℕ) × (drop place bytes ≡ bracket ++ rest) × (list_any is_bracket rest ≡ false)
+
+-- the last bracket of the text is a `[` at this place; or it is a `]`, or there is none
+abbrev pub IsOpenBracket : (bytes : List ℕ) → Option ℕ → Type 0
+IsOpenBracket bytes (Some place) = IsLastBracket (codes "[") bytes place
+IsOpenBracket bytes None = (list_any is_bracket bytes ≡ false) ⊎ ((place : ℕ) × IsLastBracket (codes "]") bytes place)
+
+abbrev pub is_of_hostname : Option ComponentName → Bool
+is_of_hostname None = false
+is_of_hostname (Some Hostname) = true
+is_of_hostname (Some component) = false
+
+-- the first of two places, or the one that there is
+abbrev pub first_place : Option ℕ → ℕ → ℕ
+first_place None place = place
+first_place (Some other) place = min other place
+
+-- No name follows the colon at this place. The colon is at fault, or in a hostname a `[` before it that is not closed.
+abbrev pub IsNameFault : Option ComponentName → (bytes : List ℕ) → (place : ℕ) → Fault → Type 0
+IsNameFault component bytes place fault =
+    MatchBool (is_of_hostname component)
+    ((bracket : Option ℕ) × IsOpenBracket bytes bracket × IsAlone (IsSpanAt bytes (first_place bracket place) 1) fault)
+    (IsAlone (IsSpanAt bytes place 1) fault)
+
+-- At this place, where `left` begins, no token begins for this reason: a backslash at the end is at fault, a name, or a custom expression.
+abbrev pub IsTokenFault : Option ComponentName → (bytes : List ℕ) → (place : ℕ) → (left : List ℕ) → FaultView → Fault → Type 0
+IsTokenFault component bytes place left IncompleteEscapeCode fault =
+    (start : ℕ) × BeginsAt (chars bytes) (codes "\\") start × IsAlone (IsSpanAt bytes start 1) fault
+IsTokenFault component bytes place left InvalidName fault = IsNameFault component bytes place fault
+IsTokenFault component bytes place left (InvalidRegex reported) fault =
+    (rest : List ℕ) × (left ≡ codes "(" ++ rest) × IsBodyFault bytes place rest fault
+
+-- this is the first fault of the text, and what is at fault there
+abbrev pub HasTokenFault : Option ComponentName → (bytes : List ℕ) → FaultView → (place : ℕ) → Fault → Type 0
+HasTokenFault component bytes reported place fault =
+    (is : IsFault (chars bytes) reported place) × IsTokenFault component bytes place is.left reported fault
+
+abbrev pub is_end_kind : TokenType → Bool
+is_end_kind End = true
+is_end_kind kind = false
+
+-- the token at which the pieces of the text before the place end, unless they are all of it
+abbrev pub IsStopBefore : (bytes point : List ℕ) → (place : ℕ) → Option Span → Type 0
+IsStopBefore bytes point place earlier =
+    (stop : Stop) × IsStopOf (chars (take place bytes)) point (token_view stop.first) (token_view stop.found)
+    × MatchBool (is_end_kind stop.found.kind) (earlier ≡ None) (IsSomeAnd earlier (IsSpanOfToken bytes stop.found))
+
+-- the same fault; if it is at odds with nothing, the token at which the pieces end before it is at fault too
+abbrev pub IsWithStop : (bytes point : List ℕ) → (place : ℕ) → (alone fault : Fault) → Type 0
+IsWithStop bytes point place alone fault =
+    (fault.span ≡ alone.span)
+    × MatchOption alone.earlier (IsStopBefore bytes point place fault.earlier) (λ span. fault.earlier ≡ Some span)
+
+-- the first fault of the text, with an earlier token that is at fault too
+abbrev pub IsFirstFault : Option ComponentName → (bytes point : List ℕ) → FaultView → (place : ℕ) → Fault → Type 0
+IsFirstFault component bytes point reported place fault =
+    (alone : Fault) × HasTokenFault component bytes reported place alone × IsWithStop bytes point place alone fault
+
+-- ---- where the tokens are no pattern
+
+-- the token at which the pieces end is at fault, and before it the brace of a group that lacks its end
+abbrev pub IsStopFault : (bytes : List ℕ) → Stop → Fault → Type 0
+IsStopFault bytes stop fault =
+    IsSpanOfToken bytes stop.found fault.span
+    × MatchBool (stop.first.index == stop.found.index) (fault.earlier ≡ None) (IsSomeAnd fault.earlier (IsSpanOfToken bytes stop.first))
+
+abbrev pub is_name : TokenType → Bool
+is_name Name = true
+is_name kind = false
+
+-- the token gives this name
+abbrev pub gives_name : (name : List ℕ) → Token → Bool
+gives_name name token = is_name token.kind && bytes_eq token.value.now name
+
+-- of the tokens that give a name the second is at fault, after the first
+abbrev pub IsSecondFault : (bytes : List ℕ) → List Token → Fault → Type 0
+IsSecondFault bytes (first ∷ second ∷ more) fault =
+    IsSpanOfToken bytes second fault.span × IsSomeAnd fault.earlier (IsSpanOfToken bytes first)
+IsSecondFault bytes tokens fault = IsWholeFault bytes fault
+
+-- the fault of tokens that are no pattern, where this is the stop of their pieces
+abbrev pub IsParserFault : (bytes : List ℕ) → Stop → ParserError → Fault → Type 0
+IsParserFault bytes stop (parser_errors.ExpectedToken expected found value) fault = IsStopFault bytes stop fault
+IsParserFault bytes stop (parser_errors.DuplicateName name) fault =
+    (tokens : List Token) × AreTokens (chars bytes) (map token_view tokens)
+    × IsSecondFault bytes (filter (gives_name (string_bytes name)) tokens) fault
+
+-- the fault of a text whose tokens are read, by the error with which it is refused
+abbrev pub IsFaultOfError : (bytes point : List ℕ) → Error → Fault → Type 0
+IsFaultOfError bytes point (errors.Parser error) fault =
+    (stop : Stop) × IsStopOf (chars bytes) point (token_view stop.first) (token_view stop.found) × IsParserFault bytes stop error fault
+IsFaultOfError bytes point other fault = IsWholeFault bytes fault
+
+-- Where the first character begins no token is the fault. If each begins one, the error decides.
+abbrev pub IsFaultOf : Option ComponentName → (bytes point : List ℕ) → Error → Fault → Type 0
+IsFaultOf component bytes point error fault =
+    ((reported : FaultView) × (place : ℕ) × IsFirstFault component bytes point reported place fault)
+    ⊎ (((tokens : List TokenView) × AreTokens (chars bytes) tokens) × IsFaultOfError bytes point error fault)

@@ -1,0 +1,273 @@
+//! Where the pattern text of a component is at fault.
+ghost use Rattle.std.specs.Prelude.{◌≡◌, ℕ, false, IfNone, IfOk, IfSome, None, filter, map};
+ghost use Rattle.std.specs.List.{list_any};
+ghost use Rattle.std.specs.Str.{chars};
+ghost use Rattle.urlpattern_diagnosis.specs.Faults.{IsColonFault, IsFaultIn, IsFaultOf, IsParserFault, IsSecondFault, IsSignFault, IsSpanOfToken, IsStopFault, IsUrlFault, IsWholeFault, gives_name, is_path_sign, marks_len, missing_colon, mistyped_colon};
+ghost use Rattle.urlpattern_diagnosis.specs.Spans.{IsSpanIn};
+ghost use Rattle.urlpattern_syntax.specs.Tokens.{AreTokens, token_view};
+
+use crate::span::Span;
+use crate::token::first_fault;
+use std::alloc::Global;
+use urlpattern_components::ComponentName;
+use urlpattern_parser::parser::Stop;
+use urlpattern_parser::tokenizer::tokenize;
+use urlpattern_syntax::error::{Error, OutOfMemory, ParserError};
+use urlpattern_syntax::tokenizer::{Token, TokenType, TokenizePolicy};
+
+/// Where a text is at fault.
+///
+/// A test compares the spans of a diagnosis with recorded ones:
+///
+/// ```rust fault
+/// Ok(
+///     are_lines
+///         && has_text(recorded, "subject", diagnosis.subject.name())
+///         && is_span(recorded, "span", Some(diagnosis.fault.span))
+///         && is_span(recorded, "earlier", diagnosis.fault.earlier),
+/// )
+/// ```
+#[derive(Debug, Clone, Copy, PartialEq, Eq)]
+pub struct Fault {
+    /// The part at fault.
+    pub span: Span,
+    /// The part that it is at odds with: the first of two equal names, the brace of a group that lacks its end, or the
+    /// parenthesis of a custom expression. Or else an earlier token that is at fault too.
+    pub earlier: Option<Span>,
+}
+
+impl Fault {
+    /// A whole text.
+    pub fn whole(text: &str) -> Self
+        ensures whole { IsWholeFault text.now result }
+        ensures within { IsFaultIn text.now result }
+    {
+        Fault {
+            span: Span::whole(text),
+            earlier: None,
+        }
+    }
+}
+
+impl Fault {
+    /// The place in a text where the colon after a special scheme is missing, or the `;` there, or else the whole text, which is
+    /// no URL.
+    pub fn of_url(text: &str) -> Self
+        ensures fault { IsUrlFault text.now result }
+        ensures within { IsFaultIn text.now result }
+    {
+        match missing_colon(text) {
+            Some(place) => Fault::of_span(Span::at(text, place, 0)),
+            None => Fault::of_sign(text),
+        }
+    }
+
+    /// The `;` in a text for the colon after a special scheme, or else the whole text.
+    fn of_sign(text: &str) -> Self
+        ensures fault { IsSignFault text.now result }
+        ensures within { IsFaultIn text.now result }
+    {
+        match mistyped_colon(text) {
+            Some(place) => Fault::of_span(Span::at(text, place, 1)),
+            None => Fault::whole(text),
+        }
+    }
+}
+
+impl Fault {
+    /// The colon after a text that is no protocol, since it has a character of a path, a search or a hash.
+    pub fn of_colon(text: &str, before: &str) -> Option<Self>
+        ensures fault { IfSome result (IsColonFault text.now before.now) }
+        ensures other { IfNone result (list_any is_path_sign before.now ≡ false) }
+        ensures within { IfSome result (IsFaultIn text.now) }
+    {
+        if has_path_sign(before) {
+            Some(Fault::of_span(Span::at(text, before.len(), 1)))
+        } else {
+            None
+        }
+    }
+}
+
+/// Whether a text has a character of a path, a search or a hash that no protocol has.
+fn has_path_sign(text: &str) -> bool
+    ensures { result ≡ list_any is_path_sign text.now }
+{
+    text.as_bytes().iter().any(|byte| is_path_sign(*byte))
+}
+
+/// Whether a byte is such a character.
+fn is_path_sign(byte: u8) -> bool
+    ensures { result ≡ is_path_sign byte }
+{
+    matches!(byte, b'/' | b'#' | b'=')
+}
+
+/// How long the special scheme at the front of a text is, or the pattern `http{s}?` of two, if two slashes follow it, and so its
+/// colon is missing.
+fn missing_colon(text: &str) -> Option<usize>
+    ensures { result ≡ missing_colon text.now }
+{
+    let bytes = text.as_bytes();
+    if bytes.starts_with(b"http{s}?//") {
+        Some(8)
+    } else if bytes.starts_with(b"https//") {
+        Some(5)
+    } else if bytes.starts_with(b"http//") || bytes.starts_with(b"file//") {
+        Some(4)
+    } else if bytes.starts_with(b"wss//") || bytes.starts_with(b"ftp//") {
+        Some(3)
+    } else if bytes.starts_with(b"ws//") {
+        Some(2)
+    } else {
+        None
+    }
+}
+
+/// How long the special scheme at the front of a text is, if `;` and two slashes follow it, and so its colon is mistyped.
+fn mistyped_colon(text: &str) -> Option<usize>
+    ensures { result ≡ mistyped_colon text.now }
+{
+    let bytes = text.as_bytes();
+    if bytes.starts_with(b"https;//") {
+        Some(5)
+    } else if bytes.starts_with(b"http;//") || bytes.starts_with(b"file;//") {
+        Some(4)
+    } else if bytes.starts_with(b"wss;//") || bytes.starts_with(b"ftp;//") {
+        Some(3)
+    } else if bytes.starts_with(b"ws;//") {
+        Some(2)
+    } else {
+        None
+    }
+}
+
+impl Fault {
+    /// One part of a text.
+    pub fn of_span(span: Span) -> Self
+        ensures { result ≡ record { span = span; earlier = None } }
+    {
+        Fault {
+            span,
+            earlier: None,
+        }
+    }
+}
+
+/// Where the pattern text of a component is at fault, by the error with which it is refused under this prefix code point.
+/// Without a component the text is no pattern of a hostname.
+///
+/// The error is that memory ran out.
+pub fn fault_of(
+    alloc: Global,
+    component: Option<ComponentName>,
+    text: &str,
+    prefix_code_point: &str,
+    error: &Error,
+) -> Result<Fault, OutOfMemory>
+    ensures fault { IfOk result (IsFaultOf component text.now (chars prefix_code_point.now) error.now) }
+    ensures within { IfOk result (IsFaultIn text.now) }
+{
+    let stop = match Stop::of(alloc, text, prefix_code_point) {
+        Ok(stop) => stop,
+        Err(Error::Tokenizer(fault, place)) => {
+            let found = first_fault(alloc, component, text, prefix_code_point, place, &fault);
+            drop(fault);
+            return found;
+        }
+        Err(_) => return Err(OutOfMemory),
+    };
+    match error {
+        Error::Parser(error) => parser_fault(alloc, text, &stop, error),
+        _ => Ok(Fault::whole(text)),
+    }
+}
+
+/// The fault of a text whose tokens are no pattern, where this is the stop of its pieces.
+fn parser_fault(
+    alloc: Global,
+    text: &str,
+    stop: &Stop<'_>,
+    error: &ParserError,
+) -> Result<Fault, OutOfMemory>
+    ensures fault { IfOk result (IsParserFault text.now stop.now error.now) }
+    ensures within { IfOk result (IsFaultIn text.now) }
+{
+    match error {
+        ParserError::ExpectedToken(_, _, _) => Ok(stop_fault(text, stop)),
+        ParserError::DuplicateName(name) => {
+            let Ok(tokens) = tokenize(alloc, text, TokenizePolicy::Strict) else {
+                return Err(OutOfMemory);
+            };
+            Ok(second_fault(text, &tokens, name))
+        }
+    }
+}
+
+/// The token at which the pieces end, and the brace of a group that lacks its end.
+fn stop_fault(text: &str, stop: &Stop<'_>) -> Fault
+    ensures fault { IsStopFault text.now stop.now result }
+    ensures within { IsFaultIn text.now result }
+{
+    let span = span_of(text, stop.found);
+    if stop.first.index == stop.found.index {
+        return Fault {
+            span,
+            earlier: None,
+        };
+    }
+    Fault {
+        span,
+        earlier: Some(span_of(text, stop.first)),
+    }
+}
+
+/// The second of the tokens that give a name, and the first.
+fn second_fault(text: &str, tokens: &[Token<'_>], name: &str) -> Fault
+    ensures fault { IsSecondFault text.now (filter (gives_name name.now) tokens.now) result }
+    ensures within { IsFaultIn text.now result }
+{
+    let mut first = None;
+    for token in tokens {
+        if gives_name(token, name) {
+            let span = span_of(text, *token);
+            match first {
+                Some(earlier) => {
+                    return Fault {
+                        span,
+                        earlier: Some(earlier),
+                    };
+                }
+                None => first = Some(span),
+            }
+        }
+    }
+    Fault::whole(text)
+}
+
+/// Whether a token gives this name.
+fn gives_name(token: &Token<'_>, name: &str) -> bool
+    ensures { result ≡ gives_name name.now token.now }
+{
+    matches!(token.kind, TokenType::Name) && token.value == name
+}
+
+/// The span of a token's spelling.
+pub(crate) fn span_of(text: &str, token: Token<'_>) -> Span
+    ensures span { IsSpanOfToken text.now token.entry result }
+    ensures within { IsSpanIn text.now result }
+{
+    let len = token.value.len() + marks_len(token.kind);
+    Span::at(text, token.index, len)
+}
+
+/// How many bytes of a token's spelling are none of its value.
+fn marks_len(kind: TokenType) -> usize
+    ensures { result ≡ marks_len kind }
+{
+    match kind {
+        TokenType::Name | TokenType::EscapedChar => 1,
+        TokenType::Regexp => 2,
+        _ => 0,
+    }
+}

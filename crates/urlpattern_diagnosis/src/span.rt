@@ -1,0 +1,52 @@
+//! Spans of a text.
+ghost use Rattle.std.specs.Prelude.{◌≡◌, length};
+ghost use Rattle.urlpattern_diagnosis.specs.Spans.{IsSpanAt, IsSpanIn, whole_span};
+
+/// A part of a text, by the byte indices of its first character and of what follows its last.
+///
+/// A test compares a span, if there is one, with a recorded list of two numbers:
+///
+/// ```rust span
+/// match (list(recorded, name), span) {
+///     (Ok([start, end]), Some(span)) => {
+///         start.as_u64() == Some(span.start as u64) && end.as_u64() == Some(span.end as u64)
+///     }
+///     (Err(_), None) => true,
+///     _ => false,
+/// }
+/// ```
+#[derive(Debug, Clone, Copy, PartialEq, Eq)]
+pub struct Span {
+    /// Where it begins.
+    pub start: usize,
+    /// Where it ends.
+    pub end: usize,
+}
+
+impl Span {
+    /// A whole text.
+    pub fn whole(text: &str) -> Self
+        ensures whole { result ≡ whole_span text.now }
+        ensures within { IsSpanIn text.now result }
+    {
+        Span {
+            start: 0,
+            end: text.len(),
+        }
+    }
+
+    /// So many bytes of a text from a place on, or the whole text if these are no characters of it.
+    pub fn at(text: &str, start: usize, len: usize) -> Self
+        ensures at { IsSpanAt text.now start len result }
+        ensures within { IsSpanIn text.now result }
+    {
+        if start > text.len() || len > text.len() - start {
+            return Span::whole(text);
+        }
+        let end = start + len;
+        if text.is_char_boundary(start) && text.is_char_boundary(end) {
+            return Span { start, end };
+        }
+        Span::whole(text)
+    }
+}

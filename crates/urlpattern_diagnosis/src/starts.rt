@@ -1,0 +1,99 @@
+//! Where the components of a constructor string begin.
+ghost use Rattle.std.specs.Prelude.{◌≤◌, length};
+
+use urlpattern_components::{ComponentName, Eight};
+
+/// Where a component begins in a constructor string that is split into these, a byte index.
+///
+/// Text and components are read side by side: each component follows the signs before it, which may be escaped.
+pub fn component_start(
+    text: &str,
+    components: &Eight<Option<&str>>,
+    component: ComponentName,
+) -> usize {
+    let mut rest = after_ignored(text);
+    for name in ComponentName::all() {
+        if let Some(value) = components.get(name) {
+            rest = after_signs(rest, components, name);
+            if name == component {
+                break;
+            }
+            rest = after(rest, value);
+        }
+    }
+    text.len() - rest.len()
+}
+
+/// The text after the signs before a component.
+fn after_signs<'a>(
+    text: &'a str,
+    components: &Eight<Option<&str>>,
+    component: ComponentName,
+) -> &'a str
+    ensures { length result.now ≤ length text.now }
+{
+    match component {
+        ComponentName::Protocol | ComponentName::Pathname => text,
+        ComponentName::Username => after_slashes(after_sign(text, ':')),
+        ComponentName::Password => after_sign(text, ':'),
+        ComponentName::Hostname => match components.username {
+            Some(_) => after_sign(text, '@'),
+            None => after_slashes(after_sign(text, ':')),
+        },
+        ComponentName::Port => match components.pathname {
+            Some(path) if is_empty(&components.port) && text.starts_with(path) => text,
+            _ => after_sign(text, ':'),
+        },
+        ComponentName::Search => after_sign(text, '?'),
+        ComponentName::Hash => after_sign(text, '#'),
+    }
+}
+
+/// Whether a component is there and empty.
+fn is_empty(component: &Option<&str>) -> bool {
+    match component {
+        Some(text) => text.is_empty(),
+        None => false,
+    }
+}
+
+/// The text after this part, if it begins with it.
+fn after<'a>(text: &'a str, part: &str) -> &'a str
+    ensures { length result.now ≤ length text.now }
+{
+    match text.strip_prefix(part) {
+        Some(rest) => rest,
+        None => text,
+    }
+}
+
+/// The text after this character, which may be escaped, and after what is skipped then.
+fn after_sign(text: &str, sign: char) -> &str
+    ensures { length result.now ≤ length text.now }
+{
+    let unescaped = after(text, "\\");
+    match unescaped.strip_prefix(sign) {
+        Some(rest) => after_ignored(rest),
+        None => text,
+    }
+}
+
+/// The text after two slashes, if it begins with both.
+fn after_slashes(text: &str) -> &str
+    ensures { length result.now ≤ length text.now }
+{
+    let one = after_sign(text, '/');
+    let two = after_sign(one, '/');
+    if one.len() < text.len() && two.len() < one.len() {
+        two
+    } else {
+        text
+    }
+}
+
+/// The text after the tabs and line ends that it begins with.
+fn after_ignored(text: &str) -> &str
+    ensures { length result.now ≤ length text.now }
+{
+    text.trim_start_matches(['\t', '\n', '\r'])
+}

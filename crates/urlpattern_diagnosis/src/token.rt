@@ -1,0 +1,175 @@
+//! What is at fault where a text has no token.
+ghost use Rattle.std.specs.Prelude.{◌≡◌, ◌≤◌, ◌++◌, codes, length, List, ℕ, IfNone, IfOk, IfSome};
+ghost use Rattle.std.specs.Str.{chars};
+ghost use Rattle.urlpattern_diagnosis.specs.Faults.{IsBodyFault, IsFaultIn, IsAfterFront, IsFirstFault, IsNameFault, IsOpenBracket, IsRefusedFront, HasTokenFault, is_end_kind, is_of_hostname};
+ghost use Rattle.urlpattern_syntax.specs.Text.{BeginsAt, BeginsWith, is_among};
+ghost use Rattle.urlpattern_syntax.specs.Tokens.{IsFault, IsFaultAt, InvalidRegex, IsRegexpFront, fault_view};
+
+use crate::fault::{Fault, span_of};
+use crate::span::Span;
+use std::alloc::Global;
+use urlpattern_components::ComponentName;
+use urlpattern_parser::parser::Stop;
+use urlpattern_syntax::error::{OutOfMemory, TokenizerError};
+use urlpattern_syntax::text::split_first;
+use urlpattern_syntax::tokenizer::TokenType;
+
+/// The fault of a text whose first fault is this one, at this place, with an earlier token that is at fault too.
+///
+/// The error is that memory ran out.
+pub(crate) fn first_fault(
+    alloc: Global,
+    component: Option<ComponentName>,
+    text: &str,
+    prefix_code_point: &str,
+    place: usize,
+    fault: &TokenizerError,
+) -> Result<Fault, OutOfMemory>
+    requires { IsFault (chars text.now) (fault_view fault.now) place }
+    ensures fault { IfOk result (IsFirstFault component text.now (chars prefix_code_point.now) (fault_view fault.now) place) }
+    ensures within { IfOk result (IsFaultIn text.now) }
+{
+    let alone = token_fault(component, text, place, fault);
+    if let Some(_) = alone.earlier {
+        return Ok(alone);
+    }
+    let Ok(stop) = Stop::of(alloc, &text[..place], prefix_code_point) else {
+        return Err(OutOfMemory);
+    };
+    if is_end(stop.found.kind) {
+        return Ok(alone);
+    }
+    Ok(Fault {
+        span: alone.span,
+        earlier: Some(span_of(text, stop.found)),
+    })
+}
+
+/// Whether a token is the end of a text.
+fn is_end(kind: TokenType) -> bool
+    ensures { result ≡ is_end_kind kind }
+{
+    matches!(kind, TokenType::End)
+}
+
+/// The fault of a text whose first fault is this one, at this place, in the pattern of this component.
+fn token_fault(
+    component: Option<ComponentName>,
+    text: &str,
+    place: usize,
+    fault: &TokenizerError,
+) -> Fault
+    requires { IsFault (chars text.now) (fault_view fault.now) place }
+    ensures fault { HasTokenFault component text.now (fault_view fault.now) place result }
+    ensures within { IsFaultIn text.now result }
+{
+    match fault {
+        TokenizerError::IncompleteEscapeCode => {
+            Fault::of_span(Span::at(text, text.len().saturating_sub(1), 1))
+        }
+        TokenizerError::InvalidName => name_fault(component, text, place),
+        TokenizerError::InvalidRegex(_) => match split_first(&text[place..]) {
+            Some((_, body)) => body_fault(text, place, body),
+            None => Fault::whole(text),
+        },
+    }
+}
+
+/// The fault of a text where no name follows the colon at this place: the colon, or in a hostname a `[` before it that is not
+/// closed.
+fn name_fault(component: Option<ComponentName>, text: &str, place: usize) -> Fault
+    ensures fault { IsNameFault component text.now place result }
+    ensures within { IsFaultIn text.now result }
+{
+    if !is_hostname(component) {
+        return Fault::of_span(Span::at(text, place, 1));
+    }
+    match open_bracket(text) {
+        Some(open) => Fault::of_span(Span::at(text, open.min(place), 1)),
+        None => Fault::of_span(Span::at(text, place, 1)),
+    }
+}
+
+/// Whether a component is the hostname.
+fn is_hostname(component: Option<ComponentName>) -> bool
+    ensures { result ≡ is_of_hostname component }
+{
+    matches!(component, Some(ComponentName::Hostname))
+}
+
+/// Where the last bracket of a text is, if it is a `[`.
+fn open_bracket(text: &str) -> Option<usize>
+    ensures { IsOpenBracket text.now result }
+{
+    let bytes = text.as_bytes();
+    let mut place = bytes.len();
+    while place > 0 {
+        place -= 1;
+        match bytes[place] {
+            b'[' => return Some(place),
+            b']' => return None,
+            _ => {}
+        }
+    }
+    None
+}
+
+/// The fault of a text that has no custom expression where this body follows a `(`, which is at this place.
+fn body_fault(text: &str, place: usize, body: &str) -> Fault
+    requires faulty { (reported : List ℕ) × IsFaultAt (codes "(" ++ chars body.now) (InvalidRegex reported) }
+    requires within { length body.now ≤ length text.now }
+    ensures fault { IsBodyFault text.now place (chars body.now) result }
+    ensures within { IsFaultIn text.now result }
+{
+    if let Some(('?' | ')', _)) = split_first(body) {
+        return Fault::of_span(Span::at(text, place, 2));
+    }
+    let open = Span::at(text, place, 1);
+    match refused_in(body) {
+        Some((left, len)) => Fault {
+            span: Span::at(text, text.len() - left.len(), len),
+            earlier: Some(open),
+        },
+        None => Fault::of_span(open),
+    }
+}
+
+/// What is left of a body from where it may not go on, and how many bytes of that may not be there. `None`: the text ends before
+/// the body does.
+fn refused_in(body: &str) -> Option<(&str, usize)>
+    requires faulty { (reported : List ℕ) × IsFaultAt (codes "(" ++ chars body.now) (InvalidRegex reported) }
+    requires unmarked { ¬ BeginsWith (is_among (codes "?)")) (chars body.now) }
+    ensures end { IfNone result (IsRegexpFront (chars body.now)) }
+    ensures left { IfSome result (λ found. IsAfterFront (chars body.now) (chars found.0.now)) }
+    ensures refused { IfSome result (λ found. IsRefusedFront (chars found.0.now) found.1) }
+    ensures len { IfSome result (λ found. length found.0.now ≤ length body.now) }
+{
+    let mut rest = body;
+    let mut depth = 0usize;
+    while let Some((first, after)) = split_first(rest) {
+        match first {
+            '\\' => match split_first(after) {
+                Some((escaped, next)) if escaped.is_ascii() => rest = next,
+                Some((escaped, _)) => return Some((rest, 1 + escaped.len_utf8())),
+                None => return None,
+            },
+            '(' => match split_first(after) {
+                Some(('?', next)) => {
+                    rest = next;
+                    depth += 1;
+                }
+                _ => return Some((rest, 1)),
+            },
+            ')' => {
+                if depth == 0 {
+                    return None;
+                }
+                rest = after;
+                depth -= 1;
+            }
+            _ if first.is_ascii() => rest = after,
+            _ => return Some((rest, first.len_utf8())),
+        }
+    }
+    None
+}

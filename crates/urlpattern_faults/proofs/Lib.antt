@@ -1,3 +1,0 @@
-mod BracketLemmas
-pub mod NameLemmas
-mod TokenFaultLemmas

@@ -1,7 +1,0 @@
-use Rattle.std.proofs.Common.{take}
-use Rattle.urlpattern_faults.proofs.NameLemmas.{HasFirst}
-use Rattle.urlpattern_faults.proofs.fault.second_fault.Given as goal
-
--- of the tokens before this one none gives the name, or one
-abbrev pub invariant-loop-token : goal.invariant-loop-token
-invariant-loop-token l = HasFirst l.text l.name (take l.token-index l.tokens) l.first

@@ -1,0 +1,39 @@
+-- Whether a pattern covers another one, as it is reported.
+use Rattle.std.specs.Prelude.{◌≡◌, ◌⊎◌, ℕ, slice_get, None, Some}
+use Rattle.urlpattern_ffi.specs.Kept.{PatternList}
+use Rattle.urlpattern_ffi.specs.Mismatches.{component_number, no_component}
+use Rattle.urlpattern_ffi.specs.declared.status.Status.{Status}
+use Rattle.urlpattern_ffi.specs.declared.status.Status.TheVariants as statuses
+use Rattle.urlpattern_compare.specs.declared.parts.Reason.{Reason}
+use Rattle.urlpattern_components.specs.declared.eight.ComponentName.{ComponentName}
+use Rattle.urlpattern_engine.specs.declared.pattern_regexp.PatternRegexp.{PatternRegexp}
+use Rattle.urlpattern_pattern.specs.Comparing.{LackParts, OfBoth}
+use Rattle.urlpattern_pattern.specs.UrlPatterns.{UrlPattern}
+use Rattle.urlpattern_pattern.specs.declared.pattern.compare.CompareError.TheVariants.{NoParts}
+use Rattle.urlpattern_compare.specs.Comparing.{IsCovered, IsParting, IsReasonIn}
+use Rattle.urlpattern_compare.specs.declared.pattern.{Parting.Parting, PatternParts.PatternParts}
+
+-- eight texts part the two, and the number is that of the component in which they do
+abbrev pub IsPartedIn : (number : ℕ) → (parts asked : PatternParts) → Type 0
+IsPartedIn number parts asked = (parting : Parting) × IsParting parts asked parting × (number ≡ component_number parting.component)
+
+-- it is not known whether the one covers the other, because of the component of this number
+abbrev pub IsUnknownIn : (number : ℕ) → (parts asked : PatternParts) → Type 0
+IsUnknownIn number parts asked = (name : ComponentName) × (reason : Reason) × IsReasonIn parts asked name reason × (number ≡ component_number name)
+
+-- Done: by their parts, the pattern covers the asked one. NoMatch: it does not, and a component in which they part is reported. Unknown: it
+-- is not known, because of the component that is reported, or because one of the two has no parts.
+abbrev pub AreCompared : (pattern asked : UrlPattern PatternRegexp) → (number : ℕ) → Status → Type 0
+AreCompared pattern asked number statuses.Done = (number ≡ no_component) × OfBoth pattern asked IsCovered
+AreCompared pattern asked number statuses.NoMatch = OfBoth pattern asked (IsPartedIn number)
+AreCompared pattern asked number statuses.Unknown = OfBoth pattern asked (IsUnknownIn number) ⊎ ((number ≡ no_component) × LackParts pattern asked NoParts)
+AreCompared pattern asked number statuses.OutOfMemory = number ≡ no_component
+AreCompared pattern asked number status = ⊥
+
+-- the same of the pattern at an index and of the one at the asked index, which may be in other patterns
+abbrev pub IsCoveringReported : PatternList → (index : ℕ) → (others : PatternList) → (asked : ℕ) → (number : ℕ) → Status → Type 0
+IsCoveringReported patterns index others asked number statuses.NoPattern =
+    ((slice_get patterns index ≡ None) ⊎ (slice_get others asked ≡ None)) × (number ≡ no_component)
+IsCoveringReported patterns index others asked number status =
+    (pattern other : UrlPattern PatternRegexp) × (slice_get patterns index ≡ Some pattern) × (slice_get others asked ≡ Some other)
+    × AreCompared pattern other number status

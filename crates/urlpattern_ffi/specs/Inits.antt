@@ -1,0 +1,57 @@
+-- Inits that are given as JSON.
+use Rattle.std.specs.Prelude.{◌≡◌, ◌⊎◌, ◌++◌, ℕ, Bool, List, [], ◌∷◌, Option, None, Some, option_and_then}
+use Rattle.std.specs.Str.{IsUtf8}
+use Rattle.serde_json.specs.Read.{read}
+use Rattle.urlpattern.specs.Errors.{ErrorView}
+use Rattle.urlpattern.specs.Patterns.{pattern_view}
+use Rattle.urlpattern_ffi.specs.Calls.{c_options}
+use Rattle.urlpattern_ffi.specs.Kept.{PatternList}
+use Rattle.urlpattern_ffi.specs.declared.status.Status.{Status}
+use Rattle.urlpattern_ffi.specs.declared.status.Status.TheVariants as statuses
+use Rattle.urlpattern_compile.specs.Compiled.{IsPatternOfInit, RefusesInit}
+use Rattle.urlpattern_engine.specs.PatternRegexps.{pattern_engine}
+use Rattle.urlpattern_engine.specs.declared.pattern_regexp.PatternRegexp.{PatternRegexp}
+use Rattle.urlpattern_init.specs.declared.init.UrlPatternInit.{UrlPatternInit}
+use Rattle.urlpattern_inputs.specs.InputJson.{init_read}
+use Rattle.urlpattern_inputs.specs.InputValues.{InitView, init_view}
+use Rattle.urlpattern_inputs.specs.declared.init.UrlPatternInit.{UrlPatternInit as PlainInit}
+use Rattle.urlpattern_inputs.specs.declared.input.StringOrInit.TheVariants as inputs
+use Rattle.urlpattern_pattern.specs.KeptParts.{KeepsPartsOf}
+use Rattle.urlpattern_pattern.specs.UrlPatterns.{UrlPattern}
+use Rattle.urlpattern_quirks.specs.Inputs.{IsInitOf, RefusesInput}
+
+-- the texts that the JSON gives: an object, in which each may be missing or null
+abbrev pub plain_init_of : (json : List ℕ) → Option InitView
+plain_init_of json = option_and_then init_read (read json)
+
+-- The init has the texts of the JSON, and its base URL.
+pub record IsInitOfJson (json : List ℕ) (init : UrlPatternInit) : Type 0 where
+  pub plain : PlainInit
+  pub is_read : plain_init_of json ≡ Some (init_view plain)
+  pub is_init : IsInitOf plain init
+
+-- `url` refuses the base URL that the JSON gives
+abbrev pub HasRefusedBase : (json : List ℕ) → ErrorView → Type 0
+HasRefusedBase json error = (plain : PlainInit) × (plain_init_of json ≡ Some (init_view plain)) × RefusesInput (inputs.Init plain) None error
+
+-- why the JSON is no init
+abbrev pub IsNoInit : (json : List ℕ) → Status → Type 0
+IsNoInit json statuses.NotUtf8 = ¬ IsUtf8 json
+IsNoInit json statuses.Refused = (plain_init_of json ≡ None) ⊎ ((error : ErrorView) × HasRefusedBase json error)
+IsNoInit json statuses.OutOfMemory = Unit {0}
+IsNoInit json status = ⊥
+
+-- the init is refused, with this error
+abbrev pub IsInitRefused : (json : List ℕ) → (ignore_case : Bool) → ErrorView → Type 0
+IsInitRefused json ignores error = (init : UrlPatternInit) × IsInitOfJson json init × RefusesInit pattern_engine init (c_options ignores) error
+
+-- the init is compiled, and its pattern, which keeps its parts, appended; else the patterns are as they were
+abbrev pub IsInitAdded : (old : PatternList) → (json : List ℕ) → (ignore_case : Bool) → (new : PatternList) → Status → Type 0
+IsInitAdded old json ignores new statuses.Done =
+    (init : UrlPatternInit) × (pattern : UrlPattern PatternRegexp) × IsInitOfJson json init
+    × IsPatternOfInit pattern_engine init (c_options ignores) (pattern_view pattern)
+    × KeepsPartsOf pattern_engine init (c_options ignores) pattern × (new ≡ old ++ pattern ∷ [])
+IsInitAdded old json ignores new statuses.Refused =
+    (IsNoInit json statuses.Refused ⊎ ((error : ErrorView) × IsInitRefused json ignores error)) × (new ≡ old)
+IsInitAdded old json ignores new statuses.OutOfMemory = new ≡ old
+IsInitAdded old json ignores new status = IsNoInit json status × (new ≡ old)

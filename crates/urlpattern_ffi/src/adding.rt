@@ -1,0 +1,98 @@
+//! Compiles patterns.
+ghost use Rattle.std.specs.Prelude.{◌≡◌, option_copied, IfErr, IfOk};
+ghost use Rattle.urlpattern_ffi.specs.Calls.{given_base, c_options, error_status, IsAdded, IsCompiledFromText, IsPushed, KeepsItsParts, RefusesToCompile};
+ghost use Rattle.urlpattern_ffi.specs.Kept.{boxed_patterns};
+ghost use Rattle.urlpattern.specs.Errors.{error_view, MemoryOr};
+
+use crate::kept::{Kept, take_or_new};
+use crate::status::Status;
+use std::alloc::Global;
+use std::str;
+use urlpattern::regexp::PatternRegexp;
+use urlpattern::{Error, RegexSyntax, UrlPattern, UrlPatternOptions};
+
+/// Compiles a constructor string, with a base URL unless that is empty, and appends the pattern.
+pub fn add(
+    alloc: Global,
+    kept: &mut Option<Box<Kept>>,
+    text: &[u8],
+    base: &[u8],
+    ignore_case: bool,
+) -> Status
+    ensures { IsAdded (boxed_patterns kept.old) text.now base.now ignore_case (boxed_patterns kept.new) result }
+{
+    let Ok(text) = str::from_utf8(text) else {
+        return Status::NotUtf8;
+    };
+    let Ok(base) = str::from_utf8(base) else {
+        return Status::NotUtf8;
+    };
+    match compiled(alloc, text, given_base(base), ignore_case) {
+        Ok(pattern) => push(alloc, kept, pattern),
+        Err(error) => {
+            let status = refusal(&error);
+            drop(error);
+            status
+        }
+    }
+}
+
+/// What is reported of the error with which a pattern is refused.
+pub(crate) fn refusal(error: &Error) -> Status
+    ensures { result ≡ error_status (error_view error.now) }
+{
+    match error {
+        Error::OutOfMemory => Status::OutOfMemory,
+        _ => Status::Refused,
+    }
+}
+
+/// The base URL of a text. `None`: the text is empty.
+pub(crate) fn given_base(text: &str) -> Option<&str>
+    ensures { option_copied result ≡ given_base text.now }
+{
+    if text.is_empty() { None } else { Some(text) }
+}
+
+/// The pattern of a constructor string.
+fn compiled(
+    alloc: Global,
+    text: &str,
+    base: Option<&str>,
+    ignore_case: bool,
+) -> Result<UrlPattern<PatternRegexp>, Error>
+    ensures compiled { IfOk result (IsCompiledFromText text.now (option_copied base.entry) ignore_case) }
+    ensures kept { IfOk result (KeepsItsParts text.now (option_copied base.entry) ignore_case) }
+    ensures refused { IfErr result (MemoryOr (RefusesToCompile text.now (option_copied base.entry) ignore_case)) }
+{
+    UrlPattern::from_constructor_string(alloc, text, base, options(ignore_case))
+}
+
+/// The options of a pattern.
+pub(crate) fn options(ignore_case: bool) -> UrlPatternOptions
+    ensures { result ≡ c_options ignore_case }
+{
+    UrlPatternOptions {
+        regex_syntax: RegexSyntax::Rust,
+        ignore_case,
+    }
+}
+
+/// Appends a pattern.
+pub(crate) fn push(
+    alloc: Global,
+    kept: &mut Option<Box<Kept>>,
+    pattern: UrlPattern<PatternRegexp>,
+) -> Status
+    ensures { IsPushed (boxed_patterns kept.old) pattern (boxed_patterns kept.new) result }
+{
+    let Ok(mut taken) = take_or_new(alloc, kept) else {
+        return Status::OutOfMemory;
+    };
+    let pushed = taken.list.try_push(pattern);
+    *kept = Some(taken);
+    match pushed {
+        Ok(()) => Status::Done,
+        Err(_) => Status::OutOfMemory,
+    }
+}

@@ -1,0 +1,101 @@
+//! Matches URLs, and writes what groups capture.
+ghost use Rattle.urlpattern.specs.Patterns.{pattern_view};
+ghost use Rattle.urlpattern_ffi.specs.Kept.{boxed_patterns};
+ghost use Rattle.urlpattern_ffi.specs.Spans.{AreCapturesReported, AreFirstCaptures, AreFirstInBox, AreUrlCaptures};
+
+use crate::kept::{Kept, pattern_at};
+use crate::spans::{Sizes, Span, write_groups};
+use crate::status::Status;
+use crate::urls::url_of;
+use std::alloc::Global;
+use urlpattern::regexp::PatternRegexp;
+use urlpattern::{UrlPattern, UrlPatternList};
+
+/// Writes what the groups of the pattern at an index capture of the URL of a text, and a span for each group.
+pub fn captures(
+    alloc: Global,
+    kept: &Option<Box<Kept>>,
+    index: usize,
+    url: &[u8],
+    base: &[u8],
+    buffer: &mut [u8],
+    spans: &mut [Span],
+    needed: &mut Sizes,
+) -> Status
+    ensures { AreCapturesReported (boxed_patterns kept.now) index url.now base.now
+        buffer.old buffer.new spans.old spans.new needed.new result }
+{
+    match pattern_at(kept, index) {
+        Some(pattern) => pattern_captures(alloc, pattern, url, base, buffer, spans, needed),
+        None => Status::NoPattern,
+    }
+}
+
+/// The same of a pattern.
+fn pattern_captures(
+    alloc: Global,
+    pattern: &UrlPattern<PatternRegexp>,
+    url: &[u8],
+    base: &[u8],
+    buffer: &mut [u8],
+    spans: &mut [Span],
+    needed: &mut Sizes,
+) -> Status
+    ensures { AreUrlCaptures (pattern_view pattern.now) url.now base.now buffer.old buffer.new spans.old spans.new needed.new result }
+{
+    let url = match url_of(alloc, url, base) {
+        Ok(url) => url,
+        Err(status) => return status,
+    };
+    match pattern.captures(alloc, &url) {
+        Ok(Some(found)) => write_groups(&found, buffer, spans, needed),
+        Ok(None) => Status::NoMatch,
+        Err(_) => Status::OutOfMemory,
+    }
+}
+
+/// Finds the first pattern that matches the URL of a text, and writes its index, what its groups capture, and their spans.
+pub fn first_captures(
+    alloc: Global,
+    kept: &Option<Box<Kept>>,
+    url: &[u8],
+    base: &[u8],
+    index: &mut usize,
+    buffer: &mut [u8],
+    spans: &mut [Span],
+    needed: &mut Sizes,
+) -> Status
+    ensures { AreFirstInBox kept.now url.now base.now index.old index.new buffer.old buffer.new spans.old spans.new needed.new result }
+{
+    match kept {
+        Some(kept) => list_captures(alloc, &kept.list, url, base, index, buffer, spans, needed),
+        None => Status::NoPattern,
+    }
+}
+
+/// The same of a list.
+fn list_captures(
+    alloc: Global,
+    list: &UrlPatternList<PatternRegexp>,
+    url: &[u8],
+    base: &[u8],
+    index: &mut usize,
+    buffer: &mut [u8],
+    spans: &mut [Span],
+    needed: &mut Sizes,
+) -> Status
+    ensures { AreFirstCaptures list.now url.now base.now index.old index.new buffer.old buffer.new spans.old spans.new needed.new result }
+{
+    let url = match url_of(alloc, url, base) {
+        Ok(url) => url,
+        Err(status) => return status,
+    };
+    match list.first_captures(alloc, &url) {
+        Ok(Some((first, found))) => {
+            *index = first;
+            write_groups(&found, buffer, spans, needed)
+        }
+        Ok(None) => Status::NoMatch,
+        Err(_) => Status::OutOfMemory,
+    }
+}

@@ -1,0 +1,62 @@
+//! Says whether a pattern covers another one.
+ghost use Rattle.std.specs.Prelude.{◌≡◌};
+ghost use Rattle.urlpattern_ffi.specs.Coverings.{AreCompared, IsCoveringReported};
+ghost use Rattle.urlpattern_ffi.specs.Kept.{boxed_patterns};
+ghost use Rattle.urlpattern_ffi.specs.Mismatches.{no_component};
+
+use crate::kept::{Kept, pattern_at};
+use crate::mismatching::{NO_COMPONENT, component_number};
+use crate::status::Status;
+use std::alloc::Global;
+use urlpattern::regexp::PatternRegexp;
+use urlpattern::rules::PatternCovering;
+use urlpattern::{CompareError, UrlPattern};
+
+/// Whether the pattern at an index covers the one at the asked index, of the same patterns or of others. Writes the number of a
+/// component in which they part, or because of which it is not known, or the number of none.
+pub fn covers(
+    alloc: Global,
+    kept: &Option<Box<Kept>>,
+    index: usize,
+    others: &Option<Box<Kept>>,
+    asked: usize,
+    component: &mut u32,
+) -> Status
+    ensures { IsCoveringReported (boxed_patterns kept.now) index (boxed_patterns others.now) asked component.new result }
+{
+    *component = NO_COMPONENT;
+    let pattern = match pattern_at(kept, index) {
+        Some(pattern) => pattern,
+        None => return Status::NoPattern,
+    };
+    let other = match pattern_at(others, asked) {
+        Some(other) => other,
+        None => return Status::NoPattern,
+    };
+    compare(alloc, pattern, other, component)
+}
+
+/// Whether a pattern covers the asked one. The number of none is written before.
+fn compare(
+    alloc: Global,
+    pattern: &UrlPattern<PatternRegexp>,
+    asked: &UrlPattern<PatternRegexp>,
+    component: &mut u32,
+) -> Status
+    requires { component.old ≡ no_component }
+    ensures { AreCompared pattern.now asked.now component.new result }
+{
+    match pattern.covers(alloc, asked) {
+        Ok(PatternCovering::Covered) => Status::Done,
+        Ok(PatternCovering::NotCovered(parting)) => {
+            *component = component_number(parting.component);
+            Status::NoMatch
+        }
+        Ok(PatternCovering::Unknown(name, _)) => {
+            *component = component_number(name);
+            Status::Unknown
+        }
+        Err(CompareError::NoParts) => Status::Unknown,
+        Err(CompareError::OutOfMemory) => Status::OutOfMemory,
+    }
+}

@@ -1,0 +1,121 @@
+//! Says what is wrong with a pattern that is refused.
+ghost use Rattle.std.specs.Prelude.{◌≡◌, length, string_bytes};
+ghost use Rattle.urlpattern_ffi.specs.Diagnoses.{init_subject_number, place_of_diagnosis, subject_number, IsDiagnosed, IsInitDiagnosed};
+ghost use Rattle.urlpattern_ffi.specs.Texts.{IsWritten};
+
+use crate::adding::{given_base, options};
+use crate::inits::init_of;
+use crate::mismatching::component_number;
+use crate::status::Status;
+use crate::texts::write;
+use std::alloc::Global;
+use std::str;
+use urlpattern::regexp::PatternRegexp;
+use urlpattern::{Diagnosis, Subject, UrlPattern};
+
+/// The part of a text that is at fault, in bytes.
+#[repr(C)]
+#[derive(Drop)]
+pub struct Place {
+    /// 0: the pattern's text, 1: the base URL. Of an init, 2 and the number of the component whose text it is.
+    pub subject: u32,
+    /// Where the part begins.
+    pub start: usize,
+    /// Where it ends.
+    pub end: usize,
+}
+
+/// Writes why a constructor string is refused, and where it is at fault.
+pub fn diagnose(
+    alloc: Global,
+    text: &[u8],
+    base: &[u8],
+    ignore_case: bool,
+    buffer: &mut [u8],
+    needed: &mut usize,
+    place: &mut Place,
+) -> Status
+    ensures { IsDiagnosed text.now base.now ignore_case buffer.old buffer.new needed.new place.new result }
+{
+    let Ok(text) = str::from_utf8(text) else {
+        return Status::NotUtf8;
+    };
+    let Ok(base) = str::from_utf8(base) else {
+        return Status::NotUtf8;
+    };
+    let options = options(ignore_case);
+    match UrlPattern::<PatternRegexp>::diagnose(alloc, text, given_base(base), options) {
+        Ok(Some(diagnosis)) => {
+            let subject = subject_number(diagnosis.subject);
+            write_diagnosis(&diagnosis, subject, buffer, needed, place)
+        }
+        Ok(None) => Status::NoMatch,
+        Err(_) => Status::OutOfMemory,
+    }
+}
+
+/// Writes why an init of JSON is refused, and which text of it is at fault where.
+pub fn diagnose_init(
+    alloc: Global,
+    json: &[u8],
+    ignore_case: bool,
+    buffer: &mut [u8],
+    needed: &mut usize,
+    place: &mut Place,
+) -> Status
+    ensures { IsInitDiagnosed json.now ignore_case buffer.old buffer.new needed.new place.new result }
+{
+    let init = match init_of(alloc, json) {
+        Ok(init) => init,
+        Err(status) => return status,
+    };
+    match UrlPattern::<PatternRegexp>::diagnose_init(alloc, &init, options(ignore_case)) {
+        Ok(Some(diagnosis)) => {
+            let subject = init_subject_number(diagnosis.subject);
+            write_diagnosis(&diagnosis, subject, buffer, needed, place)
+        }
+        Ok(None) => Status::NoMatch,
+        Err(_) => Status::OutOfMemory,
+    }
+}
+
+/// Writes the reason of a diagnosis, and its place in the text of this number.
+fn write_diagnosis(
+    diagnosis: &Diagnosis,
+    subject: u32,
+    buffer: &mut [u8],
+    needed: &mut usize,
+    place: &mut Place,
+) -> Status
+    ensures written { IsWritten (string_bytes diagnosis.now.reason) buffer.old buffer.new result }
+    ensures needed { needed.new ≡ length (string_bytes diagnosis.now.reason) }
+    ensures place { place.new ≡ place_of_diagnosis subject diagnosis.now }
+{
+    *place = Place {
+        subject,
+        start: diagnosis.fault.span.start,
+        end: diagnosis.fault.span.end,
+    };
+    write(&diagnosis.reason, buffer, needed)
+}
+
+/// Which text is at fault, as C sees it.
+fn subject_number(subject: Subject) -> u32
+    ensures { result ≡ subject_number subject }
+{
+    match subject {
+        Subject::Base => 1,
+        _ => 0,
+    }
+}
+
+/// Which text of an init is at fault, as C sees it.
+fn init_subject_number(subject: Subject) -> u32
+    ensures { result ≡ init_subject_number subject }
+{
+    match subject {
+        Subject::Whole => 0,
+        Subject::Base => 1,
+        Subject::Component(name) => 2 + component_number(name),
+    }
+}

@@ -1,0 +1,81 @@
+//! Compiles inits, which C gives as JSON.
+ghost use Rattle.std.specs.Prelude.{◌≡◌, IfErr, IfOk, Some};
+ghost use Rattle.urlpattern_ffi.specs.Inits.{plain_init_of, IsInitAdded, IsInitOfJson, IsNoInit};
+ghost use Rattle.urlpattern_ffi.specs.Kept.{boxed_patterns};
+ghost use Rattle.urlpattern_inputs.specs.InputValues.{init_view};
+
+use crate::adding::{options, push, refusal};
+use crate::kept::Kept;
+use crate::status::Status;
+use serde_json::Value;
+use std::alloc::Global;
+use std::str;
+use urlpattern::quirks::{self, StringOrInit, process_construct_pattern_input};
+use urlpattern::{UrlPattern, UrlPatternInit};
+
+/// Compiles an init, an object of JSON with the texts of components and of a base URL, and appends the pattern.
+#[tactic(auto, using(crate::proofs::InitLemmas::init_added))]
+pub fn add_init(
+    alloc: Global,
+    kept: &mut Option<Box<Kept>>,
+    json: &[u8],
+    ignore_case: bool,
+) -> Status
+    ensures { IsInitAdded (boxed_patterns kept.old) json.now ignore_case (boxed_patterns kept.new) result }
+{
+    let init = match init_of(alloc, json) {
+        Ok(init) => init,
+        Err(status) => return status,
+    };
+    match UrlPattern::parse(alloc, init, options(ignore_case)) {
+        Ok(pattern) => push(alloc, kept, pattern),
+        Err(error) => {
+            let status = refusal(&error);
+            drop(error);
+            status
+        }
+    }
+}
+
+/// The init of JSON, whose base URL is parsed.
+///
+/// The error is why there is none.
+pub(crate) fn init_of(alloc: Global, json: &[u8]) -> Result<UrlPatternInit, Status>
+    ensures found { IfOk result (IsInitOfJson json.now) }
+    ensures missing { IfErr result (IsNoInit json.now) }
+{
+    let plain = match plain_init(alloc, json) {
+        Ok(plain) => plain,
+        Err(status) => return Err(status),
+    };
+    match process_construct_pattern_input(alloc, StringOrInit::Init(plain), None) {
+        Ok(init) => Ok(init),
+        Err(error) => {
+            let status = refusal(&error);
+            drop(error);
+            Err(status)
+        }
+    }
+}
+
+/// The init of JSON, with texts alone.
+///
+/// The error is why there is none.
+fn plain_init(alloc: Global, json: &[u8]) -> Result<quirks::UrlPatternInit, Status>
+    ensures found { IfOk result (λ init. plain_init_of json.now ≡ Some (init_view init)) }
+    ensures missing { IfErr result (IsNoInit json.now) }
+{
+    let Ok(text) = str::from_utf8(json) else {
+        return Err(Status::NotUtf8);
+    };
+    let value = match Value::from_str(alloc, text) {
+        Ok(value) => value,
+        Err(error) if error.is_memory() => return Err(Status::OutOfMemory),
+        Err(_) => return Err(Status::Refused),
+    };
+    match quirks::UrlPatternInit::from_json_value(alloc, &value) {
+        Ok(Some(init)) => Ok(init),
+        Ok(None) => Err(Status::Refused),
+        Err(_) => Err(Status::OutOfMemory),
+    }
+}

@@ -1,0 +1,52 @@
+//! The patterns that a handle leads to.
+ghost use Rattle.std.specs.Prelude.{◌≡◌, [], option_copied, slice_get, IfErr, IfOk};
+ghost use Rattle.urlpattern_ffi.specs.Kept.{boxed_patterns};
+
+use std::alloc::{AllocError, Global};
+use urlpattern::regexp::PatternRegexp;
+use urlpattern::{UrlPattern, UrlPatternList};
+
+/// Patterns in their order, in memory of their own.
+#[derive(Drop)]
+pub struct Kept {
+    pub(crate) list: UrlPatternList<PatternRegexp>,
+}
+
+/// The pattern at an index.
+pub(crate) fn pattern_at(
+    kept: &Option<Box<Kept>>,
+    index: usize,
+) -> Option<&UrlPattern<PatternRegexp>>
+    ensures { option_copied result ≡ slice_get (boxed_patterns kept.now) index }
+{
+    match kept {
+        Some(kept) => kept.list.get(index),
+        None => None,
+    }
+}
+
+/// Takes the patterns out, or makes an empty list.
+///
+/// The error is that memory ran out. There are then no patterns, as before.
+pub(crate) fn take_or_new(
+    alloc: Global,
+    kept: &mut Option<Box<Kept>>,
+) -> Result<Box<Kept>, AllocError>
+    ensures taken { IfOk result (λ taken. taken.value.list ≡ boxed_patterns kept.old) }
+    ensures none { IfErr result (λ _. boxed_patterns kept.old ≡ []) }
+    ensures none_left { boxed_patterns kept.new ≡ [] }
+{
+    match kept.take() {
+        Some(kept) => Ok(kept),
+        None => {
+            let list = UrlPatternList::new(alloc);
+            match Box::new(alloc, Kept { list }) {
+                Ok(kept) => Ok(kept),
+                Err(failed) => {
+                    drop(failed);
+                    Err(AllocError)
+                }
+            }
+        }
+    }
+}

@@ -1,0 +1,62 @@
+//! Writes URLs of patterns whose groups are given.
+ghost use Rattle.std.specs.Prelude.{◌≡◌, length, string_bytes};
+ghost use Rattle.urlpattern_ffi.specs.Kept.{boxed_patterns};
+ghost use Rattle.urlpattern_ffi.specs.Links.{IsLinkReported, IsReasonWritten, IsUrlLinked};
+
+use crate::kept::{Kept, pattern_at};
+use crate::status::Status;
+use crate::texts::write;
+use std::alloc::Global;
+use urlpattern::regexp::PatternRegexp;
+use urlpattern::{NoLink, UrlPattern};
+use urlpattern_ffi_links::{Given, Unlinked};
+
+/// Writes the URL of the pattern at an index, with what parts of a text give for its groups, or why there is none.
+pub fn link(
+    alloc: Global,
+    kept: &Option<Box<Kept>>,
+    index: usize,
+    text: &[u8],
+    given: &[Given],
+    buffer: &mut [u8],
+    needed: &mut usize,
+) -> Status
+    ensures { IsLinkReported (boxed_patterns kept.now) index text.now given.now buffer.old buffer.new needed.new result }
+{
+    match pattern_at(kept, index) {
+        Some(pattern) => link_pattern(alloc, pattern, text, given, buffer, needed),
+        None => Status::NoPattern,
+    }
+}
+
+/// The same of a pattern.
+fn link_pattern(
+    alloc: Global,
+    pattern: &UrlPattern<PatternRegexp>,
+    text: &[u8],
+    given: &[Given],
+    buffer: &mut [u8],
+    needed: &mut usize,
+) -> Status
+    ensures { IsUrlLinked pattern.now text.now given.now buffer.old buffer.new needed.new result }
+{
+    match urlpattern_ffi_links::link(alloc, pattern, text, given) {
+        Ok(url) => write(url.as_str(), buffer, needed),
+        Err(Unlinked::NoLink(reason)) => write_reason(alloc, &reason, buffer, needed),
+        Err(Unlinked::Given) => Status::NoPattern,
+        Err(Unlinked::OutOfMemory) => Status::OutOfMemory,
+    }
+}
+
+/// Writes why there is no URL.
+fn write_reason(alloc: Global, reason: &NoLink, buffer: &mut [u8], needed: &mut usize) -> Status
+    ensures { IsReasonWritten reason.now buffer.old buffer.new needed.new result }
+{
+    let Ok(text) = reason.to_string(alloc) else {
+        return Status::OutOfMemory;
+    };
+    match write(&text, buffer, needed) {
+        Status::Done => Status::Refused,
+        status => status,
+    }
+}

@@ -1,0 +1,171 @@
+//! Spans of what groups captured, in memory of C's.
+ghost use Rattle.std.specs.Prelude.{◌≡◌, ◌+◌, [], ◌∷◌, length, encode_utf8_all, if◌then◌else◌, is_some, IfSome};
+ghost use Rattle.std.specs.Str.{chars};
+ghost use Rattle.urlpattern_ffi.specs.Spans.{capture_bytes, found_groups, no_sizes, numbered, ArePut, AreWritten, IsGroupPut, IsPut};
+ghost use Rattle.urlpattern_matches.specs.BorrowedMatches.{groups_left};
+ghost use Rattle.urlpattern_syntax.specs.Text.{option_text};
+
+use crate::mismatching::component_number;
+use crate::status::Status;
+use urlpattern::{ComponentName, UrlPatternCaptures, UrlPatternGroups};
+
+/// Where the text of a group lies in the text that is written.
+#[repr(C)]
+#[derive(Clone, Copy)]
+pub struct Span {
+    /// The number of the component, in the order of the standard.
+    pub component: u32,
+    /// 1: the group took part in the match, 0: it took no part.
+    pub took_part: u32,
+    /// The number of the group in its component.
+    pub group: usize,
+    /// The byte at which its text begins.
+    pub start: usize,
+    /// How many bytes its text has.
+    pub length: usize,
+}
+
+/// How much a match takes.
+#[repr(C)]
+#[derive(Clone, Copy)]
+pub struct Sizes {
+    /// How many bytes its text has.
+    pub bytes: usize,
+    /// How many spans it has.
+    pub spans: usize,
+}
+
+/// Writes what the groups of a match captured, and their spans, if there is room for both, and says how much they take.
+pub(crate) fn write_groups(
+    found: &UrlPatternCaptures<'_, '_>,
+    buffer: &mut [u8],
+    spans: &mut [Span],
+    needed: &mut Sizes,
+) -> Status
+    ensures { AreWritten (found_groups found.now) buffer.old buffer.new spans.old spans.new needed.new result }
+{
+    let Some(sizes) = put_all(found, buffer, spans) else {
+        return Status::OutOfMemory;
+    };
+    *needed = sizes;
+    if buffer.len() < sizes.bytes || spans.len() < sizes.spans {
+        Status::TooSmall
+    } else {
+        Status::Done
+    }
+}
+
+/// Writes what the groups of a match captured, and their spans, as far as there is room. Returns how much they take.
+///
+/// `None`: more than a number can say.
+fn put_all(
+    found: &UrlPatternCaptures<'_, '_>,
+    buffer: &mut [u8],
+    spans: &mut [Span],
+) -> Option<Sizes>
+    ensures { IfSome result (λ to. ArePut (found_groups found.now) no_sizes to buffer.old buffer.new spans.old spans.new) }
+{
+    let mut sizes = Sizes { bytes: 0, spans: 0 };
+    for name in ComponentName::all() {
+        sizes = put_groups(found.groups(name), name, sizes, buffer, spans)?;
+    }
+    Some(sizes)
+}
+
+/// Writes the groups of a component after what takes so much. Returns how much all takes.
+fn put_groups(
+    groups: UrlPatternGroups<'_, '_, '_>,
+    component: ComponentName,
+    from: Sizes,
+    buffer: &mut [u8],
+    spans: &mut [Span],
+) -> Option<Sizes>
+    ensures { IfSome result (λ to. ArePut (numbered component 0 (groups_left groups.entry)) from to
+        buffer.old buffer.new spans.old spans.new) }
+{
+    let mut sizes = from;
+    for (_, capture) in groups {
+        let group = sizes.spans - from.spans;
+        sizes = put_group(component, group, capture, sizes, buffer, spans)?;
+    }
+    Some(sizes)
+}
+
+/// Writes a group after what takes so much. Returns how much all takes.
+fn put_group(
+    component: ComponentName,
+    group: usize,
+    capture: Option<&str>,
+    from: Sizes,
+    buffer: &mut [u8],
+    spans: &mut [Span],
+) -> Option<Sizes>
+    ensures { IfSome result (λ to. IsGroupPut component group (option_text capture.entry) from to
+        buffer.old buffer.new spans.old spans.new) }
+{
+    let text = capture_bytes(capture);
+    let bytes = put_text(text, from.bytes, buffer)?;
+    let span = Span {
+        component: component_number(component),
+        took_part: took_part(capture),
+        group,
+        start: from.bytes,
+        length: text.len(),
+    };
+    let spans = put_span(span, from.spans, spans)?;
+    Some(Sizes { bytes, spans })
+}
+
+/// Writes a text from a place on, if it fits. Returns where it ends.
+fn put_text(text: &[u8], at: usize, buffer: &mut [u8]) -> Option<usize>
+    ensures end { IfSome result (λ end. end ≡ at + length text.now) }
+    ensures text { IfSome result (λ _. IsPut at text.now buffer.old buffer.new) }
+{
+    let end = at.checked_add(text.len())?;
+    if at == end {
+        return Some(end);
+    }
+    if end <= buffer.len() {
+        buffer[at..end].copy_from_slice(text);
+    }
+    Some(end)
+}
+
+/// Writes a span at a place, if it fits. Returns the place after it.
+fn put_span(span: Span, at: usize, spans: &mut [Span]) -> Option<usize>
+    ensures end { IfSome result (λ end. end ≡ at + 1) }
+    ensures span { IfSome result (λ _. IsPut at (span ∷ []) spans.old spans.new) }
+{
+    let end = at.checked_add(1)?;
+    if end <= spans.len() {
+        spans[at] = span;
+    }
+    Some(end)
+}
+
+/// 1 where the group took part in the match, and 0 where it took none.
+fn took_part(capture: Option<&str>) -> u32
+    ensures { result ≡ (if is_some (option_text capture.entry) then 1 else 0) }
+{
+    match capture {
+        Some(_) => 1,
+        None => 0,
+    }
+}
+
+/// What a group captured. It is nothing where the group took no part.
+fn capture_bytes(capture: Option<&str>) -> &[u8]
+    ensures { result.now ≡ capture_bytes (option_text capture.entry) }
+{
+    match capture {
+        Some(text) => bytes(text),
+        None => b"",
+    }
+}
+
+/// The bytes of a text.
+fn bytes(text: &str) -> &[u8]
+    ensures { result.now ≡ encode_utf8_all (chars text.now) }
+{
+    text.as_bytes()
+}

@@ -1,0 +1,32 @@
+-- The URL of a pattern with groups that are given as parts of a text, and why there is none.
+use Rattle.std.specs.Prelude.{◌≢◌, ℕ, Any, List}
+use Rattle.std.specs.List.{AllZip}
+use Rattle.url.specs.Parts.{Parts}
+use Rattle.urlpattern_engine.specs.PatternRegexps.{pattern_answer}
+use Rattle.urlpattern_engine.specs.declared.pattern_regexp.PatternRegexp.{PatternRegexp}
+use Rattle.urlpattern_generate.specs.Manners.{given_groups}
+use Rattle.urlpattern_ffi_links.specs.Given.{GivesGroup, GivesNothing, Group}
+use Rattle.urlpattern_ffi_links.specs.declared.given.Given.{Given}
+use Rattle.urlpattern_ffi_links.specs.declared.linking.Unlinked.{Unlinked}
+use Rattle.urlpattern_ffi_links.specs.declared.linking.Unlinked.TheVariants as unlinked
+use Rattle.urlpattern_pattern.specs.LinkedUrls.{IsLink, RefusesLink}
+use Rattle.urlpattern_pattern.specs.UrlPatterns.{UrlPattern}
+use Rattle.urlpattern_generate.specs.declared.no_link.NoLink.{NoLink}
+use Rattle.urlpattern_generate.specs.declared.no_link.NoLink.TheVariants as no_link
+
+-- the URL is that of the pattern with the groups that the parts give
+abbrev pub IsLinkOf : UrlPattern PatternRegexp → (text : List ℕ) → List Given → Parts → Type 0
+IsLinkOf pattern text given url =
+    (groups : List Group) × AllZip (GivesGroup text) given groups × IsLink pattern_answer pattern (given_groups groups) url
+
+-- the pattern has no URL with them, for this reason
+abbrev pub RefusesLinkOf : UrlPattern PatternRegexp → (text : List ℕ) → List Given → NoLink → Type 0
+RefusesLinkOf pattern text given error =
+    (error ≢ no_link.OutOfMemory)
+    × ((groups : List Group) × AllZip (GivesGroup text) given groups × RefusesLink pattern_answer pattern (given_groups groups) error)
+
+-- why there is no URL
+abbrev pub IsUnlinked : UrlPattern PatternRegexp → (text : List ℕ) → List Given → Unlinked → Type 0
+IsUnlinked pattern text given unlinked.Given = Any (GivesNothing text) given
+IsUnlinked pattern text given (unlinked.NoLink error) = RefusesLinkOf pattern text given error
+IsUnlinked pattern text given unlinked.OutOfMemory = Unit {0}

@@ -1,0 +1,13 @@
+-- The text of a `NoLink`, as the bytes that are printed.
+use Rattle.std.specs.Prelude.{ℕ, List, ◌++◌, None, Option, Some, codes}
+use Rattle.urlpattern_components.specs.Eight.{name_text}
+use Rattle.urlpattern_generate.specs.GenerateErrorText.{generate_error_text}
+use Rattle.urlpattern_generate.specs.declared.no_link.NoLink.{NoLink}
+use Rattle.urlpattern_generate.specs.declared.no_link.NoLink.TheVariants as errors
+
+-- of the reason of `url`, which is printed too, nothing is promised
+abbrev pub no_link_text : NoLink → Option (List ℕ)
+no_link_text (errors.Component error) = Some (generate_error_text error)
+no_link_text (errors.Url reason) = None
+no_link_text (errors.OtherText component) = Some (codes "a URL with these texts has another " ++ name_text component)
+no_link_text errors.OutOfMemory = Some (codes "out of memory")

@@ -1,0 +1,130 @@
+//! The URL of eight texts.
+
+ghost use Rattle.std.specs.Prelude.{◌≡◌, ◌↔◌, ◌==◌, None, Ok, IfErr, IfNone, IfOk, IfSome, IsTrue, false, not, true};
+ghost use Rattle.std.specs.Str.{chars};
+ghost use Rattle.url.specs.Ascii.{slash};
+ghost use Rattle.url.specs.Parser.{parse_url};
+ghost use Rattle.urlpattern_init.specs.Inheritance.{texts_of_url, url_text};
+ghost use Rattle.urlpattern_components.specs.declared.eight.ComponentName.TheVariants.{Pathname};
+ghost use Rattle.urlpattern_components.specs.Eight.{at};
+ghost use Rattle.urlpattern_syntax.specs.RegexpText.{is_empty};
+ghost use Rattle.urlpattern_syntax.specs.Text.{begins_with};
+ghost use Rattle.urlpattern_generate.specs.UrlsOfTexts.{AreSeenAs, IsAtFault, IsReadOfTexts, IsSeenAs, RefusesLine, RefusesTexts, cow_texts, runs_on, texts_seen};
+
+use crate::no_link::NoLink;
+use crate::url_line::url_line;
+use std::alloc::Global;
+use std::borrow::CowStr;
+use url::Url;
+use urlpattern_canonical::canonicalize_and_process::reported;
+use urlpattern_components::{ComponentName, Eight};
+use urlpattern_init::url_text;
+use urlpattern_syntax::Error;
+
+/// The URL that has these texts: what they are read as, put together.
+///
+/// The error is that `url` refuses them, put together, or reads a URL with other texts, or that memory ran out.
+pub fn url_of_texts(alloc: Global, texts: &Eight<CowStr<'_>>) -> Result<Url, NoLink>
+    ensures has { IfOk result (λ url. texts_of_url url ≡ cow_texts texts.now) }
+    ensures read { IfOk result (IsReadOfTexts (cow_texts texts.now)) }
+    ensures refused { IfErr result (RefusesTexts (cow_texts texts.now)) }
+{
+    let seen = seen(texts);
+    let line = url_line(alloc, &seen)?;
+    let url = match read(alloc, &line) {
+        Ok(url) => url,
+        Err(error) => return Err(error),
+    };
+    match other_text(&url, &seen) {
+        None => Ok(url),
+        Some(component) => Err(NoLink::OtherText(component)),
+    }
+}
+
+/// The texts, borrowed.
+fn seen<'t>(texts: &'t Eight<CowStr<'_>>) -> Eight<&'t str>
+    ensures { AreSeenAs texts.now result }
+{
+    let text = |name: ComponentName| -> &str
+        ensures { IsSeenAs (at texts.entry.now name) result }
+    { texts.get(name).as_str() };
+    Eight::from_fn(text)
+}
+
+/// The URL of a text.
+///
+/// The error is the refusal of `url`, or that memory ran out.
+fn read(alloc: Global, line: &str) -> Result<Url, NoLink>
+    ensures read { IfOk result (λ url. parse_url None line.now ≡ Ok url) }
+    ensures refused { IfErr result (RefusesLine line.now) }
+{
+    match reported(Url::parse(alloc, line), line.len()) {
+        Ok(url) => Ok(url),
+        Err(Error::Url(reason)) => Err(NoLink::Url(reason)),
+        Err(_) => Err(NoLink::OutOfMemory),
+    }
+}
+
+/// The component at fault where a URL has another text for one. `None`: it has these texts.
+fn other_text(url: &Url, texts: &Eight<&str>) -> Option<ComponentName>
+    ensures same { IfNone result (texts_of_url url.now ≡ texts_seen texts.now) }
+    ensures other { IfSome result (IsAtFault url.now (texts_seen texts.now)) }
+{
+    if is_path_at_fault(url, texts) {
+        return Some(ComponentName::Pathname);
+    }
+    for name in ComponentName::all() {
+        if !has_text(url, texts, name) {
+            return Some(name);
+        }
+    }
+    None
+}
+
+/// Whether the path runs into the host before it, and a URL has another one.
+fn is_path_at_fault(url: &Url, texts: &Eight<&str>) -> bool
+    ensures at_fault { IsTrue result → IsAtFault url.now (texts_seen texts.now) Pathname }
+    ensures other { result ≡ false → runs_on (texts_seen texts.now) ≡ true → url_text Pathname url.now ≡ at (texts_seen texts.now) Pathname }
+{
+    runs_on(texts) && !has_text(url, texts, ComponentName::Pathname)
+}
+
+/// Whether the path runs into the host before it.
+fn runs_on(texts: &Eight<&str>) -> bool
+    ensures { result ≡ runs_on (texts_seen texts.now) }
+{
+    is_some_text(texts.hostname) && begins_without_slash(texts.pathname)
+}
+
+/// Whether a text is not empty.
+fn is_some_text(text: &str) -> bool
+    ensures { result ≡ not (is_empty (chars text.now)) }
+{
+    !text.is_empty()
+}
+
+/// Whether a text is not empty and does not begin with a slash.
+fn begins_without_slash(text: &str) -> bool
+    ensures { result ≡ begins_with (λ c. not (c == slash)) (chars text.now) }
+{
+    match text.chars().next() {
+        Some(first) => first != '/',
+        None => false,
+    }
+}
+
+/// Whether a URL has the text of a component.
+#[inline(always)]
+fn has_text(url: &Url, texts: &Eight<&str>, name: ComponentName) -> bool
+    ensures { IsTrue result ↔ (url_text name url.now ≡ at (texts_seen texts.now) name) }
+{
+    is_same_text(url_text(url, name), texts.get(name))
+}
+
+/// Whether two texts are the same.
+#[inline(always)]
+fn is_same_text(text: &str, other: &str) -> bool
+    ensures { IsTrue result ↔ (chars text.now ≡ chars other.now) }
+{
+    text == other
+}

@@ -1,0 +1,59 @@
+//! Why there is no URL.
+
+ghost use Rattle.std.specs.Prelude.{◌≡◌};
+ghost use Rattle.urlpattern_generate.specs.NoLinkText.{no_link_text};
+ghost use Rattle.urlpattern_generate.specs.declared.no_link.NoLink.TheVariants as errors;
+
+use crate::error::GenerateError;
+use std::alloc::AllocError;
+use std::{error, fmt};
+use url::ParseError;
+use urlpattern_components::ComponentName;
+
+/// Why a pattern has no URL with the groups that are given.
+///
+/// ```rust no_link
+/// match url {
+///     Ok(url) => Ok(format!(in alloc; "user {id}: {url}")?),
+///     Err(NoLink::OutOfMemory) => Err(Error::OutOfMemory),
+///     Err(_) => Ok(format!(in alloc; "user {id}: no URL")?),
+/// }
+/// ```
+#[derive(Debug, PartialEq, Eq, Drop)]
+pub enum NoLink {
+    /// A component has no text with its groups.
+    Component(GenerateError),
+    /// `url` refuses the texts of the components, put together.
+    Url(ParseError),
+    /// Put together they are a URL that has another text for this component, as `https://example.com` has the path `/`. It is the
+    /// pathname where that runs into the host before it, and else the first such component.
+    OtherText(ComponentName),
+    /// The allocator had no memory.
+    OutOfMemory,
+}
+
+/// Prints why there is no URL, in a line.
+impl fmt::Display for NoLink {
+    ghost output = { no_link_text };
+
+    fn fmt<W: fmt::Write>(&self, f: &mut fmt::Formatter<W>) -> fmt::Result {
+        match self {
+            Self::Component(error) => fmt::Display::fmt(error, f),
+            Self::Url(reason) => write!(f, "no URL has these texts: {reason}"),
+            Self::OtherText(component) => {
+                write!(f, "a URL with these texts has another {component}")
+            }
+            Self::OutOfMemory => f.write_str("out of memory"),
+        }
+    }
+}
+
+impl error::Error for NoLink {}
+
+impl From<AllocError> for NoLink {
+    ghost from_gives = { λ _ error. error ≡ errors.OutOfMemory };
+
+    fn from(_error: AllocError) -> NoLink {
+        NoLink::OutOfMemory
+    }
+}

@@ -1,0 +1,61 @@
+//! Appends the text of a part whose group captures a given text.
+
+ghost use Rattle.std.specs.Prelude.{◌↔◌, ◌++◌, IfOk, IsTrue, OnOk};
+ghost use Rattle.std.specs.Str.{chars};
+ghost use Rattle.urlpattern_generate.specs.Links.{MayCapture, fewest_copies, text_of_group};
+ghost use Rattle.urlpattern_generate.specs.Texts.{GetsText, GetsTextIf};
+ghost use Rattle.urlpattern_syntax.specs.Options.{options_view};
+ghost use Rattle.urlpattern_syntax.specs.Parts.{part_view};
+ghost use Rattle.urlpattern_syntax.specs.Text.{option_text, text_of};
+
+use crate::pieces::{may_be_missing, may_capture};
+use std::alloc::AllocError;
+use urlpattern_syntax::parser::{Options, Part, PartModifier};
+
+/// Appends a fixed text, in as few copies as its modifier allows.
+///
+/// The error is that memory ran out.
+pub fn push_fixed(text: &mut String, part: &Part) -> Result<(), AllocError>
+    ensures { OnOk result (GetsText text.old text.new (fewest_copies part.now.modifier (text_of part.now.value))) }
+{
+    match part.modifier {
+        PartModifier::None | PartModifier::OneOrMore => {
+            text.push_str(&part.value)?;
+            Ok(())
+        }
+        PartModifier::Optional | PartModifier::ZeroOrMore => Ok(()),
+    }
+}
+
+/// Appends the text of a group that captures this, if it may. `None`: the group takes no part. Returns whether it may. What a
+/// custom regular expression matches is not looked at.
+///
+/// The error is that memory ran out.
+pub fn push_group(
+    text: &mut String,
+    options: &Options,
+    part: &Part,
+    capture: Option<&str>,
+) -> Result<bool, AllocError>
+    ensures may { IfOk result (λ may. IsTrue may ↔ MayCapture (options_view options.now) (part_view part.now) (option_text capture.entry)) }
+    ensures written { IfOk result (λ may. GetsTextIf may text.old text.new (text_of_group (part_view part.now) (option_text capture.entry))) }
+{
+    let Some(capture) = capture else {
+        return Ok(may_be_missing(options, part));
+    };
+    if !may_capture(*text.allocator(), options, part, capture)? {
+        return Ok(false);
+    }
+    push_between(text, part, capture)?;
+    Ok(true)
+}
+
+/// Appends a text between the prefix and the suffix of a part.
+fn push_between(text: &mut String, part: &Part, between: &str) -> Result<(), AllocError>
+    ensures { OnOk result (GetsText text.old text.new (text_of part.now.prefix ++ chars between.now ++ text_of part.now.suffix)) }
+{
+    text.push_str(&part.prefix)?;
+    text.push_str(between)?;
+    text.push_str(&part.suffix)?;
+    Ok(())
+}

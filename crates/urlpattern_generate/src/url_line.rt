@@ -1,0 +1,69 @@
+//! The text of a URL, put together from the texts of its components.
+
+ghost use Rattle.std.specs.Prelude.{◌≡◌, ◌++◌, IfOk, OnOk, string_bytes};
+ghost use Rattle.urlpattern_generate.specs.UrlLines.{authority_line, bytes_of_each, has_authority, marked, url_line, user_line};
+
+use std::alloc::{AllocError, Global};
+use urlpattern_components::Eight;
+
+/// The bytes besides those of the path for which room is made at first, as many as most URLs need.
+const ROOM: usize = 64;
+
+/// The text of a URL with these texts.
+///
+/// The error is that memory ran out.
+pub(crate) fn url_line(alloc: Global, texts: &Eight<&str>) -> Result<String, AllocError>
+    ensures { IfOk result (λ line. string_bytes line ≡ url_line (bytes_of_each texts.now)) }
+{
+    let mut line = String::with_capacity(alloc, texts.pathname.len().saturating_add(ROOM))?;
+    line.push_str(texts.protocol)?;
+    line.push_str(":")?;
+    push_authority(&mut line, texts)?;
+    line.push_str(texts.pathname)?;
+    push_marked(&mut line, "?", texts.search)?;
+    push_marked(&mut line, "#", texts.hash)?;
+    Ok(line)
+}
+
+/// Appends the two slashes, the user, the host and the port, if the URL has them.
+fn push_authority(line: &mut String, texts: &Eight<&str>) -> Result<(), AllocError>
+    ensures { OnOk result (string_bytes line.new ≡ string_bytes line.old ++ authority_line (bytes_of_each texts.now)) }
+{
+    if !has_authority(texts.hostname, texts.pathname) {
+        return Ok(());
+    }
+    line.push_str("//")?;
+    push_user(line, texts.username, texts.password)?;
+    line.push_str(texts.hostname)?;
+    push_marked(line, ":", texts.port)
+}
+
+/// Whether a URL has two slashes before its path: it has a host, or the path begins with two slashes itself.
+fn has_authority(hostname: &str, pathname: &str) -> bool
+    ensures { result ≡ has_authority hostname.now pathname.now }
+{
+    !hostname.is_empty() || matches!(pathname.as_bytes(), [b'/', b'/', ..])
+}
+
+/// Appends the user name and the password, unless both are empty.
+fn push_user(line: &mut String, username: &str, password: &str) -> Result<(), AllocError>
+    ensures { OnOk result (string_bytes line.new ≡ string_bytes line.old ++ user_line username.now password.now) }
+{
+    if username.is_empty() && password.is_empty() {
+        return Ok(());
+    }
+    line.push_str(username)?;
+    push_marked(line, ":", password)?;
+    line.push_str("@")
+}
+
+/// Appends a text after its mark, unless the text is empty.
+fn push_marked(line: &mut String, mark: &str, text: &str) -> Result<(), AllocError>
+    ensures { OnOk result (string_bytes line.new ≡ string_bytes line.old ++ marked mark.now text.now) }
+{
+    if text.is_empty() {
+        return Ok(());
+    }
+    line.push_str(mark)?;
+    line.push_str(text)
+}

@@ -1,0 +1,102 @@
+-- The laws on custom regular expressions, for each engine.
+use Rattle.std.proofs.Common.{◌≡◌, ◌↔◌, ℕ, List, ◌++◌, false, Option, Some, None, refl, ap, ◌∙◌}
+use Rattle.std.specs.Prelude.{⊤, IfSome, IsTrue, Ok, Err, codes}
+use Rattle.std.specs.Str.{all_scalars}
+use Rattle.regex_hir.specs.Meaning.{alt_all}
+use Rattle.regex_hir.specs.Re.{Re}
+use Rattle.regex_syntax.specs.Brackets.{Nested, join}
+use Rattle.regex_syntax.specs.Grammar.{Place, branches, join_parts}
+use Rattle.urlpattern_matcher.proofs.FirstMatchers.{flags_agree}
+use Rattle.urlpattern_matcher.specs.Components.{ComponentView, IsComponentOf, engine_flags}
+use Rattle.urlpattern_matcher.specs.FirstWays.{KeepsCase, Taking}
+use Rattle.urlpattern_matcher.specs.Regexes.{regex_engine}
+use Rattle.urlpattern_matcher.specs.declared.regexp.RegExp.{Ghosts as Engine}
+use Rattle.urlpattern_laws.proofs.CustomGroups.{custom_inside, whole_takes}
+use Rattle.urlpattern_engine.proofs.ItemsRead.{at_text}
+use Rattle.urlpattern_laws.proofs.FirstOfTrees.{first_of_tree}
+use Rattle.urlpattern_laws.proofs.MatchersCapture.{matchers_capture}
+use Rattle.urlpattern_laws.proofs.MatchersFirst.{matchers_first}
+use Rattle.urlpattern_laws.proofs.MatchersTaken.{matchers_taken, shorter_room}
+use Rattle.urlpattern_laws.proofs.ValuesTaken.{first_captured, pattern_values_capture, pattern_values_first, pattern_values_taken, regex_values_capture, regex_values_first, regex_values_taken}
+use Rattle.urlpattern_laws.specs.Expressions.{ExpressionTakes, TakesWhole}
+use Rattle.urlpattern_laws.specs.LawsOfTexts.{ComponentsCapture, HasNumbers, IsCapturedByParts, IsTakenAlone, MatchersAnswerTaken, MatchersCapture, ReadsInGroups, Room, TookAlone}
+use Rattle.urlpattern_laws.specs.LawsOfWays.{ComponentsAnswerFirstOfParts, MatchersAnswerFirstOfParts}
+use Rattle.urlpattern_laws.specs.PartTexts.{AllCaptureNothing, AllStandAlone}
+use Rattle.urlpattern_laws.specs.PartWays.{parts_first_way}
+use Rattle.urlpattern_engine.specs.PatternRegexps.{pattern_engine}
+use Rattle.urlpattern_meaning.specs.FirstAnswers.{TookText}
+use Rattle.urlpattern_meaning.specs.Matching.{EachAnswerIs, InnerView, Literal, MatcherView, RegExp, SingleCapture}
+use Rattle.urlpattern_meaning.specs.PartMeaning.{Captures}
+use Rattle.urlpattern_syntax.specs.{Options.OptionsView, Parts.PartView, RegexpText.regexp_text}
+
+pub reads_in_groups : ReadsInGroups
+unfolding join_parts
+reads_in_groups expression rest steps names h = by (branches steps (at_text names (expression ++ (codes ")" ++ rest)))) refl
+  where
+    by : (o : Option (List (Nested Re) × Place)) → branches steps (at_text names (expression ++ (codes ")" ++ rest))) ≡ o
+        → IfSome o (λ (patterns, end). (end.text ≡ codes ")" ++ rest) × ((text : List ℕ) → IsTrue (all_scalars text) → TakesWhole (join alt_all patterns).value text ↔ ExpressionTakes expression text))
+    by None e = tt
+    by (Some found) e =
+        let inside = (custom_inside expression h).reads rest steps names (join alt_all found.0) found.1 (ap (join_parts alt_all) e) in (
+          inside.at_close,
+          λ text fine.
+              let whole = whole_takes (join alt_all found.0).value inside.fulfils.denotes.plain text fine in
+              let same = inside.fulfils.denotes.same text fine in
+              (λ takes. same.0 (whole.1 takes), λ takes. whole.0 (same.1 takes)),
+        )
+
+-- ---- values
+
+pub ruleset first_ways = (first_captured, first_of_tree, pattern_values_first, regex_values_first)
+
+-- ---- matchers
+
+took_any : {E : Type 0} (inner : InnerView E) (P : Type 0) → P → TookText (λ value. ⊤) inner → TookText (λ value. P) inner
+took_any (Literal literal) P p took = tt
+took_any (SingleCapture filter allow_empty) P p took = tt
+took_any (RegExp (Ok value)) P p took = p
+took_any (RegExp (Err error)) P p took = took
+
+pub regex_matchers_taken : MatchersAnswerTaken regex_engine (λ regexp. ⊤) (λ options flags. TookText (λ value. ⊤))
+regex_matchers_taken = matchers_taken regex_engine (λ flags. ⊤) (λ regexp. ⊤) _ regex_values_taken (λ options parts middle le fits. tt) (λ options flags inner kept took. took)
+
+pub pattern_matchers_taken : MatchersAnswerTaken pattern_engine HasNumbers TookAlone
+pattern_matchers_taken = matchers_taken pattern_engine KeepsCase HasNumbers _ pattern_values_taken shorter_room (λ options flags inner kept took. took_any inner (KeepsCase flags) (took.0 ∙ kept) took.1)
+
+pub regex_matchers_capture : MatchersCapture regex_engine (λ regexp. ⊤) (λ options flags. TookText (λ value. ⊤))
+regex_matchers_capture = matchers_capture regex_engine (λ flags. ⊤) (λ regexp. ⊤) _ regex_values_capture (λ options parts middle le fits. tt) (λ options flags inner kept took. took)
+
+pub pattern_matchers_capture : MatchersCapture pattern_engine HasNumbers TookAlone
+pattern_matchers_capture = matchers_capture pattern_engine KeepsCase HasNumbers _ pattern_values_capture shorter_room (λ options flags inner kept took. took_any inner (KeepsCase flags) (took.0 ∙ kept) took.1)
+
+pub regex_matchers_first : MatchersAnswerFirstOfParts regex_engine (λ regexp. ⊤) (λ options flags. TookText (λ value. ⊤))
+regex_matchers_first = matchers_first regex_engine (λ flags. ⊤) (λ regexp. ⊤) _ regex_values_first (λ options parts middle le fits. tt) (λ options flags inner kept took. took)
+
+pub pattern_matchers_first : MatchersAnswerFirstOfParts pattern_engine HasNumbers TookAlone
+pattern_matchers_first = matchers_first pattern_engine KeepsCase HasNumbers _ pattern_values_first shorter_room (λ options flags inner kept took. took_any inner (KeepsCase flags) (took.0 ∙ kept) took.1)
+
+-- ---- components
+
+abbrev AreFirst : OptionsView → List PartView → List ℕ → Option Captures → Type 0
+AreFirst options parts text result = result ≡ parts_first_way options parts text
+
+-- what each matcher of an engine answers, that of a component does
+components_answer : {E : Type 0} (engine : Engine E) (Fits : Room) (Took : Taking E) (Are : OptionsView → List PartView → List ℕ → Option Captures → Type 0)
+    → ((options : OptionsView) (inner : InnerView E) → TookText (λ value. ⊤) inner → Took options (engine_flags options) inner)
+    → ((options : OptionsView) (flags : List ℕ) (parts : List PartView) (matcher : MatcherView E) → IsTakenAlone engine Fits Took options flags parts matcher → AllCaptureNothing parts → EachAnswerIs engine.answer matcher (Are options parts))
+    → (options : OptionsView) (parts : List PartView) (component : ComponentView E) → IsComponentOf engine options parts component → AllStandAlone parts → AllCaptureNothing parts → Fits (regexp_text options parts)
+    → options.ignore_case ≡ false → TookText (λ value. ⊤) component.matcher.inner → EachAnswerIs engine.answer component.matcher (Are options parts)
+components_answer engine Fits Took Are given answer options parts component is alone silent fits kept took =
+    answer options (engine_flags options) parts component.matcher (record { is_made = is.has_matcher; alone = alone; fits = fits; case_kept = kept; took = given options component.matcher.inner took }) silent
+
+pub regex_components_capture : ComponentsCapture regex_engine (λ regexp. ⊤)
+regex_components_capture = components_answer regex_engine (λ regexp. ⊤) (λ options flags. TookText (λ value. ⊤)) IsCapturedByParts (λ options inner took. took) regex_matchers_capture
+
+pub pattern_components_capture : ComponentsCapture pattern_engine HasNumbers
+pattern_components_capture = components_answer pattern_engine HasNumbers TookAlone IsCapturedByParts (λ options inner took. (flags_agree options, took)) pattern_matchers_capture
+
+pub regex_components_first : ComponentsAnswerFirstOfParts regex_engine (λ regexp. ⊤)
+regex_components_first = components_answer regex_engine (λ regexp. ⊤) (λ options flags. TookText (λ value. ⊤)) AreFirst (λ options inner took. took) regex_matchers_first
+
+pub pattern_components_first : ComponentsAnswerFirstOfParts pattern_engine HasNumbers
+pattern_components_first = components_answer pattern_engine HasNumbers TookAlone AreFirst (λ options inner took. (flags_agree options, took)) pattern_matchers_first

@@ -1,0 +1,63 @@
+-- Patterns that answer by their texts match what the parts that they keep mean.
+use Rattle.std.proofs.Common.{◌≡◌, ◌∙◌, ℕ, Bool, true, false, List, ap, refl, subst, sym}
+use Rattle.std.specs.Prelude.{◌↔◌, IsTrue, Option, Some}
+use Rattle.urlpattern_matcher.specs.Components.{ComponentView}
+use Rattle.urlpattern_printing.specs.Generated.{AreGenerated}
+use Rattle.urlpattern_matcher.specs.declared.regexp.RegExp.{Ghosts as Engine}
+use Rattle.urlpattern_compare.specs.Meaning.{MeansText}
+use Rattle.urlpattern_compile.specs.Compiled.{IsPathKind, Manner, ReadsAs, manner_of}
+use Rattle.urlpattern_components.specs.declared.eight.ComponentName.TheVariants.{Protocol}
+use Rattle.urlpattern_components.specs.Eight.{Values, at}
+use Rattle.urlpattern_init.specs.UrlTexts.{IsLine}
+use Rattle.urlpattern_meaning.specs.Matching.{Agrees, Answers, IsMatched}
+use Rattle.urlpattern_meaning.specs.PartMeaning.{Captures}
+use Rattle.urlpattern_pattern.proofs.MatchersDecide.{answered}
+use Rattle.urlpattern_pattern.proofs.MeaningLemmas.{read_once}
+use Rattle.urlpattern_pattern.specs.ByText.{AnswersByText, HasMeaning}
+use Rattle.urlpattern_pattern.specs.KeptParts.{AreReadInManner}
+use Rattle.urlpattern_pattern.specs.Patterns.{pattern_view}
+use Rattle.urlpattern_laws.proofs.MatchingLemmas.{by_answer}
+use Rattle.urlpattern_laws.specs.Readings.{KeptPartsMean}
+use Rattle.urlpattern_compare.specs.Comparing.{IsKnown}
+use Rattle.urlpattern_syntax.specs.ComponentParts.{kept_parts}
+use Rattle.urlpattern_syntax.specs.declared.parts.ComponentParts.{ComponentParts}
+use Rattle.urlpattern_syntax.specs.Options.{OptionsView}
+use Rattle.urlpattern_syntax.specs.Parts.{PartView}
+
+-- a component that answers by its text matches what the parts as which that reads mean
+matched_means : {E : Type 0} (answer : E → List ℕ → Option Captures) (manner : Manner) (compiled : ComponentView E) (parts : List PartView) (text : List ℕ) →
+    AnswersByText answer manner compiled → ReadsAs manner parts → IsLine text → IsMatched answer compiled.matcher text ↔ MeansText manner.options parts text
+matched_means answer manner compiled parts text by reads line =
+    let same : by.parts ≡ parts = read_once manner by.parts parts by.reads reads in
+    let agrees : (found : Option Captures) → Answers answer compiled.matcher text found → Agrees manner.options parts text found =
+    λ found answers. subst (λ (ps : List PartView). Agrees manner.options ps text found) same (by.answers text found line.no_line_feed line.characters answers).1 in
+    let whole = answered answer compiled.matcher text in (
+      λ matched. (matched.0, agrees (Some matched.0) matched.1),
+      λ means. by_answer answer compiled.matcher manner.options parts text whole.0 whole.1 (agrees whole.0 whole.1) means,
+    )
+
+-- what is known of the parts is known of the manner
+has_meaning : (manner : Manner) (component : ComponentParts) → AreReadInManner manner component → IsKnown component → HasMeaning manner
+has_meaning manner component are known = record {
+  generated = λ others reads. subst (λ (ps : List PartView). AreGenerated ps) (read_once manner (kept_parts component) others are.reads reads) known.generated;
+  case_kept = sym (ap (λ (o : OptionsView). o.ignore_case) are.options_are) ∙ known.case_kept;
+}
+
+same_truth : (P : Type 0) (a b : Bool) → IsTrue a ↔ P → IsTrue b ↔ P → a ≡ b
+same_truth P true true h k = refl
+same_truth P true false h k = sym (k.1 (h.0 refl))
+same_truth P false true h k = h.1 (k.0 refl)
+same_truth P false false h k = refl
+
+pub kept_parts_mean : {E : Type 0} (engine : Engine E) → KeptPartsMean engine
+kept_parts_mean engine init asked pattern by kept name known text line =
+    let component = at kept.parts.components name in
+    let one : kept.values ≡ by.values = cc (sym kept.are_values ∙ by.are_values) in
+    let path : kept.hierarchical ≡ by.hierarchical =
+    same_truth _ kept.hierarchical by.hierarchical (subst (λ (v : Values). IsPathKind engine.answer v (pattern_view pattern Protocol).matcher kept.hierarchical) one kept.path_kind) by.by_protocol in
+    let manner = manner_of asked by.values by.hierarchical name in
+    let are : AreReadInManner manner component =
+    subst (λ (h : Bool). AreReadInManner (manner_of asked by.values h name) component) path
+    (subst (λ (v : Values). AreReadInManner (manner_of asked v kept.hierarchical name) component) one (kept.are_read name)) in
+    subst (λ (o : OptionsView). IsMatched engine.answer (pattern_view pattern name).matcher text ↔ MeansText o (kept_parts component) text) (sym are.options_are)
+    (matched_means engine.answer manner (pattern_view pattern name) (kept_parts component) text (by.answers name (has_meaning manner component are known)) are.reads line)

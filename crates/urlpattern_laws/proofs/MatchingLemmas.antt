@@ -1,0 +1,143 @@
+-- What patterns match, by their parts.
+use Rattle.std.proofs.Common.{◌⊎◌, ℕ, List, inl, inr, sym, subst}
+use Rattle.std.proofs.lemmas.Str.{scalars-chars, IsUtf8-string_bytes}
+use Rattle.std.specs.Prelude.{⊤, Option, Some, None, String, string_bytes}
+use Rattle.std.specs.declared.alloc.Global.{Global}
+use Rattle.urlpattern_compare.specs.Meaning.{MeansText}
+use Rattle.urlpattern_matcher.specs.Components.{engine_flags}
+use Rattle.urlpattern_matcher.specs.FirstWays.{EachAnswersFirst, Taking}
+use Rattle.urlpattern_matcher.specs.declared.regexp.RegExp.{Ghosts as Engine}
+use Rattle.urlpattern_init.specs.UrlTexts.{EachIsLine, IsLine}
+use Rattle.urlpattern_meaning.specs.FirstAnswers.{TookText}
+use Rattle.urlpattern_meaning.specs.Matching.{Agrees, Answers, InnerView, IsMatched, MatcherView}
+use Rattle.urlpattern_meaning.specs.PartMeaning.{Captures}
+use Rattle.urlpattern_pattern.proofs.MatchersDecide.{answered}
+use Rattle.urlpattern_pattern.specs.{Match.AreMatched, Patterns.PatternView, UrlPatterns.AreMadeOfParts}
+use Rattle.urlpattern_laws.specs.Readings.{ApartMatchNothing, AreItsParts, CommonAreMatched, CoveredAreMatched, CoveredByEngineAreMatched, CoveredByMeaningAreMatched, IsCoveredByMeaning, KnownAreCoveredByMeaning, OwnPartsMean, PartingsAreMatched, SameAreMatched, eight_texts}
+use Rattle.urlpattern_compare.proofs.SameParts.{known_or_not, same_within}
+use Rattle.urlpattern_compare.specs.Comparing.{AreSame, IsComponentCovered, IsKnown, IsMeantBy, TakesNoLine}
+use Rattle.urlpattern_syntax.specs.declared.parts.ComponentParts.{ComponentParts}
+use Rattle.urlpattern_compare.specs.declared.pattern.PatternParts.{PatternParts}
+use Rattle.urlpattern_components.proofs.EightLemmas.{at-each}
+use Rattle.urlpattern_components.specs.declared.eight.ComponentName.{ComponentName}
+use Rattle.urlpattern_components.specs.Eight.{Texts, at}
+use Rattle.urlpattern_syntax.specs.Options.{OptionsView, options_view}
+use Rattle.urlpattern_syntax.specs.Parts.{PartView, parts_view}
+use Rattle.urlpattern_syntax.specs.Text.{text_of}
+
+-- ---- one component
+
+-- an answer that agrees with the parts says whether they mean the text
+pub by_answer : {E : Type 0} (answer : E → List ℕ → Option Captures) (matcher : MatcherView E) (options : OptionsView) (parts : List PartView) (text : List ℕ) (found : Option Captures) →
+    Answers answer matcher text found → Agrees options parts text found → MeansText options parts text → IsMatched answer matcher text
+by_answer answer matcher options parts text (Some captures) answers agrees means = (captures, answers)
+by_answer answer matcher options parts text None answers agrees means = absurd (agrees means.0 means.1)
+
+-- ---- a whole pattern
+
+-- a pattern that was made of its parts matches what they mean, by an engine that answers first ways
+pub own_parts_mean : {E : Type 0} (engine : Engine E) (Took : Taking E) → EachAnswersFirst engine Took →
+    ((options : OptionsView) (inner : InnerView E) → TookText (λ value. ⊤) inner → Took options (engine_flags options) inner) → OwnPartsMean engine
+own_parts_mean engine Took firsts taken pattern parts made name known text line =
+    let kept = at parts.components name in
+    let options = options_view kept.options in
+    let own = parts_view kept.parts.items in
+    let matcher = (pattern name).matcher in
+    let is = made name in
+    let answers = firsts options (engine_flags options) own matcher (record {
+      is_made = is.is_component.has_matcher;
+      generated = known.generated;
+      case_kept = known.case_kept;
+      took = taken options matcher.inner is.has_engine.of_matcher;
+    }) in
+    let agrees : (found : Option Captures) → Answers engine.answer matcher text found → Agrees options own text found =
+    λ found is_answer. (answers text found line.no_line_feed line.characters is_answer).1 in
+    let whole = answered engine.answer matcher text in (
+      λ matched. (matched.0, agrees (Some matched.0) matched.1),
+      λ means. by_answer engine.answer matcher options own text whole.0 whole.1 (agrees whole.0 whole.1) means,
+    )
+
+-- ---- laws
+
+meant_component : {E : Type 0} (answer : E → List ℕ → Option Captures) (pattern asked : PatternView E) (parts asked_parts : PatternParts) (name : ComponentName) (text : List ℕ) →
+    AreItsParts answer pattern parts → AreItsParts answer asked asked_parts → IsCoveredByMeaning (at parts.components name) (at asked_parts.components name) → IsLine text →
+    IsMatched answer (asked name).matcher text → IsMatched answer (pattern name).matcher text
+meant_component answer pattern asked parts asked_parts name text are asked_are (inl each_line) line matched =
+    (are name each_line.known text line).1 (each_line.takes text line.characters line.no_line_feed)
+meant_component answer pattern asked parts asked_parts name text are asked_are (inr within) line matched =
+    (are name within.known text line).1 (within.within text line.characters line.no_line_feed ((asked_are name within.asked_known text line).0 matched))
+
+-- parts that are the same cover by meaning, where that is known
+meant_or_same : (component asked : ComponentParts) → IsComponentCovered component asked → IsCoveredByMeaning component asked ⊎ (¬ IsKnown component × AreSame component asked)
+meant_or_same component asked (inl each_line) = inl (inl each_line)
+meant_or_same component asked (inr (inl within)) = inl (inr within)
+meant_or_same component asked (inr (inr same)) = elim (known_or_not component) [
+  | inl known ↦ inl (inr (same_within component asked same known))
+  | inr unknown ↦ inr (unknown, same)
+]
+
+covered_component : {E : Type 0} (answer : E → List ℕ → Option Captures) (pattern asked : PatternView E) (parts asked_parts : PatternParts) (name : ComponentName) (text : List ℕ) →
+    AreItsParts answer pattern parts → AreItsParts answer asked asked_parts → SameAreMatched answer pattern asked parts asked_parts →
+    IsComponentCovered (at parts.components name) (at asked_parts.components name) → IsLine text →
+    IsMatched answer (asked name).matcher text → IsMatched answer (pattern name).matcher text
+covered_component answer pattern asked parts asked_parts name text are asked_are alike covered line matched = elim (meant_or_same (at parts.components name) (at asked_parts.components name) covered) [
+  | inl meant ↦ meant_component answer pattern asked parts asked_parts name text are asked_are meant line matched
+  | inr same ↦ alike name same.0 same.1 text line matched
+]
+
+nothing_matched : {E : Type 0} (answer : E → List ℕ → Option Captures) (asked : PatternView E) (parts : PatternParts) (name : ComponentName) → AreItsParts answer asked parts →
+    TakesNoLine (at parts.components name) → (texts : Texts) → EachIsLine texts → ¬ AreMatched answer asked texts
+nothing_matched answer asked parts name are nothing texts lines matched =
+    let line = lines name in
+    nothing.takes_none (at texts name) line.characters line.no_line_feed ((are name nothing.known (at texts name) line).0 (matched name))
+
+pub covered_matched : {E : Type 0} (answer : E → List ℕ → Option Captures) → CoveredAreMatched answer
+covered_matched answer pattern asked parts asked_parts are asked_are alike (inl (name, nothing)) texts lines matched =
+    absurd (nothing_matched answer asked asked_parts name asked_are nothing texts lines matched)
+covered_matched answer pattern asked parts asked_parts are asked_are alike (inr each_is) texts lines matched =
+    λ name. covered_component answer pattern asked parts asked_parts name (at texts name) are asked_are alike (each_is name) (lines name) (matched name)
+
+pub meant_matched : {E : Type 0} (answer : E → List ℕ → Option Captures) → CoveredByMeaningAreMatched answer
+meant_matched answer pattern asked parts asked_parts are asked_are (inl (name, nothing)) texts lines matched =
+    absurd (nothing_matched answer asked asked_parts name asked_are nothing texts lines matched)
+meant_matched answer pattern asked parts asked_parts are asked_are (inr each_is) texts lines matched =
+    λ name. meant_component answer pattern asked parts asked_parts name (at texts name) are asked_are (each_is name) (lines name) (matched name)
+
+pub known_meant : KnownAreCoveredByMeaning
+known_meant pattern asked known (inl nothing) = inl nothing
+known_meant pattern asked known (inr each_is) = inr (λ name. elim (meant_or_same (at pattern.components name) (at asked.components name) (each_is name)) [
+  | inl meant ↦ meant
+  | inr same ↦ absurd (same.0 (known name same.1))
+])
+
+pub covered_by_engine : {E : Type 0} (engine : Engine E) → OwnPartsMean engine →
+    ((pattern asked : PatternView E) (parts asked_parts : PatternParts) → AreMadeOfParts engine parts pattern → AreMadeOfParts engine asked_parts asked → SameAreMatched engine.answer pattern asked parts asked_parts) →
+    CoveredByEngineAreMatched engine
+covered_by_engine engine mean made pattern asked parts asked_parts by also covered =
+    covered_matched engine.answer pattern asked parts asked_parts (mean pattern parts by) (mean asked asked_parts also)
+    (made pattern asked parts asked_parts by also) covered
+
+meant_line : (component : ComponentParts) (text : String Global) → IsMeantBy component (text_of text) → IsLine (text_of text)
+meant_line component text meant = record { characters = scalars-chars (string_bytes text) (IsUtf8-string_bytes text); no_line_feed = meant.line }
+
+pub common_matched : {E : Type 0} (answer : E → List ℕ → Option Captures) → CommonAreMatched answer
+common_matched answer pattern parts texts are meant = λ name.
+    let text = at texts name in
+    let it = meant name in
+    subst (λ (t : List ℕ). IsMatched answer (pattern name).matcher t) (sym (at-each (λ other. text_of (at texts other)) name))
+    ((are name it.known (text_of text) (meant_line (at parts.components name) text it)).1 it.means)
+
+pub partings_matched : {E : Type 0} (answer : E → List ℕ → Option Captures) → PartingsAreMatched answer
+partings_matched answer pattern asked parts asked_parts parting are asked_are is =
+    let name = parting.component in
+    let text = at parting.texts name in (
+      common_matched answer asked asked_parts parting.texts asked_are is.meant,
+      λ matched. is.not_meant ((are name is.known (text_of text) (meant_line (at asked_parts.components name) text (is.meant name))).0
+          (subst (λ (t : List ℕ). IsMatched answer (pattern name).matcher t) (at-each (λ other. text_of (at parting.texts other)) name) matched)),
+    )
+
+pub apart_matched : {E : Type 0} (answer : E → List ℕ → Option Captures) → ApartMatchNothing answer
+apart_matched answer pattern other parts other_parts name are other_are apart texts lines matched other_matched =
+    let line = lines name in
+    apart.apart (at texts name) line.characters line.no_line_feed ((are name apart.known (at texts name) line).0 (matched name))
+    ((other_are name apart.other_known (at texts name) line).0 (other_matched name))

@@ -1,0 +1,184 @@
+-- A value of an engine answers captures exactly to the texts that the parts take that it was made of.
+use Rattle.std.proofs.Common.{◌-◌, true≢false, ◌≡◌, ℕ, suc, ◌^◌, ◌≤◌, List, ◌++◌, length, Bool, true, false, Option, Some, None, IsSome, is_some, option_map, inl, inr, refl, sym, ap, ◌∙◌, subst, arith, codes, length-append, encode_utf8_all}
+use Rattle.std.specs.List.{flat_map}
+use Rattle.std.specs.Prelude.{⊤, IfSome, IsTrue}
+use Rattle.std.specs.Str.{all_scalars}
+use lib.Utf8.{scalars}
+use Rattle.regex.specs.declared.string.regex.Regex.{Regex}
+use Rattle.regex.specs.Writes.{group_of}
+use Rattle.regex_hir.specs.Find.{Match, find_str}
+use Rattle.regex_hir.specs.Meaning.{cat_all}
+use Rattle.regex_hir.specs.Re.{Re}
+use Rattle.regex_hir.proofs.OptionLemmas.{value_of_IsSome}
+use Rattle.regex_syntax.specs.Brackets.{Nested}
+use Rattle.regex_syntax.specs.Grammar.{Names, read}
+use Rattle.regex_syntax.specs.Verdict.{default_config}
+use Rattle.urlpattern_matcher.specs.FirstWays.{KeepsCase, Keeping}
+use Rattle.urlpattern_matcher.specs.Regexes.{IsRegexOf, group_texts, regex_engine}
+use Rattle.urlpattern_matcher.specs.declared.regexp.RegExp.{Ghosts as Engine}
+use Rattle.urlpattern_laws.proofs.FirstFound.{found_first}
+use Rattle.urlpattern_laws.proofs.PartItems.{parts_count, parts_items, parts_sense}
+use Rattle.urlpattern_laws.proofs.ItemsOf.{values}
+use Rattle.urlpattern_laws.proofs.Senses.{Fulfils}
+use Rattle.urlpattern_laws.proofs.WholeRead.{between_lines, found_captures, search_is, whole_read}
+use Rattle.urlpattern_laws.specs.LawsOfTexts.{HasNumbers, IsCapturedByParts, IsSomeIfTaken, Room, ValuesAnswerTaken, ValuesCapture}
+use Rattle.urlpattern_laws.specs.LawsOfWays.{FirstWaysAreCaptured, ValuesAnswerFirstOfParts}
+use Rattle.urlpattern_laws.specs.PartCaptures.{PartsCapture}
+use Rattle.urlpattern_laws.specs.PartTexts.{AllCaptureNothing, AllStandAlone, PartsTake}
+use Rattle.urlpattern_laws.specs.PartWays.{parts_first_way, parts_ways}
+use Rattle.urlpattern_engine.proofs.EngineLaws.{expression_good, form_of, pattern_values_read, regex_values_read, text_good}
+use Rattle.urlpattern_engine.proofs.ReadAnswers.{read_by_default, regex_some}
+use Rattle.urlpattern_engine.specs.Automatons.{config_for}
+use Rattle.urlpattern_engine.specs.PatternRegexps.{IsExpressionOf, pattern_engine}
+use Rattle.urlpattern_engine.specs.Readings.{re_answer}
+use Rattle.urlpattern_engine.specs.declared.pattern_regexp.Expression.{Expression}
+use Rattle.urlpattern_engine.specs.declared.pattern_regexp.PatternRegexp.{PatternRegexp}
+use Rattle.urlpattern_meaning.specs.Dialect.{Atom, Items, Nothing, Item, Captured, Grouped, IsTreeOf, atom_group_count, atom_text, group_count, items_text, quantifier_text}
+use Rattle.urlpattern_meaning.specs.PartMeaning.{Captures}
+use Rattle.urlpattern_engine.proofs.TreesRead.{scalars_parts, tree_is_read}
+use Rattle.urlpattern_syntax.specs.Options.{OptionsView}
+use Rattle.urlpattern_syntax.specs.Parts.{PartView}
+use Rattle.urlpattern_syntax.specs.RegexpText.{part_regexp, regexp_text}
+
+mapped : {A B : Type 0} (f : A → B) (o : Option A) → is_some (option_map f o) ≡ is_some o
+mapped f None = refl
+mapped f (Some a) = refl
+
+-- What the grammar reads in a regular expression, by which an engine answers.
+record IsReadFor (regexp : List ℕ) (answer : List ℕ → Option Captures) : Type 0 where
+  good : scalars regexp ≡ true
+  found : Nested Re × Names
+  is_read : read default_config regexp ≡ Some found
+  answers : (text : List ℕ) → IsTrue (all_scalars text) → answer text ≡ re_answer found.0.value (length found.1) text
+
+read_for : (regexp : List ℕ) (answer : List ℕ → Option Captures) → scalars regexp ≡ true → IsSome (read default_config regexp)
+    → IfSome (read default_config regexp) (λ (pattern, names). (text : List ℕ) → IsTrue (all_scalars text) → answer text ≡ re_answer pattern.value (length names) text) → IsReadFor regexp answer
+read_for regexp answer good some reads =
+    let found = value_of_IsSome (read default_config regexp) some in
+    record { good = good; found = found.0; is_read = found.1; answers = rw (found.1) at reads }
+
+-- an answer by what the grammar reads is one exactly to the texts that the parts take
+answers_taken : (options : OptionsView) (parts : List PartView) (answer : List ℕ → Option Captures) → AllStandAlone parts → IsReadFor (regexp_text options parts) answer
+    → (text : List ℕ) → IsTrue (all_scalars text) → IsSomeIfTaken options parts text (answer text)
+answers_taken options parts answer alone r text fine =
+    let t = flat_map (part_regexp options) parts in
+    let inside = scalars_parts t (codes "$") (scalars_parts (codes "^") (t ++ codes "$") r.good).1 in
+    let whole = (whole_read t (parts_sense options parts) (parts_items options parts alone inside.0) r.found r.is_read).pattern in
+    let search = search_is whole.own (PartsTake options parts) whole.fulfils.denotes text fine in
+    let found : is_some (re_answer r.found.0.value (length r.found.1) text) ≡ is_some (find_str r.found.0.value (encode_utf8_all text) 0) = mapped _ (find_str r.found.0.value (encode_utf8_all text) 0) in
+    let same : is_some (answer text) ≡ is_some (find_str (between_lines whole.own).value (encode_utf8_all text) 0) =
+    ap is_some (r.answers text fine) ∙ found ∙ ap (λ (tree : Nested Re). is_some (find_str tree.value (encode_utf8_all text) 0)) whole.is in
+    (λ some. search.0 (sym same ∙ some), λ is. same ∙ search.1 is)
+
+-- ---- captures
+
+-- what is found in the text captures what the parts capture
+captured_by : (options : OptionsView) (parts : List PartView) (own : List (Nested Re)) → Fulfils (parts_sense options parts) 1 (cat_all (values own)) → AllCaptureNothing parts → (count : ℕ) → count ≡ parts_count parts
+    → (text : List ℕ) → IsTrue (all_scalars text) → (o : Option Match) → find_str (between_lines own).value (encode_utf8_all text) 0 ≡ o
+    → IsSomeIfTaken options parts text (option_map (λ m. group_texts (encode_utf8_all text) count (group_of m)) o) → IsCapturedByParts options parts text (option_map (λ m. group_texts (encode_utf8_all text) count (group_of m)) o)
+captured_by options parts own f silent count is text fine None e taken = λ takes. true≢false (sym (taken.1 takes))
+captured_by options parts own f silent count is text fine (Some m) e taken =
+    subst (λ n. PartsCapture options parts text (group_texts (encode_utf8_all text) n (group_of m))) (sym is) (found_captures own (parts_sense options parts) f silent text fine m e)
+
+-- ---- the first way
+
+-- it is what is found in the text
+answers_first : (options : OptionsView) (parts : List PartView) (answer : List ℕ → Option Captures) → AllStandAlone parts → AllCaptureNothing parts → IsReadFor (regexp_text options parts) answer
+    → (text : List ℕ) → IsTrue (all_scalars text) → answer text ≡ parts_first_way options parts text
+unfolding parts_first_way
+answers_first options parts answer alone silent r text fine =
+    let t = flat_map (part_regexp options) parts in
+    let inside = scalars_parts t (codes "$") (scalars_parts (codes "^") (t ++ codes "$") r.good).1 in
+    let named = whole_read t (parts_sense options parts) (parts_items options parts alone inside.0) r.found r.is_read in
+    let own = named.pattern.own in
+    let f = named.pattern.fulfils in
+    let count : length r.found.1 - 1 ≡ parts_count parts = omega (arith, named.numbers silent) in
+    let bytes = encode_utf8_all text in
+    r.answers text fine
+    ∙ ap (λ (tree : Nested Re). option_map (λ m. group_texts bytes (length r.found.1 - 1) (group_of m)) (find_str tree.value bytes 0)) named.pattern.is
+    ∙ ap (λ n. option_map (λ m. group_texts bytes n (group_of m)) (find_str (between_lines own).value bytes 0)) count
+    ∙ found_first own (parts_ways options parts) (parts_count parts) (f.cuts silent) (f.tries silent) text fine
+
+-- it is what the parts capture, whatever the grammar reads
+pub first_captured : FirstWaysAreCaptured
+unfolding parts_first_way
+first_captured options parts text alone silent good fine =
+    let t = flat_map (part_regexp options) parts in
+    let inside = scalars_parts t (codes "$") (scalars_parts (codes "^") (t ++ codes "$") good).1 in
+    let is = (parts_items options parts alone inside.0).made silent 1 in
+    let count = parts_count parts in
+    let bytes = encode_utf8_all text in
+    let found = find_str (between_lines is.0).value bytes 0 in
+    let search = search_is is.0 (PartsTake options parts) is.1.denotes text fine in
+    let texts : Match → Captures = λ m. group_texts bytes count (group_of m) in
+    let same = mapped texts found in
+    subst (IsCapturedByParts options parts text) (found_first is.0 (parts_ways options parts) count (is.1.cuts silent) (is.1.tries silent) text fine)
+    (captured_by options parts is.0 is.1 silent count refl text fine found refl (λ some. search.0 (sym same ∙ some), λ takes. same ∙ search.1 takes))
+
+-- so a value that answers the first way answers what the parts capture
+captured_as_first : {E : Type 0} (engine : Engine E) (Keeps : Keeping) (Fits : Room) → ValuesAnswerFirstOfParts engine Keeps Fits
+    → ((value : E) (regexp flags : List ℕ) → engine.IsMade value regexp flags → scalars regexp ≡ true) → ValuesCapture engine Keeps Fits
+captured_as_first engine Keeps Fits first good options flags parts value keeps alone silent fits made text fine =
+    subst (IsCapturedByParts options parts text) (sym (first options flags parts value keeps alone silent fits made text fine))
+    (first_captured options parts text alone silent (good value (regexp_text options parts) flags made) fine)
+
+-- ---- values
+
+regex_read : (regexp flags : List ℕ) (regex : Regex) → IsRegexOf regexp regex → IsReadFor regexp (regex_engine.answer regex)
+regex_read regexp flags regex made =
+    read_for regexp (regex_engine.answer regex) (text_good regex.pattern.source regexp made.of_text) (regex_some false regexp regex (read_by_default regexp regex made))
+    (regex_values_read regexp flags regex tt made)
+
+pub regex_values_taken : ValuesAnswerTaken regex_engine (λ flags. ⊤) (λ regexp. ⊤)
+regex_values_taken options flags parts regex any alone fits made = answers_taken options parts (regex_engine.answer regex) alone (regex_read (regexp_text options parts) flags regex made)
+
+pub regex_values_first : ValuesAnswerFirstOfParts regex_engine (λ flags. ⊤) (λ regexp. ⊤)
+regex_values_first options flags parts regex any alone silent fits made = answers_first options parts (regex_engine.answer regex) alone silent (regex_read (regexp_text options parts) flags regex made)
+
+pub regex_values_capture : ValuesCapture regex_engine (λ flags. ⊤) (λ regexp. ⊤)
+regex_values_capture =
+    captured_as_first regex_engine (λ flags. ⊤) (λ regexp. ⊤) regex_values_first (λ regex regexp flags made. text_good regex.pattern.source regexp made.of_text)
+
+-- ---- values of the own engine
+
+mutual
+  -- a tree has no more groups than its text has characters
+  items_few : (tree : Items) → group_count tree ≤ length (items_text tree)
+  items_few Nothing = omega arith
+  items_few (Item atom quantifier items) =
+      omega (arith, atom_few atom, items_few items, length-append (atom_text atom ++ quantifier_text quantifier) (items_text items), length-append (atom_text atom) (quantifier_text quantifier))
+
+  atom_few : (atom : Atom) → atom_group_count atom ≤ length (atom_text atom)
+  atom_few (Captured items) = omega (arith, items_few items, length-append (items_text items) (codes ")"))
+  atom_few (Grouped items) = omega (arith, items_few items, length-append (items_text items) (codes ")"))
+  atom_few atom = omega arith
+
+tree_some : (regexp : List ℕ) (tree : Items) → IsTreeOf regexp tree → scalars regexp ≡ true → HasNumbers regexp → IsSome (read default_config regexp)
+tree_some regexp tree is good room =
+    let whole : scalars (codes "^" ++ items_text tree ++ codes "$") ≡ true = ap scalars (sym is.0) ∙ good in
+    let fine : scalars (items_text tree) ≡ true = (scalars_parts (items_text tree) (codes "$") whole).0 in
+    let few : suc (group_count tree) ≤ 2 ^ 32 = omega (arith, items_few tree, ap length is.0, length-append (items_text tree) (codes "$"), room) in
+    ap (λ t. is_some (read default_config t)) is.0 ∙ ap is_some (tree_is_read tree is.1 fine few)
+
+expression_some : (ignore_case : Bool) (regexp : List ℕ) (expression : Expression) → ignore_case ≡ false → IsExpressionOf ignore_case regexp expression → HasNumbers regexp → IsSome (read default_config regexp)
+expression_some ignore_case regexp expression kept made room = elim (form_of ignore_case regexp expression made) [
+  | inl own ↦ tree_some regexp own.tree own.is_tree (expression_good ignore_case regexp expression made) room
+  | inr custom ↦ subst (λ (b : Bool). IsSome (read (config_for b) regexp)) kept custom.is_read
+]
+
+pattern_read : (regexp flags : List ℕ) (value : PatternRegexp) → KeepsCase flags → HasNumbers regexp → pattern_engine.IsMade value regexp flags → IsReadFor regexp (pattern_engine.answer value)
+pattern_read regexp flags value keeps room made =
+    read_for regexp (pattern_engine.answer value) (expression_good value.ignore_case regexp value.expression made.of_text)
+    (expression_some value.ignore_case regexp value.expression (made.by_flags ∙ keeps) made.of_text room) (pattern_values_read regexp flags value keeps made)
+
+pub pattern_values_taken : ValuesAnswerTaken pattern_engine KeepsCase HasNumbers
+pattern_values_taken options flags parts value keeps alone room made =
+    answers_taken options parts (pattern_engine.answer value) alone (pattern_read (regexp_text options parts) flags value keeps room made)
+
+pub pattern_values_first : ValuesAnswerFirstOfParts pattern_engine KeepsCase HasNumbers
+pattern_values_first options flags parts value keeps alone silent room made =
+    answers_first options parts (pattern_engine.answer value) alone silent (pattern_read (regexp_text options parts) flags value keeps room made)
+
+pub pattern_values_capture : ValuesCapture pattern_engine KeepsCase HasNumbers
+pattern_values_capture =
+    captured_as_first pattern_engine KeepsCase HasNumbers pattern_values_first (λ value regexp flags made. expression_good value.ignore_case regexp value.expression made.of_text)

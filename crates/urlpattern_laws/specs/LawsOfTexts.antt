@@ -1,0 +1,113 @@
+-- Laws on what custom regular expressions and parts take and capture, and on engines and matchers that return it.
+use Rattle.std.specs.Prelude.{⊤, ◌≡◌, ◌↔◌, ℕ, ◌^◌, ◌≤◌, false, List, ◌++◌, length, codes, Option, Some, None, IfSome, IsSome, IsTrue}
+use Rattle.std.specs.Str.{all_scalars}
+use Rattle.regex_syntax.specs.Brackets.{join}
+use Rattle.regex_syntax.specs.Grammar.{Names, branches}
+use Rattle.regex_syntax.specs.Verdict.{default_config}
+use Rattle.regex_hir.specs.Meaning.{alt_all}
+use Rattle.urlpattern_matcher.specs.Components.{ComponentView, FlagsAgree, IsComponentOf, IsEngineOf}
+use Rattle.urlpattern_matcher.specs.FirstWays.{Keeping, Taking}
+use Rattle.urlpattern_printing.specs.Generated.{AreGenerated}
+use Rattle.urlpattern_matcher.specs.declared.regexp.RegExp.{Ghosts as Engine}
+use Rattle.urlpattern_laws.specs.Expressions.{ExpressionTakes, TakesWhole, stands_alone}
+use Rattle.urlpattern_laws.specs.PartTexts.{AllCaptureNothing, AllStandAlone, PartsTake}
+use Rattle.urlpattern_laws.specs.PartCaptures.{PartsCapture}
+use Rattle.urlpattern_meaning.specs.FirstAnswers.{TookText}
+use Rattle.urlpattern_meaning.specs.Matching.{EachAnswerIs, IsMadeOf, MatcherView}
+use Rattle.urlpattern_meaning.specs.PartMeaning.{Captures, PartsMean}
+use Rattle.urlpattern_syntax.specs.{Options.OptionsView, Parts.PartView, RegexpText.group_names, RegexpText.regexp_text}
+
+-- Inside of a group, whatever is before and after it, what the grammar reads of an expression that stands alone ends at the closing
+-- parenthesis, and takes whole the texts that the expression takes. It reads nothing there if the name of a group occurs before.
+abbrev pub ReadsInGroups : Type 0
+ReadsInGroups =
+    (expression rest : List ℕ) (steps : ℕ) (names : Names) → IsTrue (stands_alone expression) →
+    IfSome (branches steps (record { config = default_config; names = names; text = expression ++ (codes ")" ++ rest) })) (λ (patterns, end).
+    (end.text ≡ codes ")" ++ rest)
+    × ((text : List ℕ) → IsTrue (all_scalars text) → TakesWhole (join alt_all patterns).value text ↔ ExpressionTakes expression text))
+
+-- parts without a custom one take the texts that they mean
+abbrev pub PartsTakeMeanings : Type 0
+PartsTakeMeanings =
+    (options : OptionsView) (parts : List PartView) (text : List ℕ) → AreGenerated parts →
+    PartsTake options parts text ↔ ((captures : Captures) × PartsMean options parts text captures)
+
+-- and they capture what they mean
+abbrev pub PartsCaptureMeanings : Type 0
+PartsCaptureMeanings =
+    (options : OptionsView) (parts : List PartView) (text : List ℕ) (captures : Captures) → AreGenerated parts →
+    PartsCapture options parts text captures ↔ PartsMean options parts text captures
+
+-- what parts capture is one capture for each name
+abbrev pub CapturesAreAsNames : Type 0
+CapturesAreAsNames =
+    (options : OptionsView) (parts : List PartView) (text : List ℕ) (captures : Captures) → PartsCapture options parts text captures →
+    length captures ≡ length (group_names parts)
+
+-- the result is captures exactly if the parts take the text
+abbrev pub IsSomeIfTaken : OptionsView → List PartView → (text : List ℕ) → Option Captures → Type 0
+IsSomeIfTaken options parts text result = IsSome result ↔ PartsTake options parts text
+
+-- the result is what the parts capture of the text, or `None` where they do not take it
+abbrev pub IsCapturedByParts : OptionsView → List PartView → (text : List ℕ) → Option Captures → Type 0
+IsCapturedByParts options parts text (Some captures) = PartsCapture options parts text captures
+IsCapturedByParts options parts text None = ¬ PartsTake options parts text
+
+-- how long a regular expression may be
+abbrev pub Room : Type 1
+Room = (regexp : List ℕ) → Type 0
+
+-- the grammar has a number for each group that an expression of so many characters can have
+abbrev pub HasNumbers : Room
+HasNumbers regexp = length regexp ≤ 2 ^ 32
+
+-- each value of the engine that was made, with such flags, of such a regular expression of parts whose custom ones stand alone
+abbrev pub ValuesAnswerTaken : {E : Type 0} → Engine E → Keeping → Room → Type 0
+ValuesAnswerTaken {E} engine Keeps Fits =
+    (options : OptionsView) (flags : List ℕ) (parts : List PartView) (value : E) → Keeps flags →
+    AllStandAlone parts → Fits (regexp_text options parts) →
+    engine.IsMade value (regexp_text options parts) flags →
+    (text : List ℕ) → IsTrue (all_scalars text) → IsSomeIfTaken options parts text (engine.answer value text)
+
+-- the same, of parts whose custom ones capture nothing themselves, with what is captured
+abbrev pub ValuesCapture : {E : Type 0} → Engine E → Keeping → Room → Type 0
+ValuesCapture {E} engine Keeps Fits =
+    (options : OptionsView) (flags : List ℕ) (parts : List PartView) (value : E) → Keeps flags →
+    AllStandAlone parts → AllCaptureNothing parts → Fits (regexp_text options parts) →
+    engine.IsMade value (regexp_text options parts) flags →
+    (text : List ℕ) → IsTrue (all_scalars text) → IsCapturedByParts options parts text (engine.answer value text)
+
+-- The matcher is made by the engine of parts whose custom ones stand alone, case is kept, and the engine took the text, in this sense,
+-- where it was needed.
+pub record IsTakenAlone {E : Type 0} (engine : Engine E) (Fits : (regexp : List ℕ) → Type 0) (Took : Taking E)
+    (options : OptionsView) (flags : List ℕ) (parts : List PartView) (matcher : MatcherView E) : Type 0 where
+  pub is_made : IsMadeOf (IsEngineOf engine false flags) options parts matcher
+  pub alone : AllStandAlone parts
+  pub fits : Fits (regexp_text options parts)
+  pub case_kept : options.ignore_case ≡ false
+  pub took : Took options flags matcher.inner
+
+-- each such matcher answers captures to a text of characters without line feed exactly if the parts take it
+abbrev pub MatchersAnswerTaken : {E : Type 0} → Engine E → Room → Taking E → Type 0
+MatchersAnswerTaken {E} engine Fits Took =
+    (options : OptionsView) (flags : List ℕ) (parts : List PartView) (matcher : MatcherView E) →
+    IsTakenAlone engine Fits Took options flags parts matcher →
+    EachAnswerIs engine.answer matcher (IsSomeIfTaken options parts)
+
+-- the same, of parts whose custom ones capture nothing themselves, with what is captured
+abbrev pub MatchersCapture : {E : Type 0} → Engine E → Room → Taking E → Type 0
+MatchersCapture {E} engine Fits Took =
+    (options : OptionsView) (flags : List ℕ) (parts : List PartView) (matcher : MatcherView E) →
+    IsTakenAlone engine Fits Took options flags parts matcher → AllCaptureNothing parts →
+    EachAnswerIs engine.answer matcher (IsCapturedByParts options parts)
+
+-- the engine was given flags that ignore case where the options do, and took the text where it was needed
+abbrev pub TookAlone : {E : Type 0} → Taking E
+TookAlone options flags inner = FlagsAgree options flags × TookText (λ value. ⊤) inner
+
+-- So does a component that the engine compiled to such parts, if case is kept and the engine took the text where its matcher needs one.
+abbrev pub ComponentsCapture : {E : Type 0} → Engine E → Room → Type 0
+ComponentsCapture {E} engine Fits =
+    (options : OptionsView) (parts : List PartView) (component : ComponentView E) → IsComponentOf engine options parts component →
+    AllStandAlone parts → AllCaptureNothing parts → Fits (regexp_text options parts) →
+    options.ignore_case ≡ false → TookText (λ value. ⊤) component.matcher.inner → EachAnswerIs engine.answer component.matcher (IsCapturedByParts options parts)

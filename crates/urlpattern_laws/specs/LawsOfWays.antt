@@ -1,0 +1,53 @@
+-- Laws on which of several captures is returned, where parts have custom expressions: that of the first way.
+use Rattle.std.specs.Prelude.{◌≡◌, ⊤, ℕ, false, List, IsTrue}
+use Rattle.std.specs.Str.{all_scalars}
+use Rattle.urlpattern_matcher.specs.Components.{ComponentView, IsComponentOf}
+use Rattle.urlpattern_matcher.specs.FirstWays.{Keeping, Taking}
+use Rattle.urlpattern_printing.specs.Generated.{AreGenerated}
+use Rattle.urlpattern_matcher.specs.declared.regexp.RegExp.{Ghosts as Engine}
+use Rattle.urlpattern_laws.specs.LawsOfTexts.{IsCapturedByParts, IsTakenAlone, Room}
+use Rattle.urlpattern_laws.specs.PartTexts.{AllCaptureNothing, AllStandAlone}
+use Rattle.urlpattern_laws.specs.PartWays.{parts_first_way}
+use Rattle.urlpattern_meaning.specs.Dialect.{IsTreeOf, Items}
+use Rattle.urlpattern_meaning.specs.FirstAnswers.{TookText}
+use Rattle.urlpattern_meaning.specs.Matching.{EachAnswerIs, MatcherView}
+use Rattle.urlpattern_meaning.specs.Ways.{first_way}
+use Rattle.urlpattern_syntax.specs.{Options.OptionsView, Parts.PartView, RegexpText.regexp_text}
+
+-- the first way of parts without a custom one is that of the tree of their regular expression
+abbrev pub FirstWaysAreOfTrees : Type 0
+FirstWaysAreOfTrees =
+    (options : OptionsView) (parts : List PartView) (tree : Items) (text : List ℕ) → AreGenerated parts → IsTreeOf (regexp_text options parts) tree →
+    parts_first_way options parts text ≡ first_way tree text
+
+-- The first way of parts whose custom ones stand alone and capture nothing themselves is what they capture, or None where they do not take the
+-- text. Their texts, as their regular expression has them, are of characters.
+abbrev pub FirstWaysAreCaptured : Type 0
+FirstWaysAreCaptured =
+    (options : OptionsView) (parts : List PartView) (text : List ℕ) → AllStandAlone parts → AllCaptureNothing parts →
+    IsTrue (all_scalars (regexp_text options parts)) → IsTrue (all_scalars text) →
+    IsCapturedByParts options parts text (parts_first_way options parts text)
+
+-- Each value of the engine that was made, with such flags, of such a regular expression of parts whose custom ones stand alone and capture
+-- nothing themselves, answers the first way of the parts.
+abbrev pub ValuesAnswerFirstOfParts : {E : Type 0} → Engine E → Keeping → Room → Type 0
+ValuesAnswerFirstOfParts {E} engine Keeps Fits =
+    (options : OptionsView) (flags : List ℕ) (parts : List PartView) (value : E) → Keeps flags →
+    AllStandAlone parts → AllCaptureNothing parts → Fits (regexp_text options parts) →
+    engine.IsMade value (regexp_text options parts) flags →
+    (text : List ℕ) → IsTrue (all_scalars text) → engine.answer value text ≡ parts_first_way options parts text
+
+-- each such matcher of such parts answers their first way to a text of characters without line feed
+abbrev pub MatchersAnswerFirstOfParts : {E : Type 0} → Engine E → Room → Taking E → Type 0
+MatchersAnswerFirstOfParts {E} engine Fits Took =
+    (options : OptionsView) (flags : List ℕ) (parts : List PartView) (matcher : MatcherView E) →
+    IsTakenAlone engine Fits Took options flags parts matcher → AllCaptureNothing parts →
+    EachAnswerIs engine.answer matcher (λ text result. result ≡ parts_first_way options parts text)
+
+-- So does a component that the engine compiled to such parts, if case is kept and the engine took the text where its matcher needs one.
+abbrev pub ComponentsAnswerFirstOfParts : {E : Type 0} → Engine E → Room → Type 0
+ComponentsAnswerFirstOfParts {E} engine Fits =
+    (options : OptionsView) (parts : List PartView) (component : ComponentView E) → IsComponentOf engine options parts component →
+    AllStandAlone parts → AllCaptureNothing parts → Fits (regexp_text options parts) →
+    options.ignore_case ≡ false → TookText (λ value. ⊤) component.matcher.inner →
+    EachAnswerIs engine.answer component.matcher (λ text result. result ≡ parts_first_way options parts text)

@@ -1,4 +1,0 @@
-pub mod CopySearch
-pub mod LawsOfLinks
-pub mod Links
-pub mod Texts

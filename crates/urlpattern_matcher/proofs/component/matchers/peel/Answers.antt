@@ -1,0 +1,5 @@
+use Rattle.urlpattern_matcher.proofs.Peeling.{peels-both}
+use Rattle.urlpattern_matcher.proofs.component.matchers.peel.Goals as goal
+
+pub returns : goal.returns
+returns c = peels-both _ _ _ _ _ c.peel_front.ensures c.peel_back.ensures

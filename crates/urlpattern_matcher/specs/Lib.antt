@@ -1,0 +1,5 @@
+pub mod Components
+pub mod Regexes
+pub mod FirstWays
+pub mod Looks
+pub mod Matchers

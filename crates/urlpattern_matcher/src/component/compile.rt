@@ -1,0 +1,152 @@
+//! The component of a pattern text.
+
+ghost use Rattle.std.specs.Prelude.{◌≡◌, true, false, IfErr, IfOk};
+ghost use Rattle.std.specs.Str.{chars};
+ghost use Rattle.urlpattern_matcher.specs.Components.{AnswersByItsParts, FailsToRead, IsCompiledFrom, IsCompiledKeeping, IsComponentOf, IsEngineOf, IsWholeEngineOf, component_view, engine_flags, has_regexp, pattern_text};
+ghost use Rattle.urlpattern_matcher.specs.Matchers.{engine_view};
+ghost use Rattle.urlpattern_meaning.specs.GeneratedTexts.{IsGenerated};
+ghost use Rattle.urlpattern_syntax.specs.{Errors.OnlyOutOfMemory, Options.options_view, Parts.parts_view, Reading.encoding_by, Text.text_of};
+
+use super::matchers::generate_matcher_knowing;
+use super::{Component, ComponentWithParts};
+use crate::regexp::RegExp;
+use std::alloc::{AllocError, Global};
+use urlpattern_parser::parser::{Options, Part, PartType, RegexSyntax, parse_pattern_string};
+use urlpattern_printing::{
+    generate_name_list, generate_pattern_string, generate_regular_expression,
+};
+use urlpattern_syntax::ComponentParts;
+use urlpattern_syntax::error::{Error, RegExpError};
+
+impl<R: RegExp> Component<R> {
+    /// The component of a pattern text, or of an asterisk where there is none.
+    ///
+    /// Each fixed text, prefix and suffix of the pattern goes through the callback. What the engine refuses is kept in the
+    /// component as an error. An engine that takes ECMAScript's syntax is made to compile the text at once if the pattern
+    /// has a regular expression of its own.
+    ///
+    /// Where the pattern has none and case is kept, the component's matcher answers what the parts of the pattern mean, if
+    /// an engine that it asks follows the regular expression it was given.
+    ///
+    /// The error is that of the pattern text, which may be the callback's own; or that memory ran out.
+    ///
+    /// <https://urlpattern.spec.whatwg.org/#compile-a-component>
+    pub fn compile<F: Fn(&str) -> Result<String, Error> + Drop>(
+        alloc: Global,
+        pattern: Option<&str>,
+        encoding_callback: F,
+        options: Options,
+    ) -> Result<Self, Error>
+        requires { F.IsAlwaysCallable encoding_callback }
+        ensures compiled { IfOk result (λ component. IsCompiledFrom R.RegExp (pattern_text pattern.entry) (options_view options)
+            (encoding_by F.Fn encoding_callback) (component_view component)) }
+        ensures means { IfOk result (λ component. AnswersByItsParts R.RegExp (options_view options) (component_view component)) }
+        ensures refuses { IfErr result (FailsToRead (pattern_text pattern.entry) (options_view options) (encoding_by F.Fn encoding_callback)) }
+    {
+        match Self::compile_with_parts(alloc, pattern, encoding_callback, options) {
+            Ok(made) => {
+                let (component, kept) = made.into_fields();
+                drop(kept);
+                Ok(component)
+            }
+            Err(error) => Err(error),
+        }
+    }
+
+    /// The component of a pattern text, or of an asterisk where there is none, as `compile` makes it, and the parts that it was
+    /// made of.
+    ///
+    /// The error is that of the pattern text, which may be the callback's own; or that memory ran out.
+    ///
+    /// <https://urlpattern.spec.whatwg.org/#compile-a-component>
+    pub fn compile_with_parts<F: Fn(&str) -> Result<String, Error> + Drop>(
+        alloc: Global,
+        pattern: Option<&str>,
+        encoding_callback: F,
+        options: Options,
+    ) -> Result<ComponentWithParts<R>, Error>
+        requires { F.IsAlwaysCallable encoding_callback }
+        ensures compiled { IfOk result (IsCompiledKeeping R.RegExp (pattern_text pattern.entry) (options_view options) (encoding_by F.Fn encoding_callback)) }
+        ensures refuses { IfErr result (FailsToRead (pattern_text pattern.entry) (options_view options) (encoding_by F.Fn encoding_callback)) }
+    {
+        let pattern = pattern.unwrap_or("*");
+        let parts = parse_pattern_string(alloc, pattern, &options, encoding_callback)?;
+        let component = Self::from_parts(alloc, &parts, &options)?;
+        let kept = ComponentParts { options, parts };
+        Ok(ComponentWithParts { component, kept })
+    }
+
+    /// The component of a list of parts.
+    fn from_parts(alloc: Global, part_list: &[Part], options: &Options) -> Result<Self, Error>
+        ensures made { IfOk result (λ made. IsComponentOf R.RegExp (options_view options.now) (parts_view part_list.now) (component_view made)) }
+        ensures memory { OnlyOutOfMemory result }
+    {
+        let flags = engine_flags(options);
+        let has_regexp_group = has_regexp(part_list);
+        let text = generate_regular_expression(alloc, part_list, options)?;
+        let matcher = generate_matcher_knowing(alloc, part_list, options, flags, Some(&text))?;
+        let regexp = engine_of(alloc, text, flags, has_regexp_group)?;
+        Ok(Component {
+            pattern_string: generate_pattern_string(alloc, part_list, options)?,
+            regexp,
+            group_name_list: generate_name_list(alloc, part_list)?,
+            matcher,
+            has_regexp_group,
+        })
+    }
+}
+
+/// The flags for an engine.
+fn engine_flags(options: &Options) -> &'static str
+    ensures { chars result.now ≡ engine_flags (options_view options.now) }
+{
+    if options.ignore_case { "ui" } else { "u" }
+}
+
+/// Whether a custom regular expression is among the parts.
+fn has_regexp(part_list: &[Part]) -> bool
+    ensures { result ≡ has_regexp (parts_view part_list.now) }
+{
+    part_list
+        .iter()
+        .any(|part| matches!(part.kind, PartType::Regexp))
+}
+
+/// What an engine makes of the regular expression of some parts. If it takes ECMAScript's syntax and took the text, which
+/// holds a custom one, it is asked again and may not put off its answer.
+fn engine_of<R: RegExp>(
+    alloc: Global,
+    regexp: String,
+    flags: &str,
+    has_regexp_group: bool,
+) -> Result<Result<R, Error>, AllocError>
+    requires { has_regexp_group ≡ false → IsGenerated (text_of regexp) }
+    ensures { IfOk result (λ engine. IsWholeEngineOf R.RegExp has_regexp_group (chars flags.now) (text_of regexp) (engine_view engine)) }
+{
+    if has_regexp_group && R::syntax() == RegexSyntax::EcmaScript {
+        let engine: Result<R, Error> = kept_engine(alloc, regexp.clone()?, flags, false, false)?;
+        if engine.is_err() {
+            return Ok(engine);
+        }
+        return kept_engine(alloc, regexp, flags, true, false);
+    }
+    kept_engine(alloc, regexp, flags, false, !has_regexp_group)
+}
+
+/// The value that an engine makes of a text to keep it, or the error that it refuses the text.
+fn kept_engine<R: RegExp>(
+    alloc: Global,
+    regexp: String,
+    flags: &str,
+    force_eval: bool,
+    is_generated: bool,
+) -> Result<Result<R, Error>, AllocError>
+    requires { is_generated ≡ true → IsGenerated (text_of regexp) }
+    ensures { IfOk result (λ engine. IsEngineOf R.RegExp force_eval (chars flags.now) (text_of regexp) (engine_view engine)) }
+{
+    match R::parse_to_keep(alloc, regexp, flags, force_eval, is_generated) {
+        Ok(engine) => Ok(Ok(engine)),
+        Err(RegExpError::Pattern) => Ok(Err(Error::RegExp(()))),
+        Err(RegExpError::OutOfMemory) => Err(AllocError),
+    }
+}

@@ -1,0 +1,220 @@
+//! The matcher of a list of parts.
+
+ghost use Rattle.std.specs.Prelude.{◌≡◌, false, ◌++◌, IfOk, IfSome};
+ghost use Rattle.std.specs.Str.{chars};
+ghost use Rattle.urlpattern_matcher.specs.Components.{IsEngineOf};
+ghost use Rattle.urlpattern_matcher.specs.Matchers.{IfMatcher, PeelsBack, PeelsFront, PeelsTo, capture_of, engine_view, literal_view};
+ghost use Rattle.urlpattern_meaning.specs.Matching.{AnswersByMeaning, single_capture_matcher, IsMadeByEngine, IsMadeOf};
+ghost use Rattle.urlpattern_syntax.specs.{Errors.OnlyOutOfMemory, Options.options_view, Text.text_of};
+ghost use Rattle.urlpattern_syntax.specs.Parts.{part_view, parts_view};
+ghost use Rattle.urlpattern_syntax.specs.RegexpText.{is_plain, regexp_text};
+
+use crate::matcher::{InnerMatcher, Matcher};
+use crate::regexp::RegExp;
+use std::alloc::{AllocError, Global};
+use urlpattern_parser::parser::{Options, Part, PartModifier, PartType};
+use urlpattern_printing::generate_regular_expression;
+use urlpattern_syntax::error::{Error, RegExpError};
+use urlpattern_syntax::writing::written;
+
+/// The matcher of a list of parts. Plain fixed texts at the ends of the list become its prefix and its suffix.
+///
+/// What an engine refuses is kept in the matcher as an error. Where no part has a regular expression of its own and case is
+/// kept, the matcher answers what the parts mean, if an engine that it asks follows the regular expression it was given.
+///
+/// The error answered is that memory ran out.
+pub fn generate_matcher<R: RegExp>(
+    alloc: Global,
+    part_list: &[Part],
+    options: &Options,
+    flags: &str,
+) -> Result<Matcher<R>, Error>
+    ensures made { IfMatcher result (IsMadeOf (IsEngineOf R.RegExp false (chars flags.now)) (options_view options.now) (parts_view part_list.now)) }
+    ensures means { IfMatcher result (AnswersByMeaning R.answer (options_view options.now) (parts_view part_list.now)) }
+    ensures memory { OnlyOutOfMemory result }
+{
+    Ok(generate_matcher_knowing(alloc, part_list, options, flags, None)?)
+}
+
+/// The same, where the regular expression of the whole list may be known.
+pub(crate) fn generate_matcher_knowing<R: RegExp>(
+    alloc: Global,
+    part_list: &[Part],
+    options: &Options,
+    flags: &str,
+    whole: Option<&str>,
+) -> Result<Matcher<R>, AllocError>
+    requires { IfSome whole (λ text. chars text.now ≡ regexp_text (options_view options.now) (parts_view part_list.now)) }
+    ensures { IfMatcher result (IsMadeOf (IsEngineOf R.RegExp false (chars flags.now)) (options_view options.now) (parts_view part_list.now)) }
+{
+    let (prefix, middle, suffix) = peel(part_list);
+    let known = if middle.len() == part_list.len() {
+        whole
+    } else {
+        None
+    };
+    match middle {
+        [] => literal_matcher(alloc, prefix, suffix, options),
+        [part] => match capture_of(part, options) {
+            Some((filter, allow_empty)) => {
+                capture_matcher(alloc, prefix, part, suffix, options, filter, allow_empty)
+            }
+            None => engine_matcher(alloc, prefix, middle, suffix, options, flags, known),
+        },
+        _ => engine_matcher(alloc, prefix, middle, suffix, options, flags, known),
+    }
+}
+
+/// The plain fixed texts at the two ends of a list of parts, or empty texts, and the parts between them.
+fn peel(part_list: &[Part]) -> (&str, &[Part], &str)
+    ensures { PeelsTo (parts_view part_list.now) (chars result.0.now) (parts_view result.1.now) (chars result.2.now) }
+{
+    let (prefix, rest) = peel_front(part_list);
+    let (middle, suffix) = peel_back(rest);
+    (prefix, middle, suffix)
+}
+
+/// The plain fixed text that a list of parts begins with, or an empty text, and the other parts.
+fn peel_front(part_list: &[Part]) -> (&str, &[Part])
+    ensures { PeelsFront (parts_view part_list.now) (chars result.0.now) (parts_view result.1.now) }
+{
+    match part_list.split_first() {
+        Some((first, rest)) if is_plain(first) => (&first.value, rest),
+        _ => ("", part_list),
+    }
+}
+
+/// The plain fixed text that a list of parts ends with, or an empty text, and the other parts before it.
+fn peel_back(part_list: &[Part]) -> (&[Part], &str)
+    ensures { PeelsBack (parts_view part_list.now) (parts_view result.0.now) (chars result.1.now) }
+{
+    match part_list.split_last() {
+        Some((last, middle)) if is_plain(last) => (middle, &last.value),
+        _ => (part_list, ""),
+    }
+}
+
+/// Whether a part is a fixed text without modifier.
+pub fn is_plain(part: &Part) -> bool
+    ensures { result ≡ is_plain (part_view part.now) }
+{
+    part.kind == PartType::FixedText && part.modifier == PartModifier::None
+}
+
+/// What a part captures if it is a wildcard without modifier: any text without this character, and whether it may be
+/// empty.
+fn capture_of(part: &Part, options: &Options) -> Option<(Option<char>, bool)>
+    ensures { result ≡ capture_of (options_view options.now) part.now.kind part.now.modifier }
+{
+    if part.modifier != PartModifier::None {
+        return None;
+    }
+    match part.kind {
+        PartType::FullWildcard => Some((None, true)),
+        PartType::SegmentWildcard => Some((options.delimiter_code_point, false)),
+        _ => None,
+    }
+}
+
+/// A matcher of one text.
+fn literal_matcher<R>(
+    alloc: Global,
+    prefix: &str,
+    suffix: &str,
+    options: &Options,
+) -> Result<Matcher<R>, AllocError>
+    ensures { IfMatcher result (λ made. made ≡ literal_view options.now.ignore_case (chars prefix.now ++ chars suffix.now)) }
+{
+    Ok(Matcher {
+        prefix: String::new(alloc),
+        suffix: String::new(alloc),
+        inner: InnerMatcher::Literal {
+            literal: joined(alloc, prefix, suffix)?,
+        },
+        ignore_case: options.ignore_case,
+    })
+}
+
+/// A matcher of one capture between two texts and those of its part.
+fn capture_matcher<R>(
+    alloc: Global,
+    prefix: &str,
+    part: &Part,
+    suffix: &str,
+    options: &Options,
+    filter: Option<char>,
+    allow_empty: bool,
+) -> Result<Matcher<R>, AllocError>
+    ensures { IfMatcher result (λ made. made
+        ≡ single_capture_matcher (options_view options.now) (chars prefix.now) (part_view part.now) (chars suffix.now) filter allow_empty) }
+{
+    Ok(Matcher {
+        prefix: joined(alloc, prefix, &part.prefix)?,
+        suffix: joined(alloc, &part.suffix, suffix)?,
+        inner: InnerMatcher::SingleCapture {
+            filter,
+            allow_empty,
+        },
+        ignore_case: options.ignore_case,
+    })
+}
+
+/// A matcher that leaves the parts between two texts to an engine. If the text of these parts is known, it is not
+/// generated.
+fn engine_matcher<R: RegExp>(
+    alloc: Global,
+    prefix: &str,
+    middle: &[Part],
+    suffix: &str,
+    options: &Options,
+    flags: &str,
+    known: Option<&str>,
+) -> Result<Matcher<R>, AllocError>
+    requires { IfSome known (λ text. chars text.now ≡ regexp_text (options_view options.now) (parts_view middle.now)) }
+    ensures { IfMatcher result (IsMadeByEngine (IsEngineOf R.RegExp false (chars flags.now)) (options_view options.now)
+        (chars prefix.now) (parts_view middle.now) (chars suffix.now)) }
+{
+    let regexp = match known {
+        Some(text) => ask_engine(alloc, text, flags, false)?,
+        None => {
+            let text = generate_regular_expression(alloc, middle, options)?;
+            ask_engine(alloc, &text, flags, false)?
+        }
+    };
+    Ok(Matcher {
+        prefix: String::from_str(alloc, prefix)?,
+        suffix: String::from_str(alloc, suffix)?,
+        inner: InnerMatcher::RegExp { regexp },
+        ignore_case: options.ignore_case,
+    })
+}
+
+/// The value that an engine makes of a text, or the error that it refuses the text.
+fn ask_engine<R: RegExp>(
+    alloc: Global,
+    regexp: &str,
+    flags: &str,
+    force_eval: bool,
+) -> Result<Result<R, Error>, AllocError>
+    ensures { IfOk result (λ engine. IsEngineOf R.RegExp force_eval (chars flags.now) (chars regexp.now) (engine_view engine)) }
+{
+    match R::parse(alloc, regexp, flags, force_eval) {
+        Ok(engine) => Ok(Ok(engine)),
+        Err(RegExpError::Pattern) => Ok(Err(Error::RegExp(()))),
+        Err(RegExpError::OutOfMemory) => Err(AllocError),
+    }
+}
+
+/// Two texts end to end.
+#[inline(always)]
+fn joined(alloc: Global, front: &str, back: &str) -> Result<String, AllocError>
+    ensures { IfOk result (λ text. text_of text ≡ chars front.now ++ chars back.now) }
+{
+    if front.is_empty() {
+        return String::from_str(alloc, back);
+    }
+    if back.is_empty() {
+        return String::from_str(alloc, front);
+    }
+    written(alloc, &(front, back))
+}

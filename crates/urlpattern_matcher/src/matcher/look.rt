@@ -1,0 +1,60 @@
+//! What a matcher sees in a text before an engine is asked.
+
+ghost use Rattle.std.specs.Prelude.{IfSome};
+ghost use Rattle.std.specs.Str.{chars};
+ghost use Rattle.urlpattern_matcher.specs.Looks.{look_answer, IsAsking};
+ghost use Rattle.urlpattern_matcher.specs.Matchers.{matcher_view};
+ghost use Rattle.urlpattern_meaning.specs.Matching.{Answers, AsksEngine};
+
+use super::{InnerMatcher, Matcher};
+use crate::regexp::RegExp;
+
+/// What a matcher sees in a text before an engine is asked.
+#[derive(Drop)]
+pub enum Look<'m, 'a, R> {
+    /// The text is matched, and there are no groups.
+    Matched,
+    /// The text is matched, and the one group captures this.
+    Captured(&'a str),
+    /// The text is matched if an engine matches what stands between prefix and suffix.
+    Asks {
+        /// The value of the engine.
+        engine: &'m R,
+        /// What stands between prefix and suffix.
+        middle: &'a str,
+    },
+}
+
+impl<R: RegExp> Matcher<R> {
+    /// What is seen in a text. It does not allocate and asks no engine. `None`: the text is not
+    /// matched. An engine is left to be asked only where one stands between the text's prefix and suffix.
+    pub fn look<'m, 'a>(&'m self, input: &'a str) -> Option<Look<'m, 'a, R>>
+        ensures answer { Answers R.answer (matcher_view self.now) (chars input.now) (look_answer R.answer result) }
+        ensures asked { IfSome result (λ look. IsAsking look → AsksEngine (matcher_view self.now) (chars input.now)) }
+    {
+        let middle = self.middle(input)?;
+        match &self.inner {
+            InnerMatcher::Literal { literal } => {
+                if self.is_same(middle, literal) {
+                    Some(Look::Matched)
+                } else {
+                    None
+                }
+            }
+            InnerMatcher::SingleCapture {
+                filter,
+                allow_empty,
+            } => {
+                if self.is_captured(middle, *filter, *allow_empty) {
+                    Some(Look::Captured(middle))
+                } else {
+                    None
+                }
+            }
+            InnerMatcher::RegExp { regexp } => match regexp {
+                Ok(engine) => Some(Look::Asks { engine, middle }),
+                Err(_) => None,
+            },
+        }
+    }
+}

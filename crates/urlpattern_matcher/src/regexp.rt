@@ -1,0 +1,142 @@
+//! Engines of regular expressions.
+
+mod rust;
+
+ghost use Rattle.std.specs.Prelude.{◌≡◌, Bool, true, ℕ, List, Option, Err, IfOk, IsTrue};
+ghost use Rattle.std.specs.Str.{chars};
+ghost use Rattle.urlpattern_meaning.specs.CaptureTexts.{captures_view};
+ghost use Rattle.urlpattern_meaning.specs.GeneratedTexts.{IsGenerated};
+ghost use Rattle.urlpattern_meaning.specs.Matching.{ValuesAgreeWithParts};
+ghost use Rattle.urlpattern_meaning.specs.PartMeaning.{Captures};
+ghost use Rattle.urlpattern_syntax.specs.declared.error.RegExpError.TheVariants.{Pattern};
+ghost use Rattle.urlpattern_syntax.specs.declared.parser.RegexSyntax.{RegexSyntax};
+ghost use Rattle.urlpattern_syntax.specs.Text.{text_of};
+
+use regex::Regex;
+use std::alloc::Global;
+use urlpattern_parser::parser::RegexSyntax;
+use urlpattern_syntax::error::{OutOfMemory, RegExpError};
+
+/// A regular expression of some engine.
+///
+/// What a type of engines means is in its ghost members: `syntax_of` is the syntax that it takes, `IsMade` says
+/// which of its values are made of a text and flags, `MayRefuse` says of a text, flags and `force_eval` whether they may
+/// be refused, `answer` what a value answers to a text, and `text_made_of` the text that a value was made of.
+pub trait RegExp: Sized + Drop {
+    ghost syntax_of: { RegexSyntax };
+
+    ghost IsMade: { Self → (regexp flags : List ℕ) → Type 0 };
+
+    ghost MayRefuse: { (regexp flags : List ℕ) → (force_eval : Bool) → Type 0 };
+
+    ghost answer: { Self → List ℕ → Option Captures };
+
+    ghost text_made_of: { Self → List ℕ };
+
+    /// The syntax that the engine takes.
+    fn syntax() -> RegexSyntax
+        ensures { result ≡ syntax_of };
+
+    /// Makes a value of a text and flags.
+    ///
+    /// With `force_eval` a text is refused at once if the engine does not take it. Without, an engine may put that off.
+    ///
+    /// The error says whether the engine refuses the text or memory ran out.
+    fn parse(
+        alloc: Global,
+        pattern: &str,
+        flags: &str,
+        force_eval: bool,
+    ) -> Result<Self, RegExpError>
+        ensures made { IfOk result (λ engine. IsMade engine (chars pattern.now) (chars flags.now)) }
+        ensures refused { result ≡ Err Pattern → MayRefuse (chars pattern.now) (chars flags.now) force_eval };
+
+    /// The same for a value that is kept, and that hardly ever matches a text: an engine may put off work until then.
+    /// `is_generated` says that the text is generated of parts, none of them custom.
+    fn parse_to_keep(
+        alloc: Global,
+        pattern: String,
+        flags: &str,
+        force_eval: bool,
+        is_generated: bool,
+    ) -> Result<Self, RegExpError>
+        requires { is_generated ≡ true → IsGenerated (text_of pattern) }
+        ensures made { IfOk result (λ engine. IsMade engine (text_of pattern) (chars flags.now)) }
+        ensures refused { result ≡ Err Pattern → MayRefuse (text_of pattern) (chars flags.now) force_eval }
+    {
+        Self::parse(alloc, &pattern, flags, force_eval)
+    }
+
+    /// What the groups capture of a text, in their order and without the whole match: a slice of the text, or `None` for a
+    /// group that took no part. `None` as a whole: the text does not match.
+    ///
+    /// The error is that memory ran out.
+    fn matches<'a>(
+        &self,
+        alloc: Global,
+        text: &'a str,
+    ) -> Result<Option<Vec<Option<&'a str>>>, OutOfMemory>
+        ensures { IfOk result (λ found. captures_view found ≡ answer self.now (chars text.now)) };
+
+    /// The text that the value was made of.
+    fn pattern_string(&self) -> &str
+        ensures { chars result.now ≡ text_made_of self.now };
+
+    /// Whether it is known that each value that was made of parts, none of them custom, with the flag `u` alone, answers what
+    /// the parts mean. An engine of which it is not keeps this body.
+    fn agrees_with_parts() -> bool
+        ensures { IsTrue result → ValuesAgreeWithParts IsMade answer }
+    {
+        false
+    }
+}
+
+/// The engine of the crate `regex`. It takes no notice of flags, and reads each text at once.
+///
+/// It may refuse any text. What it matches and captures is said by the contracts of that crate.
+impl RegExp for Regex {
+    ghost use Rattle.urlpattern_matcher.specs.Regexes.{regex_engine};
+
+    ghost syntax_of = { regex_engine.syntax_of };
+
+    ghost IsMade = { regex_engine.IsMade };
+
+    ghost MayRefuse = { regex_engine.MayRefuse };
+
+    ghost answer = { regex_engine.answer };
+
+    ghost text_made_of = { regex_engine.text_made_of };
+
+    fn syntax() -> RegexSyntax {
+        RegexSyntax::Rust
+    }
+
+    fn parse(
+        alloc: Global,
+        pattern: &str,
+        _flags: &str,
+        _force_eval: bool,
+    ) -> Result<Regex, RegExpError> {
+        match Regex::new(alloc, pattern) {
+            Ok(regex) => Ok(regex),
+            Err(regex::Error::OutOfMemory) => Err(RegExpError::OutOfMemory),
+            Err(_) => Err(RegExpError::Pattern),
+        }
+    }
+
+    fn matches<'a>(
+        &self,
+        alloc: Global,
+        text: &'a str,
+    ) -> Result<Option<Vec<Option<&'a str>>>, OutOfMemory> {
+        let mut matcher = self.matcher(alloc)?;
+        match matcher.captures(text) {
+            Some(captures) => Ok(Some(rust::groups(alloc, &captures)?)),
+            None => Ok(None),
+        }
+    }
+
+    fn pattern_string(&self) -> &str {
+        self.as_str()
+    }
+}

@@ -1,0 +1,108 @@
+-- The JSON of compiled patterns: the tree that stands for each plain value, and which trees are read as which value.
+use Rattle.std.specs.Prelude.{ℕ, if◌then◌else◌, List, [], ◌∷◌, ◌++◌, Option, None, Some, option_map, map, codes, encode_utf8}
+use Rattle.std.specs.Str.{bytes_eq, chars}
+use Rattle.serde_json.specs.Data.{Data, null, boolean, string, array, Items, no_items, item}
+use Rattle.serde_json.specs.Find.{as_array, as_str}
+use Rattle.serde_json.specs.View.{items_of}
+use Rattle.urlpattern_inputs.specs.Trees.{◌>>=◌, each_member, flag_read, member_read, object_of, optional_read, read_each, text_read}
+use Rattle.urlpattern_plain.specs.Values.{PlainComponentView, PlainInnerView, PlainMatcherView, PlainPatternView, literal, single_capture, regexp}
+use Rattle.urlpattern_components.specs.Eight.{at, name_text}
+
+-- ---- the trees
+
+-- a text of one character, or null
+abbrev pub filter_tree : Option ℕ → Data
+filter_tree None = null
+filter_tree (Some character) = string (encode_utf8 character)
+
+-- the members for what is between prefix and suffix
+abbrev pub inner_members : PlainInnerView → List (List ℕ × Option Data)
+inner_members (literal bytes) = (codes "kind", Some (string (codes "literal"))) ∷ (codes "literal", Some (string bytes)) ∷ []
+inner_members (single_capture filter allow_empty) =
+    (codes "kind", Some (string (codes "singleCapture")))
+    ∷ (codes "filter", Some (filter_tree filter))
+    ∷ (codes "allowEmpty", Some (boolean allow_empty))
+    ∷ []
+inner_members (regexp bytes) = (codes "kind", Some (string (codes "regExp"))) ∷ (codes "regexp", Some (string bytes)) ∷ []
+
+abbrev pub inner_tree : PlainInnerView → Data
+inner_tree inner = object_of (inner_members inner)
+
+abbrev pub matcher_tree : PlainMatcherView → Data
+matcher_tree matcher = object_of (
+    (codes "prefix", Some (string matcher.prefix))
+    ∷ (codes "suffix", Some (string matcher.suffix))
+    ∷ inner_members matcher.inner)
+
+abbrev pub component_tree : PlainComponentView → Data
+component_tree component = object_of (
+    (codes "patternString", Some (string component.pattern_string))
+    ∷ (codes "regexpString", Some (string component.regexp_string))
+    ∷ (codes "matcher", Some (matcher_tree component.matcher))
+    ∷ (codes "groupNameList", Some (array (items_of (map string component.group_name_list))))
+    ∷ [])
+
+abbrev pub pattern_tree : PlainPatternView → Data
+pattern_tree pattern = object_of (
+    each_member (λ name. Some (component_tree (at pattern.components name)))
+    ++ (codes "hasRegexpGroups", Some (boolean pattern.has_regexp_groups)) ∷ [])
+
+-- ---- what is read
+
+-- the character of a text that has one
+abbrev pub only : List ℕ → Option ℕ
+only [] = None
+only (character ∷ []) = Some character
+only (character ∷ other ∷ rest) = None
+
+abbrev pub character_read : Data → Option ℕ
+character_read tree = as_str tree >>= λ bytes. only (chars bytes)
+
+unfoldable pub capture_read : Data → Option PlainInnerView
+capture_read tree = do
+  filter ← optional_read character_read (codes "filter") tree
+  allow_empty ← flag_read (codes "allowEmpty") tree
+  Some (single_capture filter allow_empty)
+
+-- what stands between prefix and suffix, of this kind
+abbrev pub kind_read : Data → List ℕ → Option PlainInnerView
+kind_read tree kind =
+    if bytes_eq kind (codes "literal") then option_map literal (text_read (codes "literal") tree)
+    else if bytes_eq kind (codes "singleCapture") then capture_read tree
+    else if bytes_eq kind (codes "regExp") then option_map regexp (text_read (codes "regexp") tree)
+    else None
+
+unfoldable pub inner_read : Data → Option PlainInnerView
+inner_read tree = text_read (codes "kind") tree >>= kind_read tree
+
+unfoldable pub matcher_read : Data → Option PlainMatcherView
+matcher_read tree = do
+  prefix ← text_read (codes "prefix") tree
+  suffix ← text_read (codes "suffix") tree
+  inner ← inner_read tree
+  Some (record { prefix = prefix; suffix = suffix; inner = inner })
+
+-- the texts, if each item is one
+abbrev pub texts_of_items : Items → Option (List (List ℕ))
+texts_of_items no_items = Some []
+texts_of_items (item tree rest) = do
+  first ← as_str tree
+  others ← texts_of_items rest
+  Some (first ∷ others)
+
+abbrev pub texts_read : Data → Option (List (List ℕ))
+texts_read tree = as_array tree >>= texts_of_items
+
+unfoldable pub component_read : Data → Option PlainComponentView
+component_read tree = do
+  pattern_string ← text_read (codes "patternString") tree
+  regexp_string ← text_read (codes "regexpString") tree
+  matcher ← member_read matcher_read (codes "matcher") tree
+  group_name_list ← member_read texts_read (codes "groupNameList") tree
+  Some (record { pattern_string = pattern_string; regexp_string = regexp_string; matcher = matcher; group_name_list = group_name_list })
+
+unfoldable pub pattern_read : Data → Option PlainPatternView
+pattern_read tree = do
+  has_regexp_groups ← flag_read (codes "hasRegexpGroups") tree
+  components ← read_each (λ name. member_read component_read (name_text name) tree)
+  Some (record { components = components; has_regexp_groups = has_regexp_groups })

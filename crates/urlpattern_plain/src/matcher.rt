@@ -1,0 +1,240 @@
+//! What a component is matched with, as plain data.
+
+ghost use Rattle.std.specs.Prelude.{◌≡◌, IfOk, OnOk, option_map};
+ghost use Rattle.serde_json.specs.View.{view};
+ghost use Rattle.urlpattern_plain.specs.Json.{capture_read, inner_members, inner_read, inner_tree, matcher_read, matcher_tree};
+ghost use Rattle.urlpattern_matcher.specs.Matchers as compiled;
+ghost use Rattle.urlpattern_inputs.specs.{ReadResults.ReturnsRead, Trees.GainAll};
+ghost use Rattle.urlpattern_plain.specs.Plain.{engine_text, plain_inner, plain_matcher};
+ghost use Rattle.urlpattern_plain.specs.Values.{inner_by, plain_inner_view, matcher_by, plain_matcher_view};
+ghost use Rattle.urlpattern_syntax.specs.{Errors.OnlyOutOfMemory, Text.text_of};
+
+use crate::reading::optional_character_field;
+use crate::writing::filter_value;
+use serde::{Deserialize, Serialize};
+use serde_json::{Map, Value};
+use std::alloc::{AllocError, Global};
+use urlpattern_inputs::reading::{Unread, flag_field, read_or_none, text_field, text_of};
+use urlpattern_inputs::writing::put_text;
+use urlpattern_matcher::matcher;
+use urlpattern_matcher::regexp::RegExp;
+use urlpattern_syntax::Error;
+
+/// What a text is matched with: its prefix, its suffix, and what stands between them.
+#[derive(Debug, Clone, PartialEq, Eq, Drop, Serialize, Deserialize)]
+#[serde(rename_all = "camelCase")]
+pub struct Matcher {
+    /// The text that a matched text begins with.
+    pub prefix: String,
+    /// The text that a matched text ends with, after the prefix and what stands between.
+    pub suffix: String,
+    /// What stands between prefix and suffix. In JSON its keys stand beside theirs.
+    #[serde(flatten)]
+    pub inner: InnerMatcher,
+}
+
+/// What stands between the prefix and the suffix of a text. In JSON the key `kind` says which of the three it is.
+///
+/// ```rust inner_matcher
+/// let middle = InnerMatcher::RegExp {
+///     regexp: String::from_str(alloc, "^(?:/(a[))$")?,
+/// };
+/// ```
+#[derive(Debug, Clone, PartialEq, Eq, Drop, Serialize, Deserialize)]
+#[serde(tag = "kind", rename_all = "camelCase", rename_all_fields = "camelCase")]
+pub enum InnerMatcher {
+    /// This text.
+    Literal {
+        /// The text.
+        literal: String,
+    },
+    /// Any text, which is captured.
+    SingleCapture {
+        /// A character that may not stand in the text.
+        filter: Option<char>,
+        /// Whether the text may be empty.
+        allow_empty: bool,
+    },
+    /// What an engine matches, which captures.
+    RegExp {
+        /// The regular expression, empty if an engine refused it.
+        regexp: String,
+    },
+}
+
+impl Matcher {
+    /// The plain value of a matcher.
+    ///
+    /// The error is that memory ran out.
+    pub fn from_matcher<R: RegExp>(
+        alloc: Global,
+        matcher: matcher::Matcher<R>,
+    ) -> Result<Self, Error>
+        ensures plain { IfOk result (λ plain. matcher_by text_of plain ≡ plain_matcher R.text_made_of (compiled.matcher_view matcher)) }
+        ensures memory { OnlyOutOfMemory result }
+    {
+        let inner = InnerMatcher::from_inner(alloc, matcher.inner)?;
+        Ok(Self {
+            prefix: matcher.prefix,
+            suffix: matcher.suffix,
+            inner,
+        })
+    }
+
+    /// The JSON of the matcher: an object with `prefix`, `suffix` and `kind`, and the keys of its kind.
+    ///
+    /// The error is that memory ran out.
+    pub fn to_json_value(&self, alloc: Global) -> Result<Value, Error>
+        ensures tree { IfOk result (λ tree. view tree ≡ matcher_tree (plain_matcher_view self.now)) }
+        ensures memory { OnlyOutOfMemory result }
+    {
+        let mut members = Map::new(alloc);
+        put_text(&mut members, alloc, "prefix", &self.prefix)?;
+        put_text(&mut members, alloc, "suffix", &self.suffix)?;
+        self.inner.put_members(&mut members, alloc)?;
+        Ok(Value::Object(members))
+    }
+
+    /// The matcher that the JSON stands for: an object with `prefix`, `suffix` and `kind`, and the keys of its kind.
+    /// Other keys are passed over. `None`: the JSON has another shape.
+    ///
+    /// The error is that memory ran out.
+    pub fn from_json_value(alloc: Global, value: &Value) -> Result<Option<Self>, Error>
+        ensures read { IfOk result (λ found. option_map plain_matcher_view found ≡ matcher_read (view value.now)) }
+        ensures memory { OnlyOutOfMemory result }
+    {
+        read_or_none(Self::read(alloc, value))
+    }
+
+    #[tactic(auto, unfolding(crate::specs::Json::matcher_read))]
+    pub(crate) fn read(alloc: Global, value: &Value) -> Result<Self, Unread>
+        ensures { ReturnsRead plain_matcher_view result (matcher_read (view value.now)) }
+    {
+        Ok(Self {
+            prefix: text_field(alloc, value, "prefix")?,
+            suffix: text_field(alloc, value, "suffix")?,
+            inner: InnerMatcher::read(alloc, value)?,
+        })
+    }
+}
+
+impl InnerMatcher {
+    /// The plain value of what stands between prefix and suffix: an engine's value becomes its text, and the empty text
+    /// stands where an error is kept.
+    ///
+    /// The error is that memory ran out.
+    pub fn from_inner<R: RegExp>(
+        alloc: Global,
+        inner: matcher::InnerMatcher<R>,
+    ) -> Result<Self, Error>
+        ensures plain { IfOk result (λ plain. inner_by text_of plain ≡ plain_inner R.text_made_of (compiled.inner_view inner)) }
+        ensures memory { OnlyOutOfMemory result }
+    {
+        match inner {
+            matcher::InnerMatcher::Literal { literal } => Ok(InnerMatcher::Literal { literal }),
+            matcher::InnerMatcher::SingleCapture {
+                filter,
+                allow_empty,
+            } => Ok(InnerMatcher::SingleCapture {
+                filter,
+                allow_empty,
+            }),
+            matcher::InnerMatcher::RegExp { regexp } => {
+                let regexp = engine_text(alloc, &regexp)?;
+                Ok(InnerMatcher::RegExp { regexp })
+            }
+        }
+    }
+
+    /// The JSON of what stands between prefix and suffix: an object with `kind`, and the keys of its kind.
+    ///
+    /// The error is that memory ran out.
+    pub fn to_json_value(&self, alloc: Global) -> Result<Value, Error>
+        ensures tree { IfOk result (λ tree. view tree ≡ inner_tree (plain_inner_view self.now)) }
+        ensures memory { OnlyOutOfMemory result }
+    {
+        let mut members = Map::new(alloc);
+        self.put_members(&mut members, alloc)?;
+        Ok(Value::Object(members))
+    }
+
+    /// Puts the kind, and the keys that go with it, into an object.
+    fn put_members(&self, members: &mut Map<String, Value>, alloc: Global) -> Result<(), AllocError>
+        ensures { OnOk result (GainAll members.old.entries members.new.entries (inner_members (plain_inner_view self.now))) }
+    {
+        match self {
+            InnerMatcher::Literal { literal } => {
+                put_text(members, alloc, "kind", "literal")?;
+                put_text(members, alloc, "literal", literal)
+            }
+            InnerMatcher::SingleCapture {
+                filter,
+                allow_empty,
+            } => {
+                put_text(members, alloc, "kind", "singleCapture")?;
+                serde_json::put(members, alloc, "filter", filter_value(alloc, *filter)?)?;
+                serde_json::put(members, alloc, "allowEmpty", Value::Bool(*allow_empty))
+            }
+            InnerMatcher::RegExp { regexp } => {
+                put_text(members, alloc, "kind", "regExp")?;
+                put_text(members, alloc, "regexp", regexp)
+            }
+        }
+    }
+
+    /// What the JSON stands for: an object with `kind`, and the keys of its kind. Other keys are passed over. `None`: the
+    /// JSON has another shape.
+    ///
+    /// The error is that memory ran out.
+    pub fn from_json_value(alloc: Global, value: &Value) -> Result<Option<Self>, Error>
+        ensures read { IfOk result (λ found. option_map plain_inner_view found ≡ inner_read (view value.now)) }
+        ensures memory { OnlyOutOfMemory result }
+    {
+        read_or_none(Self::read(alloc, value))
+    }
+
+    /// By the kind that the object names.
+    #[tactic(auto, unfolding(crate::specs::Json::inner_read))]
+    fn read(alloc: Global, value: &Value) -> Result<Self, Unread>
+        ensures { ReturnsRead plain_inner_view result (inner_read (view value.now)) }
+    {
+        let kind = text_of(value, "kind")?;
+        if kind == "literal" {
+            let literal = text_field(alloc, value, "literal")?;
+            Ok(InnerMatcher::Literal { literal })
+        } else if kind == "singleCapture" {
+            Self::read_capture(value)
+        } else if kind == "regExp" {
+            let regexp = text_field(alloc, value, "regexp")?;
+            Ok(InnerMatcher::RegExp { regexp })
+        } else {
+            Err(Unread::Shape)
+        }
+    }
+
+    #[tactic(auto, unfolding(crate::specs::Json::capture_read))]
+    fn read_capture(value: &Value) -> Result<Self, Unread>
+        ensures { ReturnsRead plain_inner_view result (capture_read (view value.now)) }
+    {
+        let filter = optional_character_field(value, "filter")?;
+        let allow_empty = flag_field(value, "allowEmpty")?;
+        Ok(InnerMatcher::SingleCapture {
+            filter,
+            allow_empty,
+        })
+    }
+}
+
+/// The text that an engine's value was made of, or the empty text where an error is kept.
+pub(crate) fn engine_text<R: RegExp>(
+    alloc: Global,
+    engine: &Result<R, Error>,
+) -> Result<String, Error>
+    ensures text { IfOk result (λ text. text_of text ≡ engine_text R.text_made_of (compiled.engine_view engine.now)) }
+    ensures memory { OnlyOutOfMemory result }
+{
+    match engine {
+        Ok(engine) => Ok(String::from_str(alloc, engine.pattern_string())?),
+        Err(_) => Ok(String::new(alloc)),
+    }
+}

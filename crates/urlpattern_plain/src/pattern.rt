@@ -1,0 +1,248 @@
+//! A whole pattern as plain data.
+
+ghost use Rattle.std.specs.Prelude.{◌≡◌, IfOk, OnOk, Some, option_map};
+ghost use Rattle.serde_json.specs.View.{view};
+ghost use Rattle.urlpattern_plain.specs.Json.{component_read, component_tree, matcher_read, pattern_read, pattern_tree};
+ghost use Rattle.urlpattern_matcher.specs.Components as compiled;
+ghost use Rattle.urlpattern_plain.specs.Plain.{plain_component};
+ghost use Rattle.urlpattern_inputs.specs.ReadResults.{ReturnsRead};
+ghost use Rattle.urlpattern_inputs.specs.Trees.{Gain, member_read};
+ghost use Rattle.urlpattern_plain.specs.Values.{component_by, component_patterns, plain_component_view, plain_matcher_view, plain_pattern_view};
+ghost use Rattle.urlpattern_components.specs.Eight.{at};
+ghost use Rattle.urlpattern_syntax.specs.Errors.{OnlyOutOfMemory};
+ghost use Rattle.urlpattern_syntax.specs.Text.{text_of};
+
+use crate::matcher::{Matcher, engine_text};
+use crate::reading::texts_field;
+use crate::writing::texts_value;
+use serde::{Deserialize, Serialize};
+use serde_json::{Map, Value};
+use std::alloc::{AllocError, Global};
+use urlpattern_components::{ComponentName, Eight, field_of, with_fields};
+use urlpattern_inputs::reading::{Unread, flag_field, member, read_or_none, text_field};
+use urlpattern_inputs::writing::put_text;
+use urlpattern_matcher::component::Component;
+use urlpattern_matcher::regexp::RegExp;
+use urlpattern_syntax::Error;
+
+/// A pattern for each of a URL's components.
+///
+/// The JSON of the pattern that a browser's input stands for:
+///
+/// ```rust plain_pattern
+/// let init = process_construct_pattern_input(alloc, input, base)?;
+/// let pattern = parse_pattern::<R>(alloc, init, options)?;
+/// let tree = pattern.to_json_value(alloc);
+/// drop(pattern);
+/// tree
+/// ```
+#[derive(Debug, PartialEq, Eq, Drop, Serialize, Deserialize)]
+#[serde(rename_all = "camelCase")]
+pub struct UrlPattern {
+    /// The scheme.
+    pub protocol: UrlPatternComponent,
+    /// The user name.
+    pub username: UrlPatternComponent,
+    /// The password.
+    pub password: UrlPatternComponent,
+    /// The host.
+    pub hostname: UrlPatternComponent,
+    /// The port.
+    pub port: UrlPatternComponent,
+    /// The path.
+    pub pathname: UrlPatternComponent,
+    /// The query.
+    pub search: UrlPatternComponent,
+    /// The fragment.
+    pub hash: UrlPatternComponent,
+    /// Whether one of the patterns has a custom regular expression.
+    pub has_regexp_groups: bool,
+}
+
+/// The pattern of one component.
+///
+/// A component whose regular expression was rejected has an empty text for it:
+///
+/// ```rust plain
+/// let component: Component<EcmaRegexp> = path_of(alloc, "/(a[)")?;
+/// let plain = UrlPatternComponent::from_component(alloc, component)?;
+/// assert_eq!(rt; plain.pattern_string.as_str(), "/(a[)");
+/// assert_eq!(rt; plain.regexp_string.as_str(), "");
+/// assert_eq!(rt; plain.matcher.inner, middle);
+/// ```
+#[derive(Debug, PartialEq, Eq, Drop, Serialize, Deserialize)]
+#[serde(rename_all = "camelCase")]
+pub struct UrlPatternComponent {
+    /// The pattern's text, as it is printed.
+    pub pattern_string: String,
+    /// The regular expression of the whole pattern, empty if an engine refused it.
+    pub regexp_string: String,
+    /// What a text is matched with.
+    pub matcher: Matcher,
+    /// The names of the groups, in the order of their captures.
+    pub group_name_list: Vec<String>,
+}
+
+/// A copy has the same components.
+impl Clone for UrlPattern {
+    ghost is_clone = { λ pattern copy. plain_pattern_view copy ≡ plain_pattern_view pattern };
+
+    fn clone(&self) -> Result<Self, AllocError> {
+        let components = Eight::try_from_fn(|name| self.get(name).clone())?;
+        Ok(Self::from_eight(components, self.has_regexp_groups))
+    }
+}
+
+impl UrlPattern {
+    /// The JSON of the pattern: an object with a key for each component, and `hasRegexpGroups`.
+    ///
+    /// The error is that memory ran out.
+    pub fn to_json_value(&self, alloc: Global) -> Result<Value, Error>
+        ensures tree { IfOk result (λ tree. view tree ≡ pattern_tree (plain_pattern_view self.now)) }
+        ensures memory { OnlyOutOfMemory result }
+    {
+        let mut members = Map::new(alloc);
+        for name in ComponentName::all() {
+            put_component(&mut members, alloc, name.as_str(), self.get(name))?;
+        }
+        let has_regexp_groups = Value::Bool(self.has_regexp_groups);
+        serde_json::put(&mut members, alloc, "hasRegexpGroups", has_regexp_groups)?;
+        Ok(Value::Object(members))
+    }
+
+    /// The pattern that the JSON stands for: an object with a component for each key, and `hasRegexpGroups`. Other keys
+    /// are passed over. `None`: the JSON has another shape.
+    ///
+    /// The error is that memory ran out.
+    pub fn from_json_value(alloc: Global, value: &Value) -> Result<Option<Self>, Error>
+        ensures read { IfOk result (λ found. option_map plain_pattern_view found ≡ pattern_read (view value.now)) }
+        ensures memory { OnlyOutOfMemory result }
+    {
+        read_or_none(Self::read(alloc, value))
+    }
+
+    #[tactic(auto, unfolding(crate::specs::Json::pattern_read))]
+    fn read(alloc: Global, value: &Value) -> Result<Self, Unread>
+        ensures { ReturnsRead plain_pattern_view result (pattern_read (view value.now)) }
+    {
+        let has_regexp_groups = flag_field(value, "hasRegexpGroups")?;
+        let components = Eight::try_from_fn(|name| component_field(alloc, value, name.as_str()))?;
+        Ok(Self::from_eight(components, has_regexp_groups))
+    }
+
+    /// The pattern of these components.
+    pub fn from_eight(components: Eight<UrlPatternComponent>, has_regexp_groups: bool) -> Self
+        ensures components { component_patterns result ≡ components }
+        ensures groups { result.has_regexp_groups ≡ has_regexp_groups }
+    {
+        with_fields!(Self, components, has_regexp_groups)
+    }
+
+    /// The pattern of a component.
+    pub fn get(&self, name: ComponentName) -> &UrlPatternComponent
+        ensures { result.now ≡ at (component_patterns self.now) name }
+    {
+        field_of!(self, name)
+    }
+}
+
+/// A copy has the same texts.
+impl Clone for UrlPatternComponent {
+    ghost is_clone = { λ component copy. plain_component_view copy ≡ plain_component_view component };
+
+    fn clone(&self) -> Result<Self, AllocError> {
+        Ok(Self {
+            pattern_string: self.pattern_string.clone()?,
+            regexp_string: self.regexp_string.clone()?,
+            matcher: self.matcher.clone()?,
+            group_name_list: self.group_name_list.clone()?,
+        })
+    }
+}
+
+impl UrlPatternComponent {
+    /// The plain value of a component: an engine's value becomes its text, and the empty text stands where an error is
+    /// kept.
+    ///
+    /// The error is that memory ran out.
+    pub fn from_component<R: RegExp>(alloc: Global, component: Component<R>) -> Result<Self, Error>
+        ensures plain { IfOk result (λ plain. component_by text_of plain ≡ plain_component R.text_made_of (compiled.component_view component)) }
+        ensures memory { OnlyOutOfMemory result }
+    {
+        let (pattern_string, regexp, group_name_list, matcher, _) = component.into_fields();
+        Ok(Self {
+            pattern_string,
+            regexp_string: engine_text(alloc, &regexp)?,
+            matcher: Matcher::from_matcher(alloc, matcher)?,
+            group_name_list,
+        })
+    }
+
+    /// The JSON of the component: an object with `patternString`, `regexpString`, `matcher` and `groupNameList`.
+    ///
+    /// The error is that memory ran out.
+    pub fn to_json_value(&self, alloc: Global) -> Result<Value, Error>
+        ensures tree { IfOk result (λ tree. view tree ≡ component_tree (plain_component_view self.now)) }
+        ensures memory { OnlyOutOfMemory result }
+    {
+        let mut members = Map::new(alloc);
+        put_text(&mut members, alloc, "patternString", &self.pattern_string)?;
+        put_text(&mut members, alloc, "regexpString", &self.regexp_string)?;
+        let matcher = self.matcher.to_json_value(alloc)?;
+        serde_json::put(&mut members, alloc, "matcher", matcher)?;
+        let names = texts_value(alloc, &self.group_name_list)?;
+        serde_json::put(&mut members, alloc, "groupNameList", names)?;
+        Ok(Value::Object(members))
+    }
+
+    /// The component that the JSON stands for: an object with `patternString`, `regexpString`, `matcher` and
+    /// `groupNameList`. Other keys are passed over. `None`: the JSON has another shape.
+    ///
+    /// The error is that memory ran out.
+    pub fn from_json_value(alloc: Global, value: &Value) -> Result<Option<Self>, Error>
+        ensures read { IfOk result (λ found. option_map plain_component_view found ≡ component_read (view value.now)) }
+        ensures memory { OnlyOutOfMemory result }
+    {
+        read_or_none(Self::read(alloc, value))
+    }
+
+    #[tactic(auto, unfolding(crate::specs::Json::component_read))]
+    fn read(alloc: Global, value: &Value) -> Result<Self, Unread>
+        ensures { ReturnsRead plain_component_view result (component_read (view value.now)) }
+    {
+        Ok(Self {
+            pattern_string: text_field(alloc, value, "patternString")?,
+            regexp_string: text_field(alloc, value, "regexpString")?,
+            matcher: matcher_field(alloc, value, "matcher")?,
+            group_name_list: texts_field(alloc, value, "groupNameList")?,
+        })
+    }
+}
+
+/// Puts a component into an object.
+fn put_component(
+    members: &mut Map<String, Value>,
+    alloc: Global,
+    name: &str,
+    component: &UrlPatternComponent,
+) -> Result<(), Error>
+    ensures put { OnOk result (Gain members.old.entries members.new.entries name.now (Some (component_tree (plain_component_view component.now)))) }
+    ensures memory { OnlyOutOfMemory result }
+{
+    let tree = component.to_json_value(alloc)?;
+    Ok(serde_json::put(members, alloc, name, tree)?)
+}
+
+/// The component of a member.
+fn component_field(alloc: Global, tree: &Value, name: &str) -> Result<UrlPatternComponent, Unread>
+    ensures { ReturnsRead plain_component_view result (member_read component_read name.now (view tree.now)) }
+{
+    UrlPatternComponent::read(alloc, member(tree, name)?)
+}
+
+/// The matcher of a member.
+fn matcher_field(alloc: Global, tree: &Value, name: &str) -> Result<Matcher, Unread>
+    ensures { ReturnsRead plain_matcher_view result (member_read matcher_read name.now (view tree.now)) }
+{
+    Matcher::read(alloc, member(tree, name)?)
+}

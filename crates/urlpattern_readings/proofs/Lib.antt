@@ -1,4 +1,0 @@
-pub mod SameMatchers
-pub mod MatchingLemmas
-pub mod EngineParts
-pub mod KeptMeaning

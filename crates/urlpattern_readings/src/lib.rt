@@ -1,4 +1,0 @@
-//! Laws of patterns and their parts: what patterns match whose parts cover others, or overlap.
-#![tactic(auto)]
-
-pub mod laws;

@@ -1,7 +1,0 @@
-use Rattle.std.proofs.Common.{◌≡◌, take}
-use Rattle.urlpattern_rules.specs.Comparing.{unnamed}
-use Rattle.urlpattern_rules.proofs.component.are_same_parts.Given as goal
-
--- the parts so far are the same but for names
-abbrev pub invariant-loop-index : goal.invariant-loop-index
-invariant-loop-index l = take l.index (unnamed l.parts) ≡ take l.index (unnamed l.others)

@@ -1,0 +1,5 @@
+use Rattle.std.proofs.Common.{length}
+use Rattle.urlpattern_steps.proofs.choices.when_remembered.Given as goal
+
+abbrev pub decreases-loop-step : goal.decreases-loop-step
+decreases-loop-step l = length l.rest

@@ -1,0 +1,137 @@
+//! Matches a text by steps and a table of the ends of the text that they take.
+
+ghost use Rattle.std.specs.Prelude.{◌≡◌, ◌∷◌, ◌++◌, [], None, Some, IfNone, IfOk, IfSome, OnOk, if◌then◌else◌};
+ghost use Rattle.std.specs.Str.{chars};
+ghost use Rattle.urlpattern_meaning.specs.CaptureTexts.{captures_view};
+ghost use Rattle.urlpattern_steps.specs.Failed.{EndsWith};
+ghost use Rattle.urlpattern_steps.specs.Walk.{walk};
+ghost use Rattle.urlpattern_steps.specs.Table.{following, is_capture, IsRow, IsSingle};
+ghost use Rattle.urlpattern_steps.specs.Taken.{LeavesChosen, LeavesFollowing};
+
+use crate::fronts::{following, front_of, is_capture};
+use crate::repeats::pass;
+use crate::step::{Group, Step};
+use crate::table::{is_taken, row_for, rows_of};
+use crate::texts::split_at_seam;
+use crate::walk::add_missing;
+use std::alloc::Global;
+use urlpattern_syntax::error::OutOfMemory;
+
+/// What the steps capture of a text that they take whole. `None`: they do not take it whole.
+///
+/// No choice is tried: a table has which ends of the text the ends of the steps take.
+///
+/// The error is that memory ran out.
+pub fn walk_by_table<'t>(
+    alloc: Global,
+    steps: &[Step],
+    ignore_case: bool,
+    text: &'t str,
+) -> Result<Option<Vec<Option<&'t str>>>, OutOfMemory>
+    ensures { IfOk result (λ found. captures_view found ≡ walk ignore_case steps.now (chars text.now)) }
+{
+    let rows = rows_of(alloc, steps, ignore_case, text)?;
+    let mut captures = Vec::new(alloc);
+    let mut left = steps;
+    let mut rest = text;
+    while let Some((step, others)) = left.split_first() {
+        match step {
+            Step::Maybe(group) => {
+                left = choose_group(&mut captures, &rows, *group, others, rest)?;
+            }
+            Step::Literal(_)
+            | Step::Segment(_)
+            | Step::Anything
+            | Step::Longest(_)
+            | Step::Copies(_)
+            | Step::Segments(_) => {
+                let row = row_for(&rows, following(*step, others));
+                let Some(remaining) = take_front(
+                    alloc,
+                    &mut captures,
+                    *step,
+                    others,
+                    ignore_case,
+                    row,
+                    rest,
+                )?
+                else {
+                    return Ok(None);
+                };
+                left = following(*step, others);
+                rest = remaining;
+            }
+        }
+    }
+    if rest.is_empty() {
+        Ok(Some(captures))
+    } else {
+        Ok(None)
+    }
+}
+
+/// The steps that take the text, where the first is a group that may be missing: those of the group, or else those after it, and
+/// its captures are added as missing.
+///
+/// The error is that memory ran out.
+fn choose_group<'s>(
+    captures: &mut Vec<Option<&str>>,
+    rows: &[Vec<bool>],
+    group: Group,
+    others: &'s [Step],
+    text: &str,
+) -> Result<&'s [Step], OutOfMemory>
+    ensures chosen { IfOk result (λ left. LeavesChosen rows.now captures.old captures.new group others.now text.now left.now) }
+    ensures end { IfOk result (λ left. EndsWith others.now left.now) }
+{
+    if is_taken(rows, others, text) {
+        return Ok(others);
+    }
+    add_missing(captures, group.captures)?;
+    Ok(pass(others, group.steps))
+}
+
+/// What is left of a text after the front that a step takes of it. If the step captures, the front is added. `None`: the step and
+/// the others do not take the text.
+///
+/// The row is that for the steps after those of this step.
+///
+/// The error is that memory ran out.
+fn take_front<'t>(
+    alloc: Global,
+    captures: &mut Vec<Option<&'t str>>,
+    step: Step,
+    others: &[Step],
+    ignore_case: bool,
+    row: &[bool],
+    text: &'t str,
+) -> Result<Option<&'t str>, OutOfMemory>
+    requires single { IsSingle step }
+    requires row { IsRow ignore_case (chars text.now) (following step others.now) row.now }
+    ensures taken { IfOk result (LeavesFollowing ignore_case captures.old captures.new step others.now text.now) }
+    ensures none { IfOk result (λ left. IfNone left (walk ignore_case (step ∷ others.now) (chars text.now) ≡ None)) }
+    ensures end { IfOk result (λ left. IfSome left (λ rest. EndsWith (chars text.now) (chars rest.now))) }
+{
+    let Some(count) = front_of(alloc, step, others, ignore_case, row, text)?.end else {
+        return Ok(None);
+    };
+    let (front, rest) = split_at_seam(text, count);
+    add_front(captures, step, front)?;
+    Ok(Some(rest))
+}
+
+/// Adds the front, if the step captures.
+///
+/// The error is that memory ran out.
+fn add_front<'t>(
+    captures: &mut Vec<Option<&'t str>>,
+    step: Step,
+    front: &'t str,
+) -> Result<(), OutOfMemory>
+    ensures { OnOk result (captures.new.items ≡ (if is_capture step then captures.old.items ++ Some front.entry ∷ [] else captures.old.items)) }
+{
+    if is_capture(step) {
+        captures.push(Some(front))?;
+    }
+    Ok(())
+}

@@ -1,0 +1,208 @@
+//! Reads the text of an expression as steps.
+
+ghost use Rattle.std.specs.Prelude.{◌≡◌, ◌↔◌, ◌∷◌, ℕ, ◌<◌, ◌≤◌, List, length, drop, codes, IfNone, IfOk, IfSome, IsTrue};
+ghost use Rattle.std.specs.Str.{chars};
+ghost use Rattle.urlpattern_meaning.specs.GeneratedTexts.{IsGenerated};
+ghost use Rattle.urlpattern_steps.specs.ReadSteps.{AddsSegments, AreCopySteps, AreGrouped, AreLiterals, AreStepsOf, ClosesSegments, IsGroup, MakeUp, ReadsLast, ReadsSegments};
+ghost use Rattle.urlpattern_steps.specs.Walk.{capture_count};
+
+use crate::step::{Copies, Group, Segments, Step, Stretch};
+use crate::texts::after;
+use crate::tokens::{
+    Times, Token, after_open, after_segments, read_literal, read_run, read_token, run_of,
+};
+use std::alloc::{AllocError, Global};
+
+/// The steps of an expression. `None`: it is not generated of parts of which none is custom.
+pub fn read_steps(alloc: Global, regexp: &str) -> Result<Option<Vec<Step>>, AllocError>
+    ensures steps { IfOk result (λ read. IfSome read (λ steps. AreStepsOf (chars regexp.now) steps.items)) }
+    ensures none { IfOk result (λ read. IfNone read (¬ IsGenerated (chars regexp.now))) }
+{
+    let Some(mut rest) = after(regexp, '^') else {
+        return Ok(None);
+    };
+    let mut steps = Vec::with_capacity(alloc, regexp.len())?;
+    let mut opened = None;
+    while let Some((token, remaining)) = read_token(rest) {
+        match token {
+            Token::Step(step) => steps.push(step)?,
+            Token::MaybeStep(step) => {
+                steps.push(Step::Maybe(ONE_CAPTURE))?;
+                steps.push(step)?;
+            }
+            Token::FirstSegment(end, is_greedy) => {
+                let Some(after) = read_segments(&mut steps, end, is_greedy, remaining)? else {
+                    return Ok(None);
+                };
+                rest = after;
+                continue;
+            }
+            Token::Open => match opened {
+                Some(_) => return Ok(None),
+                None => opened = Some(steps.len()),
+            },
+            Token::Close(times) => {
+                let Some(first) = opened else {
+                    return Ok(None);
+                };
+                if !close_group(&mut steps, first, times)? {
+                    return Ok(None);
+                }
+                opened = None;
+            }
+        }
+        rest = remaining;
+    }
+    if opened.is_none() && is_end(rest) {
+        Ok(Some(steps))
+    } else {
+        Ok(None)
+    }
+}
+
+/// Makes the steps from the first on the group of them that is taken so often, and adds none to none. Whether there is such a
+/// group.
+fn close_group(steps: &mut Vec<Step>, first: usize, times: Times) -> Result<bool, AllocError>
+    requires { first ≤ length steps.old.items }
+    ensures group { IfOk result (λ is_group. IsTrue is_group → AreGrouped (IsGroup times) first steps.old steps.new) }
+    ensures any { IfOk result (λ is_group. (group : List Step) → IsGroup times (drop first steps.old.items) group → IsTrue is_group) }
+{
+    if steps.len() == first {
+        return Ok(true);
+    }
+    match times {
+        Times::Once => Ok(true),
+        Times::Optional => {
+            let group = group_of(&steps[first..]);
+            steps.insert(first, Step::Maybe(group))?;
+            Ok(true)
+        }
+        Times::ZeroOrMore => Ok(close_copies(steps, first, true)),
+        Times::OneOrMore => Ok(close_copies(steps, first, false)),
+    }
+}
+
+/// Makes the steps from the first on copies of the text that is made up of them. Whether there is such a text.
+fn close_copies(steps: &mut Vec<Step>, first: usize, may_be_missing: bool) -> bool
+    requires { first ≤ length steps.old.items }
+    ensures group { IsTrue result → AreGrouped (AreCopySteps may_be_missing) first steps.old steps.new }
+    ensures any { (group : List Step) → AreCopySteps may_be_missing (drop first steps.old.items) group → IsTrue result }
+{
+    let Some(text) = stretch_of(&steps[first..]) else {
+        return false;
+    };
+    steps[first] = Step::Copies(Copies {
+        text,
+        may_be_missing,
+    });
+    true
+}
+
+/// The text that is made up of the steps, where each of them is literal and there is one at least.
+fn stretch_of(steps: &[Step]) -> Option<Stretch>
+    ensures text { IfSome result (λ text. MakeUp steps.now text) }
+    ensures other { IfNone result ((first : ℕ) (others : List Step) → steps.now ≡ Step.Literal first ∷ others → ¬ AreLiterals others) }
+{
+    match steps {
+        [Step::Literal(first), others @ ..] if are_literals(others) => Some(Stretch {
+            first: *first,
+            others: others.len(),
+        }),
+        _ => None,
+    }
+}
+
+/// Whether each of the steps is literal.
+fn are_literals(steps: &[Step]) -> bool
+    ensures { IsTrue result ↔ AreLiterals steps.now }
+{
+    let mut rest = steps;
+    while let [step, others @ ..] = rest {
+        match step {
+            Step::Literal(_) => rest = others,
+            _ => return false,
+        }
+    }
+    true
+}
+
+/// A group of one step, which captures.
+const ONE_CAPTURE: Group = Group {
+    steps: 1,
+    captures: 1,
+};
+
+/// How many steps there are, and how many of them capture.
+fn group_of(steps: &[Step]) -> Group
+    ensures { result ≡ record { steps = length steps.now; captures = capture_count steps.now } }
+{
+    let mut captures = 0;
+    let mut rest = steps;
+    while let [step, others @ ..] = rest {
+        match step {
+            Step::Segment(_) | Step::Anything | Step::Longest(_) | Step::Segments(_) => captures +=
+                1,
+            Step::Literal(_) | Step::Maybe(_) | Step::Copies(_) => {}
+        }
+        rest = others;
+    }
+    Group {
+        steps: steps.len(),
+        captures,
+    }
+}
+
+/// Whether the text is `$` alone.
+fn is_end(text: &str) -> bool
+    ensures { IsTrue result ↔ (chars text.now ≡ codes "$") }
+{
+    match after(text, '$') {
+        Some(rest) => rest.is_empty(),
+        None => false,
+    }
+}
+
+/// Adds the steps for segments, and answers what follows them. The text is what follows the first of them. `None`: there are none.
+fn read_segments<'a>(
+    steps: &mut Vec<Step>,
+    end: char,
+    is_greedy: bool,
+    text: &'a str,
+) -> Result<Option<&'a str>, AllocError>
+    ensures read { IfOk result (AddsSegments end is_greedy steps.old steps.new (chars text.now)) }
+    ensures reads { IfOk result (ReadsSegments end is_greedy (chars text.now)) }
+    ensures len { IfOk result (λ read. IfSome read (λ rest. length rest.now < length text.now)) }
+{
+    let first = steps.len();
+    let mut rest = text;
+    while let Some((c, remaining)) = read_literal(rest) {
+        steps.push(Step::Literal(c))?;
+        rest = remaining;
+    }
+    let Some(remaining) = read_last_segment(rest, end, is_greedy) else {
+        return Ok(None);
+    };
+    let Some(separator) = stretch_of(&steps[first..]) else {
+        return Ok(None);
+    };
+    steps[first] = Step::Segments(Segments {
+        separator,
+        end,
+        is_greedy,
+    });
+    Ok(Some(remaining))
+}
+
+/// What follows a run of this kind in brackets, where these close the segments.
+fn read_last_segment(text: &str, end: char, is_greedy: bool) -> Option<&str>
+    ensures cut { IfSome result (λ rest. ClosesSegments end is_greedy (chars text.now) (chars rest.now)) }
+    ensures reads { ReadsLast end is_greedy (chars text.now) result }
+    ensures len { IfSome result (λ rest. length rest.now < length text.now) }
+{
+    let (single, rest) = read_run(after_open(text)?)?;
+    let (other, is_other_greedy) = run_of(single)?;
+    if other != end || is_other_greedy != is_greedy {
+        return None;
+    }
+    after_segments(rest)
+}

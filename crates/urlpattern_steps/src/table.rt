@@ -1,0 +1,122 @@
+//! Which ends of a text the ends of the steps take: a row for each end of the steps.
+
+ghost use Rattle.std.specs.Prelude.{◌≡◌, ◌∷◌, ◌||◌, ℕ, ◌<◌, [], Bool, length, IfOk};
+ghost use Rattle.std.specs.Str.{chars};
+ghost use Rattle.urlpattern_steps.specs.Table.{has, row_at, AreRows, IsRow, IsTakenByRows};
+
+use crate::fronts::{following, front_of, has};
+use crate::repeats::pass;
+use crate::step::Step;
+use std::alloc::Global;
+use urlpattern_syntax::error::OutOfMemory;
+use urlpattern_syntax::text::split_first;
+
+/// The rows, from that of no steps to that of all.
+///
+/// The error is that memory ran out.
+pub fn rows_of(
+    alloc: Global,
+    steps: &[Step],
+    ignore_case: bool,
+    text: &str,
+) -> Result<Vec<Vec<bool>>, OutOfMemory>
+    ensures { IfOk result (λ rows. AreRows ignore_case (chars text.now) steps.now rows.items) }
+{
+    let mut rows = Vec::with_capacity(alloc, steps.len())?;
+    rows.push(row_of_none(alloc, text)?)?;
+    let mut before = steps;
+    while let Some((step, fewer)) = before.split_last() {
+        let others = pass(steps, before.len());
+        let row = row_of(alloc, *step, others, ignore_case, &rows, text)?;
+        rows.push(row)?;
+        before = fewer;
+    }
+    Ok(rows)
+}
+
+/// The row of no steps, which take the empty end alone.
+///
+/// The error is that memory ran out.
+fn row_of_none(alloc: Global, text: &str) -> Result<Vec<bool>, OutOfMemory>
+    ensures { IfOk result (λ row. (ignore_case : Bool) → IsRow ignore_case (chars text.now) [] row.items) }
+{
+    let mut row = Vec::with_capacity(alloc, text.len())?;
+    row.push(true)?;
+    for _ in 0..text.len() {
+        row.push(false)?;
+    }
+    Ok(row)
+}
+
+/// The row of a step and the others.
+///
+/// The error is that memory ran out.
+fn row_of(
+    alloc: Global,
+    step: Step,
+    others: &[Step],
+    ignore_case: bool,
+    rows: &[Vec<bool>],
+    text: &str,
+) -> Result<Vec<bool>, OutOfMemory>
+    requires { AreRows ignore_case (chars text.now) others.now rows.now }
+    ensures { IfOk result (λ row. IsRow ignore_case (chars text.now) (step ∷ others.now) row.items) }
+{
+    if let Step::Maybe(group) = step {
+        let missing = pass(others, group.steps);
+        return either(alloc, row_for(rows, others), row_for(rows, missing));
+    }
+    let after = row_for(rows, following(step, others));
+    Ok(front_of(alloc, step, others, ignore_case, after, text)?.row)
+}
+
+/// Which ends are in one of two rows.
+///
+/// The error is that memory ran out.
+fn either(alloc: Global, one: &[bool], other: &[bool]) -> Result<Vec<bool>, OutOfMemory>
+    ensures len { IfOk result (λ row. length row.items ≡ length one.now) }
+    ensures bits { IfOk result (λ row. (n : ℕ) → n < length one.now → has row.items n ≡ has one.now n || has other.now n) }
+{
+    let mut row = Vec::with_capacity(alloc, one.len())?;
+    for n in 0..one.len() {
+        row.push(is_in_either(one, other, n))?;
+    }
+    Ok(row)
+}
+
+/// Whether one of two rows has the end of a text with so many characters.
+fn is_in_either(one: &[bool], other: &[bool], count: usize) -> bool
+    ensures { result ≡ has one.now count || has other.now count }
+{
+    has(one, count) || has(other, count)
+}
+
+/// The row for these steps.
+pub fn row_for<'r>(rows: &'r [Vec<bool>], steps: &[Step]) -> &'r [bool]
+    ensures { result.now ≡ row_at rows.now (length steps.now) }
+{
+    match rows.get(steps.len()) {
+        Some(row) => row,
+        None => &[],
+    }
+}
+
+/// Whether the steps take an end of a text whole, of which the row for them is given.
+pub fn is_taken(rows: &[Vec<bool>], steps: &[Step], text: &str) -> bool
+    ensures { IsTakenByRows rows.now steps.now (chars text.now) result }
+{
+    has(row_for(rows, steps), character_count(text))
+}
+
+/// How many characters a text has.
+fn character_count(text: &str) -> usize
+    ensures { result ≡ length (chars text.now) }
+{
+    let mut count = 0;
+    let mut rest = text;
+    while let Some((_, remaining)) = split_first(rest) {
+        count += 1;
+        rest = remaining;
+    }
+    count
+}

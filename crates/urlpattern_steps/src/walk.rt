@@ -1,0 +1,229 @@
+//! Matches a text by steps.
+
+ghost use Rattle.std.specs.Prelude.{◌≡◌, ◌∷◌, ◌++◌, replicate, None, IfOk, OnOk};
+ghost use Rattle.std.specs.Str.{chars};
+ghost use Rattle.urlpattern_meaning.specs.CaptureTexts.{captures_view};
+ghost use Rattle.urlpattern_steps.specs.Failed.{IsStateOf};
+ghost use Rattle.urlpattern_steps.specs.Walk.{captured_front, walk};
+ghost use Rattle.urlpattern_steps.specs.Taken.{AreFollowed, FollowsOn};
+
+mod copies;
+mod runs;
+mod segments;
+
+use crate::choices::Remembered;
+use crate::failed::Failed;
+use crate::repeats::pass;
+use crate::runs::has_one_end;
+use crate::step::{Group, Step};
+use crate::texts::{after_same, split_at_first};
+use std::alloc::Global;
+use urlpattern_syntax::error::OutOfMemory;
+
+/// A match by steps that is under way.
+#[derive(Drop)]
+struct Attempt<'s, 't> {
+    /// What was captured so far.
+    captures: Vec<Option<&'t str>>,
+    /// The states that failed.
+    failed: Failed<'s, 't>,
+}
+
+/// Whether steps take a text whole. The error is that memory ran out.
+type Taken = Result<bool, OutOfMemory>;
+
+/// What the steps capture of a text that they take whole. `None`: they do not take it whole.
+///
+/// Where the states that failed are remembered, no choice is tried twice in one of them.
+///
+/// The error is that memory ran out.
+#[inline]
+pub fn walk<'t>(
+    alloc: Global,
+    steps: &[Step],
+    ignore_case: bool,
+    remembered: Remembered,
+    text: &'t str,
+) -> Result<Option<Vec<Option<&'t str>>>, OutOfMemory>
+    ensures { IfOk result (λ found. captures_view found ≡ walk ignore_case steps.now (chars text.now)) }
+{
+    let failed = Failed::new(alloc, steps, ignore_case, text, remembered.is_for(text))?;
+    let mut attempt = Attempt {
+        captures: Vec::new(alloc),
+        failed,
+    };
+    if attempt.follow(ignore_case, steps, text)? {
+        Ok(Some(attempt.captures))
+    } else {
+        Ok(None)
+    }
+}
+
+impl<'t> Attempt<'_, 't> {
+    /// Whether the steps take the text whole. Where they do, what they capture is added.
+    #[cycle(following)]
+    fn follow(&mut self, ignore_case: bool, steps: &[Step], text: &'t str) -> Taken
+        requires { IsStateOf ignore_case self.old.failed steps.now (chars text.now) }
+        ensures { AreFollowed self.old self.new result (walk ignore_case steps.now (chars text.now)) }
+    {
+        let count = self.captures.len();
+        if self.follow_on(ignore_case, steps, text)? {
+            return Ok(true);
+        }
+        self.captures.truncate(count);
+        Ok(false)
+    }
+
+    /// Whether the steps take the text whole. What they capture is added, and where they do not, some of it.
+    #[cycle(following)]
+    fn follow_on(&mut self, ignore_case: bool, steps: &[Step], text: &'t str) -> Taken
+        requires { IsStateOf ignore_case self.old.failed steps.now (chars text.now) }
+        ensures { IfOk result (λ taken. FollowsOn self.old self.new taken (walk ignore_case steps.now (chars text.now))) }
+    {
+        let mut left = steps;
+        let mut rest = text;
+        while let Some((step, others)) = left.split_first() {
+            match step {
+                Step::Literal(c) => {
+                    let Some(remaining) = after_same(rest, *c, ignore_case) else {
+                        return Ok(false);
+                    };
+                    rest = remaining;
+                    left = others;
+                }
+                Step::Segment(end) if has_one_end(&self.failed, others, *end) => {
+                    let (front, remaining) = split_at_first(rest, *end, ignore_case);
+                    if front.is_empty() {
+                        return Ok(false);
+                    }
+                    self.captures.push(Some(front))?;
+                    rest = remaining;
+                    left = others;
+                }
+                Step::Anything if has_one_end(&self.failed, others, '\n') => {
+                    let (front, remaining) = split_at_first(rest, '\n', ignore_case);
+                    self.captures.push(Some(front))?;
+                    rest = remaining;
+                    left = others;
+                }
+                Step::Segment(end) => return self.follow_shortest(
+                    ignore_case,
+                    *end,
+                    left,
+                    others,
+                    rest,
+                ),
+                _ => return self.follow_once(ignore_case, step, left, others, rest),
+            }
+        }
+        Ok(rest.is_empty())
+    }
+
+    /// Whether the steps take the text whole. What they capture is added, and where they do not, some of it.
+    ///
+    /// A state is remembered from which no way in which the first of the steps may take the text leads on, and is not tried again.
+    #[cycle(following)]
+    fn follow_once(
+        &mut self,
+        ignore_case: bool,
+        step: &Step,
+        steps: &[Step],
+        others: &[Step],
+        text: &'t str,
+    ) -> Taken
+        requires state { IsStateOf ignore_case self.old.failed steps.now (chars text.now) }
+        requires first { steps.now ≡ step.now ∷ others.now }
+        ensures { IfOk result (λ taken. FollowsOn self.old self.new taken (walk ignore_case steps.now (chars text.now))) }
+    {
+        if self.failed.contains(steps, text) {
+            return Ok(false);
+        }
+        if self.follow_first(ignore_case, step, steps, others, text)? {
+            return Ok(true);
+        }
+        self.failed.insert(steps, text);
+        Ok(false)
+    }
+
+    /// Whether the steps take the text whole. What they capture is added, and where they do not, some of it.
+    ///
+    /// The ways in which the first of them may take the text are tried in turn.
+    #[cycle(following)]
+    fn follow_first(
+        &mut self,
+        ignore_case: bool,
+        step: &Step,
+        steps: &[Step],
+        others: &[Step],
+        text: &'t str,
+    ) -> Taken
+        requires state { IsStateOf ignore_case self.old.failed steps.now (chars text.now) }
+        requires first { steps.now ≡ step.now ∷ others.now }
+        ensures { IfOk result (λ taken. FollowsOn self.old self.new taken (walk ignore_case steps.now (chars text.now))) }
+    {
+        match step {
+            Step::Literal(c) => match after_same(text, *c, ignore_case) {
+                Some(rest) => self.follow(ignore_case, others, rest),
+                None => Ok(false),
+            },
+            Step::Segment(end) => self.follow_shortest(ignore_case, *end, steps, others, text),
+            Step::Anything => self.follow_longest(ignore_case, steps, others, text),
+            Step::Maybe(group) => self.follow_maybe(ignore_case, *group, others, text),
+            Step::Longest(run) => self.follow_longest_run(ignore_case, *run, others, text),
+            Step::Copies(copies) => self.follow_copies(ignore_case, *copies, others, text),
+            Step::Segments(segments) => self.follow_segments(ignore_case, *segments, others, text),
+        }
+    }
+
+    /// Whether the steps of a group that may be missing and those after it take the text whole, or those after it alone. What they
+    /// capture is added, and where they do not, some of it.
+    #[cycle(following)]
+    fn follow_maybe(
+        &mut self,
+        ignore_case: bool,
+        group: Group,
+        others: &[Step],
+        text: &'t str,
+    ) -> Taken
+        requires { IsStateOf ignore_case self.old.failed others.now (chars text.now) }
+        ensures { IfOk result (λ taken. FollowsOn self.old self.new taken (walk ignore_case (Step.Maybe group ∷ others.now) (chars text.now))) }
+    {
+        if self.follow(ignore_case, others, text)? {
+            return Ok(true);
+        }
+        add_missing(&mut self.captures, group.captures)?;
+        self.follow_on(ignore_case, pass(others, group.steps), text)
+    }
+
+    /// Whether the steps take the rest of a text whole. Where they do, the front and what they capture are added.
+    #[cycle(following)]
+    fn follow_captured(
+        &mut self,
+        ignore_case: bool,
+        front: &'t str,
+        steps: &[Step],
+        rest: &'t str,
+    ) -> Taken
+        requires { IsStateOf ignore_case self.old.failed steps.now (chars rest.now) }
+        ensures { AreFollowed self.old self.new result (captured_front (walk ignore_case steps.now) (chars front.now) (chars rest.now)) }
+    {
+        self.captures.push(Some(front))?;
+        if self.follow(ignore_case, steps, rest)? {
+            return Ok(true);
+        }
+        self.captures.pop();
+        Ok(false)
+    }
+}
+
+/// Adds so many captures that are missing.
+///
+/// The error is that memory ran out.
+pub fn add_missing(captures: &mut Vec<Option<&str>>, count: usize) -> Result<(), OutOfMemory>
+    ensures { OnOk result (captures.new.items ≡ captures.old.items ++ replicate count None) }
+{
+    for _ in 0..count {
+        captures.push(None)?;
+    }
+    Ok(())
+}

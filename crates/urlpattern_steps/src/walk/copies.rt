@@ -1,0 +1,66 @@
+//! Matches copies of a text, with the steps after them.
+
+ghost use Rattle.std.specs.Prelude.{◌∷◌};
+ghost use Rattle.std.specs.Str.{chars};
+ghost use Rattle.urlpattern_steps.specs.Failed.{IsStateOf};
+ghost use Rattle.urlpattern_steps.specs.Walk.{walk, walk_copies};
+ghost use Rattle.urlpattern_steps.specs.Taken.{AreFollowed};
+
+use crate::repeats::{after_literals, first_steps, pass, skip_copies, without_copy};
+use crate::step::{Copies, Step};
+use crate::texts::after_front;
+use crate::walk::{Attempt, Taken};
+use urlpattern_syntax::text::before;
+
+impl<'t> Attempt<'_, 't> {
+    /// Whether the steps that follow take what follows copies of a text, the most first. Where they do, what they capture is added.
+    #[cycle(following)]
+    pub(super) fn follow_copies(
+        &mut self,
+        ignore_case: bool,
+        copies: Copies,
+        steps: &[Step],
+        text: &'t str,
+    ) -> Taken
+        requires { IsStateOf ignore_case self.old.failed steps.now (chars text.now) }
+        ensures { AreFollowed self.old self.new result (walk ignore_case (Step.Copies copies ∷ steps.now) (chars text.now)) }
+    {
+        let first = copies.text.first;
+        let literal = first_steps(steps, copies.text.others);
+        let others = pass(steps, copies.text.others);
+        if copies.may_be_missing {
+            return self.follow_any_copies(ignore_case, first, literal, others, text);
+        }
+        match after_literals(text, first, literal, ignore_case) {
+            Some(rest) => self.follow_any_copies(ignore_case, first, literal, others, rest),
+            None => Ok(false),
+        }
+    }
+
+    /// Whether the other steps take what follows any number of copies of a text, the most first. Where they do, what they capture
+    /// is added. The text is the first character and those of the literal steps.
+    #[cycle(following)]
+    fn follow_any_copies(
+        &mut self,
+        ignore_case: bool,
+        first: char,
+        literal: &[Step],
+        others: &[Step],
+        text: &'t str,
+    ) -> Taken
+        requires { IsStateOf ignore_case self.old.failed others.now (chars text.now) }
+        ensures { AreFollowed self.old self.new result (walk_copies ignore_case first literal.now others.now (chars text.now)) }
+    {
+        let rest = skip_copies(text, first, literal, ignore_case);
+        let mut front = before(text, rest);
+        loop {
+            if self.follow(ignore_case, others, after_front(text, front))? {
+                return Ok(true);
+            }
+            let Some(shorter) = without_copy(front, literal) else {
+                return Ok(false);
+            };
+            front = shorter;
+        }
+    }
+}

@@ -1,0 +1,97 @@
+//! Matches runs of characters, each with the steps after it.
+
+ghost use Rattle.std.specs.Prelude.{◌≡◌, ◌∷◌};
+ghost use Rattle.std.specs.Str.{chars};
+ghost use Rattle.urlpattern_steps.specs.Failed.{IsStateOf};
+ghost use Rattle.urlpattern_steps.specs.Walk.{walk};
+ghost use Rattle.urlpattern_steps.specs.Taken.{AreFollowed};
+
+use crate::runs::{longest_front, next_of_run, remember_run};
+use crate::step::{Run, Step};
+use crate::texts::{after_front, split_at_first, without_last};
+use crate::walk::{Attempt, Taken};
+use urlpattern_syntax::text::before;
+
+impl<'t> Attempt<'_, 't> {
+    /// Whether the steps take the text whole: the first a front without this character, not empty, the shortest first. Where they
+    /// do, what they capture is added.
+    #[cycle(following)]
+    pub(super) fn follow_shortest(
+        &mut self,
+        ignore_case: bool,
+        end: char,
+        steps: &[Step],
+        others: &[Step],
+        text: &'t str,
+    ) -> Taken
+        requires state { IsStateOf ignore_case self.old.failed steps.now (chars text.now) }
+        requires first { steps.now ≡ Step.Segment end ∷ others.now }
+        ensures { AreFollowed self.old self.new result (walk ignore_case steps.now (chars text.now)) }
+    {
+        let mut rest = text;
+        while let Some((_, remaining)) = next_of_run(&self.failed, ignore_case, end, steps, rest) {
+            rest = remaining;
+            if self.follow_captured(ignore_case, before(text, rest), others, rest)? {
+                return Ok(true);
+            }
+        }
+        remember_run(&mut self.failed, ignore_case, end, steps, text);
+        Ok(false)
+    }
+
+    /// Whether the steps take the text whole: the first a front without a line feed, the longest first. Where they do, what they
+    /// capture is added.
+    #[cycle(following)]
+    pub(super) fn follow_longest(
+        &mut self,
+        ignore_case: bool,
+        steps: &[Step],
+        others: &[Step],
+        text: &'t str,
+    ) -> Taken
+        requires state { IsStateOf ignore_case self.old.failed steps.now (chars text.now) }
+        requires first { steps.now ≡ Step.Anything ∷ others.now }
+        ensures { AreFollowed self.old self.new result (walk ignore_case steps.now (chars text.now)) }
+    {
+        let mut front = longest_front(&self.failed, ignore_case, steps, text);
+        loop {
+            let rest = after_front(text, front);
+            if self.follow_captured(ignore_case, front, others, rest)? {
+                return Ok(true);
+            }
+            self.failed.insert(steps, rest);
+            let Some(shorter) = without_last(front) else {
+                return Ok(false);
+            };
+            front = shorter;
+        }
+    }
+
+    /// Whether the steps take what follows a run of characters, the longest first. Where they do, the run and what they capture
+    /// are added.
+    #[cycle(following)]
+    pub(super) fn follow_longest_run(
+        &mut self,
+        ignore_case: bool,
+        run: Run,
+        steps: &[Step],
+        text: &'t str,
+    ) -> Taken
+        requires { IsStateOf ignore_case self.old.failed steps.now (chars text.now) }
+        ensures { AreFollowed self.old self.new result (walk ignore_case (Step.Longest run ∷ steps.now) (chars text.now)) }
+    {
+        let (mut front, _) = split_at_first(text, run.end, ignore_case);
+        while let Some(shorter) = without_last(front) {
+            let rest = after_front(text, front);
+            if self.follow_captured(ignore_case, front, steps, rest)? {
+                return Ok(true);
+            }
+            front = shorter;
+        }
+        if run.may_be_empty {
+            self.follow_captured(ignore_case, front, steps, text)
+        } else {
+            Ok(false)
+        }
+    }
+}

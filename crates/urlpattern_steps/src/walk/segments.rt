@@ -1,0 +1,102 @@
+//! Matches segments with a text between each two, with the steps after them.
+
+ghost use Rattle.std.specs.Prelude.{◌∷◌, IfOk, OnOk};
+ghost use Rattle.std.specs.Str.{chars};
+ghost use Rattle.urlpattern_steps.specs.Failed.{IsStateOf};
+ghost use Rattle.urlpattern_steps.specs.Walk.{walk};
+ghost use Rattle.urlpattern_steps.specs.Taken.{AreFollowed, IsEndHere, IsEndOfSegments, Untouched};
+
+use crate::repeats::{begun_after, ends, first_steps, goes_on, pass};
+use crate::step::{Segments, Step};
+use crate::texts::{after_front, split_at_seam, without_last};
+use crate::walk::{Attempt, Taken};
+use std::mem;
+use urlpattern_syntax::error::OutOfMemory;
+
+impl<'t> Attempt<'_, 't> {
+    /// Whether the steps that follow take what follows segments, by the order in which these are tried. Where they do, the segments
+    /// and what they capture are added.
+    #[cycle(following)]
+    pub(super) fn follow_segments(
+        &mut self,
+        ignore_case: bool,
+        segments: Segments,
+        steps: &[Step],
+        text: &'t str,
+    ) -> Taken
+        requires { IsStateOf ignore_case self.old.failed steps.now (chars text.now) }
+        ensures { AreFollowed self.old self.new result (walk ignore_case (Step.Segments segments ∷ steps.now) (chars text.now)) }
+    {
+        let literal = first_steps(steps, segments.separator.others);
+        let others = pass(steps, segments.separator.others);
+        match self.end_of_segments(ignore_case, segments, literal, others, text)? {
+            Some(count) => {
+                let (front, rest) = split_at_seam(text, count);
+                self.follow_captured(ignore_case, front, others, rest)
+            }
+            None => Ok(false),
+        }
+    }
+
+    /// Where the segments at the front of a text end that are the first that the other steps lead on from, by the bytes before.
+    /// `None`: there are none. The text between two segments is made up of the first character and the literal steps.
+    ///
+    /// The error is that memory ran out.
+    #[cycle(following)]
+    fn end_of_segments(
+        &mut self,
+        ignore_case: bool,
+        segments: Segments,
+        literal: &[Step],
+        others: &[Step],
+        text: &'t str,
+    ) -> Result<Option<usize>, OutOfMemory>
+        requires { IsStateOf ignore_case self.old.failed others.now (chars text.now) }
+        ensures cut { IfOk result (λ end. IsEndOfSegments ignore_case segments literal.now others.now text.now end) }
+        ensures same { OnOk result (Untouched self.old self.new) }
+    {
+        let alloc = *self.captures.allocator();
+        let mut begun = Vec::with_capacity(alloc, text.len())?;
+        let mut later = None;
+        let mut front = text;
+        loop {
+            let rest = after_front(text, front);
+            let next = begun_after(&begun, segments.separator.first, literal, ignore_case, rest);
+            let stopping = self.end_here(ignore_case, others, next, front.len(), rest)?;
+            let onward = goes_on(rest, segments.end, ignore_case, later);
+            let (beginning, either) = ends(segments.is_greedy, onward, stopping);
+            let Some(shorter) = without_last(front) else {
+                return Ok(beginning);
+            };
+            begun.push(beginning)?;
+            later = either;
+            front = shorter;
+        }
+    }
+
+    /// Where segments end of which a run may end here: where those after it end, or else here, where the steps take the rest.
+    ///
+    /// The error is that memory ran out.
+    #[cycle(following)]
+    fn end_here(
+        &mut self,
+        ignore_case: bool,
+        steps: &[Step],
+        next: Option<usize>,
+        here: usize,
+        rest: &'t str,
+    ) -> Result<Option<usize>, OutOfMemory>
+        requires { IsStateOf ignore_case self.old.failed steps.now (chars rest.now) }
+        ensures end { IfOk result (λ end. IsEndHere next here (walk ignore_case steps.now (chars rest.now)) end) }
+        ensures same { OnOk result (Untouched self.old self.new) }
+    {
+        if next.is_some() {
+            return Ok(next);
+        }
+        let alloc = *self.captures.allocator();
+        let captures = mem::replace(&mut self.captures, Vec::new(alloc));
+        let is_taken = self.follow(ignore_case, steps, rest)?;
+        self.captures = captures;
+        if is_taken { Ok(Some(here)) } else { Ok(None) }
+    }
+}

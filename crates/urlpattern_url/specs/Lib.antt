@@ -1,3 +1,0 @@
-pub mod NoLinkText
-pub mod UrlLines
-pub mod UrlsOfTexts

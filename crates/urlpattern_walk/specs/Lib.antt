@@ -1,4 +1,0 @@
-pub mod Failed
-pub mod Taken
-pub mod Table
-pub mod ReadSteps
