@@ -1,4 +1,4 @@
--- Patterns that were compiled answer by their pattern texts.
+-- Compiled patterns return what their pattern texts say.
 use Rattle.std.proofs.Common.{◌≡◌, ◌≢◌, ℕ, ◌<◌, ◌↔◌, Bool, true, false, List, ap, length, inl, inr, refl, subst, sym, ◌∙◌}
 use Rattle.std.proofs.lemmas.List.Folds.{list_any_none}
 use Rattle.std.proofs.lemmas.Bool.{and_parts}
@@ -54,7 +54,7 @@ custom_is FullWildcard other = refl
 generated_flag : (parts : List PartView) → AreGenerated parts → has_regexp parts ≡ false
 generated_flag parts generated = list_any_none (λ part. is_custom part.kind) parts (λ k part lt. custom_is (slice_index_or parts k part).kind (generated k part lt))
 
--- a component without a custom regular expression, of which case is kept, has a meaning
+-- A component without a custom regular expression, and with its case kept, has a meaning.
 pub has_meaning : {E : Type 0} (engine : Engine E) (manner : Manner) (compiled : ComponentView E) → IsComponentCompiled engine manner compiled →
     compiled.has_regexp_group ≡ false → manner.options.ignore_case ≡ false → HasMeaning manner
 has_meaning engine manner compiled is_compiled none kept =
@@ -75,13 +75,13 @@ way_one manner text captures others first last =
 
 module _ {E : Type 0} (answer : E → List ℕ → Option Captures) (manner : Manner) (compiled : ComponentView E) (by : AnswersByText answer manner compiled)
     (text : List ℕ) (line : IsLine text) where
-  -- what it answers is the first way
+  -- The matcher's result is the first way.
   abbrev pub answer_first : (result : Option Captures) → Answers answer compiled.matcher text result → IsFirstWay manner text result
   answer_first result answers =
       let (is_first, is_meant) = by.answers text result line.no_line_feed line.characters answers in
       record { parts = by.parts; reads = by.reads; is_first = is_first; is_meant = is_meant }
 
-  -- and the first way is what it answers
+  -- The first way is the matcher's result.
   pub first_answer : (result : Option Captures) → IsFirstWay manner text result → Answers answer compiled.matcher text result
   first_answer result way =
       let (found, answers) = answered answer compiled.matcher text in
@@ -95,7 +95,7 @@ module _ {E : Type 0} (answer : E → List ℕ → Option Captures) (manner : Ma
     is_result = subst (λ (names : List (List ℕ)). IsResultOf names captures text result) by.has_names is_result;
   }
 
--- a component that was compiled answers by its text, if its matcher answers first ways
+-- A compiled component returns what its text says, if its matcher returns first ways.
 pub component_by : {E : Type 0} (engine : Engine E) (manner : Manner) (compiled : ComponentView E) → IsComponentCompiled engine manner compiled → HasMeaning manner →
     ((parts : List PartView) → ReadsAs manner parts → IsComponentOf engine manner.options parts compiled → AreGenerated parts → AnswersFirstWays engine.answer manner.options parts compiled.matcher) →
     AnswersByText engine.answer manner compiled
@@ -169,7 +169,7 @@ module _ {E : Type 0} (engine : Engine E) (init : UrlPatternInit) (asked : UrlPa
     answers = each;
   }
 
-  -- where the values of the engine that are asked answer first ways
+  -- The values of the engine that are called return first ways.
   pub pattern_by_engines : EnginesAnswerFirst engine.answer manner_here pattern → AnswersByItsText engine.answer init asked pattern
   pattern_by_engines firsts = pattern_by (λ component has.
       let manner = manner_here component in
@@ -179,7 +179,7 @@ module _ {E : Type 0} (engine : Engine E) (init : UrlPatternInit) (asked : UrlPa
       generated has.case_kept no_feed scalars (firsts component parts has reads) answers in
       (is, first_agrees manner.options parts text result generated is)))
 
-  -- where the engine took the texts
+  -- The engine accepted the texts.
   pub pattern_by_took : (Took : Taking E) → EachAnswersFirst engine Took →
       ((component : ComponentName) → (pattern component).has_regexp_group ≡ false → Took (manner_here component).options (engine_flags (manner_here component).options) (pattern component).matcher.inner) → AnswersByItsText engine.answer init asked pattern
   pattern_by_took Took firsts took = pattern_by (λ component has.
@@ -192,7 +192,7 @@ module _ {E : Type 0} (engine : Engine E) (init : UrlPatternInit) (asked : UrlPa
         took = took component (is_component.regexp_flag ∙ generated_flag parts generated);
       })))
 
--- ---- what is found
+-- ---- results
 
 module _ {E : Type 0} (answer : E → List ℕ → Option Captures) (init : UrlPatternInit) (asked : UrlPatternOptions) (pattern : PatternView E) (by : AnswersByItsText answer init asked pattern) (texts : Texts) where
   pub match_by_text : (result : ComponentName → ResultView) → IsMatchOf answer pattern texts result → IsFoundByText (manner_of asked by.values by.hierarchical) texts (Some result)
@@ -209,7 +209,7 @@ module _ {E : Type 0} (answer : E → List ℕ → Option Captures) (init : UrlP
   finding_by_text None refused = refusal_by_text refused
   finding_by_text (Some result) match = match_by_text result match
 
--- ---- one finding
+-- ---- one result
 
 pub result_one : (manner : Manner) (text : List ℕ) (result other : ResultView) → IsFirstResult manner text result → IsFirstResult manner text other → IsSameResult result other
 result_one manner text result other first last =
@@ -278,7 +278,7 @@ pub if_pattern-weaker : {E Fault : Type 0} (result : Result (UrlPattern E) Fault
 if_pattern-weaker (Ok pattern) P Q weaker is = weaker (pattern_view pattern) is
 if_pattern-weaker (Err error) P Q weaker is = tt
 
--- what is found in an input
+-- What is found in an input.
 pub input_by_text : {E : Type 0} (answer : E → List ℕ → Option Captures) (init : UrlPatternInit) (asked : UrlPatternOptions) (pattern : PatternView E) (by : AnswersByItsText answer init asked pattern)
     (input : UrlPatternMatchInput) (found : Option (ComponentName → ResultView)) (texts : Texts) → input_texts input ≡ Ok texts → ¬ IsLongInput input → IsExecuted answer pattern input found →
     IsFoundByText (manner_of asked by.values by.hierarchical) texts found

@@ -1,4 +1,4 @@
--- What a group captures to which a text is given, by its name.
+-- The capture of a group that is given a text, by its name.
 use Rattle.std.proofs.Common.{◌≡◌, ◌⊎◌, ◌∙◌, ℕ, Bool, true, false, List, [], ◌∷◌, ◌++◌, All, ap, bytes_eq, cond, inl, inr, map, refl, reverse, sym, subst, zip, Option, Some, None, Ok}
 use Rattle.std.proofs.lemmas.Bool.{false≢true}
 use Rattle.std.proofs.lemmas.List.{reverse-append}
@@ -23,11 +23,11 @@ abbrev Entry : Type 0
 Entry = List ℕ × Option (List ℕ)
 
 module _ (name : List ℕ) (capture : Option (List ℕ)) where
-  -- an entry of this name has this capture
+  -- The entry has this capture if it has this name.
   abbrev HasCapture : Entry → Type 0
   HasCapture entry = entry.0 ≡ name → entry.1 ≡ capture
 
-  -- a search finds this capture, or nothing where no entry has the name
+  -- A search finds this capture, or nothing if no entry has the name.
   abbrev IsFound : List Entry → Option (Option (List ℕ)) → Type 0
   IsFound entries found = (found ≡ Some capture) ⊎ ((found ≡ None) × (list_any (λ (entry : Entry). bytes_eq name entry.0) entries ≡ false))
 
@@ -44,7 +44,7 @@ module _ (name : List ℕ) (capture : Option (List ℕ)) where
       (alone entry (bytes_eq name entry.0) refl (All-head HasCapture entry entries all) (lookup (bytes_eq name) (reverse entries)) (list_any (λ (other : Entry). bytes_eq name other.0) entries)
       (found_last entries (All-tail HasCapture entry entries all)))
 
--- ---- the groups of parts, beside what is asked of them
+-- ---- the groups of parts, with what they are to capture
 
 names_first : (group : Bool) (part : PartView) (parts : List PartView) → map (λ (p : PartView). p.name) (if group then part ∷ parts else parts) ≡ (if group then part.name ∷ map (λ (p : PartView). p.name) parts else map (λ (p : PartView). p.name) parts)
 names_first true part parts = refl
@@ -74,7 +74,7 @@ module _ (manner : WritingManner) where
       subst (λ names. All Is (zip names captures)) (sym (names_of part parts))
       (first_entry Is each part.kind part (group_names parts) captures first (entries_asked Is each parts (captures_after part.kind captures) rest))
 
-  -- as many entries as names
+  -- Whether an entry has this name.
   abbrev has_entry : (name : List ℕ) → List (List ℕ) → Captures → Bool
   has_entry name names captures = list_any (λ (entry : Entry). bytes_eq name entry.0) (zip names captures)
 
@@ -97,14 +97,14 @@ module _ (manner : WritingManner) where
   -- ---- the group of a name that is given
 
   module _ (name text : List ℕ) (given : manner.given name ≡ Some text) where
-    -- an entry of the name captures the canonical form of the text
+    -- An entry of the name captures the canonical form of the text.
     abbrev IsForm : Entry → Type 0
     IsForm entry = entry.0 ≡ name → (value : List ℕ) × (manner.canonical text ≡ Ok value) × (entry.1 ≡ Some value)
 
     form_asked : (part : PartView) (capture : Option (List ℕ)) → IsAsked manner part capture → IsForm (part.name, capture)
     form_asked part capture asked same = subst (λ of. IsAskedBy manner.canonical of part capture) (ap manner.given same ∙ given) asked
 
-    -- the text has a canonical form
+    -- The text has a canonical form.
     abbrev HasForm : Type 0
     HasForm = (value : List ℕ) × (manner.canonical text ≡ Ok value)
 
@@ -125,7 +125,7 @@ module _ (manner : WritingManner) where
         (λ same. let form = All-head IsForm entry entries all same in let e : form.0 ≡ value = cc (form.1, is) in form.2 ∙ ap (λ v. Some v) e)
         (one_form value is entries (All-tail IsForm entry entries all))
 
-    -- the group of the name captures that form
+    -- The group of the name captures the canonical form of the text.
     pub given_captured : (parts : List PartView) (captures : Captures) → AreAsked manner parts captures → list_any (bytes_eq name) (group_names parts) ≡ true →
         (value : List ℕ) × (manner.canonical text ≡ Ok value) × (group_of (group_names parts) captures name ≡ Some (Some value))
     given_captured parts captures are has =

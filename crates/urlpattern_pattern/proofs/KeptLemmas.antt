@@ -1,4 +1,4 @@
--- Lemmas on patterns that keep their parts.
+-- Patterns that keep their parts.
 use Rattle.std.proofs.Common.{◌≡◌, Bool, Ok, Some, subst, sym}
 use Rattle.urlpattern_matcher.specs.Components.{IsComponentOf, component_view}
 use Rattle.urlpattern_matcher.specs.declared.component.{Component.Component, ComponentWithParts.ComponentWithParts}
@@ -20,7 +20,7 @@ use Rattle.urlpattern_syntax.specs.ComponentParts.{kept_options, kept_parts}
 use Rattle.urlpattern_syntax.specs.declared.parts.ComponentParts.{ComponentParts}
 
 module _ {E : Type 0} (engine : Engine E) (made : Eight (ComponentWithParts E)) (components : Eight (Component E)) (parts : PatternParts) (parted : AreParted made components parts) where
-  -- the components are made of their parts
+  -- The components are made of their parts.
   pub own_parts : (asked : UrlPatternOptions) (values : Values) → AreCompiledKeeping engine asked values made → AreMadeOfParts engine parts (eight_view components)
   own_parts asked values kept = λ name.
       let is = kept.are_kept name in
@@ -33,7 +33,7 @@ module _ {E : Type 0} (engine : Engine E) (made : Eight (ComponentWithParts E)) 
         has_engine = subst (λ (c : Component E). HasEngine (component_view c)) (sym (parted.components_are name)) is.has_engine;
       }
 
-  -- the values are compiled to these components
+  -- The values are compiled to these components.
   pub parted_compiled : (asked : UrlPatternOptions) (values : Values) → AreCompiledKeeping engine asked values made → AreCompiled engine asked values (eight_view components)
   parted_compiled asked values kept = record {
     hierarchical = kept.hierarchical;
@@ -50,7 +50,7 @@ module _ {E : Type 0} (engine : Engine E) (made : Eight (ComponentWithParts E)) 
     pub parted_pattern : IsPatternOfInit engine init asked (eight_view components)
     parted_pattern = (is.0, is.1, parted_compiled asked is.0 is.2)
 
-    -- a pattern of these components and parts keeps them
+    -- A pattern of these components and parts keeps them.
     pub keeps_parts : (pattern : UrlPattern E) → pattern.components ≡ components → pattern.parts ≡ Some parts → KeepsPartsOf engine init asked pattern
     unfolding parted_compiled
     keeps_parts pattern same has = record {

@@ -41,7 +41,7 @@ use Rattle.urlpattern_generate.specs.UrlsOfTexts.{IsReadOfTexts, RefusesTexts, c
 use Rattle.urlpattern_generate.specs.declared.no_link.NoLink.{NoLink}
 use Rattle.urlpattern_generate.specs.declared.no_link.NoLink.TheVariants as links
 
--- ---- one answer
+-- ---- one result
 
 accepted_once : {E : Type 0} (answer : E → List ℕ → Option Captures) (ignore_case : Bool) (inner : InnerView E) (text : List ℕ) (captures others : Captures) →
     Accepts answer ignore_case inner text captures → Accepts answer ignore_case inner text others → captures ≡ others
@@ -50,7 +50,7 @@ accepted_once answer ignore_case (SingleCapture filter allow_empty) text capture
 accepted_once answer ignore_case (RegExp (Ok engine)) text captures others is also = cc
 accepted_once answer ignore_case (RegExp (Err error)) text captures others is also = absurd is
 
--- a matcher answers a text by one list of captures
+-- A matcher returns one list of captures for a text.
 pub answered_once : {E : Type 0} (answer : E → List ℕ → Option Captures) (matcher : MatcherView E) (text : List ℕ) (captures others : Captures) →
     Answers answer matcher text (Some captures) → Answers answer matcher text (Some others) → captures ≡ others
 answered_once answer matcher text captures others (middle, cut, accepts) also =
@@ -64,7 +64,7 @@ cut_at i within =
 
 -- ---- texts
 
--- the text of a component of those that are borrowed or owned
+-- Texts of components, borrowed or owned, are written if each of them is.
 pub own_written : (parts : PatternParts) (groups : List GivenView) (texts : Eight (CowStr Global)) → ((name : ComponentName) → IsWritten (manner_in parts groups name) (parts_in parts name) (cow_text (at texts name))) →
     AreWritten parts groups (cow_texts texts)
 own_written parts groups texts are name = subst (IsWritten (manner_in parts groups name) (parts_in parts name)) (sym (at-each (λ other. cow_text (at texts other)) name)) (are name)
@@ -76,7 +76,7 @@ text_written parts groups texts name kept text e f are =
     (subst (IsWritten (manner_in parts groups name) (parts_in parts name)) (at-each (λ other. cow_text (at texts other)) name ∙ sym f) (are name))
 
 module _ {E : Type 0} (answer : E → List ℕ → Option Captures) where
-  -- what a matcher finds in the text of a component
+  -- What a matcher finds in the text of a component.
   pub told_confirmed : {Fault : Type 0} (own : Eight (Component E)) (parts : PatternParts) (groups : List GivenView) (texts : Eight (CowStr Global)) (name : ComponentName) (kept : ComponentParts) (component : Component E) (text : List ℕ)
       (r : Result Bool Fault) → kept ≡ at parts.components name → component ≡ at own name → text ≡ cow_text (at texts name) →
       IfOk r (λ is. TellsFound is answer (matcher_view component.matcher) (manner_for name (kept_options kept) (kept_parts kept) groups) (kept_parts kept) text) →
@@ -122,13 +122,13 @@ module _ {E : Type 0} (answer : E → List ℕ → Option Captures) where
     pub linked : (texts : Texts) (url : Parts) → AreWritten parts groups texts → texts_of_url url ≡ texts → IsReadOfTexts texts url → IsConfirmedBefore answer view parts groups texts None → IsLink answer pattern groups url
     linked texts url written same read confirmed = with_parts (λ own. IsLinkOf answer view own groups url) (link_of texts url written same read confirmed)
 
-    -- what is linked is matched
+    -- A link is matched.
     pub link_matched : (texts : Texts) (url : Parts) → texts_of_url url ≡ texts → IsConfirmedBefore answer view parts groups texts None → HasMatch answer view (inputs.Url url)
     link_matched texts url same confirmed =
         let own : IsConfirmedBefore answer view parts groups (texts_of_url url) None = subst (λ (of : Texts). IsConfirmedBefore answer view parts groups of None) (sym same) confirmed in
         (texts_of_url url, refl, λ component. let found = own component in (found.0, found.2))
 
-    -- a match of it captures what was asked
+    -- A match of the link captures the given texts.
     captured_in : (url : Parts) (component : ComponentName) (name value : List ℕ) (captures : Captures) → Answers answer (view component).matcher (at (texts_of_url url) component) (Some captures) →
         group_of (view component).group_name_list captures name ≡ Some (Some value) → IsCapturedBy answer view url component name value
     captured_in url component name value captures answers group result (texts, is, found) =
@@ -147,7 +147,7 @@ module _ {E : Type 0} (answer : E → List ℕ → Option Captures) where
         with_parts (λ of. (value : List ℕ) × ((manner_in of groups component).canonical text ≡ Ok value) × IsCapturedBy answer view url component name value)
         (got.0, got.1, captured_in url component name got.0 captures answers (ap (λ list. group_of list captures name) names ∙ got.2))
 
-    -- ---- refusals
+    -- ---- errors
 
     refused_of : (error : NoLink) → RefusesLinkOf answer view parts groups error → RefusesLink answer pattern groups error
     refused_of error refused =
@@ -183,12 +183,12 @@ module _ {E : Type 0} (answer : E → List ℕ → Option Captures) where
           subst (λ (of : Texts). IsConfirmedBefore answer view parts groups of (Some component)) (sym same) before,
         )
 
-  -- a pattern without parts has no link
+  -- A pattern without parts has no link.
   pub refused_by_hand : (pattern : UrlPattern E) (groups : List GivenView) → pattern.parts ≡ None → RefusesLink answer pattern groups (links.Component generating.NoParts)
   refused_by_hand pattern groups none =
       subst (λ (of : Option PatternParts). MatchOption of (links.Component generating.NoParts ≡ links.Component generating.NoParts) (λ own. RefusesLinkOf answer (eight_view pattern.components) own groups (links.Component generating.NoParts))) (sym none) refl
 
--- a text, or why there is none, of the parts of a component
+-- The result of writing a component: a text, or why there is none.
 pub part_answered : (parts : PatternParts) (groups : List GivenView) (name : ComponentName) (kept : ComponentParts) (result : Result (CowStr Global) GenerateError) → kept ≡ at parts.components name →
     IfOk result (λ text. IsWritten (manner_for name (kept_options kept) (kept_parts kept) groups) (kept_parts kept) (cow_text text)) →
     IfErr result (CannotWrite name (manner_for name (kept_options kept) (kept_parts kept) groups) (kept_parts kept)) → AnswersParts parts groups name result

@@ -20,7 +20,7 @@ ends_plain [] last plain = plain
 ends_plain (part ∷ []) last plain = plain
 ends_plain (part ∷ next ∷ parts) last plain = ends_plain (next ∷ parts) last plain
 
--- What is the same of two ways in which parts are peeled.
+-- The two ways in which parts are peeled agree.
 record ArePeeledAlike (front begin : Option PartView) (middle other : List PartView) (back end : Option PartView) : Type 0 where
   fronts : front ≡ begin
   middles : middle ≡ other
@@ -60,7 +60,7 @@ front_alike parts None None middle other back end e f stays stays_too ends ends_
 -- ---- matchers of the same parts
 
 module _ {E : Type 0} (IsEngine : List ℕ → Result E ErrorView → Type 0) (options : OptionsView) where
-  -- they are the same, or both ask an engine about the same expression
+  -- The two matchers are equal, or an engine makes both from the same expression.
   abbrev pub AreAlike : (prefix : List ℕ) → (middle : List PartView) → (suffix : List ℕ) → (matcher other : MatcherView E) → Type 0
   AreAlike prefix middle suffix matcher other =
       (matcher ≡ other) ⊎ (IsMadeByEngine IsEngine options prefix middle suffix matcher × IsMadeByEngine IsEngine options prefix middle suffix other)
@@ -88,10 +88,10 @@ module _ {E : Type 0} (IsEngine : List ℕ → Result E ErrorView → Type 0) (o
       (subst (λ (middle : List PartView). IsMadeBetween IsEngine options (end_text also.front) middle (end_text made.back) other) (sym same.middles)
       (subst (λ (back : Option PartView). IsMadeBetween IsEngine options (end_text also.front) also.middle (end_text back) other) (sym same.backs) also.is_made)))
 
--- ---- an engine that took what one matcher needs
+-- ---- an engine that accepted what one matcher needs
 
 module _ {E : Type 0} (IsEngine : List ℕ → Result E ErrorView → Type 0) (options : OptionsView) where
-  -- the engine does not both take and refuse this regular expression
+  -- The engine does not both accept and reject this regular expression.
   abbrev pub IsTakenOrRefused : (regexp : List ℕ) → Type 0
   IsTakenOrRefused regexp = (value : E) (error : ErrorView) → IsEngine regexp (Ok value) → ¬ IsEngine regexp (Err error)
 
@@ -101,7 +101,7 @@ module _ {E : Type 0} (IsEngine : List ℕ → Result E ErrorView → Type 0) (o
   took_engine regexp (Ok value) (Err error) either is also took = absurd (either value error is also)
   took_engine regexp (Err error) (Err other) either is also took = absurd took
 
-  -- it took what another matcher of the same parts needs
+  -- The engine accepted what another matcher of the same parts needs.
   pub took_too : (parts : List PartView) (matcher other : MatcherView E) → (made : IsMadeOf IsEngine options parts matcher) → IsMadeOf IsEngine options parts other →
       IsTakenOrRefused (regexp_text options made.middle) → TookText (λ value. ⊤) matcher.inner → TookText (λ value. ⊤) other.inner
   took_too parts matcher other made also either took = by (made_alike IsEngine options parts matcher other made also)

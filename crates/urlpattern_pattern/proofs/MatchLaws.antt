@@ -1,4 +1,4 @@
--- The laws of matches: a matcher has one answer, and so has a pattern.
+-- The laws of matches: a matcher returns one result, and so does a pattern.
 use Rattle.std.proofs.Common.{◌≡◌, ℕ, Bool, List, refl, sym, ap, ◌∙◌, subst, inl, inr}
 use Rattle.std.specs.Prelude.{Option, Ok, Err}
 use Rattle.urlpattern_components.specs.declared.eight.ComponentName.{ComponentName}
@@ -12,7 +12,7 @@ use Rattle.urlpattern_meaning.specs.Matching.{Accepts, InnerView, Literal, Match
 use Rattle.urlpattern_meaning.specs.PartMeaning.{Captures}
 use Rattle.urlpattern_components.specs.Eight.{Texts, at}
 
--- ---- a test tells a match
+-- ---- a test reports a match
 
 pub match_from-test : {E : Type 0} (answer : E → List ℕ → Option Captures) (pattern : PatternView E) (input : UrlPatternMatchInput) →
     HasMatch answer pattern input → (result : ComponentName → ResultView) × IsMatch answer pattern input result
@@ -66,13 +66,13 @@ match-one answer pattern input result other (texts, are_texts, match) (texts', a
       λ name. one.has_groups name ∙ ap (λ (c : Captures). group_of (pattern component).group_name_list c name) captured ∙ sym (two.has_groups name),
     )
 
--- ---- not both
+-- ---- match and mismatch exclude each other
 
 pub no_input-long : (input : UrlPatternMatchInput) (texts : Texts) → input_texts input ≡ Ok texts → IsNoInput input → IsLongInput input
 no_input-long input texts are_texts (inl refused) = absurd (let e = refused.1 in let never : ⊥ = cc in never)
 no_input-long input texts are_texts (inr long) = long
 
--- texts of which one is refused are not matched
+-- Texts, one of them rejected by its component, are not matched.
 pub refused-unmatched : {E : Type 0} (answer : E → List ℕ → Option Captures) (pattern : PatternView E) (input : UrlPatternMatchInput) (texts : Texts) →
     input_texts input ≡ Ok texts → IsRefused answer pattern texts → ¬ HasMatch answer pattern input
 refused-unmatched answer pattern input texts are_texts (component, refused) = λ (others, are_others, matched).

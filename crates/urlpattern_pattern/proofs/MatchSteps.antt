@@ -1,4 +1,4 @@
--- From what eight components answer to what a call returns.
+-- From the results of eight components to the result of a call.
 use Rattle.std.proofs.Common.{◌≡◌, ℕ, Bor, List, [], ◌∷◌, true, false, refl, sym, ◌∙◌, subst, inl, inr}
 use Rattle.std.specs.Prelude.{Bool, Option, Some, None, Result, Ok, Err, is_some, IfOk, IfNone, IfSome, IsSomeAnd, MatchBool, MatchOption, ◌⊎◌}
 use Rattle.std.specs.Str.{chars}
@@ -20,20 +20,20 @@ use Rattle.urlpattern_meaning.specs.PartMeaning.{Captures}
 use Rattle.urlpattern_syntax.specs.declared.error.Error.{Error}
 use Rattle.urlpattern_components.specs.Eight.{Texts, at}
 
--- whether something was found
+-- Whether something was found.
 pub reports-some : {X : Type 0} (P : X → Type 0) (A B : Type 0) (found : Option X) (test : Bool) → test ≡ is_some found →
     ((x : X) → P x → A) → IfSome found P → IfNone found B → MatchBool test A B
 reports-some P A B None test e f some none = subst (λ (b : Bool). MatchBool b A B) (sym e) none
 reports-some P A B (Some x) test e f some none = subst (λ (b : Bool). MatchBool b A B) (sym e) (f x some)
 
--- a look that asks no engine has captures
+-- A look that calls no engine has captures.
 asks-or_matches : {E : Type 0} (answer : E → List ℕ → Option Captures) (matcher : MatcherView E) (text : List ℕ) (look : Look E) →
     Answers answer matcher text (look_answer answer (Some look)) → (IsAsking look → AsksEngine matcher text) → AsksEngine matcher text ⊎ IsMatched answer matcher text
 asks-or_matches answer matcher text looks.Matched is asks = inr ([], is)
 asks-or_matches answer matcher text (looks.Captured middle) is asks = inr (Some (chars middle.now) ∷ [], is)
 asks-or_matches answer matcher text (looks.Asks engine middle) is asks = inl (asks tt)
 
--- so an engine is asked where one of eight looks asks one
+-- An engine is called if one of eight looks calls one.
 pub asks-an_engine : {E : Type 0} (answer : E → List ℕ → Option Captures) (pattern : PatternView E) (texts : Texts) (looks : Eight (Look E)) →
     AreLooks answer pattern texts looks → AskWithCause pattern texts looks → (name : ComponentName) × IsAsking (at looks name) → AsksAnEngine answer pattern texts
 asks-an_engine answer pattern texts looks are ask (name, asking) = record {
@@ -41,7 +41,7 @@ asks-an_engine answer pattern texts looks are ask (name, asking) = record {
   others = λ other. asks-or_matches answer (pattern other).matcher (at texts other) (at looks other) (are other) (ask other);
 }
 
--- a test of the input's texts tests the input
+-- A test of the input's texts tests the input.
 pub test-of_texts : {E : Type 0} (answer : E → List ℕ → Option Captures) (pattern : PatternView E) (input : UrlPatternMatchInput) (texts : Texts) (result : Result Bool Error) →
     input_texts input ≡ Ok texts → IfOk result (λ matched. MatchBool matched (AreMatched answer pattern texts) (IsRefused answer pattern texts)) →
     IfOk result (λ matched. MatchBool matched (HasMatch answer pattern input) (HasNoMatch answer pattern input))
@@ -49,7 +49,7 @@ test-of_texts answer pattern input texts (Ok true) e h = (texts, e, h)
 test-of_texts answer pattern input texts (Ok false) e h = inr (texts, e, h)
 test-of_texts answer pattern input texts (Err error) e h = tt
 
--- what is found of the input's texts is found of the input
+-- What is found of the input's texts is found of the input.
 pub found-of_texts : {E X : Type 0} (answer : E → List ℕ → Option Captures) (pattern : PatternView E) (view : X → ComponentName → ResultView) (input : UrlPatternMatchInput) (texts : Texts) (result : Result (Option X) Error) →
     input_texts input ≡ Ok texts → IfOk result (λ found. MatchOption found (IsRefused answer pattern texts) (λ match. IsMatchOf answer pattern texts (view match))) →
     IfOk result (λ found. MatchOption found (HasNoMatch answer pattern input) (λ match. IsMatch answer pattern input (view match)))
@@ -57,7 +57,7 @@ found-of_texts answer pattern view input texts (Ok (Some match)) e matched = (te
 found-of_texts answer pattern view input texts (Ok None) e refused = inr (texts, e, refused)
 found-of_texts answer pattern view input texts (Err error) e h = tt
 
--- a result with the same texts and groups as a match is one
+-- A result with the texts and groups of a match is a match.
 pub match-same : {E : Type 0} (answer : E → List ℕ → Option Captures) (pattern : PatternView E) (texts : Texts) (match result : ComponentName → ResultView) →
     ((name : ComponentName) → IsSameResult (result name) (match name)) → IsMatchOf answer pattern texts match → IsMatchOf answer pattern texts result
 match-same answer pattern texts match result same is_match = record {
@@ -69,13 +69,13 @@ match-same answer pattern texts match result same is_match = record {
   };
 }
 
--- a copy of a match is one that is found
+-- A copy of a match is found.
 pub found-copy : {E R : Type 0} (answer : E → List ℕ → Option Captures) (pattern : PatternView E) (texts : Texts) (match : ComponentName → ResultView)
     (view : R → ComponentName → ResultView) (found : Option R) → IsSomeAnd found (λ copy. (name : ComponentName) → IsSameResult (view copy name) (match name)) →
     IsMatchOf answer pattern texts match → FindsInTexts view answer pattern texts found
 found-copy answer pattern texts match view (Some copy) same is_match = match-same answer pattern texts match (view copy) same is_match
 found-copy answer pattern texts match view None same is_match = absurd same
 
--- texts that are lent, and the text of one component
+-- The borrowed text of one component.
 pub text-at : (texts : Eight (Bor (List ℕ))) (name : ComponentName) → at (borrowed_texts texts) name ≡ chars (at texts name).now
 text-at texts = by_name (λ name. at (borrowed_texts texts) name ≡ chars (at texts name).now) refl refl refl refl refl refl refl refl

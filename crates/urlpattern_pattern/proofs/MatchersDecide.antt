@@ -1,4 +1,4 @@
--- A matcher has an answer to each text.
+-- A matcher returns a result for each text.
 use Rattle.std.proofs.Common.{◌≡◌, ℕ, ◌+◌, ◌-◌, ◌⊎◌, Bool, true, false, List, [], ◌∷◌, ◌++◌, length, take, drop, inl, inr, refl, sym, ap, subst, ◌∙◌, arith}
 use Rattle.std.proofs.lemmas.List.{append_assoc, drop_at, length-append, take-append-drop, take_at}
 use Rattle.std.proofs.lemmas.Slice.Eq.{bytes_eq-Decides}
@@ -31,13 +31,13 @@ both_decided P Q (inl p) (inr not_q) = inr (λ both. not_q both.1)
 
 -- ---- the text between the ends
 
--- a text that is cut in three is the text of the three
+-- A text that is cut in three is its three pieces, joined.
 pub cut_in_three : (a b : ℕ) (text : List ℕ) → text ≡ take a text ++ take b (drop a text) ++ drop b (drop a text)
 cut_in_three a b text =
     sym (take-append-drop a text) ∙ ap (λ t. take a text ++ t) (sym (take-append-drop b (drop a text)))
     ∙ sym (append_assoc (take a text) (take b (drop a text)) (drop b (drop a text)))
 
--- and a text that is three texts is cut so where the first and the last are so long
+-- A text that is three texts, joined, is cut into them at the lengths of the first and the last.
 three_cut : (front middle back text : List ℕ) (a c : ℕ) → text ≡ front ++ middle ++ back → length front ≡ a → length back ≡ c →
     (front ≡ take a text) × (back ≡ drop (length (drop a text) - c) (drop a text))
 three_cut front middle back text a c cut fronts backs =
@@ -69,7 +69,7 @@ module _ {E : Type 0} (matcher : MatcherView E) (text : List ℕ) where
         subst (λ (t : List ℕ). IsSame matcher.ignore_case t matcher.suffix) here.1 ends,
       )
 
-  -- the ends are the matcher's, or no cut has them
+  -- The ends of the text are prefix and suffix, or no cut has them.
   cut_decided : Decided IsCut
   cut_decided =
       by (both_decided (IsSame matcher.ignore_case front_of matcher.prefix) (IsSame matcher.ignore_case back_of matcher.suffix)
@@ -113,7 +113,7 @@ accepted_decided answer ignore_case (SingleCapture filter allow_empty) text =
 accepted_decided answer ignore_case (RegExp (Ok engine)) text = engine_decided (answer engine text)
 accepted_decided answer ignore_case (RegExp (Err error)) text = inr (λ is. is.1)
 
--- ---- answers
+-- ---- results
 
 pub answered : {E : Type 0} (answer : E → List ℕ → Option Captures) (matcher : MatcherView E) (text : List ℕ) → (result : Option Captures) × Answers answer matcher text result
 answered {E} answer matcher text = by_middle (cut_decided matcher text)

@@ -1,4 +1,4 @@
--- What a compiled pattern answers is what its pattern texts mean.
+-- A compiled pattern returns what its pattern texts mean.
 use Rattle.std.proofs.Common.{◌≡◌, ◌≢◌, ℕ, true, false, List, [], ◌∷◌, ap, arith, inl, inr, refl, subst, sym, ◌∙◌}
 use Rattle.std.proofs.lemmas.Bool.{or_parts}
 use Rattle.std.proofs.lemmas.List.Elements.{All-cons}
@@ -49,14 +49,14 @@ canonical_once canonical text answer other (Ok string, is_answer, same) (Ok anot
     one ∙ both ∙ sym two
 canonical_once canonical text answer other found more = absurd cc
 
--- one list of parts is read
+-- A pattern text reads as one list of parts.
 pub read_once : (manner : Manner) (parts others : List PartView) → ReadsAs manner parts → ReadsAs manner others → parts ≡ others
 read_once manner parts others reads also =
     reading_one_encoded manner.text manner.options (canonical_encoding manner.canonical) parts others (canonical_once manner.canonical) reads also
 
 -- ---- one component
 
--- its matcher answers what the parts mean that its pattern text reads as
+-- The matcher of a component returns what the parts mean that its pattern text reads as.
 component_agrees : {E : Type 0} (engine : Engine E) (manner : Manner) (compiled : ComponentView E)
     (text : List ℕ) (parts : List PartView) (result : Option Captures) →
     ReadsAs manner parts →
@@ -73,15 +73,15 @@ component_agrees engine manner compiled text parts result reads is_component pre
 
 module _ {E : Type 0} (engine : Engine E) (asked : UrlPatternOptions) (values : Values) (pattern : PatternView E)
     (compiled : AreCompiled engine asked values pattern) (texts : Texts) where
-  -- how a component is read
+  -- How the pattern text of a component is read.
   abbrev manner : ComponentName → Manner
   manner = manner_of asked values compiled.hierarchical
 
-  -- what is asked of it
+  -- The premises on a component.
   abbrev Premises : ComponentName → Type 0
   Premises component = MeaningPremises engine.answer (manner component) (pattern component) (at texts component)
 
-  -- what is matched is meant
+  -- A match is a meaning.
   found_meant : (component : ComponentName) (captures : Captures) → Premises component → Answers engine.answer (pattern component).matcher (at texts component) (Some captures) →
       (meant : IsMeant (manner component) (at texts component))
       × (group_names meant.parts ≡ (pattern component).group_name_list) × (meant.captures ≡ captures)
@@ -97,7 +97,7 @@ module _ {E : Type 0} (engine : Engine E) (asked : UrlPatternOptions) (values : 
         refl,
       )
 
-  -- what is not matched is not meant
+  -- Without a match there is no meaning.
   refused_unmeant : (component : ComponentName) → Premises component → Answers engine.answer (pattern component).matcher (at texts component) None →
       ¬ IsMeant (manner component) (at texts component)
   refused_unmeant component premises answers meant =

@@ -1,4 +1,4 @@
--- Facts on results, and on options, that may be none.
+-- Results and options that may be None.
 use Rattle.std.specs.Prelude.{Option, Some, None, Result, Ok, Err, IfErr, IfNone}
 
 pub if_none : {A : Type 0} (P : Type 0) (x : Option A) → P → IfNone x P

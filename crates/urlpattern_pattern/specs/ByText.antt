@@ -1,4 +1,5 @@
--- What patterns answer, in the words of their pattern texts: the first way of the parts that these read as.
+-- What patterns return, by their pattern texts: the first way of the parts that the texts are
+-- parsed to.
 use Rattle.std.specs.Prelude.{◌≡◌, ◌↔◌, ◌⊎◌, ℕ, Any, Bool, false, List, [], Option, None, Some, Ok, IsTrue, codes, unwrap_or}
 use Rattle.urlpattern_canonical.specs.Canonical.{special_schemes}
 use Rattle.urlpattern_matcher.specs.{Components.ComponentView, Components.FlagsAgree, FirstWays.AnswersFirstWays, FirstWays.EachAnswersFirst}
@@ -20,35 +21,37 @@ use Rattle.urlpattern_matches.specs.MatchInput.{input_texts}
 use Rattle.urlpattern_pattern.specs.Patterns.{PatternView}
 use Rattle.urlpattern_pattern.specs.Meaning.{IsExecuted, IsFoundByMeaning, ReadsAs}
 
--- the pattern text has no custom regular expression
+-- The pattern text has no custom regular expression.
 abbrev pub ReadsNoCustom : Manner → Type 0
 ReadsNoCustom manner = (parts : List PartView) → ReadsAs manner parts → AreGenerated parts
 
--- The pattern text of a component has a meaning of its own: it has no custom regular expression, and case is kept.
+-- A component has a meaning: its pattern text has no custom regular expression, and case is kept.
 pub record HasMeaning (manner : Manner) : Type 0 where
   pub generated : ReadsNoCustom manner
   pub case_kept : manner.options.ignore_case ≡ false
 
 -- ---- first ways
 
--- The pattern text reads as parts, and the captures are those of the first way in which they take the whole text, or None if
--- there is none.
+-- The pattern text reads as parts, and the captures are those of the first way in which the parts
+-- match the whole text, or None if there is none.
 pub record IsFirstWay (manner : Manner) (text : List ℕ) (captures : Option Captures) : Type 0 where
   pub parts : List PartView
   pub reads : ReadsAs manner parts
   pub is_first : IsFirstOf manner.options parts text captures
   pub is_meant : Agrees manner.options parts text captures
 
--- The result of a component is that of the first way of its text: as groups the names of the parts beside the captures.
+-- The result of a component is that of the first way of its text: its groups are the names of the
+-- parts, with the captures.
 pub record IsFirstResult (manner : Manner) (text : List ℕ) (result : ResultView) : Type 0 where
   pub captures : Captures
   pub way : IsFirstWay manner text (Some captures)
   pub is_result : IsResultOf (group_names way.parts) captures text result
 
--- ---- what is found
+-- ---- matches
 
--- What is found of eight texts is by the pattern texts. In a match each component whose pattern text has a meaning, and whose
--- text is a line, has the result of the first way. Where there is no match, and all are such, one takes its text in no way.
+-- What is found in eight texts follows from the pattern texts. In a match, each component whose
+-- pattern text has a meaning, and whose text is a line, has the result of the first way. Without a
+-- match, if all components are of this kind, one of them has no way for its text.
 abbrev pub IsFoundByText : (manner : ComponentName → Manner) → Texts → Option (ComponentName → ResultView) → Type 0
 IsFoundByText manner texts (Some result) =
     (component : ComponentName) → HasMeaning (manner component) → IsLine (at texts component) →
@@ -59,24 +62,26 @@ IsFoundByText manner texts None =
 
 -- ---- patterns
 
--- The component answers by its pattern text: it has the names of the parts as which that reads, and to a line, a text of
--- characters without line feed, it answers their first way.
+-- The component returns what its pattern text says: it has the names of the parts that the text
+-- reads as, and for a line, a text of characters without line feed, its matcher returns their first
+-- way.
 pub record AnswersByText {E : Type 0} (answer : E → List ℕ → Option Captures) (manner : Manner) (compiled : ComponentView E) : Type 0 where
   pub parts : List PartView
   pub reads : ReadsAs manner parts
   pub has_names : compiled.group_name_list ≡ group_names parts
   pub answers : AnswersFirstWays answer manner.options parts compiled.matcher
 
--- the pathname of these values is hierarchical: the protocol is empty, its pattern text takes a special scheme, or the
--- pathname begins with a slash
+-- The pathname of these values is hierarchical: the protocol is empty, its pattern text matches a
+-- special scheme, or the pathname begins with a slash.
 abbrev pub IsHierarchicalByText : UrlPatternOptions → Values → Type 0
 IsHierarchicalByText asked values =
     (values.protocol ≡ Some [])
     ⊎ Any (λ scheme. (captures : Captures) × IsFirstWay (manner_of asked values false Protocol) scheme.0 (Some captures)) special_schemes
     ⊎ IsTrue (begins_with (is_mark (codes "/")) (unwrap_or values.pathname []))
 
--- The pattern answers by the texts of this init: each component does whose pattern text has a meaning. Whether the pathname is
--- hierarchical is decided by the protocol's matcher, and by its pattern text if that has a meaning.
+-- The pattern returns what the texts of this init say: each component does whose pattern text has a
+-- meaning. The protocol's matcher decides whether the pathname is hierarchical, and so does its
+-- pattern text if that has a meaning.
 pub record AnswersByItsText {E : Type 0} (answer : E → List ℕ → Option Captures) (init : UrlPatternInit) (asked : UrlPatternOptions) (pattern : PatternView E) : Type 0 where
   pub values : Values
   pub hierarchical : Bool
@@ -86,20 +91,22 @@ pub record AnswersByItsText {E : Type 0} (answer : E → List ℕ → Option Cap
   pub answers : (component : ComponentName) → HasMeaning (manner_of asked values hierarchical component) →
       AnswersByText answer (manner_of asked values hierarchical component) (pattern component)
 
--- where a component has a meaning and asks an engine, the engine's value answers the first way of the parts that are left to it
+-- If a component has a meaning and calls an engine, the engine's value returns the first way of the
+-- parts between prefix and suffix.
 abbrev pub EnginesAnswerFirst : {E : Type 0} → (answer : E → List ℕ → Option Captures) → (manner : ComponentName → Manner) → PatternView E → Type 0
 EnginesAnswerFirst answer manner pattern =
     (component : ComponentName) (parts : List PartView) → HasMeaning (manner component) → ReadsAs (manner component) parts →
     AnswersFirstInMiddle answer (manner component).options parts (pattern component).matcher.inner
 
--- each matcher that the engine made with the flags of its options answers first ways, without a premise on the engine
+-- Each matcher that the engine made with the flags of its options returns first ways, without a
+-- premise on the engine.
 abbrev pub MakesFirstWays : {E : Type 0} → Engine E → Type 0
 MakesFirstWays engine = EachAnswersFirst engine (λ options flags inner. FlagsAgree options flags)
 
--- ---- what `exec_once` answers
+-- ---- the result of `exec_once`
 
--- The init is compiled to a pattern of which this is found on the input. It is what the pattern texts mean, and by an engine that
--- makes first ways it is by the pattern texts.
+-- The init is compiled to a pattern with which this is found in the input. The result is what the
+-- pattern texts mean; with an engine that makes first ways it follows from the pattern texts.
 pub record IsExecutedByMeaning {E : Type 0} (engine : Engine E) (init : UrlPatternInit) (asked : UrlPatternOptions) (input : UrlPatternMatchInput) (found : Option (ComponentName → ResultView)) : Type 0 where
   pub values : Values
   pub pattern : PatternView E
@@ -112,7 +119,7 @@ pub record IsExecutedByMeaning {E : Type 0} (engine : Engine E) (init : UrlPatte
   pub found_by_text : (firsts : MakesFirstWays engine) (texts : Texts) → input_texts input ≡ Ok texts → ¬ IsLongInput input
       → IsFoundByText (manner_of asked (by_text firsts).values (by_text firsts).hierarchical) texts found
 
--- it answers by the texts of the init of this constructor string with this base URL
+-- The pattern returns what the init of this constructor string and base URL says.
 abbrev pub AnswersByTextOf : {E : Type 0} → Engine E → (text : List ℕ) → (base : Option (List ℕ)) → UrlPatternOptions → PatternView E → Type 0
 AnswersByTextOf engine text base asked pattern =
     (init : UrlPatternInit) × IsInitOfText engine text base init × AnswersByItsText engine.answer init asked pattern

@@ -1,4 +1,4 @@
--- What groups capture while a match is made: looks at the eight texts, and what is captured of them.
+-- The captures of a match: of the looks at the eight texts, and of the components.
 use Rattle.std.specs.Prelude.{◌≡◌, ℕ, List, Option, Some, zip}
 use Rattle.urlpattern_components.specs.declared.eight.ComponentName.{ComponentName}
 use Rattle.urlpattern_components.specs.declared.eight.Eight.{Eight}
@@ -12,34 +12,34 @@ use Rattle.urlpattern_pattern.specs.Match.{AreAnswers}
 use Rattle.urlpattern_pattern.specs.Patterns.{PatternView}
 use Rattle.urlpattern_components.specs.Eight.{Texts, at}
 
--- the looks at the texts result in what the matchers of the pattern answer
+-- The looks at the texts result in what the matchers of the pattern return.
 abbrev pub AreLooks : {E : Type 0} → (answer : E → List ℕ → Option Captures) → PatternView E → Texts → Eight (Look E) → Type 0
 AreLooks answer pattern texts looks =
     (name : ComponentName) → Answers answer (pattern name).matcher (at texts name) (look_answer answer (Some (at looks name)))
 
--- where a look asks an engine, so does the matcher
+-- If a look calls an engine, its matcher does.
 abbrev pub AskWithCause : {E : Type 0} → PatternView E → Texts → Eight (Look E) → Type 0
 AskWithCause pattern texts looks =
     (name : ComponentName) → IsAsking (at looks name) → AsksEngine (pattern name).matcher (at texts name)
 
--- the groups of the components capture this of what was looked at
+-- The captures of the components are the results of the looks.
 abbrev pub AreCaptured : {E : Type 0} → (answer : E → List ℕ → Option Captures) → Eight (Look E) → Eight GroupCaptures → Type 0
 AreCaptured answer looks captures =
     (name : ComponentName) → look_answer answer (Some (at looks name)) ≡ Some (captures_of (at captures name))
 
--- the captures of each component, as they are answered
+-- The captures of each component.
 abbrev pub all_captures : Eight GroupCaptures → ComponentName → Captures
 all_captures captures name = captures_of (at captures name)
 
--- the captures are those with which the matchers of the pattern answer the texts
+-- The captures are those that the matchers of the pattern return for the texts.
 abbrev pub HasAnswers : {E : Type 0} → (answer : E → List ℕ → Option Captures) → PatternView E → Texts → Eight GroupCaptures → Type 0
 HasAnswers answer pattern texts captures = AreAnswers answer pattern texts (all_captures captures)
 
--- the match has these texts, and what the groups of the pattern capture
+-- The match has these texts, and these captures of the groups of the pattern.
 abbrev pub HasCaptures : {E : Type 0} → PatternView E → Texts → Eight GroupCaptures → (result : ComponentName → ResultView) → Type 0
 HasCaptures pattern texts captures result =
     (name : ComponentName) → IsResultOf (pattern name).group_name_list (all_captures captures name) (at texts name) (result name)
 
--- the groups of each component are its names beside what these captures are
+-- The groups of each component are its names, with these captures.
 abbrev pub HasGroups : {E : Type 0} → PatternView E → Eight GroupCaptures → (groups : ComponentName → List (List ℕ × Option (List ℕ))) → Type 0
 HasGroups pattern captures groups = (name : ComponentName) → groups name ≡ zip (pattern name).group_name_list (all_captures captures name)

@@ -1,4 +1,4 @@
--- The text of a component of a pattern whose groups capture what is given.
+-- The text of a component of a pattern whose groups capture the given texts.
 use Rattle.std.specs.Prelude.{◌≡◌, ℕ, List, MatchOption, Option}
 use Rattle.urlpattern_compile.specs.PatternViews.{eight_view}
 use Rattle.urlpattern_components.specs.declared.eight.ComponentName.{ComponentName}
@@ -13,24 +13,25 @@ use Rattle.urlpattern_compare.specs.declared.pattern.PatternParts.{PatternParts}
 use Rattle.urlpattern_syntax.specs.ComponentParts.{kept_options, kept_parts}
 use Rattle.urlpattern_syntax.specs.Parts.{PartView}
 
--- the parts of one component
+-- The parts of one component.
 abbrev pub parts_in : PatternParts → ComponentName → List PartView
 parts_in parts component = kept_parts (at parts.components component)
 
--- the manner in which a component of these parts is written with these groups
+-- How a component of these parts is written with these groups.
 abbrev pub manner_in : PatternParts → List GivenView → ComponentName → WritingManner
 manner_in parts groups component = manner_for component (kept_options (at parts.components component)) (parts_in parts component) groups
 
--- the pattern has parts, and this holds of them
+-- The pattern has parts, and the predicate holds of them.
 abbrev pub HasParts : {E : Type 0} → UrlPattern E → (PatternParts → Type 0) → Type 0
 HasParts pattern Holds = MatchOption pattern.parts ⊥ Holds
 
--- the text is that of the component with these groups
+-- The text is that of the component with these groups.
 abbrev pub GeneratesText : {E : Type 0} → (answer : E → List ℕ → Option Captures) → UrlPattern E → ComponentName → List GivenView → (text : List ℕ) → Type 0
 GeneratesText answer pattern component groups text =
     HasParts pattern (λ parts. HasText answer (eight_view pattern.components component).matcher (manner_in parts groups component) (parts_in parts component) text)
 
--- why it has none: the pattern was put together by hand, or this holds of its parts
+-- Why the component has no text with these groups: the pattern was put together by hand, or what is
+-- wrong with the groups and parts.
 abbrev pub RefusesGroups : {E : Type 0} → (answer : E → List ℕ → Option Captures) → UrlPattern E → ComponentName → List GivenView → GenerateError → Type 0
 RefusesGroups answer pattern component groups error =
     MatchOption pattern.parts (error ≡ NoParts)

@@ -1,4 +1,5 @@
--- The parts that a compiled pattern keeps: those that its texts read as, of which its components are made.
+-- The parts that a compiled pattern keeps: its texts read as these parts, and its components are
+-- made of them.
 use Rattle.std.specs.Prelude.{◌≡◌, ℕ, Bool, List, Ok, Option, Some}
 use Rattle.urlpattern_matcher.specs.declared.component.{Component.Component, ComponentWithParts.ComponentWithParts}
 use Rattle.urlpattern_matcher.specs.declared.regexp.RegExp.{Ghosts as Engine}
@@ -16,13 +17,14 @@ use Rattle.urlpattern_compare.specs.declared.pattern.PatternParts.{PatternParts}
 use Rattle.urlpattern_syntax.specs.ComponentParts.{kept_options, kept_parts}
 use Rattle.urlpattern_syntax.specs.declared.parts.ComponentParts.{ComponentParts}
 
--- The parts are those that the pattern text reads as in this manner, under its options and its canonical form.
+-- The pattern text reads as the parts, under the options and the canonical form of this manner.
 pub record AreReadInManner (manner : Manner) (kept : ComponentParts) : Type 0 where
   pub options_are : kept_options kept ≡ manner.options
   pub reads : ReadsAs manner (kept_parts kept)
 
--- The pattern has parts: of each component those that its text reads as, where the texts are the values of this init, and whether the
--- pathname is hierarchical is decided by the protocol. All fields of each component are made of them.
+-- The pattern has the parts that its texts read as, and all fields of each component are made of
+-- them. The texts are the values of this init, and the protocol decides whether the pathname is
+-- hierarchical.
 pub record KeepsPartsOf {E : Type 0} (engine : Engine E) (init : UrlPatternInit) (asked : UrlPatternOptions) (pattern : UrlPattern E) : Type 0 where
   pub parts : PatternParts
   pub values : Values
@@ -33,11 +35,11 @@ pub record KeepsPartsOf {E : Type 0} (engine : Engine E) (init : UrlPatternInit)
   pub are_read : (name : ComponentName) → AreReadInManner (manner_of asked values hierarchical name) (at parts.components name)
   pub are_made : AreMadeOfParts engine parts (pattern_view pattern)
 
--- it has those of the init of this constructor string with this base URL
+-- The pattern has the parts of the init of this constructor string and base URL.
 abbrev pub KeepsPartsOfText : {E : Type 0} → Engine E → (text : List ℕ) → (base : Option (List ℕ)) → UrlPatternOptions → UrlPattern E → Type 0
 KeepsPartsOfText engine text base asked pattern = (init : UrlPatternInit) × IsInitOfText engine text base init × KeepsPartsOf engine init asked pattern
 
--- these are the components, and these their parts
+-- The components and the parts of these components with parts.
 pub record AreParted {E : Type 0} (made : Eight (ComponentWithParts E)) (components : Eight (Component E)) (parts : PatternParts) : Type 0 where
   pub components_are : (name : ComponentName) → at components name ≡ (at made name).component
   pub parts_are : (name : ComponentName) → at parts.components name ≡ (at made name).kept

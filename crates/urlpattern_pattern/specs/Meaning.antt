@@ -1,5 +1,5 @@
--- What a match is in the words of pattern texts: the parts that they read as mean the texts of the input, and the groups
--- are the names of these parts beside what they capture.
+-- What a match means in terms of pattern texts: the parts that they read as mean the texts of the
+-- input, and the groups are the names of these parts, with their captures.
 use Rattle.std.specs.Prelude.{◌≡◌, ⊤, ℕ, false, List, Option, Some, None, MatchOption, IsTrue}
 use Rattle.std.specs.Str.{all_scalars}
 use Rattle.urlpattern_init.specs.declared.init.{UrlPatternMatchInput.UrlPatternMatchInput}
@@ -24,10 +24,11 @@ pub record IsMeant (manner : Manner) (text : List ℕ) : Type 0 where
   pub reads : ReadsAs manner parts
   pub means : PartsMean manner.options parts text captures
 
--- ---- where matchers answer it
+-- ---- premises, and what is found
 
--- What is asked of a compiled component and a text: no custom regular expression, case that is kept, characters without
--- line feed, and that an engine, where one is needed, took the regular expression it was given and follows it.
+-- The premises on a compiled component and a text: no custom regular expression, case that is kept,
+-- characters without line feed, and an engine, where one is needed, that accepted its regular
+-- expression and follows it.
 pub record MeaningPremises {E : Type 0} (answer : E → List ℕ → Option Captures) (manner : Manner) (compiled : ComponentView E) (text : List ℕ) : Type 0 where
   pub generated : compiled.has_regexp_group ≡ false
   pub case_kept : manner.options.ignore_case ≡ false
@@ -36,9 +37,10 @@ pub record MeaningPremises {E : Type 0} (answer : E → List ℕ → Option Capt
   pub follows : (parts : List PartView) → ReadsAs manner parts
       → FollowsMiddle answer manner.options parts compiled.matcher.inner
 
--- What is found of eight texts. Where they are matched, the result of each component that meets the premises is a meaning
--- of its text: as groups the names of the parts beside the captures. Where they are not, and all components meet the
--- premises, the pattern texts do not mean all eight.
+-- What is found in eight texts is what the pattern texts mean. In a match, the result of each
+-- component that meets the premises is a meaning of its text: its groups are the names of the
+-- parts, with the captures. Without a match, if all components meet the premises, the pattern texts
+-- do not mean all eight texts.
 abbrev pub IsFoundByMeaning : {E : Type 0} → (answer : E → List ℕ → Option Captures) → (manner : ComponentName → Manner) → PatternView E → Texts → Option (ComponentName → ResultView) → Type 0
 IsFoundByMeaning answer manner pattern texts (Some result) =
     (component : ComponentName) → MeaningPremises answer (manner component) (pattern component) (at texts component) →
@@ -48,16 +50,17 @@ IsFoundByMeaning answer manner pattern texts None =
     ((component : ComponentName) → MeaningPremises answer (manner component) (pattern component) (at texts component)) →
     ¬ ((component : ComponentName) → IsMeant (manner component) (at texts component))
 
--- ---- what `exec` answers
+-- ---- the result of `exec`
 
--- a match of the input, or none where there is none
+-- A match of the input, or None if there is none.
 abbrev pub IsExecuted : {E : Type 0} → (answer : E → List ℕ → Option Captures) → PatternView E → UrlPatternMatchInput → Option (ComponentName → ResultView) → Type 0
 IsExecuted answer pattern input found = MatchOption found (HasNoMatch answer pattern input) (IsMatch answer pattern input)
 
 -- ---- the default engine
 
--- What is asked of a component that was compiled by `regex::Regex`, and of a text: as above, but of the engine no more than
--- that it took the regular expression it was given, where one is needed.
+-- The premises on a component that was compiled by `regex::Regex`, and on a text: those of
+-- `MeaningPremises`, but of the engine only that it accepted its regular expression, where one is
+-- needed.
 pub record RegexPremises (manner : Manner) (compiled : ComponentView Regex) (text : List ℕ) : Type 0 where
   pub generated : compiled.has_regexp_group ≡ false
   pub case_kept : manner.options.ignore_case ≡ false

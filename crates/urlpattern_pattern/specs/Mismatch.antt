@@ -1,4 +1,5 @@
--- The first component that does not match its text, after the URLPattern Standard, section "Matching", at "match".
+-- The first component that does not match its text. The URLPattern Standard, section "Matching", at
+-- "match".
 use Rattle.std.specs.Prelude.{◌≡◌, All, ℕ, List, ◌∷◌, ◌++◌, MatchOption, Option, None}
 use Rattle.urlpattern_pattern.specs.{Match.AreMatched, Patterns.PatternView}
 use Rattle.urlpattern_meaning.specs.Matching.{Answers, AsksEngine, IsMatched}
@@ -6,22 +7,22 @@ use Rattle.urlpattern_meaning.specs.PartMeaning.{Captures}
 use Rattle.urlpattern_components.specs.declared.eight.ComponentName.{ComponentName}
 use Rattle.urlpattern_components.specs.Eight.{Texts, at, components}
 
--- the components before this one, in the order of the standard, match their texts
+-- The components before this one, in the order of the standard, match their texts.
 abbrev pub MatchesBefore : {E : Type 0} → (answer : E → List ℕ → Option Captures) → PatternView E → Texts → ComponentName → Type 0
 MatchesBefore answer pattern texts component =
     (before after : List ComponentName) × (components ≡ before ++ component ∷ after)
     × All (λ earlier. IsMatched answer (pattern earlier).matcher (at texts earlier)) before
 
--- the component is the first that does not match its text
+-- The component is the first that does not match its text.
 abbrev pub IsMismatch : {E : Type 0} → (answer : E → List ℕ → Option Captures) → PatternView E → Texts → ComponentName → Type 0
 IsMismatch answer pattern texts component =
     MatchesBefore answer pattern texts component × Answers answer (pattern component).matcher (at texts component) None
 
--- what is found: the first component that does not match its text, or none where each matches
+-- The first component that does not match its text, or None if each matches.
 abbrev pub FindsMismatch : {E : Type 0} → (answer : E → List ℕ → Option Captures) → PatternView E → Texts → Option ComponentName → Type 0
 FindsMismatch answer pattern texts found = MatchOption found (AreMatched answer pattern texts) (IsMismatch answer pattern texts)
 
--- an engine is asked about the text of a component, and the components before it match theirs
+-- An engine is called for the text of a component, and the components before it match their texts.
 abbrev pub AsksInTurn : {E : Type 0} → (answer : E → List ℕ → Option Captures) → PatternView E → Texts → Type 0
 AsksInTurn answer pattern texts =
     (component : ComponentName) × MatchesBefore answer pattern texts component × AsksEngine (pattern component).matcher (at texts component)

@@ -1,4 +1,4 @@
--- What a clause sees of a `UrlPattern`: its components, and the parts that they were made of.
+-- The view of a `UrlPattern`: its components, and the parts that they were made of.
 use Rattle.std.specs.Prelude.{IfSome, Option}
 use Rattle.urlpattern_matcher.specs.Components.{ComponentView, IsComponentOf}
 use Rattle.urlpattern_matcher.specs.declared.component.Component.{Component}
@@ -16,15 +16,16 @@ pub record UrlPattern (E : Type 0) : Type 0 where
   pub components : Eight (Component E)
   pub parts : Option PatternParts
 
--- All five fields of the component are made of the parts by this engine, which took what the component needs.
+-- All five fields of the component are made of the parts by this engine, which accepted what the
+-- component needs.
 pub record IsMadeOfParts {E : Type 0} (engine : Engine E) (kept : ComponentParts) (component : ComponentView E) : Type 0 where
   pub is_component : IsComponentOf engine (kept_options kept) (kept_parts kept) component
   pub has_engine : HasEngine component
 
--- each component is made of its parts
+-- Each component is made of its parts.
 abbrev pub AreMadeOfParts : {E : Type 0} → Engine E → PatternParts → PatternView E → Type 0
 AreMadeOfParts engine parts pattern = (name : ComponentName) → IsMadeOfParts engine (at parts.components name) (pattern name)
 
--- if the pattern has parts, its components are made of them
+-- If the pattern has parts, its components are made of them.
 abbrev pub HasOwnParts : {E : Type 0} → Engine E → UrlPattern E → Type 0
 HasOwnParts engine pattern = IfSome pattern.parts (λ parts. AreMadeOfParts engine parts (eight_view pattern.components))

@@ -1,6 +1,7 @@
-//! A whole pattern: its eight components, compiled from an init or from a constructor string, and matched against a URL or an init.
+//! A URL pattern: eight components, compiled from an init or a constructor string, and matched
+//! against URLs and inits.
 //!
-//! `urlpattern` passes on the type; `captures_of_texts` is for its own calls.
+//! `urlpattern` re-exports `UrlPattern`; `captures_of_texts` is for calls within that crate.
 #![tactic(auto)]
 
 mod pattern;

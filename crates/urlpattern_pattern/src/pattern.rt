@@ -25,8 +25,9 @@ use urlpattern_matcher::regexp::RegExp;
 
 /// A pattern that URLs are matched against, compiled component by component.
 ///
-/// A pattern that was compiled has the parts that its components were made of. Its components may also be put together by hand, by
-/// `from_eight`; such a pattern has no parts. It has a `Drop` of its own, so the components are moved out together, by `into_eight`.
+/// A compiled pattern has the parts that its components were made of. A pattern that was put
+/// together by hand, with `from_eight`, has no parts. `UrlPattern` implements `Drop`, so
+/// `into_eight` moves the components out together.
 ///
 /// A type alias names the engine once:
 ///
@@ -42,23 +43,24 @@ use urlpattern_matcher::regexp::RegExp;
 /// <https://urlpattern.spec.whatwg.org/#url-pattern>
 #[derive(Debug)]
 pub struct UrlPattern<R: RegExp = regex::Regex> {
-    /// What the scheme is matched with, without its colon.
+    /// The pattern of the protocol, which is matched without its colon.
     pub protocol: Component<R>,
-    /// What the user name is matched with.
+    /// The pattern of the username.
     pub username: Component<R>,
-    /// What the password is matched with.
+    /// The pattern of the password.
     pub password: Component<R>,
-    /// What the host is matched with.
+    /// The pattern of the hostname.
     pub hostname: Component<R>,
-    /// What the port is matched with, which is empty if it is the scheme's default.
+    /// The pattern of the port. A scheme's default port is matched as the empty text.
     pub port: Component<R>,
-    /// What the path is matched with.
+    /// The pattern of the pathname.
     pub pathname: Component<R>,
-    /// What the query is matched with, without its question mark.
+    /// The pattern of the search, which is matched without its question mark.
     pub search: Component<R>,
-    /// What the fragment is matched with, without its number sign.
+    /// The pattern of the hash, which is matched without its number sign.
     pub hash: Component<R>,
-    /// The parts that the components were made of, with their options. `None`: the pattern was put together by hand.
+    /// The parts that the components were made of, with their options. `None`: the pattern was put
+    /// together by hand.
     pub parts: Option<PatternParts>,
 }
 
@@ -79,7 +81,7 @@ impl<R: RegExp> Model for UrlPattern<R> {
 }
 
 impl<R: RegExp> UrlPattern<R> {
-    /// The pattern of these components, put together by hand. It has no parts.
+    /// Returns a pattern of these components, put together by hand, without parts.
     pub fn from_eight(components: Eight<Component<R>>) -> Self
         ensures components { components_of result ≡ components }
         ensures parts { result.parts ≡ None }
@@ -88,7 +90,7 @@ impl<R: RegExp> UrlPattern<R> {
         with_fields!(Self, components, parts)
     }
 
-    /// The pattern of components with the parts that they were made of.
+    /// Returns the pattern of components with the parts that they were made of.
     fn with_parts(components: Eight<Component<R>>, parts: PatternParts) -> Self
         requires { AreMadeOfParts R.RegExp parts (eight_view components) }
         ensures components { components_of result ≡ components }
@@ -98,7 +100,8 @@ impl<R: RegExp> UrlPattern<R> {
         with_fields!(Self, components, parts)
     }
 
-    /// The parts that the components were made of. `None`: the pattern was put together by hand.
+    /// Returns the parts that the components were made of. `None`: the pattern was put together by
+    /// hand.
     pub fn parts(&self) -> Option<&PatternParts>
         ensures parts { option_copied result ≡ self.now.parts }
         ensures made { IfSome self.now.parts (λ parts. AreMadeOfParts R.RegExp parts (pattern_view self.now)) }
@@ -106,7 +109,8 @@ impl<R: RegExp> UrlPattern<R> {
         self.parts.as_ref()
     }
 
-    /// The parts that the components were made of, by value. `None`: the pattern was put together by hand.
+    /// Returns the parts that the components were made of, by value. `None`: the pattern was put
+    /// together by hand.
     pub fn into_parts(self) -> Option<PatternParts>
         ensures parts { result ≡ self.parts }
         ensures made { IfSome result (λ parts. AreMadeOfParts R.RegExp parts (pattern_view self)) }
@@ -125,7 +129,7 @@ impl<R: RegExp> UrlPattern<R> {
         parts
     }
 
-    /// The components.
+    /// Moves the components out of the pattern.
     pub fn into_eight(self) -> Eight<Component<R>>
         ensures { result ≡ components_of self }
     {
@@ -152,70 +156,70 @@ impl<R: RegExp> UrlPattern<R> {
         }
     }
 
-    /// A component by its name.
+    /// Returns the component of this name.
     pub fn get(&self, name: ComponentName) -> &Component<R>
         ensures { result.now ≡ at (components_of self.now) name }
     {
         field_of!(self, name)
     }
 
-    /// The pattern text of the scheme, as it is written anew.
+    /// Returns the normalized pattern string of the protocol.
     pub fn protocol(&self) -> &str
         ensures { chars result.now ≡ (pattern_view self.now names.Protocol).pattern_string }
     {
         &self.protocol.pattern_string
     }
 
-    /// The pattern text of the user name, as it is written anew.
+    /// Returns the normalized pattern string of the username.
     pub fn username(&self) -> &str
         ensures { chars result.now ≡ (pattern_view self.now names.Username).pattern_string }
     {
         &self.username.pattern_string
     }
 
-    /// The pattern text of the password, as it is written anew.
+    /// Returns the normalized pattern string of the password.
     pub fn password(&self) -> &str
         ensures { chars result.now ≡ (pattern_view self.now names.Password).pattern_string }
     {
         &self.password.pattern_string
     }
 
-    /// The pattern text of the host, as it is written anew.
+    /// Returns the normalized pattern string of the hostname.
     pub fn hostname(&self) -> &str
         ensures { chars result.now ≡ (pattern_view self.now names.Hostname).pattern_string }
     {
         &self.hostname.pattern_string
     }
 
-    /// The pattern text of the port, as it is written anew.
+    /// Returns the normalized pattern string of the port.
     pub fn port(&self) -> &str
         ensures { chars result.now ≡ (pattern_view self.now names.Port).pattern_string }
     {
         &self.port.pattern_string
     }
 
-    /// The pattern text of the path, as it is written anew.
+    /// Returns the normalized pattern string of the pathname.
     pub fn pathname(&self) -> &str
         ensures { chars result.now ≡ (pattern_view self.now names.Pathname).pattern_string }
     {
         &self.pathname.pattern_string
     }
 
-    /// The pattern text of the query, as it is written anew.
+    /// Returns the normalized pattern string of the search.
     pub fn search(&self) -> &str
         ensures { chars result.now ≡ (pattern_view self.now names.Search).pattern_string }
     {
         &self.search.pattern_string
     }
 
-    /// The pattern text of the fragment, as it is written anew.
+    /// Returns the normalized pattern string of the hash.
     pub fn hash(&self) -> &str
         ensures { chars result.now ≡ (pattern_view self.now names.Hash).pattern_string }
     {
         &self.hash.pattern_string
     }
 
-    /// Whether a component has a regular expression of its own.
+    /// Whether a component has a custom regular expression.
     ///
     /// <https://urlpattern.spec.whatwg.org/#dom-urlpattern-hasregexpgroups>
     pub fn has_regexp_groups(&self) -> bool
@@ -228,7 +232,8 @@ impl<R: RegExp> UrlPattern<R> {
 }
 
 impl<R: RegExp> Drop for UrlPattern<R> {
-    /// Drops the components. Where a pattern goes out of scope, the prover handles one call in place of eight.
+    /// Drops the components. Where a pattern goes out of scope, the prover handles one call in
+    /// place of eight.
     fn drop(self) {
         let Self {
             protocol: _protocol,

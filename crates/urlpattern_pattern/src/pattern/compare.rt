@@ -1,4 +1,4 @@
-//! Patterns compared by the parts that they were made of.
+//! Compares patterns by the parts that they were made of.
 ghost use Rattle.std.specs.Prelude.{◌≡◌, IfErr, IfOk, Some};
 ghost use Rattle.urlpattern_components.specs.Eight.{at};
 ghost use Rattle.urlpattern_pattern.specs.Comparing.{HaveParts, LackParts, OfBoth, compare_error_text};
@@ -14,16 +14,16 @@ use urlpattern_compare::{PatternCovering, PatternOverlap, PatternParts};
 use urlpattern_components::ComponentName;
 use urlpattern_matcher::regexp::RegExp;
 
-/// Why two patterns are not compared.
+/// Why two patterns cannot be compared.
 #[derive(Debug, Clone, Copy, PartialEq, Eq)]
 pub enum CompareError {
-    /// One of them was put together by hand, so that its parts are not known.
+    /// A pattern was put together by hand and has no parts.
     NoParts,
     /// The allocator had no memory.
     OutOfMemory,
 }
 
-/// Prints why, in a line.
+/// Prints the reason, in one line.
 impl fmt::Display for CompareError {
     ghost output = { λ error. Some (compare_error_text error) };
 
@@ -46,11 +46,12 @@ impl From<AllocError> for CompareError {
 }
 
 impl<R: RegExp> UrlPattern<R> {
-    /// Returns whether this pattern covers another one: whether it means each eight texts without line feed that the other one means.
+    /// Returns whether this pattern covers `asked`: whether its parts match every eight texts that
+    /// the parts of `asked` match. Texts with a line feed are left out.
     ///
-    /// It compares the parts of both, as `PatternParts::covers` does.
+    /// The comparison is that of `PatternParts::covers`.
     ///
-    /// The error is that one of them has no parts, or that memory ran out.
+    /// The error is that a pattern has no parts, or that memory ran out.
     pub fn covers(&self, alloc: Global, asked: &Self) -> Result<PatternCovering, CompareError>
         ensures covering { IfOk result (λ covering. OfBoth self.now asked.now (λ parts others. IsPatternCovering parts others covering)) }
         ensures missing { IfErr result (LackParts self.now asked.now) }
@@ -59,11 +60,12 @@ impl<R: RegExp> UrlPattern<R> {
         Ok(parts.covers(alloc, others)?)
     }
 
-    /// Returns whether this pattern and another one both mean some eight texts without line feed, and such texts.
+    /// Returns whether this pattern and `other` overlap: whether the parts of both match some eight
+    /// texts without line feeds, and which.
     ///
-    /// It compares the parts of both, as `PatternParts::overlaps` does.
+    /// The comparison is that of `PatternParts::overlaps`.
     ///
-    /// The error is that one of them has no parts, or that memory ran out.
+    /// The error is that a pattern has no parts, or that memory ran out.
     pub fn overlaps(&self, alloc: Global, other: &Self) -> Result<PatternOverlap, CompareError>
         ensures overlap { IfOk result (λ overlap. OfBoth self.now other.now (λ parts others. IsPatternOverlap parts others overlap)) }
         ensures missing { IfErr result (LackParts self.now other.now) }
@@ -72,11 +74,11 @@ impl<R: RegExp> UrlPattern<R> {
         Ok(parts.overlaps(alloc, others)?)
     }
 
-    /// Compares two patterns in one component: the more specific is the greater.
+    /// Compares one component of two patterns: the more specific is the greater.
     ///
-    /// It compares the parts of both, as `compare_parts` does, and does not allocate.
+    /// The comparison is that of `compare_parts`, and does not allocate.
     ///
-    /// The error is that one of them has no parts.
+    /// The error is that a pattern has no parts.
     pub fn compare_component(
         component: ComponentName,
         left: &Self,
@@ -92,9 +94,9 @@ impl<R: RegExp> UrlPattern<R> {
         }
     }
 
-    /// The parts of both patterns.
+    /// Returns the parts of both patterns.
     ///
-    /// The error is that one of them has none.
+    /// The error is that a pattern has no parts.
     fn both_parts<'p>(
         &'p self,
         other: &'p Self,

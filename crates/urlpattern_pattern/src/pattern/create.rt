@@ -24,16 +24,19 @@ use urlpattern_matches::UrlPatternResult;
 use urlpattern_syntax::{Error, RegexSyntax};
 
 impl<R: RegExp> UrlPattern<R> {
-    /// Compiles a pattern from an init: from its own texts, and from what they inherit from its base URL.
+    /// Compiles a pattern from an init: from its own texts, and from those that it inherits from
+    /// its base URL.
     ///
-    /// The error is that of the first component that is refused, or that memory ran out. The protocol is compiled first, then
-    /// the hostname and the pathname, and then the others as they stand in a URL. A component is refused for its text, by
-    /// `url` for a fixed text in it, or by the engine for its regular expression.
+    /// The error is that of the first component that is rejected, or that memory ran out. The
+    /// protocol is compiled first, then the hostname, the pathname, and the others in the order of
+    /// a URL. A component is rejected for its text, for a fixed text in it that `url` rejects, or
+    /// for its regular expression, by the engine.
     ///
-    /// The pattern keeps the parts that its texts read as, of which its components are made.
+    /// The pattern keeps the parts that its texts were parsed into. Its components are made of
+    /// these parts.
     ///
-    /// The pattern answers by its texts, with an engine whose matchers answer the first way of what they are made of, as
-    /// `PatternRegexp`'s do.
+    /// With an engine whose matchers return the first way of their parts, as those of
+    /// `PatternRegexp` do, the pattern matches by its texts (`AnswersByItsText`).
     ///
     /// Here `Pattern` is `UrlPattern<PatternRegexp>`, and the init has a pattern for the path alone:
     ///
@@ -58,10 +61,11 @@ impl<R: RegExp> UrlPattern<R> {
         Self::parse_knowing(alloc, init, None, options)
     }
 
-    /// Compiles a pattern from a constructor string, the pattern of a whole URL, with a base URL if there is one.
+    /// Compiles a pattern from a constructor string, the pattern of a whole URL, and from a base
+    /// URL, if any.
     ///
-    /// The error is that `url` refuses the base URL, that the string is refused, that of compiling the pattern, or that memory
-    /// ran out.
+    /// The error is that `url` rejects the base URL, that the string is rejected, that of compiling
+    /// the pattern, or that memory ran out.
     ///
     /// Here `USERS` is the text `https://example.com/users/:id`:
     ///
@@ -89,9 +93,10 @@ impl<R: RegExp> UrlPattern<R> {
         Self::parse_knowing(alloc, init, known, options)
     }
 
-    /// Compiles a pattern as `parse` does, where the protocol may be known, with its text.
+    /// Compiles a pattern as `parse` does. The protocol may already be compiled, and comes with its
+    /// text.
     ///
-    /// The error is that of `parse`.
+    /// The errors are those of `parse`.
     fn parse_knowing(
         alloc: Global,
         init: UrlPatternInit,
@@ -105,7 +110,8 @@ impl<R: RegExp> UrlPattern<R> {
         ensures by_text { MakesFirstWays R.RegExp → IfPattern result (AnswersByItsText R.answer init options) }
         ensures refused { IfErr result (MemoryOr (RefusesInit R.RegExp init options)) }
     {
-        // (A `?` or one `match` for both would copy the components, which fill kilobytes, once more.)
+        // A `?`, or one `match` for both, would copy the components, which fill kilobytes, once
+        // more.
         let made = match compile_init(alloc, init, known, options) {
             Ok(made) => made,
             Err(error) => return Err(error),
@@ -114,14 +120,16 @@ impl<R: RegExp> UrlPattern<R> {
         Ok(Self::with_parts(components, parts))
     }
 
-    /// Compiles the pattern of an init and matches one input: `parse`, and then `exec`.
+    /// Compiles the pattern of an init and matches one input: `parse`, then `exec`.
     ///
-    /// There is a match exactly where the pattern texts mean the texts of the input, and the groups are what they capture in
-    /// one such meaning: for components without a custom regular expression, where case is kept and no text has a line feed,
-    /// with an engine that, where one is needed, follows the regular expression that it was given. With an engine whose matchers
-    /// answer first ways, as `PatternRegexp`'s do, the groups are those of the first way, without a premise on the engine.
+    /// The groups of a match are captures with which the pattern texts mean the texts of the input;
+    /// without a match, the pattern texts do not mean them. The premises: components without custom
+    /// regular expressions, case that is kept, texts without line feeds, and an engine that follows
+    /// its regular expression, where one is needed. With an engine whose matchers return first ways, as
+    /// those of `PatternRegexp` do, the groups are those of the first way, without a premise on the
+    /// engine.
     ///
-    /// The error is why the pattern is refused, or that memory ran out.
+    /// The error is why the pattern is rejected, or that memory ran out.
     pub fn exec_once(
         alloc: Global,
         init: UrlPatternInit,
@@ -138,7 +146,7 @@ impl<R: RegExp> UrlPattern<R> {
     }
 }
 
-/// Components, and their parts.
+/// Separates components from their parts.
 fn parted<R: RegExp>(made: Eight<ComponentWithParts<R>>) -> (Eight<Component<R>>, PatternParts)
     ensures { AreParted made result.0 result.1 }
 {

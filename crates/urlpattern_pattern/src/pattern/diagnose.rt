@@ -1,4 +1,4 @@
-//! What is wrong with a pattern that is refused.
+//! Reports what is wrong with a pattern that is rejected.
 
 ghost use Rattle.std.specs.Prelude.{option_copied};
 ghost use Rattle.std.specs.Str.{chars};
@@ -16,9 +16,10 @@ use urlpattern_matcher::regexp::RegExp;
 use urlpattern_syntax::error::OutOfMemory;
 
 impl<R: RegExp> UrlPattern<R> {
-    /// What is wrong with a constructor string, or with its base URL. `None`: it is accepted.
+    /// Returns what is wrong with a constructor string, or with its base URL. `None`: the pattern
+    /// is accepted.
     ///
-    /// A string that is refused is read a second time. The error is that memory ran out.
+    /// A string that is rejected is parsed a second time, to find the fault.
     ///
     /// The program `urlpat` calls it with the default options:
     ///
@@ -46,10 +47,10 @@ impl<R: RegExp> UrlPattern<R> {
         diagnose_text::<R>(alloc, pattern, base_url, options)
     }
 
-    /// What is wrong with an init. `None`: it is accepted.
+    /// Returns what is wrong with an init. `None`: the pattern is accepted.
     ///
-    /// The text of the diagnosis is the value of the component that is refused. An init that is refused is read a second
-    /// time. The error is that memory ran out.
+    /// The text of the diagnosis is the value of the component that is rejected. An init that is
+    /// rejected is compiled a second time, to find the fault.
     pub fn diagnose_init(
         alloc: Global,
         init: &UrlPatternInit,

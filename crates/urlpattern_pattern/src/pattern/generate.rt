@@ -1,4 +1,4 @@
-//! The text of one component whose groups capture what is given.
+//! Generates the text of one component from the texts of its groups.
 ghost use Rattle.std.specs.Prelude.{IfErr, IfOk};
 ghost use Rattle.urlpattern_generate.specs.Manners.{given_groups};
 ghost use Rattle.urlpattern_pattern.specs.GeneratedTexts.{GeneratesText, RefusesGroups};
@@ -11,15 +11,17 @@ use urlpattern_generate::{GenerateError, GivenGroup, generate_component};
 use urlpattern_matcher::regexp::RegExp;
 
 impl<R: RegExp> UrlPattern<R> {
-    /// The text of a component that the component matches, with these groups: each captures the canonical form of the text that it
-    /// is given, and of several texts for one group the first counts. Texts for other components, and for groups that the component
-    /// does not have, are ignored.
+    /// Returns a text that the component matches and whose groups capture the given texts, in
+    /// canonical form. The first of several texts for one group counts. Texts for other components,
+    /// or for groups that the component does not have, are ignored.
     ///
-    /// A group that is not given takes no part if it may, and else a wildcard without name is empty. A fixed text with a modifier
-    /// occurs as few times as that allows.
+    /// A group without a text takes no part if its modifier permits that; otherwise a wildcard
+    /// without name is empty. A fixed text with a modifier occurs as few times as the modifier
+    /// permits.
     ///
-    /// The error is that a group is missing, that one may not capture what it is given, that the text would be read with other groups
-    /// or is not canonical, that the pattern was put together by hand, or that memory ran out.
+    /// The error is that a group is missing, that a group cannot capture its text, that the text of
+    /// the component would be read with other groups or is not canonical, that the pattern was put
+    /// together by hand, or that memory ran out.
     ///
     /// A test compares the text, or the error, with the recorded one:
     ///

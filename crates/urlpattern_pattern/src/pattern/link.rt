@@ -1,4 +1,4 @@
-//! The URL of a pattern whose groups capture what is given.
+//! Generates the URL of a pattern from the texts of its groups.
 ghost use Rattle.std.specs.Prelude.{IfErr, IfOk};
 ghost use Rattle.urlpattern_components.specs.Eight.{IsFirstError};
 ghost use Rattle.urlpattern_generate.specs.Manners.{given_groups};
@@ -21,12 +21,14 @@ use urlpattern_generate::{
 use urlpattern_matcher::regexp::RegExp;
 
 impl<R: RegExp> UrlPattern<R> {
-    /// The URL that the pattern matches, with these groups: each of its texts is that of the component's parts, and it is what `url`
-    /// reads in these texts, put together. So a component that the pattern leaves open is empty, unless its wildcard is given by its
-    /// number. Each match of the URL captures the canonical forms of the texts that are given.
+    /// Returns the URL that the pattern matches with these groups. Each of its texts is that of the
+    /// component's parts, and the URL is what `url` parses from these texts, put together. A
+    /// component that the pattern leaves open is therefore empty, unless its wildcard is given a
+    /// text by its number. Each match of the URL captures the given texts, in canonical form.
     ///
-    /// The error is that of the first component that has no text with its groups, that no URL has the texts of the components, that the
-    /// text of a component would be read with other groups, that the pattern was put together by hand, or that memory ran out.
+    /// The error is that of the first component that has no text with its groups, that no URL has
+    /// the texts of the components, that the text of a component would be read with other groups,
+    /// that the pattern was put together by hand, or that memory ran out.
     ///
     /// Here the pattern is compiled from `https://example.com/users/:id`:
     ///
@@ -63,9 +65,8 @@ impl<R: RegExp> UrlPattern<R> {
         }
     }
 
-    /// The first component whose matcher finds something else in its text than is asked of the groups. `None`: there is none.
-    ///
-    /// The error is that memory ran out.
+    /// Returns the first component whose matcher does not find the expected captures in its text.
+    /// `None`: every matcher finds them.
     fn unconfirmed(
         &self,
         alloc: Global,
@@ -85,9 +86,7 @@ impl<R: RegExp> UrlPattern<R> {
         Ok(None)
     }
 
-    /// Whether the matcher of a component finds in its text what is asked of the groups.
-    ///
-    /// The error is that memory ran out.
+    /// Whether the matcher of a component finds the expected captures in its text.
     fn is_confirmed(
         &self,
         alloc: Global,
@@ -106,9 +105,9 @@ impl<R: RegExp> UrlPattern<R> {
     }
 }
 
-/// The texts of the parts of the components with these groups.
+/// Returns the texts of all components, as their parts spell them with these groups.
 ///
-/// The error is that of the first component that has none.
+/// The error is that of the first component that has no text.
 fn written_each<'d>(
     alloc: Global,
     parts: &'d PatternParts,
@@ -137,9 +136,9 @@ fn written_each<'d>(
     })
 }
 
-/// The text of the parts of a component with these groups.
+/// Returns the text of a component, as its parts spell it with these groups.
 ///
-/// The error says why it has none, or that memory ran out.
+/// The error is why the component has no text, or that memory ran out.
 #[inline(always)]
 fn written<'d>(
     alloc: Global,

@@ -1,6 +1,7 @@
-//! Matching: what a pattern answers to eight texts, and the groups of the answer.
+//! Matches URLs, inits and texts, and returns the groups of a match.
 //!
-//! All components look at their texts before anything is made. Engines are asked last, and the first refusal ends it.
+//! All components look at their texts before anything is allocated. Engines are called last, and
+//! the first component that does not match ends the search.
 ghost use Rattle.std.specs.Prelude.{◌≡◌, None, Some, IfErr, IfNone, IfOk, IfSome};
 ghost use Rattle.urlpattern_matcher.specs.Looks.{look_answer, IsAsking};
 ghost use Rattle.urlpattern_init.specs.declared.init.UrlPatternMatchInput.TheVariants as inputs;
@@ -32,10 +33,10 @@ use urlpattern_syntax::Error;
 use urlpattern_syntax::error::OutOfMemory;
 
 impl<R: RegExp> UrlPattern<R> {
-    /// Whether the pattern matches an input. A URL's texts are its own; an init's are those that it results in, with what it
-    /// inherits. An input that `url` refuses is not matched.
+    /// Whether the pattern matches an input: the texts of a URL, or those that an init results in,
+    /// with what it inherits. An input that `url` rejects does not match.
     ///
-    /// The error is that memory ran out. For the texts of a URL only an engine allocates.
+    /// For a URL, only an engine allocates.
     ///
     /// Here `by_hand` makes a component with an error in place of an engine, so the pattern matches nothing:
     ///
@@ -63,10 +64,11 @@ impl<R: RegExp> UrlPattern<R> {
         }
     }
 
-    /// What the groups capture of an input. `None`: the pattern does not match it. Of a URL its own texts are
-    /// matched, of an init those that it results in, with what it inherits. An input that `url` refuses is not matched.
+    /// Returns what the groups capture of an input: of the texts of a URL, or of those that an init
+    /// results in, with what it inherits. `None`: the pattern does not match. An input that `url`
+    /// rejects does not match.
     ///
-    /// The error is that memory ran out. Of a URL an engine allocates, and the copy of a match.
+    /// For a URL, only an engine and the copy of a match allocate.
     ///
     /// Here `url_input` parses a URL and `pattern_of` compiles a pattern, which is dropped before its match is used:
     ///
@@ -102,7 +104,7 @@ impl<R: RegExp> UrlPattern<R> {
 
     /// Whether the pattern matches a URL, as `test` returns it.
     ///
-    /// The error is that memory ran out. Only an engine allocates.
+    /// Only an engine allocates.
     pub fn test_url(&self, alloc: Global, url: &Url) -> Result<bool, Error>
         ensures matched { IfOk result (TestsInput R.answer (pattern_view self.now) (inputs.Url url.now)) }
         ensures memory { OnlyOutOfMemory result }
@@ -111,9 +113,10 @@ impl<R: RegExp> UrlPattern<R> {
         Ok(self.is_matched(alloc, &url_texts(url))?)
     }
 
-    /// What the groups capture of a URL, as `exec` returns it. `None`: the pattern does not match the URL.
+    /// Returns what the groups capture of a URL, as `exec` does. `None`: the pattern does not match
+    /// the URL.
     ///
-    /// The error is that memory ran out. An engine allocates, and the copy of a match.
+    /// Only an engine and the copy of a match allocate.
     pub fn exec_url(&self, alloc: Global, url: &Url) -> Result<Option<UrlPatternResult>, Error>
         ensures matched { IfOk result (FindsInInput result_view R.answer (pattern_view self.now) (inputs.Url url.now)) }
         ensures memory { OnlyOutOfMemory result }
@@ -122,9 +125,10 @@ impl<R: RegExp> UrlPattern<R> {
         self.exec_texts(alloc, url_texts(url))
     }
 
-    /// The match of a URL, borrowed from the pattern and the URL. `None`: the pattern does not match the URL.
+    /// Returns the match of a URL, borrowed from the pattern and the URL. `None`: the pattern does
+    /// not match the URL.
     ///
-    /// The error is that memory ran out. Only an engine allocates.
+    /// Only an engine allocates.
     ///
     /// Here `users` is compiled from `https://example.com/users/:id`, and `ID` is the text `id`:
     ///
@@ -149,12 +153,12 @@ impl<R: RegExp> UrlPattern<R> {
         Ok(captures_of_texts(alloc, self, &url_texts(url))?)
     }
 
-    /// The match of an input that has its eight texts, borrowed from the pattern and the input. `None`: the pattern does not
-    /// match them.
+    /// Returns the match of an input, borrowed from the pattern and the input. `None`: the pattern
+    /// does not match the eight texts.
     ///
-    /// Of an init, or of what a browser gives, `parse_match_input` makes such an input.
+    /// `quirks::parse_match_input` makes a `MatchInput` from an init or a URL.
     ///
-    /// The error is that memory ran out. Only an engine allocates.
+    /// Only an engine allocates.
     pub fn captures_of_input<'p, 'u>(
         &'p self,
         alloc: Global,
@@ -168,10 +172,10 @@ impl<R: RegExp> UrlPattern<R> {
         Ok(captures_of_texts(alloc, self, &input_texts(input))?)
     }
 
-    /// Whether the pattern matches eight texts, as they are. `url_texts` borrows those of a URL, and `pathname_texts` those of a
-    /// path alone.
+    /// Whether the pattern matches eight texts, as they are. `url_texts` borrows those of a URL,
+    /// and `pathname_texts` those of a path alone.
     ///
-    /// The error is that memory ran out. Only an engine allocates.
+    /// Only an engine allocates.
     pub fn test_texts(&self, alloc: Global, texts: &Eight<&str>) -> Result<bool, Error>
         ensures matched { IfOk result (TestsTexts R.answer (pattern_view self.now) (borrowed_texts texts.now)) }
         ensures memory { OnlyOutOfMemory result }
@@ -180,10 +184,11 @@ impl<R: RegExp> UrlPattern<R> {
         Ok(self.is_matched(alloc, texts)?)
     }
 
-    /// The match of eight texts, as they are, borrowed from the pattern and from what has the texts. `None`: the pattern does not
-    /// match them. `url_texts` borrows those of a URL, and `pathname_texts` those of a path alone.
+    /// Returns the match of eight texts, as they are, borrowed from the pattern and from the owner
+    /// of the texts. `None`: the pattern does not match the texts. `url_texts` borrows those of a
+    /// URL, and `pathname_texts` those of a path alone.
     ///
-    /// The error is that memory ran out. Only an engine allocates.
+    /// Only an engine allocates.
     ///
     /// Here `users` has a pattern for the path alone, and there is no URL:
     ///
@@ -206,9 +211,7 @@ impl<R: RegExp> UrlPattern<R> {
         Ok(captures_of_texts(alloc, self, texts)?)
     }
 
-    /// The match of these texts, copied. `None`: one of them is not matched.
-    ///
-    /// The error is that memory ran out.
+    /// Returns an owned match of eight texts. `None`: a component does not match its text.
     #[inline(always)]
     fn exec_texts(
         &self,
@@ -225,7 +228,7 @@ impl<R: RegExp> UrlPattern<R> {
         }
     }
 
-    /// Whether these texts are matched.
+    /// Whether the pattern matches eight texts.
     fn is_matched(&self, alloc: Global, texts: &Eight<&str>) -> Result<bool, OutOfMemory>
         ensures matched { IfOk result (TestsTexts R.answer (pattern_view self.now) (borrowed_texts texts.now)) }
         ensures asked { IfErr result (λ _. AsksAnEngine R.answer (pattern_view self.now) (borrowed_texts texts.now)) }
@@ -233,7 +236,7 @@ impl<R: RegExp> UrlPattern<R> {
         Ok(self.captured(alloc, texts)?.is_some())
     }
 
-    /// The match of texts of which the groups capture this.
+    /// Returns the match that has these texts and captures.
     fn with_captures<'p, 'u>(
         &'p self,
         texts: &Eight<&'u str>,
@@ -248,7 +251,8 @@ impl<R: RegExp> UrlPattern<R> {
         captures_from(Eight::from_fn(names), with_fields!(Eight, texts), captures)
     }
 
-    /// What the components see in their texts, before an engine is asked. `None`: one of them does not match.
+    /// Returns what the components see in their texts before an engine is called. `None`: a
+    /// component does not match its text.
     #[inline(always)]
     fn look<'p, 'u>(&'p self, texts: &Eight<&'u str>) -> Option<Eight<Look<'p, 'u, R>>>
         ensures some { IfSome result (AreLooks R.answer (pattern_view self.now) (borrowed_texts texts.now)) }
@@ -268,7 +272,7 @@ impl<R: RegExp> UrlPattern<R> {
         })
     }
 
-    /// What the groups capture of these texts. `None`: one of the texts is not matched.
+    /// Returns what the groups capture of eight texts. `None`: a component does not match its text.
     ///
     /// Only an engine allocates.
     fn captured<'u>(
@@ -287,7 +291,8 @@ impl<R: RegExp> UrlPattern<R> {
     }
 }
 
-/// The match of eight texts, borrowed from the pattern and from what has the texts. `None`: one of them is not matched.
+/// Returns the match of eight texts, borrowed from the pattern and from the owner of the texts.
+/// `None`: a component does not match its text.
 ///
 /// Only an engine allocates.
 pub fn captures_of_texts<'p, 'u, R: RegExp>(
@@ -305,7 +310,7 @@ pub fn captures_of_texts<'p, 'u, R: RegExp>(
     }
 }
 
-/// What eight looks capture. `None`: an engine that is asked does not match.
+/// Returns what eight looks capture. `None`: an engine that is called does not match.
 fn captures_of_looks<'u, R: RegExp>(
     alloc: Global,
     looks: Eight<Look<'_, 'u, R>>,

@@ -1,4 +1,4 @@
-//! Why a pattern does not match: the first component that does not match its text.
+//! Reports why a pattern does not match: the first component that does not match its text.
 ghost use Rattle.std.specs.Prelude.{IfErr, IfOk};
 ghost use Rattle.urlpattern_init.specs.Inheritance.{texts_of_url};
 ghost use Rattle.urlpattern_matches.specs.GroupTexts.{borrowed_texts};
@@ -14,10 +14,11 @@ use urlpattern_matches::url_texts;
 use urlpattern_syntax::Error;
 
 impl<R: RegExp> UrlPattern<R> {
-    /// The first component that does not match its text of a URL, in the order protocol, user name, password, hostname, port,
-    /// pathname, search, hash. `None`: the pattern matches the URL.
+    /// Returns the first component that does not match its text of a URL, in the order protocol,
+    /// username, password, hostname, port, pathname, search, hash. `None`: the pattern matches the
+    /// URL.
     ///
-    /// The error is that memory ran out. Only an engine allocates, and none is asked after the component that is returned.
+    /// Only an engine allocates, and no engine is called after the component that is returned.
     ///
     /// Here `url_of` parses a URL. Its eight texts have the same mismatch:
     ///
@@ -37,10 +38,10 @@ impl<R: RegExp> UrlPattern<R> {
         self.mismatch_of_texts(alloc, &url_texts(url))
     }
 
-    /// The first component that does not match its text of these eight, in the order of `mismatch`. `None`: the pattern matches
-    /// them.
+    /// Returns the first component that does not match its text, in the order of `mismatch`.
+    /// `None`: the pattern matches the eight texts.
     ///
-    /// The error is that memory ran out. Only an engine allocates, and none is asked after the component that is returned.
+    /// Only an engine allocates, and no engine is called after the component that is returned.
     pub fn mismatch_of_texts(
         &self,
         alloc: Global,

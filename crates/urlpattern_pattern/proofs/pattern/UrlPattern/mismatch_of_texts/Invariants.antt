@@ -6,7 +6,7 @@ use Rattle.urlpattern_pattern.specs.Patterns.{pattern_view}
 use Rattle.urlpattern_components.specs.Eight.{at}
 use Rattle.urlpattern_pattern.proofs.pattern.UrlPattern.mismatch_of_texts.Given as goal
 
--- the components so far match their texts
+-- The components so far match their texts.
 abbrev pub invariant-loop-name : goal.invariant-loop-name
 invariant-loop-name g l =
     All (λ name. IsMatched g.R.RegExp.answer (pattern_view l.self name).matcher (at (borrowed_texts l.texts) name)) (take l.name-index l.name-items)
