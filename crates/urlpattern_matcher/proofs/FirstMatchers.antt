@@ -1,4 +1,4 @@
--- Engines whose values answer the first way of the tree of the text that they were made of, and matchers that ask them.
+-- Engines whose values return the first way of the tree of their text, and matchers that call them.
 use Rattle.std.proofs.Common.{◌≡◌, ℕ, Bool, true, false, cond, codes, List, Option, refl, sym}
 use Rattle.urlpattern_matcher.specs.Components.{FlagsAgree, IsEngineOf, engine_flags, ignores_case}
 use Rattle.urlpattern_matcher.specs.FirstWays.{AllAnswerAlike, EachAnswersFirst, IsTakenBy, Keeping, Taking, ValuesAnswerFirst, ValuesFollowParts, ValuesFollowTexts}
@@ -16,7 +16,7 @@ use Rattle.urlpattern_meaning.proofs.OneMeaning.{is_tree_of}
 use Rattle.urlpattern_meaning.proofs.PartTrees.{tree_of}
 use Rattle.urlpattern_meaning.proofs.FirstAnswers.{first_agrees, first_one, matcher_first, of_made}
 
--- such a value follows its text
+-- A value that returns first ways follows its text.
 pub first_follows : (regexp : List ℕ) (answer : List ℕ → Option Captures) → AnswersFirst regexp answer → (tree : Items) → IsTreeOf regexp tree → Follows regexp answer
 first_follows regexp answer first tree is = record {
   tree = tree;
@@ -24,7 +24,7 @@ first_follows regexp answer first tree is = record {
   answers = λ text scalars. meant_or_none tree is.1 text (answer text) (sym (first tree text is scalars));
 }
 
--- such values follow their texts, and so the regular expressions of parts
+-- Values that return first ways follow their texts, and the regular expressions of parts.
 pub values_follow : {E : Type 0} (engine : Engine E) (Keeps : Keeping) → ValuesAnswerFirst engine Keeps → ValuesFollowTexts engine Keeps
 values_follow engine Keeps first regexp flags tree value is keeps made = first_follows regexp (engine.answer value) (first regexp flags value keeps made) tree is
 
@@ -32,8 +32,8 @@ pub values_follow_parts : {E : Type 0} (engine : Engine E) (Keeps : Keeping) →
 values_follow_parts engine Keeps first options flags parts value generated keeps made =
     values_follow engine Keeps first (regexp_text options parts) flags (tree_of options parts) value (is_tree_of options parts generated) keeps made
 
--- where the engine took its text with a value of which this holds, and the answers of such values are the first way, the
--- answers of matchers are
+-- If the engine accepted its text with a value of which `Holds` is true, and such values return
+-- first ways, then so do matchers.
 pub made_first : {E : Type 0} (engine : Engine E) (Took : Taking E) (Holds : E → Type 0) →
     ((options : OptionsView) (flags : List ℕ) (parts : List PartView) (matcher : MatcherView E) → IsTakenBy engine Took options flags parts matcher → TookText Holds matcher.inner) →
     ((options : OptionsView) (regexp flags : List ℕ) (value : E) (inner : InnerView E) → options.ignore_case ≡ false → Took options flags inner → engine.IsMade value regexp flags → Holds value
@@ -47,12 +47,12 @@ made_first engine Took Holds takes values_first options flags parts matcher take
     let first = matcher_first engine.answer IsEngine options parts matcher text result taken.is_made taken.generated taken.case_kept no_feed scalars firsts answers in
     (first, first_agrees options parts text result taken.generated first)
 
--- what two matchers of the same parts answer is the same then
+-- Two matchers of the same parts return the same.
 pub first_alike : {E : Type 0} (engine : Engine E) (Took : Taking E) → EachAnswersFirst engine Took → AllAnswerAlike engine Took
 first_alike engine Took firsts options flags parts matcher another taken also text result other no_feed scalars answers replies =
     first_one options parts text result other (firsts options flags parts matcher taken text result no_feed scalars answers).0 (firsts options flags parts another also text other no_feed scalars replies).0
 
--- the flags that the engine of a component is given ignore case where the options do
+-- The flags for the engine of a component ignore case if and only if the options do.
 pub flags_agree : (options : OptionsView) → FlagsAgree options (engine_flags options)
 flags_agree options = by options.ignore_case
   where

@@ -1,4 +1,4 @@
--- Lemmas on the ends of a text that are cut off where case is ignored.
+-- The ends of a text that are stripped where case is ignored.
 use Rattle.std.proofs.Common.{◌≡◌, ℕ, ◌+◌, ◌≤◌, ◌-◌, Bool, true, false, List, [], ◌∷◌, ◌++◌, length, take, drop, map, refl, sym, ap, ◌∙◌, subst, arith, append_assoc, IsTrue}
 use Rattle.std.proofs.lemmas.Bool.{and_parts}
 use Rattle.std.proofs.lemmas.List.{drop_at, length-append, length-map, take-append-drop, take_at}
@@ -15,7 +15,7 @@ use lib.Utf8.{scalar, scalars}
 
 -- ---- bytes
 
--- the bytes of an end that is the same but for case
+-- The bytes of an end that is equal but for case.
 same-bytes : (end other : List ℕ) → IsUtf8 other → IsSame true end (chars other) → map to_ascii_lowercase (encode_utf8_all end) ≡ map to_ascii_lowercase other
 same-bytes end other u same = lower-encodes end ∙ ap encode_utf8_all same ∙ sym (lower-bytes other u)
 
@@ -27,7 +27,7 @@ scalars-right : (front rest : List ℕ) → scalars (front ++ rest) ≡ true →
 scalars-right [] rest h = h
 scalars-right (c ∷ front) rest h = scalars-right front rest (and_parts (scalar c) (scalars (front ++ rest)) h).1
 
--- a text that is cut by its characters is cut by its bytes
+-- A text that is cut by its characters is cut by its bytes.
 cut-bytes : (s front rest : List ℕ) → IsUtf8 s → chars s ≡ front ++ rest → s ≡ encode_utf8_all front ++ encode_utf8_all rest
 cut-bytes s front rest u e = sym (encodes-chars s u) ∙ ap encode_utf8_all e ∙ encodes-append front rest
 
@@ -36,7 +36,7 @@ cut-boundary s front rest n u e len =
     let scalar_rest : scalars rest ≡ true = scalars-right front rest (sym (ap scalars e) ∙ scalars-chars s u) in
     subst (λ k. IsCharBoundary s k) len (IsCharBoundary-at_seam s (encode_utf8_all front) (encode_utf8_all rest) (cut-bytes s front rest u e) (rest, (scalar_rest, refl)))
 
--- and the other way round
+-- A text that is cut by its bytes is cut by its characters.
 cut-chars : (s : List ℕ) (n : ℕ) → IsUtf8 s → IsCharBoundary s n → chars s ≡ chars (take n s) ++ chars (drop n s)
 cut-chars s n u at = sym (ap chars (take-append-drop n s)) ∙ chars-append (take n s) (drop n s) (IsUtf8-take s n u at)
 
@@ -116,13 +116,13 @@ between-folded matcher text rest middle ignored (front, e, begins) (back, f, end
   subst (λ b. IsSame b back matcher.suffix) (sym ignored) ends,
 )
 
--- what has a middle begins with the prefix
+-- What has a middle begins with the prefix.
 pub begins-between : {E : Type 0} (matcher : MatcherView E) (text middle : List ℕ) → matcher.ignore_case ≡ true → HasMiddle matcher text middle →
     (rest : List ℕ) × BeginsWithFolded matcher.prefix text rest
 begins-between matcher text middle ignored (front, back, e, begins, ends) =
     (middle ++ back, (front, e ∙ append_assoc front middle back, subst (λ b. IsSame b front matcher.prefix) ignored begins))
 
--- and what follows the prefix ends with the suffix
+-- The text after the prefix ends with the suffix.
 pub ends-between : {E : Type 0} (matcher : MatcherView E) (text rest middle : List ℕ) → matcher.ignore_case ≡ true → BeginsWithFolded matcher.prefix text rest →
     HasMiddle matcher text middle → EndsWithFolded matcher.suffix rest middle
 ends-between matcher text rest middle ignored (begin, f, same) (front, back, e, begins, ends) =

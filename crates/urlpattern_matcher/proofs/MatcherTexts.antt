@@ -1,4 +1,4 @@
--- Lemmas on what a matcher cuts off a text and compares.
+-- The texts that a matcher strips and compares.
 use Rattle.std.proofs.Common.{◌⊎◌, inl, inr, ◌≡◌, ◌↔◌, ℕ, suc, ◌<◌, ◌≤◌, ◌-◌, Bool, true, false, List, [], ◌∷◌, ◌++◌, length, take, drop, get_or, map, refl, sym, ap, ◌∙◌, subst, arith, append_assoc, IsTrue}
 use Rattle.std.proofs.lemmas.Bool.Decides.{nat_tests}
 use Rattle.std.proofs.lemmas.Bool.{and_parts, cases_lt, false≢true}
@@ -15,11 +15,11 @@ use Rattle.urlpattern_syntax.specs.Text.{lacks}
 
 -- ---- prefix and suffix
 
--- the characters of three texts end to end
+-- The characters of three texts, joined.
 pub chars-three : (a b d : List ℕ) → IsUtf8 a → IsUtf8 b → chars (a ++ (b ++ d)) ≡ chars a ++ chars b ++ chars d
 chars-three a b d u v = chars-append a (b ++ d) u ∙ ap (λ x. chars a ++ x) (chars-append b d v) ∙ sym (append_assoc (chars a) (chars b) (chars d))
 
--- a text whose characters are these three texts is their bytes
+-- A text whose characters are those of three texts has their bytes.
 pub bytes-three : (s a m d : List ℕ) → IsUtf8 s → IsUtf8 a → IsUtf8 d → chars s ≡ chars a ++ m ++ chars d → s ≡ a ++ (encode_utf8_all m ++ d)
 bytes-three s a m d u v w e =
     sym (encodes-chars s u) ∙ ap encode_utf8_all (e ∙ append_assoc (chars a) m (chars d))
@@ -27,11 +27,11 @@ bytes-three s a m d u v w e =
     ∙ ap (λ x. x ++ encode_utf8_all (m ++ chars d)) (encodes-chars a v)
     ∙ ap (λ x. a ++ x) (encodes-append m (chars d) ∙ ap (λ x. encode_utf8_all m ++ x) (encodes-chars d w))
 
--- the text does not begin with this prefix
+-- The text does not begin with this prefix.
 pub not_stripped : (s p d : List ℕ) → IsUtf8 s → IsUtf8 p → IsUtf8 d → LacksTextAt p s 0 → (middle : List ℕ) → ¬ (chars s ≡ chars p ++ middle ++ chars d)
 not_stripped s p d u v w lacks middle e = lacks (encode_utf8_all middle ++ d) (bytes-three s p middle d u v w e)
 
--- what follows the prefix
+-- The text after the prefix.
 stripped : (s p rest : List ℕ) → StripsPrefix (FindsTextPrefix p) s rest → s ≡ p ++ rest
 stripped s p rest (n, found, is_rest, len) = found.1 ∙ ap (λ x. p ++ x) (sym is_rest)
 
@@ -39,7 +39,7 @@ stripped-utf8 : (s p rest : List ℕ) → IsUtf8 s → StripsPrefix (FindsTextPr
 stripped-utf8 s p rest u (n, found, is_rest, len) =
     subst IsUtf8 (ap (λ k. drop k s) (sym found.0) ∙ sym is_rest) (IsUtf8-drop s (length p) u found.2)
 
--- the text between prefix and suffix, by whether the suffix is there
+-- The text between prefix and suffix, by whether the suffix is found.
 pub between-some : (s p d rest : List ℕ) (r : Option (Bor (List ℕ))) → IsUtf8 s → IsUtf8 p → StripsPrefix (FindsTextPrefix p) s rest →
     MatchOption r (FindsTextSuffix d rest None) (λ x. StripsSuffix (FindsTextSuffix d) rest x.now) →
     IfSome r (λ x. chars s ≡ chars p ++ chars x.now ++ chars d)
@@ -73,7 +73,7 @@ high-bytes_by : (b : ℕ) → (b < 128 → ⊥) → (b < 128) ⊎ (128 ≤ b) �
 high-bytes_by b never (inl low) = absurd (never low)
 high-bytes_by b never (inr high) = high
 
--- the bytes of a character that is not ASCII are not either
+-- The bytes of a character that is not ASCII are not ASCII.
 high-bytes : (c : ℕ) → 128 ≤ c → (k : ℕ) → k < length (encode_utf8 c) → 128 ≤ get_or (encode_utf8 c) k 0
 high-bytes c h k l =
     high-bytes_by (get_or (encode_utf8 c) k 0)
@@ -85,7 +85,7 @@ lower-encode_by c (inl low) =
     ap (λ bytes. map to_ascii_lowercase bytes) (encode_ascii c low) ∙ sym (encode_ascii (to_ascii_lowercase c) (lowercase_ascii c low))
 lower-encode_by c (inr high) = lower-fixed_all (encode_utf8 c) (high-bytes c high) ∙ ap encode_utf8 (sym (lower-fixed c high))
 
--- small letters of the bytes are the bytes of small letters
+-- Lowercase of the bytes is the bytes of lowercase.
 pub lower-encodes : (cs : List ℕ) → map to_ascii_lowercase (encode_utf8_all cs) ≡ encode_utf8_all (map to_ascii_lowercase cs)
 lower-encodes [] = refl
 lower-encodes (c ∷ cs) =
@@ -96,7 +96,7 @@ lower-encodes (c ∷ cs) =
 pub lower-bytes : (bytes : List ℕ) → IsUtf8 bytes → map to_ascii_lowercase bytes ≡ encode_utf8_all (map to_ascii_lowercase (chars bytes))
 lower-bytes bytes u = ap (λ x. map to_ascii_lowercase x) (sym (encodes-chars bytes u)) ∙ lower-encodes (chars bytes)
 
--- two texts are the same but for case by their bytes where they are by their characters
+-- Two texts are equal but for case by their bytes if and only if they are by their characters.
 pub same_but_case : (a b : List ℕ) → IsUtf8 a → IsUtf8 b →
     (map to_ascii_lowercase a ≡ map to_ascii_lowercase b) ↔ (map to_ascii_lowercase (chars a) ≡ map to_ascii_lowercase (chars b))
 same_but_case a b u v = (
@@ -104,7 +104,7 @@ same_but_case a b u v = (
   λ e. lower-bytes a u ∙ ap encode_utf8_all e ∙ sym (lower-bytes b v),
 )
 
--- the same of texts that are the same
+-- Two texts are equal by their bytes if and only if they are by their characters.
 pub same_chars : (a b : List ℕ) → IsUtf8 a → IsUtf8 b → (a ≡ b) ↔ (chars a ≡ chars b)
 same_chars a b u v = (λ e. ap chars e, λ e. sym (encodes-chars a u) ∙ ap encode_utf8_all e ∙ encodes-chars b v)
 
@@ -116,7 +116,7 @@ lacks-one c d cs h = (and_parts (not (d == c)) (lacks c cs) h).1
 eqb-self : (c : ℕ) → (c == c) ≡ true
 eqb-self c = grind (arith, nat_tests)
 
--- a character among those of a text
+-- A character is among those of a text.
 has-char : (cs ks rest : List ℕ) (c : ℕ) → encode_utf8_all ks ≡ encode_utf8_all cs ++ (encode_utf8 c ++ rest) → ¬ IsTrue (lacks c ks)
 has-char [] ks rest c e h =
     let (es, is_ks, more) = cons_from_encodes ks rest c e in
@@ -130,7 +130,7 @@ none-lacks : (c : ℕ) (cs : List ℕ) → NonePass (λ d. d == c) cs → IsTrue
 none-lacks c [] h = refl
 none-lacks c (d ∷ cs) (e, h) = ap (λ b. not b && lacks c cs) e ∙ none-lacks c cs h
 
--- whether a text lacks a character, by a search for it
+-- Whether a text lacks a character, by a search.
 pub lacks-searched : (c : ℕ) (s : List ℕ) (r : Bool) → IsUtf8 s → MatchBool r (HasMatch (FindsChar c) s) (FindsChar c s None) → IsTrue (not r) ↔ IsTrue (lacks c (chars s))
 lacks-searched c s true u (i, j, (before, at), order, within) = (
   λ e. absurd (false≢true e),
@@ -145,7 +145,7 @@ not-or : (a b : Bool) → not (a || b) ≡ (not a && not b)
 not-or true b = refl
 not-or false b = refl
 
--- the same where case is ignored
+-- Whether a text lacks a character, where case is ignored.
 pub lacks-any : (c : ℕ) (cs : List ℕ) → not (list_any (λ other. eq_ignore_ascii_case other c) cs) ≡ lacks (to_ascii_lowercase c) (map to_ascii_lowercase cs)
 lacks-any c [] = refl
 lacks-any c (d ∷ cs) = not-or (eq_ignore_ascii_case d c) (list_any (λ other. eq_ignore_ascii_case other c) cs) ∙ ap (λ b. not (eq_ignore_ascii_case d c) && b) (lacks-any c cs)

@@ -1,4 +1,4 @@
--- Lemmas on the plain fixed texts at the ends of parts, and on the matcher of the parts between them.
+-- The plain fixed texts at the ends of parts, and the matcher of the parts between them.
 use Rattle.std.proofs.Common.{◌≡◌, ℕ, Bool, true, false, List, [], ◌∷◌, ◌++◌, length, refl, sym, ap, ◌∙◌, subst, append_assoc, arith}
 use Rattle.std.proofs.lemmas.Bool.{false≢true}
 use Rattle.std.proofs.lemmas.List.{append-nil, length-append}
@@ -14,7 +14,7 @@ use Rattle.urlpattern_syntax.specs.Options.{OptionsView}
 use Rattle.urlpattern_syntax.specs.Parts.{PartView}
 use Rattle.urlpattern_syntax.specs.RegexpText.{is_plain}
 
--- ---- the front
+-- ---- the start
 
 pub front-some : (parts rest : List PartView) (part : PartView) (text : List ℕ) → parts ≡ part ∷ rest → IsTrue (is_plain part) → text ≡ part.value → PeelsFront parts text rest
 front-some parts rest part text e plain is_text = (Some part, e, plain, is_text)
@@ -68,7 +68,7 @@ peels-both parts rest middle prefix suffix (front, cut, goes, is_prefix) (back, 
 
 -- ---- what is made of the middle
 
--- the matcher of parts, by the middle that is left
+-- The matcher of parts, by the parts in the middle.
 pub made-of : {E : Type 0} (IsEngine : (regexp : List ℕ) → Result E ErrorView → Type 0) (options : OptionsView) (parts middle : List PartView) (prefix suffix : List ℕ) (matcher : MatcherView E) →
     PeelsTo parts prefix middle suffix → IsMadeBetween IsEngine options prefix middle suffix matcher →
     IsMadeOf IsEngine options parts matcher
@@ -82,7 +82,7 @@ made-of IsEngine options parts middle prefix suffix matcher (front, back, peeled
       (subst (λ x. IsMadeBetween IsEngine options prefix middle x matcher) is_suffix made);
 }
 
--- one part that is no single capture is left to an engine
+-- A part that is no single capture is left to an engine.
 pub one-by_engine : {E : Type 0} (IsEngine : (regexp : List ℕ) → Result E ErrorView → Type 0) (kind : PartType) (modifier : PartModifier) (options : OptionsView) (prefix : List ℕ) (part : PartView) (suffix : List ℕ) (matcher : MatcherView E) →
     capture_of options kind modifier ≡ None → IsMadeByEngine IsEngine options prefix (part ∷ []) suffix matcher →
     IsMadeOfOne IsEngine kind modifier options prefix part suffix matcher
@@ -90,7 +90,7 @@ one-by_engine IsEngine FullWildcard modifiers.None options prefix part suffix ma
 one-by_engine IsEngine SegmentWildcard modifiers.None options prefix part suffix matcher e made = let never : ⊥ = cc in absurd never
 one-by_engine IsEngine kind modifier options prefix part suffix matcher e made = made
 
--- one part that is a single capture
+-- A part that is a single capture.
 pub one-captured : {E : Type 0} (IsEngine : (regexp : List ℕ) → Result E ErrorView → Type 0) (kind : PartType) (modifier : PartModifier) (options : OptionsView) (prefix : List ℕ) (part : PartView) (suffix : List ℕ) (filter : Option ℕ) (allow_empty : Bool) (matcher : MatcherView E) →
     capture_of options kind modifier ≡ Some (filter, allow_empty) → matcher ≡ single_capture_matcher options prefix part suffix filter allow_empty →
     IsMadeOfOne IsEngine kind modifier options prefix part suffix matcher
@@ -106,7 +106,7 @@ one-captured IsEngine SegmentWildcard modifiers.None options prefix part suffix 
     made ∙ ap (λ f. single_capture_matcher options prefix part suffix f allow_empty) (sym is_filter) ∙ ap (λ b. single_capture_matcher options prefix part suffix options.delimiter b) (sym may)
 one-captured IsEngine kind modifier options prefix part suffix filter allow_empty matcher e made = let never : ⊥ = cc in absurd never
 
--- no part has gone off where as many are left
+-- No part was removed if the number of parts is the same.
 pub whole-left : (parts middle : List PartView) (prefix suffix : List ℕ) → PeelsTo parts prefix middle suffix → length middle ≡ length parts → middle ≡ parts
 whole-left parts middle prefix suffix (None, None, peeled, is_prefix, is_suffix) len = sym (peeled.cut ∙ append-nil middle)
 whole-left parts middle prefix suffix (Some part, None, peeled, is_prefix, is_suffix) len =
@@ -114,7 +114,7 @@ whole-left parts middle prefix suffix (Some part, None, peeled, is_prefix, is_su
 whole-left parts middle prefix suffix (front, Some part, peeled, is_prefix, is_suffix) len =
     absurd (omega (arith, len, ap length peeled.cut, length-append (option_to_list front ++ middle) (part ∷ []), length-append (option_to_list front) middle))
 
--- two parts or more are left to an engine
+-- Two parts or more are left to an engine.
 pub many-by_engine : {E : Type 0} (IsEngine : (regexp : List ℕ) → Result E ErrorView → Type 0) (options : OptionsView) (prefix : List ℕ) (middle : List PartView) (suffix : List ℕ) (matcher : MatcherView E) →
     2 ≤ length middle → IsMadeByEngine IsEngine options prefix middle suffix matcher → IsMadeBetween IsEngine options prefix middle suffix matcher
 many-by_engine IsEngine options prefix [] suffix matcher len made = absurd (omega arith)

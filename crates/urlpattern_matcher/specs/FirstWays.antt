@@ -1,4 +1,4 @@
--- Values and matchers that answer by the first way: words of laws, of any engine.
+-- Values and matchers that return first ways, of any engine.
 use Rattle.std.specs.Prelude.{◌≡◌, ⊤, ℕ, false, List, Option, IsOk, IsTrue}
 use Rattle.std.specs.Str.{all_scalars}
 use Rattle.urlpattern_meaning.specs.FirstAnswers.{IsFirstOf, AnswersFirst, TookText}
@@ -14,38 +14,39 @@ use Rattle.urlpattern_syntax.specs.Text.{lacks, line_feed}
 
 -- ---- values
 
--- made with such flags, an engine's values keep case
+-- Flags with which the values of an engine keep case.
 abbrev pub Keeping : Type 1
 Keeping = (flags : List ℕ) → Type 0
 
--- the flags have no `i`
+-- The flags have no `i`.
 abbrev pub KeepsCase : Keeping
 KeepsCase flags = ignores_case flags ≡ false
 
--- each value of the engine that was made with such flags answers the first way of the tree of the text that it was made of
+-- Each value that was made with flags that keep case returns the first way of the tree of its text.
 abbrev pub ValuesAnswerFirst : {E : Type 0} → Engine E → Keeping → Type 0
 ValuesAnswerFirst {E} engine Keeps =
     (regexp flags : List ℕ) (value : E) → Keeps flags → engine.IsMade value regexp flags → AnswersFirst regexp (engine.answer value)
 
--- each follows that text, if it has a tree
+-- Each value that was made with flags that keep case follows its text, if the text has a tree.
 abbrev pub ValuesFollowTexts : {E : Type 0} → Engine E → Keeping → Type 0
 ValuesFollowTexts {E} engine Keeps =
     (regexp flags : List ℕ) (tree : Items) (value : E) → IsTreeOf regexp tree → Keeps flags → engine.IsMade value regexp flags → Follows regexp (engine.answer value)
 
--- each that was made of the regular expression of parts, none of them custom, follows it
+-- Each value that was made of the regular expression of parts, none of them custom, with flags that
+-- keep case, follows the expression.
 abbrev pub ValuesFollowParts : {E : Type 0} → Engine E → Keeping → Type 0
 ValuesFollowParts {E} engine Keeps =
     (options : OptionsView) (flags : List ℕ) (parts : List PartView) (value : E) → AreGenerated parts → Keeps flags →
     engine.IsMade value (regexp_text options parts) flags → Follows (regexp_text options parts) (engine.answer value)
 
--- each that was made of the regular expression of parts, none of them custom, answers the first way of its tree, in which case
--- counts or not by the flags
+-- Each value that was made of the regular expression of parts, none of them custom, returns the
+-- first way of its tree. The flags decide whether case is ignored.
 abbrev pub ValuesAnswerByFlags : {E : Type 0} → Engine E → Type 0
 ValuesAnswerByFlags {E} engine =
     (options : OptionsView) (flags : List ℕ) (parts : List PartView) (tree : Items) (value : E) → AreGenerated parts → IsTreeOf (regexp_text options parts) tree →
     engine.IsMade value (regexp_text options parts) flags → (text : List ℕ) → engine.answer value text ≡ first_way_by (ignores_case flags) tree text
 
--- a value of the one engine and a value of the other that were made of the same text answer the same to texts of characters
+-- Values of two engines that were made of the same text return the same for texts of characters.
 abbrev pub ValuesAnswerAlike : {E F : Type 0} → Engine E → (other : Engine F) → Keeping → Type 0
 ValuesAnswerAlike {E} {F} engine other Keeps =
     (regexp flags : List ℕ) (value : E) (another : F) (text : List ℕ) → Keeps flags → engine.IsMade value regexp flags → other.IsMade another regexp flags →
@@ -53,51 +54,53 @@ ValuesAnswerAlike {E} {F} engine other Keeps =
 
 -- ---- matchers
 
--- in which sense an engine took, with these options and flags, what a matcher needs it for
+-- In which sense an engine accepted, with these options and flags, what a matcher needs.
 abbrev pub Taking : Type 0 → Type 1
 Taking E = OptionsView → (flags : List ℕ) → InnerView E → Type 0
 
--- The matcher is made by the engine of parts of which none is custom, case is kept, and the engine took the text, in this
--- sense, where it was needed.
+-- The engine made the matcher of parts, none of them custom, case is kept, and the engine accepted,
+-- in the sense of `Took`, what the matcher needs.
 pub record IsTakenBy {E : Type 0} (engine : Engine E) (Took : Taking E) (options : OptionsView) (flags : List ℕ) (parts : List PartView) (matcher : MatcherView E) : Type 0 where
   pub is_made : IsMadeOf (IsEngineOf engine false flags) options parts matcher
   pub generated : AreGenerated parts
   pub case_kept : options.ignore_case ≡ false
   pub took : Took options flags matcher.inner
 
--- each answer of the matcher, to a text of characters without line feed, is the first way of the tree of the parts: a meaning
--- of the parts, or None where they have none
+-- Each result of the matcher for a text of characters without line feed is the first way of the
+-- tree of the parts: a meaning of the parts, or None if there is none.
 abbrev pub AnswersFirstWays : {E : Type 0} → (answer : E → List ℕ → Option Captures) → OptionsView → List PartView → MatcherView E → Type 0
 AnswersFirstWays answer options parts matcher =
     EachAnswerIs answer matcher (λ text result. IsFirstOf options parts text result × Agrees options parts text result)
 
--- two matchers answer the same to each such text
+-- Two matchers return the same for each text of characters without line feed.
 abbrev pub AnswerAlike : {E : Type 0} → (answer : E → List ℕ → Option Captures) → (matcher another : MatcherView E) → Type 0
 AnswerAlike answer matcher another =
     (text : List ℕ) (result other : Option Captures) → IsTrue (lacks line_feed text) → IsTrue (all_scalars text) →
     Answers answer matcher text result → Answers answer another text other → result ≡ other
 
--- each matcher that the engine made, and took in this sense, answers so
+-- Each matcher that the engine made, and for which it accepted what is needed, returns first ways.
 abbrev pub EachAnswersFirst : {E : Type 0} → (engine : Engine E) → (Took : Taking E) → Type 0
 EachAnswersFirst {E} engine Took =
     (options : OptionsView) (flags : List ℕ) (parts : List PartView) (matcher : MatcherView E) →
     IsTakenBy engine Took options flags parts matcher → AnswersFirstWays engine.answer options parts matcher
 
--- and two such matchers of the same parts answer the same
+-- Two matchers that the engine made of the same parts, and for which it accepted what is needed,
+-- return the same.
 abbrev pub AllAnswerAlike : {E : Type 0} → (engine : Engine E) → (Took : Taking E) → Type 0
 AllAnswerAlike {E} engine Took =
     (options : OptionsView) (flags : List ℕ) (parts : List PartView) (matcher another : MatcherView E) →
     IsTakenBy engine Took options flags parts matcher → IsTakenBy engine Took options flags parts another → AnswerAlike engine.answer matcher another
 
--- ---- texts that are taken
+-- ---- expressions that are accepted
 
--- the engine has a value wherever a matcher of parts needs one, if none of them is custom
+-- The engine has a value wherever a matcher of parts needs one, if none of the parts is custom.
 abbrev pub MatchersTakeGenerated : {E : Type 0} → Engine E → Type 0
 MatchersTakeGenerated {E} engine =
     (options : OptionsView) (flags : List ℕ) (parts : List PartView) (matcher : MatcherView E) →
     IsMadeOf (IsEngineOf engine false flags) options parts matcher → AreGenerated parts → TookText (λ value. ⊤) matcher.inner
 
--- it has one for a component of such parts, and where the component's matcher needs one
+-- The engine has a value for a component of parts, none of them custom, and wherever the
+-- component's matcher needs one.
 abbrev pub ComponentsTakeGenerated : {E : Type 0} → Engine E → Type 0
 ComponentsTakeGenerated {E} engine =
     (options : OptionsView) (parts : List PartView) (component : ComponentView E) →

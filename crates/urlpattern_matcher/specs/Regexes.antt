@@ -1,4 +1,4 @@
--- What a value of the crate `regex` is made of, and what it answers.
+-- What a value of the crate `regex` is made of, and what it returns.
 use Rattle.std.specs.Prelude.{◌≡◌, ⊤, ℕ, ◌-◌, ◌^◌, ◌<◌, IsTrue, List, map, length, Option, option_map, encode_utf8_all, slice_range}
 use Rattle.std.specs.List.{range_with_len}
 use Rattle.std.specs.Str.{all_scalars, chars}
@@ -16,49 +16,51 @@ use Rattle.urlpattern_meaning.specs.PartMeaning.{Captures}
 use Rattle.urlpattern_syntax.specs.declared.parser.RegexSyntax.TheVariants.{Rust}
 use Rattle.urlpattern_syntax.specs.{Options.OptionsView, Parts.PartView, RegexpText.regexp_text}
 
--- the text that it was built from
+-- The text that the value was built from.
 abbrev pub regex_text : Regex → List ℕ
 regex_text regex = chars (regex_source regex)
 
--- it was built from the text, as `regex` reads that with its default options
+-- The value was built from the text, as `regex` reads it with its default options.
 pub record IsRegexOf (regexp : List ℕ) (regex : Regex) : Type 0 where
   pub of_text : regex_text regex ≡ regexp
   pub by_default : regex_config regex ≡ default_config
   pub is_read : IsReadFromSource regex
 
--- the characters from one byte place to another
+-- The characters from one byte index to another.
 abbrev pub text_between : (bytes : List ℕ) → ℕ × ℕ → List ℕ
 text_between bytes span = chars (slice_range bytes span.0 span.1)
 
--- the texts that so many groups span, from group 1 on
+-- The texts that this number of groups span, from group 1 on.
 abbrev pub group_texts : (bytes : List ℕ) → (count : ℕ) → (span_of : ℕ → Option (ℕ × ℕ)) → Captures
 group_texts bytes count span_of = map (λ n. option_map (text_between bytes) (span_of n)) (range_with_len 1 count)
 
--- what the groups of a match that was found span
+-- What the groups of a match span.
 abbrev pub found_texts : RegexCaptures → Captures
 found_texts found = group_texts (captures_haystack found) (length (captures_names found) - 1) (captures_span found)
 
--- what the groups of the first match in the text span, without group 0, which is the match; None without a match
+-- What the groups of the first match in the text span, without group 0, the whole match, or None if
+-- there is no match.
 unfoldable pub regex_answer : Regex → List ℕ → Option Captures
 regex_answer regex text =
     let bytes = encode_utf8_all text in
     let count = length (regex_names regex) - 1 in
     option_map (λ found. group_texts bytes count (group_of found)) (find_str (regex_pattern regex) bytes 0)
 
--- a text of characters whose tree has fewer groups than the grammar counts
+-- A text of characters whose tree has fewer groups than the grammar counts.
 abbrev pub HasFewGroups : (regexp : List ℕ) → Type 0
 HasFewGroups regexp = IsTrue (all_scalars regexp) × ((tree : Items) × IsTreeOf regexp tree × (group_count tree < 2 ^ 32 - 1))
 
--- the grammar refuses the text only as memory ran out
+-- The grammar rejects the text only because memory ran out.
 abbrev pub IsRefusedForMemory : (regexp : List ℕ) → Type 0
 IsRefusedForMemory regexp = (kind : ErrorKind) → Refuses default_syntax (encode_utf8_all regexp) kind → kind ≡ ErrorKind.OutOfMemory
 
--- the regular expression of parts, none of them custom, is refused only as memory ran out, if it has few groups
+-- The regular expression of parts, none of them custom and with few groups, is rejected only
+-- because memory ran out.
 abbrev pub TakesGeneratedSyntax : Type 0
 TakesGeneratedSyntax = (options : OptionsView) (parts : List PartView) →
     AreGenerated parts → HasFewGroups (regexp_text options parts) → IsRefusedForMemory (regexp_text options parts)
 
--- What the engine means: it takes no notice of flags, and may refuse any text.
+-- The engine `regex`: it ignores flags, and may reject any text.
 abbrev pub regex_engine : Engine Regex
 regex_engine = record {
   syntax_of = Rust;

@@ -1,4 +1,4 @@
-//! The regular expression of a component, and its pattern text.
+//! Components: pattern string, regular expression, group names and matcher.
 //!
 //! <https://urlpattern.spec.whatwg.org/#component>
 
@@ -16,9 +16,9 @@ pub use urlpattern_printing::{generate_pattern_string, generate_regular_expressi
 use urlpattern_syntax::ComponentParts;
 use urlpattern_syntax::error::Error;
 
-/// What a pattern text is compiled to.
+/// A component, compiled from a pattern text.
 ///
-/// It has a `Drop` of its own, so its fields are moved out together, by `into_fields`.
+/// `Component` implements `Drop`, so `into_fields` moves the fields out together.
 ///
 /// ```rust path_of
 /// pub fn path_of<R: RegExp>(alloc: Global, pattern: &str) -> Result<Component<R>, Error> {
@@ -30,21 +30,21 @@ use urlpattern_syntax::error::Error;
 /// <https://urlpattern.spec.whatwg.org/#component>
 #[derive(Debug)]
 pub struct Component<R> {
-    /// The pattern text, as it is written anew from the parts.
+    /// The normalized pattern string, generated from the parts.
     pub pattern_string: String,
-    /// The value that an engine made of the regular expression, or why there is none.
+    /// The engine's value of the regular expression, or why there is none.
     pub regexp: Result<R, Error>,
-    /// The names of the groups, in their order.
+    /// The names of the groups, in order.
     pub group_name_list: Vec<String>,
-    /// What texts are matched with.
+    /// The matcher of the component's text.
     pub matcher: Matcher<R>,
-    /// Whether the pattern has a regular expression of its own.
+    /// Whether the pattern has a custom regular expression.
     pub has_regexp_group: bool,
 }
 
 impl<R: Drop> Component<R> {
-    /// The fields by value: pattern text, engine's value, names of the groups, matcher, and whether there is a regular expression of
-    /// its own.
+    /// Returns the fields by value: pattern string, engine's value, group names, matcher, and
+    /// whether the pattern has a custom regular expression.
     pub fn into_fields(self) -> (String, Result<R, Error>, Vec<String>, Matcher<R>, bool)
         ensures { result ≡ (self.pattern_string, self.regexp, self.group_name_list, self.matcher, self.has_regexp_group) }
     {
@@ -67,17 +67,17 @@ impl<R: Drop> Component<R> {
 
 /// A component, and the parts that it was made of.
 ///
-/// It has a `Drop` of its own, so its fields are moved out together, by `into_fields`.
+/// `ComponentWithParts` implements `Drop`, so `into_fields` moves the fields out together.
 #[derive(Debug)]
 pub struct ComponentWithParts<R> {
     /// The component.
     pub component: Component<R>,
-    /// The parts that its pattern text read as, with their options.
+    /// The parts that the pattern text was parsed into, with their options.
     pub kept: ComponentParts,
 }
 
 impl<R: Drop> ComponentWithParts<R> {
-    /// The component and its parts.
+    /// Returns the component and its parts.
     pub fn into_fields(self) -> (Component<R>, ComponentParts)
         ensures { result ≡ (self.component, self.kept) }
     {
@@ -96,7 +96,7 @@ impl<R: Drop> Drop for ComponentWithParts<R> {
     }
 }
 
-/// Prints the pattern text.
+/// Prints the pattern string.
 impl<R> fmt::Display for Component<R> {
     ghost output = { λ component. Some (string_bytes component.pattern_string) };
 
@@ -106,7 +106,8 @@ impl<R> fmt::Display for Component<R> {
 }
 
 impl<R: Drop> Drop for Component<R> {
-    /// Drops the fields. Where a component goes out of scope, the prover handles one call in place of each of its fields.
+    /// Drops the fields. Where a component goes out of scope, the prover handles one call in place
+    /// of one for each field.
     fn drop(self) {
         let Self {
             pattern_string: _pattern_string,

@@ -1,5 +1,5 @@
-//! One component of a URL pattern: from its parts to a matcher, a regular expression and the names
-//! of its groups.
+//! A component of a URL pattern: its parts become a matcher, a regular expression and the names of
+//! the groups.
 #![tactic(auto)]
 
 pub mod component;

@@ -1,4 +1,4 @@
-//! Matchers: what a component is matched with, past the engine of regular expressions where that is not needed.
+//! Matchers of components, which call an engine of regular expressions only where one is needed.
 
 ghost use Rattle.std.specs.Prelude.{◌≡◌, ◌↔◌, [], ℕ, List, IfErr, IfNone, IfOk, IfSome, IsTrue, map, not};
 ghost use Rattle.std.specs.{Char.to_ascii_lowercase, Str.chars};
@@ -14,7 +14,7 @@ pub use look::Look;
 use std::alloc::Global;
 use urlpattern_syntax::error::Error;
 
-/// What a text is matched with: its prefix, its suffix, and what stands between them.
+/// A matcher of texts: a prefix, a suffix, and what is between them.
 ///
 /// Here `parts_of` parses a pattern text:
 ///
@@ -25,17 +25,18 @@ use urlpattern_syntax::error::Error;
 /// ```
 #[derive(Debug, Drop)]
 pub struct Matcher<R> {
-    /// The text that a matched text begins with.
+    /// The text that a match begins with.
     pub prefix: String,
-    /// The text that a matched text ends with, after the prefix and what stands between.
+    /// The text that a match ends with, after the prefix and the text between.
     pub suffix: String,
-    /// What stands between prefix and suffix.
+    /// What is between prefix and suffix.
     pub inner: InnerMatcher<R>,
-    /// Whether the case of ASCII letters is ignored: in prefix, suffix, literal and filter. An engine has flags of its own.
+    /// Whether the case of ASCII letters is ignored in prefix, suffix, literal and filter. An
+    /// engine has its own flags.
     pub ignore_case: bool,
 }
 
-/// What stands between the prefix and the suffix of a text.
+/// What is between the prefix and the suffix of a text.
 ///
 /// A matcher keeps the error of an expression that was rejected, and then matches nothing:
 ///
@@ -52,31 +53,30 @@ pub struct Matcher<R> {
 /// ```
 #[derive(Debug, Drop)]
 pub enum InnerMatcher<R> {
-    /// This text.
+    /// A literal text.
     Literal {
         /// The text.
         literal: String,
     },
-    /// Any text, which is captured.
+    /// A text that is captured.
     SingleCapture {
-        /// A character that may not stand in the text.
+        /// A character that the text may not contain.
         filter: Option<char>,
         /// Whether the text may be empty.
         allow_empty: bool,
     },
-    /// What an engine matches, which captures. Nothing, if an error is kept.
+    /// A text that an engine matches, with its captures. No text matches if an error is kept.
     RegExp {
-        /// The value of the engine, or why there is none.
+        /// The engine's value, or why there is none.
         regexp: Result<R, Error>,
     },
 }
 
 impl<R: RegExp> Matcher<R> {
-    /// What the groups capture of a text, in their order: slices of it, with `None` where a group took no part. Where the
-    /// text is not matched there is no list.
+    /// Returns what the groups capture, in order: slices of the text, with `None` for a group that
+    /// took no part. `None` as a whole: the text does not match.
     ///
-    /// The error is that memory ran out. It does not allocate where the answer is `None` before an engine is asked, nor where
-    /// a literal stands between prefix and suffix.
+    /// A mismatch that is found without an engine does not allocate, nor does a match of a literal.
     pub fn matches<'a>(
         &self,
         alloc: Global,
@@ -94,9 +94,9 @@ impl<R: RegExp> Matcher<R> {
         }
     }
 
-    /// Whether a text is matched.
+    /// Whether a text matches.
     ///
-    /// The error is that memory ran out. Only an engine allocates.
+    /// Only an engine allocates.
     pub fn accepts(&self, alloc: Global, input: &str) -> Result<bool, Error>
         ensures answer { IfOk result (λ accepted. IsTrue accepted ↔ IsMatched R.answer (matcher_view self.now) (chars input.now)) }
         ensures memory { OnlyOutOfMemory result }
@@ -111,7 +111,8 @@ impl<R: RegExp> Matcher<R> {
 }
 
 impl<R> Matcher<R> {
-    /// What stands in a text between prefix and suffix, if it begins and ends with them and they do not overlap.
+    /// Returns the text between prefix and suffix. `None`: the text does not begin and end with
+    /// them, or they overlap.
     fn middle<'a>(&self, input: &'a str) -> Option<&'a str>
         ensures some { IfSome result (λ middle. HasMiddle (matcher_view self.now) (chars input.now) (chars middle.now)) }
         ensures none { IfNone result ((middle : List ℕ) → ¬ HasMiddle (matcher_view self.now) (chars input.now) middle) }
@@ -128,7 +129,7 @@ impl<R> Matcher<R> {
         }
     }
 
-    /// Whether prefix and suffix are empty, so that all of a text stands between them.
+    /// Whether prefix and suffix are empty, so that all of a text is between them.
     fn has_no_ends(&self) -> bool
         ensures prefix { IsTrue result → (matcher_view self.now).prefix ≡ [] }
         ensures suffix { IsTrue result → (matcher_view self.now).suffix ≡ [] }
@@ -136,7 +137,7 @@ impl<R> Matcher<R> {
         self.prefix.is_empty() && self.suffix.is_empty()
     }
 
-    /// Whether a text is the literal.
+    /// Whether a text equals the literal.
     fn is_same(&self, text: &str, literal: &str) -> bool
         ensures { IsTrue result ↔ IsSame self.now.ignore_case (chars text.now) (chars literal.now) }
     {
@@ -154,7 +155,7 @@ impl<R> Matcher<R> {
         (allow_empty || !text.is_empty()) && self.passes(text, filter)
     }
 
-    /// Whether the filter's character does not stand in a text.
+    /// Whether a text lacks the filter's character.
     fn passes(&self, text: &str, filter: Option<char>) -> bool
         ensures { IsTrue result ↔ PassesFilter self.now.ignore_case filter (chars text.now) }
     {
@@ -166,7 +167,7 @@ impl<R> Matcher<R> {
     }
 }
 
-/// What follows a prefix in a text, where the case of ASCII letters is ignored.
+/// Returns the text after a prefix, where the case of ASCII letters is ignored.
 fn strip_prefix_ignoring_case<'a>(text: &'a str, prefix: &str) -> Option<&'a str>
     ensures some { IfSome result (λ rest. BeginsWithFolded (chars prefix.now) (chars text.now) (chars rest.now)) }
     ensures none { IfNone result ((rest : List ℕ) → ¬ BeginsWithFolded (chars prefix.now) (chars text.now) rest) }
@@ -175,7 +176,7 @@ fn strip_prefix_ignoring_case<'a>(text: &'a str, prefix: &str) -> Option<&'a str
     front.eq_ignore_ascii_case(prefix).then_some(rest)
 }
 
-/// What precedes a suffix in a text, where the case of ASCII letters is ignored.
+/// Returns the text before a suffix, where the case of ASCII letters is ignored.
 fn strip_suffix_ignoring_case<'a>(text: &'a str, suffix: &str) -> Option<&'a str>
     ensures some { IfSome result (λ rest. EndsWithFolded (chars suffix.now) (chars text.now) (chars rest.now)) }
     ensures none { IfNone result ((rest : List ℕ) → ¬ EndsWithFolded (chars suffix.now) (chars text.now) rest) }
@@ -185,7 +186,7 @@ fn strip_suffix_ignoring_case<'a>(text: &'a str, suffix: &str) -> Option<&'a str
     back.eq_ignore_ascii_case(suffix).then_some(rest)
 }
 
-/// Whether a character stands in a text, where the case of ASCII letters is ignored.
+/// Whether a text contains a character, where the case of ASCII letters is ignored.
 fn has_ignoring_case(text: &str, c: char) -> bool
     ensures { not result ≡ lacks (to_ascii_lowercase c) (map to_ascii_lowercase (chars text.now)) }
 {

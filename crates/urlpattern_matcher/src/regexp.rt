@@ -17,11 +17,12 @@ use std::alloc::Global;
 use urlpattern_parser::parser::RegexSyntax;
 use urlpattern_syntax::error::{OutOfMemory, RegExpError};
 
-/// A regular expression of some engine.
+/// A regular expression, compiled by an engine.
 ///
-/// What a type of engines means is in its ghost members: `syntax_of` is the syntax that it takes, `IsMade` says
-/// which of its values are made of a text and flags, `MayRefuse` says of a text, flags and `force_eval` whether they may
-/// be refused, `answer` what a value answers to a text, and `text_made_of` the text that a value was made of.
+/// The ghost members say what an engine means: `syntax_of` is the syntax that it accepts, `IsMade`
+/// says which values are made of a text and flags, `MayRefuse` which texts, flags and `force_eval`
+/// it may reject, `answer` what a value returns for a text, and `text_made_of` which text a value
+/// was made of.
 pub trait RegExp: Sized + Drop {
     ghost syntax_of: { RegexSyntax };
 
@@ -33,15 +34,16 @@ pub trait RegExp: Sized + Drop {
 
     ghost text_made_of: { Self → List ℕ };
 
-    /// The syntax that the engine takes.
+    /// The syntax that the engine accepts.
     fn syntax() -> RegexSyntax
         ensures { result ≡ syntax_of };
 
-    /// Makes a value of a text and flags.
+    /// Compiles a text with these flags.
     ///
-    /// With `force_eval` a text is refused at once if the engine does not take it. Without, an engine may put that off.
+    /// With `force_eval`, a text that the engine does not accept is rejected at once. Without it,
+    /// the engine may reject the text later.
     ///
-    /// The error says whether the engine refuses the text or memory ran out.
+    /// The error is that the engine rejects the text, or that memory ran out.
     fn parse(
         alloc: Global,
         pattern: &str,
@@ -51,8 +53,9 @@ pub trait RegExp: Sized + Drop {
         ensures made { IfOk result (λ engine. IsMade engine (chars pattern.now) (chars flags.now)) }
         ensures refused { result ≡ Err Pattern → MayRefuse (chars pattern.now) (chars flags.now) force_eval };
 
-    /// The same for a value that is kept, and that hardly ever matches a text: an engine may put off work until then.
-    /// `is_generated` says that the text is generated of parts, none of them custom.
+    /// Compiles a text to a value that is kept and hardly ever matched, so that an engine may put
+    /// off work until a match. `is_generated` says that the text was generated from parts, none of
+    /// them custom.
     fn parse_to_keep(
         alloc: Global,
         pattern: String,
@@ -67,10 +70,8 @@ pub trait RegExp: Sized + Drop {
         Self::parse(alloc, &pattern, flags, force_eval)
     }
 
-    /// What the groups capture of a text, in their order and without the whole match: a slice of the text, or `None` for a
-    /// group that took no part. `None` as a whole: the text does not match.
-    ///
-    /// The error is that memory ran out.
+    /// Returns what the groups capture, in order and without the whole match: slices of the text,
+    /// or `None` for a group that took no part. `None` as a whole: the text does not match.
     fn matches<'a>(
         &self,
         alloc: Global,
@@ -78,12 +79,13 @@ pub trait RegExp: Sized + Drop {
     ) -> Result<Option<Vec<Option<&'a str>>>, OutOfMemory>
         ensures { IfOk result (λ found. captures_view found ≡ answer self.now (chars text.now)) };
 
-    /// The text that the value was made of.
+    /// Returns the text that the value was made of.
     fn pattern_string(&self) -> &str
         ensures { chars result.now ≡ text_made_of self.now };
 
-    /// Whether it is known that each value that was made of parts, none of them custom, with the flag `u` alone, answers what
-    /// the parts mean. An engine of which it is not keeps this body.
+    /// Whether each value that was made of the expression of parts, none of them custom, with the
+    /// flag `u` alone, is known to return what the parts mean. An engine for which this is not
+    /// known keeps this body.
     fn agrees_with_parts() -> bool
         ensures { IsTrue result → ValuesAgreeWithParts IsMade answer }
     {
@@ -91,9 +93,9 @@ pub trait RegExp: Sized + Drop {
     }
 }
 
-/// The engine of the crate `regex`. It takes no notice of flags, and reads each text at once.
+/// The engine of the crate `regex`, which ignores flags and compiles each text at once.
 ///
-/// It may refuse any text. What it matches and captures is said by the contracts of that crate.
+/// The contract permits any rejection. What is matched and captured is in the contracts of `regex`.
 impl RegExp for Regex {
     ghost use Rattle.urlpattern_matcher.specs.Regexes.{regex_engine};
 

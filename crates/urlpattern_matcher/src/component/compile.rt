@@ -1,4 +1,4 @@
-//! The component of a pattern text.
+//! Compiles components from pattern texts.
 
 ghost use Rattle.std.specs.Prelude.{◌≡◌, true, false, IfErr, IfOk};
 ghost use Rattle.std.specs.Str.{chars};
@@ -19,16 +19,19 @@ use urlpattern_syntax::ComponentParts;
 use urlpattern_syntax::error::{Error, RegExpError};
 
 impl<R: RegExp> Component<R> {
-    /// The component of a pattern text, or of an asterisk where there is none.
+    /// Compiles the component of a pattern text, or of an asterisk if there is none.
     ///
-    /// Each fixed text, prefix and suffix of the pattern goes through the callback. What the engine refuses is kept in the
-    /// component as an error. An engine that takes ECMAScript's syntax is made to compile the text at once if the pattern
-    /// has a regular expression of its own.
+    /// Each fixed text, prefix and suffix of the pattern is passed to the callback, which returns
+    /// its canonical form. An expression that the engine rejects is kept in the component as an
+    /// error. If the pattern has a custom regular expression, an engine of ECMAScript's syntax has
+    /// to compile the expression at once.
     ///
-    /// Where the pattern has none and case is kept, the component's matcher answers what the parts of the pattern mean, if
-    /// an engine that it asks follows the regular expression it was given.
+    /// If the pattern has no custom regular expression and case is kept, the component's matcher
+    /// returns what the parts of the pattern mean, provided that an engine that it calls follows
+    /// its regular expression.
     ///
-    /// The error is that of the pattern text, which may be the callback's own; or that memory ran out.
+    /// The error is that of the pattern text, which may be the callback's own, or that memory ran
+    /// out.
     ///
     /// <https://urlpattern.spec.whatwg.org/#compile-a-component>
     pub fn compile<F: Fn(&str) -> Result<String, Error> + Drop>(
@@ -53,10 +56,10 @@ impl<R: RegExp> Component<R> {
         }
     }
 
-    /// The component of a pattern text, or of an asterisk where there is none, as `compile` makes it, and the parts that it was
-    /// made of.
+    /// Compiles a component as `compile` does, and returns it with the parts that it was made of.
     ///
-    /// The error is that of the pattern text, which may be the callback's own; or that memory ran out.
+    /// The error is that of the pattern text, which may be the callback's own, or that memory ran
+    /// out.
     ///
     /// <https://urlpattern.spec.whatwg.org/#compile-a-component>
     pub fn compile_with_parts<F: Fn(&str) -> Result<String, Error> + Drop>(
@@ -76,7 +79,7 @@ impl<R: RegExp> Component<R> {
         Ok(ComponentWithParts { component, kept })
     }
 
-    /// The component of a list of parts.
+    /// Makes the component of a list of parts.
     fn from_parts(alloc: Global, part_list: &[Part], options: &Options) -> Result<Self, Error>
         ensures made { IfOk result (λ made. IsComponentOf R.RegExp (options_view options.now) (parts_view part_list.now) (component_view made)) }
         ensures memory { OnlyOutOfMemory result }
@@ -96,7 +99,7 @@ impl<R: RegExp> Component<R> {
     }
 }
 
-/// The flags for an engine.
+/// Returns the flags for an engine.
 fn engine_flags(options: &Options) -> &'static str
     ensures { chars result.now ≡ engine_flags (options_view options.now) }
 {
@@ -112,8 +115,8 @@ fn has_regexp(part_list: &[Part]) -> bool
         .any(|part| matches!(part.kind, PartType::Regexp))
 }
 
-/// What an engine makes of the regular expression of some parts. If it takes ECMAScript's syntax and took the text, which
-/// holds a custom one, it is asked again and may not put off its answer.
+/// Compiles the regular expression of parts. If the text has a custom expression, an engine of
+/// ECMAScript's syntax that accepts it is called again, with `force_eval`.
 fn engine_of<R: RegExp>(
     alloc: Global,
     regexp: String,
@@ -133,7 +136,7 @@ fn engine_of<R: RegExp>(
     kept_engine(alloc, regexp, flags, false, !has_regexp_group)
 }
 
-/// The value that an engine makes of a text to keep it, or the error that it refuses the text.
+/// Compiles a text to a value that is kept. The inner error is that the engine rejects the text.
 fn kept_engine<R: RegExp>(
     alloc: Global,
     regexp: String,

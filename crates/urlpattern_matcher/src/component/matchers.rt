@@ -1,4 +1,4 @@
-//! The matcher of a list of parts.
+//! Generates the matcher of a list of parts.
 
 ghost use Rattle.std.specs.Prelude.{◌≡◌, false, ◌++◌, IfOk, IfSome};
 ghost use Rattle.std.specs.Str.{chars};
@@ -17,12 +17,12 @@ use urlpattern_printing::generate_regular_expression;
 use urlpattern_syntax::error::{Error, RegExpError};
 use urlpattern_syntax::writing::written;
 
-/// The matcher of a list of parts. Plain fixed texts at the ends of the list become its prefix and its suffix.
+/// Generates the matcher of a list of parts. Plain fixed texts at the ends of the list become its
+/// prefix and its suffix.
 ///
-/// What an engine refuses is kept in the matcher as an error. Where no part has a regular expression of its own and case is
-/// kept, the matcher answers what the parts mean, if an engine that it asks follows the regular expression it was given.
-///
-/// The error answered is that memory ran out.
+/// An expression that the engine rejects is kept in the matcher as an error. If no part has a
+/// custom regular expression and case is kept, the matcher returns what the parts mean, provided
+/// that an engine that it calls follows its regular expression.
 pub fn generate_matcher<R: RegExp>(
     alloc: Global,
     part_list: &[Part],
@@ -36,7 +36,7 @@ pub fn generate_matcher<R: RegExp>(
     Ok(generate_matcher_knowing(alloc, part_list, options, flags, None)?)
 }
 
-/// The same, where the regular expression of the whole list may be known.
+/// Generates the matcher of a list of parts, whose regular expression may be known.
 pub(crate) fn generate_matcher_knowing<R: RegExp>(
     alloc: Global,
     part_list: &[Part],
@@ -65,7 +65,8 @@ pub(crate) fn generate_matcher_knowing<R: RegExp>(
     }
 }
 
-/// The plain fixed texts at the two ends of a list of parts, or empty texts, and the parts between them.
+/// Returns the plain fixed texts at the ends of a list of parts, or empty texts, and the parts
+/// between them.
 fn peel(part_list: &[Part]) -> (&str, &[Part], &str)
     ensures { PeelsTo (parts_view part_list.now) (chars result.0.now) (parts_view result.1.now) (chars result.2.now) }
 {
@@ -74,7 +75,8 @@ fn peel(part_list: &[Part]) -> (&str, &[Part], &str)
     (prefix, middle, suffix)
 }
 
-/// The plain fixed text that a list of parts begins with, or an empty text, and the other parts.
+/// Returns the plain fixed text at the start of a list of parts, or an empty text, and the other
+/// parts.
 fn peel_front(part_list: &[Part]) -> (&str, &[Part])
     ensures { PeelsFront (parts_view part_list.now) (chars result.0.now) (parts_view result.1.now) }
 {
@@ -84,7 +86,8 @@ fn peel_front(part_list: &[Part]) -> (&str, &[Part])
     }
 }
 
-/// The plain fixed text that a list of parts ends with, or an empty text, and the other parts before it.
+/// Returns the plain fixed text at the end of a list of parts, or an empty text, and the other
+/// parts.
 fn peel_back(part_list: &[Part]) -> (&[Part], &str)
     ensures { PeelsBack (parts_view part_list.now) (parts_view result.0.now) (chars result.1.now) }
 {
@@ -101,8 +104,8 @@ pub fn is_plain(part: &Part) -> bool
     part.kind == PartType::FixedText && part.modifier == PartModifier::None
 }
 
-/// What a part captures if it is a wildcard without modifier: any text without this character, and whether it may be
-/// empty.
+/// Returns what a wildcard without modifier captures: any text without this character, and whether
+/// the text may be empty. `None`: the part is no such wildcard.
 fn capture_of(part: &Part, options: &Options) -> Option<(Option<char>, bool)>
     ensures { result ≡ capture_of (options_view options.now) part.now.kind part.now.modifier }
 {
@@ -116,7 +119,7 @@ fn capture_of(part: &Part, options: &Options) -> Option<(Option<char>, bool)>
     }
 }
 
-/// A matcher of one text.
+/// Returns a matcher of one literal: prefix and suffix, joined.
 fn literal_matcher<R>(
     alloc: Global,
     prefix: &str,
@@ -135,7 +138,7 @@ fn literal_matcher<R>(
     })
 }
 
-/// A matcher of one capture between two texts and those of its part.
+/// Returns a matcher of one capture between two texts and those of its part.
 fn capture_matcher<R>(
     alloc: Global,
     prefix: &str,
@@ -159,8 +162,8 @@ fn capture_matcher<R>(
     })
 }
 
-/// A matcher that leaves the parts between two texts to an engine. If the text of these parts is known, it is not
-/// generated.
+/// Returns a matcher that leaves the parts between two texts to an engine. The regular expression
+/// of these parts is generated unless it is known.
 fn engine_matcher<R: RegExp>(
     alloc: Global,
     prefix: &str,
@@ -189,7 +192,7 @@ fn engine_matcher<R: RegExp>(
     })
 }
 
-/// The value that an engine makes of a text, or the error that it refuses the text.
+/// Compiles a text with an engine. The inner error is that the engine rejects the text.
 fn ask_engine<R: RegExp>(
     alloc: Global,
     regexp: &str,
@@ -205,7 +208,7 @@ fn ask_engine<R: RegExp>(
     }
 }
 
-/// Two texts end to end.
+/// Joins two texts.
 #[inline(always)]
 fn joined(alloc: Global, front: &str, back: &str) -> Result<String, AllocError>
     ensures { IfOk result (λ text. text_of text ≡ chars front.now ++ chars back.now) }

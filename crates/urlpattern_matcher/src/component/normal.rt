@@ -10,12 +10,13 @@ use urlpattern_printing::generate_pattern_string;
 use urlpattern_syntax::Error;
 use urlpattern_syntax::parser::{Options, Part};
 
-/// The parts that the pattern text of a list of parts reads as.
+/// Returns the parts that the pattern string of a list of parts reads as.
 ///
-/// Parts that mean the same may be cut in several ways, such as `a{}?b` and `ab`. Their normal form is what their pattern
-/// text reads as. Of printable parts, such as those that were read under the standard's options, it is these parts with
-/// neighbouring plain fixed texts joined, if the callback answers each of their texts by itself or by an error. The error
-/// is then one of the callback's, or that memory ran out.
+/// Parts that mean the same may be cut in several ways, such as `a{}?b` and `ab`. Their normal form
+/// is what their pattern string reads as. The normal form of printable parts, such as those that
+/// were read under the standard's options, is these parts with adjacent plain fixed texts joined,
+/// if the callback returns each of their texts unchanged, or an error. The error is then one of the
+/// callback's, or that memory ran out.
 pub fn normalize_part_list<F: Fn(&str) -> Result<String, Error> + Drop>(
     alloc: Global,
     part_list: &[Part],

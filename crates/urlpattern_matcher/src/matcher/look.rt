@@ -1,4 +1,4 @@
-//! What a matcher sees in a text before an engine is asked.
+//! What a matcher sees in a text before an engine is called.
 
 ghost use Rattle.std.specs.Prelude.{IfSome};
 ghost use Rattle.std.specs.Str.{chars};
@@ -9,25 +9,26 @@ ghost use Rattle.urlpattern_meaning.specs.Matching.{Answers, AsksEngine};
 use super::{InnerMatcher, Matcher};
 use crate::regexp::RegExp;
 
-/// What a matcher sees in a text before an engine is asked.
+/// What a matcher sees in a text before an engine is called.
 #[derive(Drop)]
 pub enum Look<'m, 'a, R> {
-    /// The text is matched, and there are no groups.
+    /// The text matches, and there are no groups.
     Matched,
-    /// The text is matched, and the one group captures this.
+    /// The text matches, and the only group captures this.
     Captured(&'a str),
-    /// The text is matched if an engine matches what stands between prefix and suffix.
+    /// The text matches if an engine matches the text between prefix and suffix.
     Asks {
-        /// The value of the engine.
+        /// The engine's value.
         engine: &'m R,
-        /// What stands between prefix and suffix.
+        /// The text between prefix and suffix.
         middle: &'a str,
     },
 }
 
 impl<R: RegExp> Matcher<R> {
-    /// What is seen in a text. It does not allocate and asks no engine. `None`: the text is not
-    /// matched. An engine is left to be asked only where one stands between the text's prefix and suffix.
+    /// Looks at a text, without allocating or calling an engine. `None`: the text does not match.
+    /// `Asks` is returned only for a text that has prefix and suffix, by a matcher with an engine
+    /// between them.
     pub fn look<'m, 'a>(&'m self, input: &'a str) -> Option<Look<'m, 'a, R>>
         ensures answer { Answers R.answer (matcher_view self.now) (chars input.now) (look_answer R.answer result) }
         ensures asked { IfSome result (λ look. IsAsking look → AsksEngine (matcher_view self.now) (chars input.now)) }

@@ -1,4 +1,4 @@
-//! What the groups of a match by the crate `regex` capture.
+//! The captures of a match by the crate `regex`.
 
 ghost use Rattle.std.specs.Prelude.{◌≡◌, map, option_map, IfOk};
 ghost use Rattle.regex.specs.Strings.{captures_haystack, captures_span};
@@ -9,9 +9,7 @@ use regex::Captures;
 use std::alloc::Global;
 use urlpattern_syntax::error::OutOfMemory;
 
-/// What the groups from group 1 on span, with `None` for a group that took no part.
-///
-/// The error is that memory ran out.
+/// Returns what the groups from group 1 on span, with `None` for a group that took no part.
 pub(super) fn groups<'h>(
     alloc: Global,
     captures: &Captures<'_, 'h>,
@@ -26,7 +24,7 @@ pub(super) fn groups<'h>(
     Ok(groups)
 }
 
-/// What a group spans, if it took part.
+/// Returns what a group spans. `None`: the group took no part.
 fn group<'h>(captures: &Captures<'_, 'h>, index: usize) -> Option<&'h str>
     ensures { option_text result ≡ option_map (text_between (captures_haystack captures.now)) (captures_span captures.now index) }
 {
