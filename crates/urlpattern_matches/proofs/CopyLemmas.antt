@@ -2,7 +2,7 @@
 use Rattle.std.proofs.Common.{List, [], ◌∷◌}
 use Rattle.std.specs.List.{AllZip}
 
--- what follows for two items follows of all
+-- What follows for each pair of elements follows for the lists.
 pub zip-mono : {A B : Type 0} (R S : A → B → Type 0) (xs : List A) (ys : List B) → ((x : A) (y : B) → R x y → S x y) → AllZip R xs ys → AllZip S xs ys
 zip-mono R S [] [] follows all = tt
 zip-mono R S [] (y ∷ ys) follows all = absurd all

@@ -1,4 +1,4 @@
--- Lemmas on the groups of a match: a map of them by the characters of its keys, and names beside captures.
+-- The groups of a match: a map of them by the characters of its keys, and names with captures.
 use Rattle.std.proofs.Common.{arith, length, ◌≡◌, ℕ, Bool, true, false, List, [], ◌∷◌, ◌++◌, reverse, zip, bytes_eq, refl, sym, ap, ◌∙◌, ⊎_elim, inl, inr, cond, map, Bor}
 use Rattle.std.proofs.lemmas.Bool.{cases_Bool, cond-true, cond-false, false≢true}
 use Rattle.std.proofs.lemmas.List.{reverse-append}
@@ -25,7 +25,7 @@ text-same x y e = ap chars e
 bytes-same : (x y : String Global) → text_of x ≡ text_of y → string_bytes x ≡ string_bytes y
 bytes-same x y e = sym (text_bytes x) ∙ ap encode_utf8_all e ∙ text_bytes y
 
--- the characters of two keys are the same where the keys are
+-- The characters of two keys are equal if and only if the keys are.
 pub text-eq : (x y : String Global) → bytes_eq (text_of x) (text_of y) ≡ string_eq x y
 text-eq x y =
     ⊎_elim
@@ -36,7 +36,7 @@ text-eq x y =
     (cases_Bool (bytes_eq (text_of x) (text_of y))))
     (cases_Bool (string_eq x y))
 
--- tests that answer alike find the same
+-- Tests with equal results find the same.
 lookup-alike : {K X : Type 0} (test other : K → Bool) → ((key : K) → test key ≡ other key) → (entries : List (K × X)) → lookup test entries ≡ lookup other entries
 lookup-alike test other alike [] = refl
 lookup-alike test other alike (entry ∷ entries) =
@@ -47,11 +47,11 @@ other_entries : {K X : Type 0} (eq : K → K → Bool) (test : K → Bool) (old 
 unfolding KeepsOthers
 other_entries eq test old new keeps = keeps
 
--- by the characters of a name, a test of keys is a test of those that are equal to one key
+-- A test of keys by the characters of a name is a test for equality with one key.
 tests-key : (name : List ℕ) (x y : String Global) → bytes_eq name (text_of x) ≡ true → bytes_eq name (text_of y) ≡ string_eq x y
 tests-key name x y is = ap (λ text. bytes_eq text (text_of y)) ((bytes_decides name (text_of x)).0 is) ∙ text-eq x y
 
--- what a map has at a name once a capture is put at a key
+-- What a map has at a name after a capture is put at a key.
 pub group_in-put : {S : Type 0} (old new : HashMap (String Global) (Option (String Global)) S) (key : String Global) (capture : Option (String Global)) →
     Updates string_eq old new key (Some capture) → (name : List ℕ) →
     group_in new name ≡ cond (bytes_eq name (text_of key)) (Some (option_map text_of capture)) (group_in old name)
@@ -67,7 +67,7 @@ group_in-put old new key capture put name =
     ∙ sym (cond-false (bytes_eq name (text_of key)) (Some (option_map text_of capture)) (group_in old name) other))
     (cases_Bool (bytes_eq name (text_of key)))
 
--- ---- names beside captures
+-- ---- names with captures
 
 cond-or : {X : Type 0} (b : Bool) (x : X) (y z : Option X) → cond b (Some x) (option_or y z) ≡ option_or (cond b (Some x) y) z
 cond-or true x y z = refl
@@ -84,7 +84,7 @@ or-cond true x None z = refl
 or-cond false x None z = refl
 or-cond b x (Some y) z = refl
 
--- the first of some groups counts where none after it has its name; else it is as if it were not there
+-- The first of some groups counts if no later group has its name, and is ignored otherwise.
 pub group_of-first : (name : List ℕ) (first : List ℕ) (names : List (List ℕ)) (capture : Option (List ℕ)) (captures : Captures) (before : Option (Option (List ℕ))) →
     option_or (group_of (first ∷ names) (capture ∷ captures) name) before ≡ option_or (group_of names captures name) (cond (bytes_eq name first) (Some capture) before)
 group_of-first name first names capture captures before =
@@ -92,15 +92,15 @@ group_of-first name first names capture captures before =
     ∙ ap (λ found. option_or found before) (lookup-append (bytes_eq name) (reverse (zip names captures)) ((first, capture) ∷ []))
     ∙ or-cond (bytes_eq name first) capture (group_of names captures name) before
 
--- no groups are left where names or captures are at their end
+-- No groups are left if names or captures are at their end.
 group_of-end : (names : List (List ℕ)) (captures : Captures) (name : List ℕ) → (names ≡ []) ⊎ (captures ≡ []) → group_of names captures name ≡ None
 group_of-end names captures name (inl e) = ap (λ rest. group_of rest captures name) e
 group_of-end [] captures name (inr e) = refl
 group_of-end (first ∷ names) captures name (inr e) = ap (λ rest. group_of (first ∷ names) rest name) e
 
--- ---- a map that grows by one group after the other
+-- ---- a map that grows group by group
 
--- once the capture of a name is put, those after it are still to come
+-- After the capture of a name is put, later captures are still to come.
 pub groups-more : {S : Type 0} (before names : List (String Global)) (before_captures captures : List (Option (Bor (List ℕ)))) (name key : String Global) (capture : Option (Bor (List ℕ))) (value : Option (String Global))
     (old new : HashMap (String Global) (Option (String Global)) S) (group : List ℕ) (found : Option (Option (List ℕ))) →
     before ≡ name ∷ names → before_captures ≡ capture ∷ captures → string_bytes key ≡ string_bytes name → option_map text_of value ≡ option_text capture →
@@ -117,7 +117,7 @@ groups-more before names before_captures captures name key capture value old new
     ∙ ap (λ captured. option_or (group_of (map (λ string. text_of string) before) captured group) (group_in old group)) (ap (map option_text) (sym is_capture))
     ∙ was
 
--- at the end the map has all
+-- At the end the map has all groups.
 pub groups-end : (names : List (String Global)) (captures : List (Option (Bor (List ℕ)))) (group : List ℕ) (there found : Option (Option (List ℕ))) →
     (names ≡ []) ⊎ (captures ≡ []) →
     option_or (group_of (map (λ string. text_of string) names) (map option_text captures) group) there ≡ found → there ≡ found
@@ -128,7 +128,7 @@ groups-end names captures group there found ends was =
 
 -- ---- the group of a name
 
--- a test of characters is one of bytes
+-- A test of characters is a test of bytes.
 pub chars-test : (bytes other : List ℕ) → IsUtf8 bytes → IsUtf8 other → bytes_eq (chars bytes) (chars other) ≡ bytes_eq bytes other
 chars-test bytes other one two =
     ⊎_elim
@@ -140,7 +140,8 @@ chars-test bytes other one two =
     (cases_Bool (bytes_eq (chars bytes) (chars other))))
     (cases_Bool (bytes_eq bytes other))
 
--- once the capture of the first name is taken where that is the name, those after it are still to come
+-- After the first capture, taken if its name is that of the group, later captures are still to
+-- come.
 pub named-more : (before names : List (String Global)) (before_captures captures : List (Option (Bor (List ℕ)))) (name : String Global) (capture : Option (Bor (List ℕ)))
     (group : List ℕ) (old new found : Option (Option (List ℕ))) →
     before ≡ name ∷ names → before_captures ≡ capture ∷ captures → new ≡ cond (bytes_eq group (text_of name)) (Some (option_text capture)) old →
@@ -153,14 +154,14 @@ named-more before names before_captures captures name capture group old new foun
     ∙ ap (λ captured. option_or (group_of (map (λ string. text_of string) before) captured group) old) (ap (map option_text) (sym is_capture))
     ∙ was
 
--- what a map has at a name is what it has at the bytes of it
+-- What a map has at a name is what it has at the bytes of the name.
 pub group_in-text : {S : Type 0} (groups : HashMap (String Global) (Option (String Global)) S) (name : List ℕ) → IsUtf8 name →
     group_in groups (chars name) ≡ option_map (option_map text_of) (get_by_text groups name)
 group_in-text groups name u =
     ap (option_map (option_map text_of))
     (lookup-alike (λ key. bytes_eq (chars name) (text_of key)) (λ key. bytes_eq name (string_bytes key)) (λ key. chars-test name (string_bytes key) u (IsUtf8-string_bytes key)) groups.entries)
 
--- a capture that is lent, by its characters
+-- A borrowed capture, by its characters.
 captured-text : (found : Option (Option (String Global))) (capture : Option (Bor (List ℕ))) → option_copied capture ≡ captured_bytes found →
     option_text capture ≡ option_flatten (option_map (option_map text_of) found)
 captured-text None None e = refl
@@ -177,12 +178,12 @@ pub group-captured : {S : Type 0} (groups : HashMap (String Global) (Option (Str
 group-captured groups name capture u e =
     captured-text (get_by_text groups name) capture e ∙ ap option_flatten (sym (group_in-text groups name u))
 
--- a capture that is lent, without the two ways in which there is none
+-- A borrowed capture, where no group and a group that took no part are both None.
 pub flattened-text : (found : Option (Option (Bor (List ℕ)))) → option_text (option_flatten found) ≡ option_flatten (option_map option_text found)
 flattened-text None = refl
 flattened-text (Some capture) = refl
 
--- beside no captures there are no groups
+-- Without captures there are no groups.
 pub zip-none : {A B C : Type 0} (f : B → C) (names : List A) (captures : List B) → length captures ≡ 0 → zip names (map f captures) ≡ []
 zip-none f [] captures none = refl
 zip-none f (name ∷ names) [] none = refl

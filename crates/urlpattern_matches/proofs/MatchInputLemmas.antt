@@ -1,4 +1,4 @@
--- Lemmas on match inputs.
+-- Match inputs.
 use Rattle.std.proofs.Common.{◌≡◌, Ok, ap, inl, inr}
 use Rattle.url.specs.declared.error.ParseError.{ParseError}
 use Rattle.url.specs.Parser.{and_then}
@@ -12,7 +12,7 @@ use Rattle.urlpattern_syntax.specs.declared.error.Error.{Error}
 use Rattle.urlpattern_syntax.specs.declared.error.Error.TheVariants as errors
 use Rattle.urlpattern_syntax.specs.Errors.{MemoryOr}
 
--- an init of which `url` refuses a value
+-- An init of which `url` rejects a value has no texts.
 pub no_input : (init : UrlPatternInit) (error : Error) (reason : ParseError) → error ≡ errors.Url reason
     → MemoryOr (Reports (processed_values Url (values_view init) init.base_url) (asked_bytes Url (values_view init) init.base_url)) error
     → IsNoInput (Init init)

@@ -1,4 +1,4 @@
--- Lemmas on the JSON of results: the members of an object beside the entries of a map of groups.
+-- The JSON of results: the members of an object and the entries of a map of groups.
 use Rattle.std.proofs.Common.{◌≡◌, ℕ, Bool, true, false, cond, List, [], ◌∷◌, Option, None, Some, is_some, Ordering, Less, Equal, Greater, bytes_eq, codes, String, string_bytes, string_cmp, refl, sym, ap, ◌∙◌, option_map, arith}
 use Rattle.std.proofs.Math.Path.{fun_ext}
 use Rattle.std.proofs.lemmas.Slice.Eq.{bytes_eq-Decides}
@@ -29,7 +29,8 @@ use Rattle.urlpattern_components.specs.declared.eight.Eight.{Eight}
 
 -- ---- a map that is copied entry by entry
 
--- what is still to come counts before what is there: once the first entry is copied, where no later one has its key
+-- Entries that are still to come count before those that were copied: after the first entry is
+-- copied, no later entry has its key.
 moved : {D : Type 0} (here : Bool) (first : D) (later old new total : Option D) → (here ≡ true → later ≡ None) → new ≡ cond here (Some first) old
     → option_or (cond here (Some first) later) old ≡ total → option_or later new ≡ total
 moved true first later old new total apart is was = rw (apart refl, is) was
@@ -49,7 +50,7 @@ read_cond read false first later = refl
 
 -- ---- from groups to an object
 
--- what entries have at a name
+-- What entries have at a name.
 abbrev pub named : List (String Global × Option (String Global)) → GroupsByName
 named entries = λ name. option_map (option_map string_bytes) (lookup (λ key. bytes_eq name (string_bytes key)) entries)
 
@@ -58,7 +59,7 @@ none-later : (key : String Global) (rest : List (String Global × Option (String
 none-later key [] apart = refl
 none-later key (entry ∷ rest) apart = rw apart.0 (none-later key rest apart.1)
 
--- what an object has at a name, once a member is put
+-- What an object has at a name after a member is put.
 group_member-put : (name key : List ℕ) (tree : Data) (old : Members) (capture : Option (List ℕ)) → captured_read tree ≡ Some capture
     → group_member (put key tree old) name ≡ cond (bytes_eq name key) (Some capture) (group_member old name)
 group_member-put name key tree old capture is =
@@ -89,7 +90,7 @@ captures-put key tree (member other found rest) is_capture before =
     let rest_before : are_captures rest ≡ true = grind (arith, before) in
     captures-put_at (slice_cmp nat_cmp key other) key other tree found rest is_capture before (captures-put key tree rest is_capture rest_before)
 
--- an object whose members are these groups is read as them
+-- An object whose members are these groups is read as them.
 pub groups-read : (among : Members) (groups : GroupsByName) → are_captures among ≡ true → ((name : List ℕ) → group_member among name ≡ groups name) → groups_of_members among ≡ Some groups
 groups-read among groups captures same = rw captures (ap Some (fun_ext same))
 
@@ -145,7 +146,7 @@ pub captures-rest : (key : String Global) (value : Value) (rest : List (String G
     → are_captures (members_view ((key, value) ∷ rest)) ≡ total → are_captures (members_view rest) ≡ total
 captures-rest key value rest capture is was = ap (λ (read : Option (Option (List ℕ))). is_some read && are_captures (members_view rest)) (sym is) ∙ was
 
--- ---- what is written is read again
+-- ---- trees are read back
 
 component-read : (groups : Data) (result : PlainResultView) → groups_read groups ≡ Some result.group → (tree : Data)
     → tree ≡ object_of ((codes "input", Some (string result.input)) ∷ (codes "groups", Some groups) ∷ []) → component_result_read tree ≡ Some result
@@ -155,7 +156,7 @@ component-read groups result are_groups tree is = rw (is, are_groups) refl
 pub component_again : (result : PlainResultView) (tree : Data) → IsComponentTree result tree → component_result_read tree ≡ Some result
 component_again result tree (groups, are_groups, is) = component-read groups result are_groups tree is
 
--- a component's tree is found by its name
+-- The tree of a component is found by its name.
 member_again : (components : Eight Data) (name : ComponentName) → get (name_text name) (object_of (each_member (λ name. Some (at components name)))) ≡ Some (at components name)
 member_again components Protocol = refl
 member_again components name = refl

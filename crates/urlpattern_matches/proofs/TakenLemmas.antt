@@ -1,4 +1,4 @@
--- Lemmas on the groups that took part.
+-- The groups that took part.
 use Rattle.std.proofs.Common.{◌≡◌, ℕ, ◌+◌, ◌<◌, List, [], ◌∷◌, ◌++◌, append_assoc, get_or, length, map, take, ap, sym, ◌∙◌, Bor}
 use Rattle.std.proofs.lemmas.Grind.{flat_map-append}
 use Rattle.std.proofs.lemmas.List.{append-nil, map-append, take_more}
@@ -16,7 +16,7 @@ use Rattle.urlpattern_matches.specs.BorrowedMatches.{GroupText, NamedGroup, all_
 abbrev pub Lent : Type 0
 Lent = ComponentName × Bor (List ℕ) × Bor (List ℕ)
 
--- one more group that took part
+-- A further group that took part.
 pub taken-more : (before left : List NamedGroup) (component : ComponentName) (name text : Bor (List ℕ)) (old new : List Lent) (all : List GroupText) →
     before ≡ named_group_text (component, name, Some text) ∷ left → new ≡ old ++ (component, name, text) ∷ [] →
     map lent_group old ++ texts_captured before ≡ all → map lent_group new ++ texts_captured left ≡ all
@@ -27,7 +27,7 @@ taken-more before left component name text old new all is_first is_new was =
     ∙ ap (λ groups. map lent_group old ++ texts_captured groups) (sym is_first)
     ∙ was
 
--- one that took no part
+-- A further group that took no part.
 pub taken-same : (before left : List NamedGroup) (component : ComponentName) (name : Bor (List ℕ)) (old : List Lent) (all : List GroupText) →
     before ≡ named_group_text (component, name, None) ∷ left → map lent_group old ++ texts_captured before ≡ all → map lent_group old ++ texts_captured left ≡ all
 taken-same before left component name old all is_first was = ap (λ groups. map lent_group old ++ texts_captured groups) (sym is_first) ∙ was
@@ -41,7 +41,7 @@ taken-end left gathered all ends was =
 abbrev pub Entries : Type 0
 Entries = List (String Global × Option (String Global))
 
--- one more entry that took part, and one that took none
+-- A further entry that took part, and an entry that took no part.
 pub entry-more : (component : ComponentName) (before left : Entries) (name text : String Global) (lent : Lent) (old new : List Lent) (all : List GroupText) →
     before ≡ (name, Some text) ∷ left → lent_group lent ≡ (component, text_of name, text_of text) → new ≡ old ++ lent ∷ [] →
     map lent_group old ++ texts_captured (named_groups component (listed_entries before)) ≡ all →
@@ -68,7 +68,7 @@ entry-end component left gathered all ends was =
     sym (append-nil (map lent_group gathered))
     ∙ ap (λ entries. map lent_group gathered ++ texts_captured (named_groups component (listed_entries entries))) (sym ends) ∙ was
 
--- ---- the groups of one component more
+-- ---- the groups of a further component
 
 pub component-more : (result : UrlPatternResult) (names : List ComponentName) (i : ℕ) (d : ComponentName) (old new : List Lent) → i < length names →
     map lent_group old ≡ texts_captured (all_listed_groups result (take i names)) →

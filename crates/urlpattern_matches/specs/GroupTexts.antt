@@ -1,4 +1,4 @@
--- What groups capture, and maps of groups.
+-- Captures, and maps of groups.
 use Rattle.std.specs.Prelude.{◌≡◌, ℕ, List, [], ◌∷◌, map, Option, None, Some, Result, Ok, Err, IfOk, String, string_bytes}
 use Rattle.std.specs.{Borrow.Bor, HashMap.HashMap, Str.chars}
 use Rattle.std.specs.declared.alloc.{AllocError.AllocError, Global.Global}
@@ -15,46 +15,47 @@ use Rattle.urlpattern_meaning.specs.PartMeaning.{Captures}
 use Rattle.urlpattern_syntax.specs.Text.{option_text, text_of}
 use Rattle.urlpattern_components.specs.Eight.{Texts, at, each}
 
--- the texts that are lent
+-- The borrowed texts.
 abbrev pub borrowed_texts : Eight (Bor (List ℕ)) → Texts
 borrowed_texts texts = each (λ name. chars (at texts name).now)
 
--- what the groups of a component capture
+-- The captures of a component.
 abbrev pub captures_of : GroupCaptures → Captures
 captures_of captured.Nothing = []
 captures_of (captured.One capture) = option_text capture ∷ []
 captures_of (captured.Groups captures) = map option_text captures.items
 
--- what is captured of what was looked at, where an engine that is asked matches and has memory
+-- The captures of a look: a match, no match, or an engine that was called and ran out of memory.
 abbrev pub IsCapturedOf : {E : Type 0} → (answer : E → List ℕ → Option Captures) → Look E → Result GroupCaptures Missed → Type 0
 IsCapturedOf answer look (Ok captured) = look_answer answer (Some look) ≡ Some (captures_of captured)
 IsCapturedOf answer look (Err missed.Unmatched) = look_answer answer (Some look) ≡ None
 IsCapturedOf answer look (Err missed.OutOfMemory) = IsAsking look
 
--- a text is copied, unless memory ran out
+-- The text is copied, unless memory ran out.
 abbrev pub IsTextCopied : List ℕ → Result (String Global) AllocError → Type 0
 IsTextCopied text copied = IfOk copied (λ copy. text_of copy ≡ text)
 
--- the map has the groups of these names, which capture this, and no others
+-- The map has these names with these captures, and no other groups.
 abbrev pub AreGroups : {S : Type 0} → (names : List (List ℕ)) → Captures → HashMap (String Global) (Option (String Global)) S → Type 0
 AreGroups names captures groups = (name : List ℕ) → group_in groups name ≡ group_of names captures name
 
--- the map has no groups
+-- The map has no groups.
 abbrev pub HasNoGroups : {S : Type 0} → HashMap (String Global) (Option (String Global)) S → Type 0
 HasNoGroups groups = (name : List ℕ) → group_in groups name ≡ None
 
--- no component of the result has groups
+-- No component of the result has groups.
 abbrev pub IsWithoutGroups : UrlPatternResult → Type 0
 IsWithoutGroups result = (component : ComponentName) (name : List ℕ) → (result_view result component).group name ≡ None
 
--- the bytes that a group captured, if it is there and took part
+-- The bytes that a group captured, if there is such a group and it took part.
 abbrev pub captured_bytes : Option (Option (String Global)) → Option (List ℕ)
 captured_bytes (Some (Some text)) = Some (string_bytes text)
 captured_bytes found = None
 
--- the texts of strings, and the bytes of texts that are lent
+-- The texts of strings.
 abbrev pub texts_of : List (String Global) → List (List ℕ)
 texts_of strings = map (λ text. text_of text) strings
 
+-- The bytes of borrowed texts.
 abbrev pub lent_bytes : List (Bor (List ℕ)) → List (List ℕ)
 lent_bytes texts = map (λ text. text.now) texts

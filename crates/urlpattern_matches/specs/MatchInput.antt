@@ -1,4 +1,4 @@
--- The texts of a match input, after the URLPattern Standard, section "Matching", at "perform a match".
+-- The texts of a match input. The URLPattern Standard, section "Matching", at "perform a match".
 use Rattle.std.specs.Prelude.{ℕ, List, [], Ok}
 use Rattle.url.specs.Parser.{Parsed, and_then}
 use Rattle.urlpattern_init.specs.declared.init.UrlPatternMatchInput.{UrlPatternMatchInput}
@@ -11,24 +11,24 @@ use Rattle.urlpattern_inputs.specs.declared.match_input.MatchInput.{MatchInput}
 use Rattle.urlpattern_syntax.specs.Text.{text_of}
 use Rattle.urlpattern_components.specs.Eight.{Texts, at, each}
 
--- the texts that an input has
+-- The eight texts of a `MatchInput`.
 abbrev pub texts_view : MatchInput → Texts
 texts_view input = each (λ name. text_of (at (matched_texts input) name))
 
--- the eight texts of a path alone: the others are empty
+-- The eight texts of a path alone: the other texts are empty.
 abbrev pub pathname_alone : (pathname : List ℕ) → Texts
 pathname_alone pathname = record (each (λ name. [])) { pathname = pathname }
 
--- the eight texts of a match input: those of the URL, or those that the init results in
+-- The eight texts of a match input: those of the URL, or those that the init results in.
 abbrev pub input_texts : UrlPatternMatchInput → Parsed Texts
 input_texts (Init init) = and_then (init_values Url init) (λ values. Ok (texts_of_values values))
 input_texts (UrlInput url) = Ok (texts_of_url url)
 
--- the bytes of the longest text about which `url` is asked; of a URL there is none
+-- The length, in bytes, of the longest text that is passed to `url`; 0 for a URL.
 abbrev pub input_bytes : UrlPatternMatchInput → ℕ
 input_bytes (Init init) = init_bytes Url init
 input_bytes (UrlInput url) = 0
 
--- the input has no texts
+-- The input has no texts: `url` rejects one of them, or one of them is too long.
 abbrev pub IsNoInput : UrlPatternMatchInput → Type 0
 IsNoInput input = IsRefusedByUrl (input_texts input) (input_bytes input)

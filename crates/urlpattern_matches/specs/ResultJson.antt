@@ -1,5 +1,5 @@
--- The JSON of results, in the shape of a browser's `URLPatternResult`: which tree stands for a result, and which trees are read as
--- which result. Texts are seen as their bytes in UTF-8, which are those of JSON.
+-- The JSON of results, in the shape of a browser's `URLPatternResult`: the tree of a result, and
+-- the result that a tree is read as. Texts are bytes in UTF-8, as in JSON.
 use Rattle.std.specs.Prelude.{◌≡◌, ℕ, Bool, true, ◌&&◌, if◌then◌else◌, List, [], ◌∷◌, Option, None, Some, is_some, String, option_map, string_bytes, codes}
 use Rattle.std.specs.{HashMap.HashMap, HashMap.get_by_text}
 use Rattle.std.specs.declared.alloc.Global.{Global}
@@ -16,13 +16,13 @@ use Rattle.urlpattern_components.specs.declared.eight.ComponentName.{ComponentNa
 use Rattle.urlpattern_components.specs.declared.eight.Eight.{Eight}
 use Rattle.urlpattern_components.specs.Eight.{at, each, name_text}
 
--- ---- what a result is
+-- ---- results
 
--- what groups have at a name: None where there is no such group, Some None where it took no part
+-- The groups by name: None if there is no such group, Some None if the group took no part.
 abbrev pub GroupsByName : Type 0
 GroupsByName = (name : List ℕ) → Option (Option (List ℕ))
 
--- A `UrlPatternComponentResult`: the text that was matched, and its groups.
+-- The view of a `UrlPatternComponentResult`: the text that was matched, and its groups.
 pub record PlainResultView : Type 0 where
   pub input : List ℕ
   pub group : GroupsByName
@@ -36,22 +36,22 @@ plain_result_view result = record { input = string_bytes result.input; group = g
 abbrev pub plain_results_view : UrlPatternResult → Eight PlainResultView
 plain_results_view result = each (λ name. plain_result_view (at (results_of result) name))
 
--- ---- what is read
+-- ---- reading
 
--- what a group captured: a text, or null where it took no part
+-- The capture of a group: a text, or null if the group took no part.
 abbrev pub captured_read : Data → Option (Option (List ℕ))
 captured_read tree = found_read as_str (Some tree)
 
--- what an object has at a name, read as what a group captured
+-- The member of an object at a name, read as a capture.
 abbrev pub group_member : Members → GroupsByName
 group_member members = λ name. get_member name members >>= captured_read
 
--- whether each member is a text or null
+-- Whether each member is a text or null.
 abbrev pub are_captures : Members → Bool
 are_captures no_members = true
 are_captures (member name tree rest) = is_some (captured_read tree) && are_captures rest
 
--- the groups of an object: its members, if each is a text or null
+-- The groups of an object: its members, if each is a text or null.
 abbrev pub groups_of_members : Members → Option GroupsByName
 groups_of_members members = if are_captures members then Some (group_member members) else None
 
@@ -67,27 +67,27 @@ component_result_read tree = do
 abbrev pub result_read : Data → Option (Eight PlainResultView)
 result_read tree = read_each (λ name. member_read component_result_read (name_text name) tree)
 
--- ---- the trees
+-- ---- trees
 
--- the tree of a component's result: an object with its text as `input`, and as `groups` an object with its groups, and no other
--- members
+-- The tree of a component's result: an object with its text as `input`, and with its groups as the
+-- object `groups`, and no other members.
 abbrev pub IsComponentTree : PlainResultView → Data → Type 0
 IsComponentTree result tree =
     (groups : Data) × (groups_read groups ≡ Some result.group)
     × (tree ≡ object_of ((codes "input", Some (string result.input)) ∷ (codes "groups", Some groups) ∷ []))
 
--- the tree of a result: an object with the tree of each component's result
+-- The tree of a result: an object with the tree of each component's result.
 abbrev pub IsResultTree : Eight PlainResultView → Data → Type 0
 IsResultTree result tree =
     (components : Eight Data) × ((name : ComponentName) → IsComponentTree (at result name) (at components name))
     × (tree ≡ object_of (each_member (λ name. Some (at components name))))
 
--- the tree of a match that is borrowed: that of a result with its texts and groups
+-- The tree of a borrowed match: that of a result with its texts and groups.
 abbrev pub IsTreeOfCaptures : UrlPatternCaptures → Data → Type 0
 IsTreeOfCaptures found tree =
     (result : UrlPatternResult) × ((name : ComponentName) → IsSameResult (result_view result name) (pattern_captures_view found name))
     × IsResultTree (plain_results_view result) tree
 
--- an object's entries gain, at a name, the tree of a component's result
+-- The entries gain the tree of a component's result, at a name.
 abbrev pub GainsComponent : (before after : List (String Global × Value)) → (name : List ℕ) → PlainResultView → Type 0
 GainsComponent before after name result = (tree : Data) × IsComponentTree result tree × Gain before after name (Some tree)

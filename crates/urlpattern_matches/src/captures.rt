@@ -1,4 +1,4 @@
-//! What the groups of a pattern capture, borrowed from the pattern and from the texts that it matches.
+//! Captures of a match, borrowed from the pattern and from the texts that it matches.
 ghost use Rattle.std.specs.Prelude.{◌≡◌, map, option_map, IfOk, IsSomeAnd};
 ghost use Rattle.std.specs.Str.{chars};
 ghost use Rattle.urlpattern_matches.specs.declared.captures.Missed.TheVariants as all_missed;
@@ -21,7 +21,7 @@ use urlpattern_matcher::regexp::RegExp;
 use urlpattern_syntax::Error;
 use urlpattern_syntax::error::OutOfMemory;
 
-/// A match whose names are borrowed from the pattern, and whose texts and captures from what it matches.
+/// A match: its names are borrowed from the pattern, its texts and captures from the input.
 ///
 /// `UrlPattern::captures` returns it.
 ///
@@ -37,13 +37,13 @@ use urlpattern_syntax::error::OutOfMemory;
 pub struct UrlPatternCaptures<'p, 'u> {
     /// The names of the groups.
     names: Eight<&'p Vec<String>>,
-    /// The texts that are matched.
+    /// The texts that were matched.
     texts: Eight<&'u str>,
-    /// What the groups capture of each text.
+    /// The captures of each component.
     captures: Eight<GroupCaptures<'u>>,
 }
 
-/// The captures of these texts, by the names of the groups that captured them.
+/// Returns the match of these texts, with the names of the groups and their captures.
 pub fn captures_from<'p, 'u>(
     names: Eight<&'p Vec<String>>,
     texts: Eight<&'u str>,
@@ -61,7 +61,8 @@ pub fn captures_from<'p, 'u>(
 }
 
 impl Drop for UrlPatternCaptures<'_, '_> {
-    /// Drops the lists of captures. Where a match goes out of scope, the prover handles one call in place of eight lists.
+    /// Drops the captures. Where a match goes out of scope, the prover handles one call in place of
+    /// eight.
     fn drop(self) {
         let Self {
             names: _,
@@ -72,15 +73,15 @@ impl Drop for UrlPatternCaptures<'_, '_> {
 }
 
 impl<'p, 'u> UrlPatternCaptures<'p, 'u> {
-    /// The text of a component, which was matched.
+    /// Returns the text of a component, which was matched.
     pub fn input(&self, component: ComponentName) -> &'u str
         ensures { chars result.now ≡ (pattern_captures_view self.now component).input }
     {
         self.texts.get(component)
     }
 
-    /// What the group of a name captured, a slice of the component's text. `None`: there is no such group, or it took no part.
-    /// Of equal names the last counts.
+    /// Returns what the group of a name captured, a slice of the component's text. `None`: there is
+    /// no such group, or it took no part. The last of equal names counts.
     ///
     /// Here `users` is compiled from `https://example.com/users/:id`, and `ID` is the text `id`:
     ///
@@ -96,14 +97,15 @@ impl<'p, 'u> UrlPatternCaptures<'p, 'u> {
         self.group(component, name).flatten()
     }
 
-    /// Whether the group of a name took part in the match. `None`: there is no such group. Of equal names the last counts.
+    /// Whether the group of a name took part in the match. `None`: there is no such group. The last
+    /// of equal names counts.
     pub fn took_part(&self, component: ComponentName, name: &str) -> Option<bool>
         ensures { result ≡ took_part (pattern_captures_view self.now component) (chars name.now) }
     {
         self.group(component, name).map(|capture| capture.is_some())
     }
 
-    /// What the group of a name captured, if it took part. `None`: there is no such group.
+    /// Returns what the group of a name captured, if it took part. `None`: there is no such group.
     fn group(&self, component: ComponentName, name: &str) -> Option<Option<&'u str>>
         ensures { option_map option_text result ≡ (pattern_captures_view self.now component).group (chars name.now) }
     {
@@ -114,7 +116,7 @@ impl<'p, 'u> UrlPatternCaptures<'p, 'u> {
         )
     }
 
-    /// The groups of a component, in their order.
+    /// Returns the groups of a component, in order.
     pub fn groups(&self, component: ComponentName) -> UrlPatternGroups<'_, 'p, 'u>
         ensures { groups_left result ≡ groups_view self.now component }
     {
@@ -124,17 +126,15 @@ impl<'p, 'u> UrlPatternCaptures<'p, 'u> {
         )
     }
 
-    /// The groups of all components, in the order of the standard, each beside the name of its component.
+    /// Returns the groups of all components, in the order of the standard, each with its component.
     pub fn iter(&self) -> UrlPatternCapturesIter<'_, 'p, 'u>
         ensures { all_groups_left result ≡ all_groups_view self.now components }
     {
         UrlPatternCapturesIter::new(self)
     }
 
-    /// The groups that took part, in the order of `iter`: each component and name, with what the group captured, as
-    /// `UrlPattern::link` and `generate` take them.
-    ///
-    /// The error is that memory ran out.
+    /// Returns the groups that took part, in the order of `iter`: component, name and capture, as
+    /// `UrlPattern::link` and `generate` expect them.
     pub fn to_groups(&self, alloc: Global) -> Result<Vec<(ComponentName, &'p str, &'u str)>, Error>
         ensures all { IfOk result (λ groups. map lent_group groups.items ≡ texts_captured (all_groups_view self.now components)) }
         ensures memory { OnlyOutOfMemory result }
@@ -150,9 +150,7 @@ impl<'p, 'u> UrlPatternCaptures<'p, 'u> {
         Ok(groups)
     }
 
-    /// The match with copies of its texts, names and captures, as `UrlPattern::exec` returns it.
-    ///
-    /// The error is that memory ran out.
+    /// Returns an owned copy of the match, as `UrlPattern::exec` does.
     #[inline(always)]
     pub fn to_result(&self, alloc: Global) -> Result<UrlPatternResult, Error>
         ensures same { IfOk result (IsCopyOfMatch self.now) }
@@ -168,9 +166,8 @@ impl<'p, 'u> UrlPatternCaptures<'p, 'u> {
         }
     }
 
-    /// The same, as `UrlPattern::exec` returns a match that is found. A result is large, and this one is made where it is returned.
-    ///
-    /// The error is that memory ran out.
+    /// Returns an owned copy of the match, as `to_result` does. A result is large, so the `Option`
+    /// is filled in place.
     #[inline(always)]
     pub fn to_found(&self, alloc: Global) -> Result<Option<UrlPatternResult>, Error>
         ensures same { IfOk result (λ found. IsSomeAnd found (IsCopyOfMatch self.now)) }
@@ -186,7 +183,7 @@ impl<'p, 'u> UrlPatternCaptures<'p, 'u> {
         found
     }
 
-    /// Copies the texts, names and captures to a result that has no groups yet.
+    /// Copies the texts, names and captures to a result without groups.
     fn copy_to(&self, alloc: Global, copy: &mut UrlPatternResult) -> Result<(), OutOfMemory>
         requires { IsWithoutGroups copy.old }
         ensures same { IfOk result (λ _. IsCopyOfMatch self.now copy.new) }
@@ -201,7 +198,7 @@ impl<'p, 'u> UrlPatternCaptures<'p, 'u> {
         self.copy_component(alloc, ComponentName::Hash, &mut copy.hash)
     }
 
-    /// Copies the text of a component, and its names and captures, to a result that has no groups yet.
+    /// Copies the text, names and captures of a component to a result without groups.
     fn copy_component(
         &self,
         alloc: Global,
@@ -220,7 +217,8 @@ impl<'p, 'u> UrlPatternCaptures<'p, 'u> {
     }
 }
 
-/// What the group of this name captures, where names and captures are in the same order. Of equal names the last counts.
+/// Returns what the group of this name captures, where names and captures are in the same order.
+/// The last of equal names counts.
 fn group_named<'u>(
     names: &[String],
     captures: &[Option<&'u str>],
@@ -237,12 +235,12 @@ fn group_named<'u>(
     found
 }
 
-/// Why an engine that is asked captures nothing.
+/// Why an engine that was called captures nothing.
 #[derive(Drop)]
 pub enum Missed {
-    /// It does not match the text.
+    /// The engine does not match the text.
     Unmatched,
-    /// It had no memory.
+    /// The engine ran out of memory.
     OutOfMemory,
 }
 
@@ -254,19 +252,19 @@ impl From<OutOfMemory> for Missed {
     }
 }
 
-/// What the groups of a component capture of its text.
+/// The captures of a component.
 #[derive(Debug, Clone, Drop)]
 pub enum GroupCaptures<'u> {
-    /// There are no groups.
+    /// No groups.
     Nothing,
-    /// There is one group.
+    /// A single group.
     One(Option<&'u str>),
-    /// An engine returned this.
+    /// The captures that an engine returned.
     Groups(Vec<Option<&'u str>>),
 }
 
 impl<'u> GroupCaptures<'u> {
-    /// What a look at a text results in, once an engine is asked that has to be.
+    /// Returns what a look captures, and calls its engine if it has one.
     #[inline(always)]
     pub fn of_look<R: RegExp>(alloc: Global, look: Look<'_, 'u, R>) -> Result<Self, Missed>
         ensures { IsCapturedOf R.answer look.entry result }
@@ -281,7 +279,7 @@ impl<'u> GroupCaptures<'u> {
         }
     }
 
-    /// The captures in their order.
+    /// Returns the captures, in order.
     fn as_slice(&self) -> &[Option<&'u str>]
         ensures { map option_text result.now ≡ captures_of self.now }
     {

@@ -1,4 +1,4 @@
-//! The groups of a match, by their names.
+//! The groups of a match, by name.
 ghost use Rattle.std.specs.Prelude.{◌≡◌, IfOk, map, option_map};
 ghost use Rattle.urlpattern_matches.specs.GroupTexts.{AreGroups, HasNoGroups};
 ghost use Rattle.urlpattern_syntax.specs.Text.{option_text, text_of};
@@ -7,10 +7,11 @@ use std::alloc::{AllocError, Global};
 use std::collections::HashMap;
 use urlpattern_syntax::error::OutOfMemory;
 
-/// What groups capture, by their names. A group that took no part has `None`.
+/// Captures by the names of the groups. `None`: the group took no part.
 pub(crate) type Groups = HashMap<String, Option<String>>;
 
-/// Adds what the groups with these names capture, which stand in the same order. Of equal names the last counts.
+/// Adds the captures of the groups with these names, in the same order. The last of equal names
+/// counts.
 pub(crate) fn add_groups(
     alloc: Global,
     groups: &mut Groups,
@@ -26,7 +27,7 @@ pub(crate) fn add_groups(
     Ok(())
 }
 
-/// A copy of what a group captures.
+/// Copies a capture.
 fn copied(alloc: Global, capture: Option<&str>) -> Result<Option<String>, AllocError>
     ensures { IfOk result (λ copy. option_map text_of copy ≡ option_text capture.entry) }
 {

@@ -18,9 +18,7 @@ use urlpattern_inputs::writing::put_text;
 use urlpattern_syntax::Error;
 
 impl UrlPatternResult {
-    /// The JSON of the result: an object with a key for each component, which has the object of the component's result.
-    ///
-    /// The error is that memory ran out.
+    /// Returns the JSON of the result: an object with the result of each component, as an object.
     pub fn to_json_value(&self, alloc: Global) -> Result<Value, Error>
         ensures tree { IfOk result (λ tree. IsResultTree (plain_results_view self.now) (view tree)) }
         ensures memory { OnlyOutOfMemory result }
@@ -37,10 +35,8 @@ impl UrlPatternResult {
         Ok(Value::Object(members))
     }
 
-    /// The result that the JSON stands for: an object with the result of each component. Other keys are passed over. `None`: the
-    /// JSON has another shape.
-    ///
-    /// The error is that memory ran out.
+    /// Reads a result from JSON: an object with the result of each component. Other keys are
+    /// ignored. `None`: the JSON has another shape.
     pub fn from_json_value(alloc: Global, value: &Value) -> Result<Option<Self>, Error>
         ensures read { IfOk result (λ found. option_map plain_results_view found ≡ result_read (view value.now)) }
         ensures memory { OnlyOutOfMemory result }
@@ -54,9 +50,7 @@ impl UrlPatternResult {
 }
 
 impl UrlPatternCaptures<'_, '_> {
-    /// The JSON of the match, as that of the result that `to_result` copies.
-    ///
-    /// The error is that memory ran out.
+    /// Returns the JSON of the match, which is that of the result that `to_result` returns.
     pub fn to_json_value(&self, alloc: Global) -> Result<Value, Error>
         ensures tree { IfOk result (λ tree. IsTreeOfCaptures self.now (view tree)) }
         ensures memory { OnlyOutOfMemory result }
@@ -72,10 +66,8 @@ impl UrlPatternCaptures<'_, '_> {
 }
 
 impl UrlPatternComponentResult {
-    /// The JSON of the result: an object with the text `input`, and the object `groups`, in which each group has its capture, or
-    /// null where it took no part.
-    ///
-    /// The error is that memory ran out.
+    /// Returns the JSON of the result: an object with the text `input` and the object `groups`,
+    /// which has the capture of each group, or null if the group took no part.
     pub fn to_json_value(&self, alloc: Global) -> Result<Value, Error>
         ensures tree { IfOk result (λ tree. IsComponentTree (plain_result_view self.now) (view tree)) }
         ensures memory { OnlyOutOfMemory result }
@@ -87,10 +79,8 @@ impl UrlPatternComponentResult {
         Ok(Value::Object(members))
     }
 
-    /// The result that the JSON stands for: an object with the text `input`, and the object `groups`, whose members are texts and
-    /// nulls. Other keys are passed over. `None`: the JSON has another shape.
-    ///
-    /// The error is that memory ran out.
+    /// Reads a result from JSON: an object with the text `input` and the object `groups`, whose
+    /// members are texts and nulls. Other keys are ignored. `None`: the JSON has another shape.
     pub fn from_json_value(alloc: Global, value: &Value) -> Result<Option<Self>, Error>
         ensures read { IfOk result (λ found. option_map plain_result_view found ≡ component_result_read (view value.now)) }
         ensures memory { OnlyOutOfMemory result }
@@ -108,7 +98,7 @@ impl UrlPatternComponentResult {
     }
 }
 
-/// Puts the result of a component into an object.
+/// Adds the result of a component to an object.
 fn put_component(
     members: &mut Map<String, Value>,
     alloc: Global,
@@ -122,7 +112,7 @@ fn put_component(
     Ok(serde_json::put(members, alloc, name, tree)?)
 }
 
-/// The result of a component, of a member.
+/// Reads the result of a component from a member.
 fn component_field(
     alloc: Global,
     tree: &Value,
@@ -133,7 +123,7 @@ fn component_field(
     UrlPatternComponentResult::read(alloc, member(tree, name)?)
 }
 
-/// An object with the capture of each group.
+/// Returns an object with the capture of each group.
 fn groups_tree(alloc: Global, groups: &Groups) -> Result<Value, AllocError>
     ensures { IfOk result (λ tree. groups_read (view tree) ≡ Some (groups_by_name groups.now)) }
 {
@@ -144,7 +134,7 @@ fn groups_tree(alloc: Global, groups: &Groups) -> Result<Value, AllocError>
     Ok(Value::Object(members))
 }
 
-/// A text, or null where the group took no part.
+/// Returns a capture as a text, or as null if the group took no part.
 fn captured_tree(alloc: Global, capture: &Option<String>) -> Result<Value, AllocError>
     ensures { IfOk result (λ tree. captured_read (view tree) ≡ Some (option_map string_bytes capture.now)) }
 {
@@ -154,14 +144,14 @@ fn captured_tree(alloc: Global, capture: &Option<String>) -> Result<Value, Alloc
     }
 }
 
-/// The groups of a member.
+/// Reads groups from a member.
 fn groups_field(alloc: Global, tree: &Value, name: &str) -> Result<Groups, Unread>
     ensures { ReturnsRead groups_by_name result (member_read groups_read name.now (view tree.now)) }
 {
     read_groups(alloc, member(tree, name)?)
 }
 
-/// The groups of an object whose members are texts and nulls.
+/// Reads groups from an object whose members are texts and nulls.
 #[tactic(auto, unfolding(crate::specs::ResultJson::groups_read))]
 fn read_groups(alloc: Global, tree: &Value) -> Result<Groups, Unread>
     ensures { ReturnsRead groups_by_name result (groups_read (view tree.now)) }
@@ -172,7 +162,7 @@ fn read_groups(alloc: Global, tree: &Value) -> Result<Groups, Unread>
     }
 }
 
-/// The groups of these members, which have to be texts and nulls.
+/// Reads groups from members, which have to be texts and nulls.
 fn groups_of_members(alloc: Global, members: &Map<String, Value>) -> Result<Groups, Unread>
     ensures { ReturnsRead groups_by_name result (groups_of_members (members_view members.now.entries)) }
 {
@@ -183,7 +173,7 @@ fn groups_of_members(alloc: Global, members: &Map<String, Value>) -> Result<Grou
     Ok(groups)
 }
 
-/// A text, or null where the group took no part.
+/// Reads a capture from a text, or from null: the group took no part.
 fn read_capture(alloc: Global, tree: &Value) -> Result<Option<String>, Unread>
     ensures { ReturnsRead (option_map string_bytes) result (captured_read (view tree.now)) }
 {

@@ -1,7 +1,8 @@
-//! What a pattern is matched against, and what its groups captured: the eight texts of an input, captures, and results.
+//! What a pattern is matched against, and what it returns: the eight texts of an input, captures
+//! and results.
 //!
-//! `urlpattern` passes on the types, and `parse_match_input` in its module `quirks`. The other functions are for the calls of
-//! `urlpattern_pattern`.
+//! `urlpattern` re-exports the types, and `parse_match_input` in its module `quirks`. The other
+//! functions are for `urlpattern_pattern`.
 #![tactic(auto)]
 
 mod captures;

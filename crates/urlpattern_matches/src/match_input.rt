@@ -14,14 +14,14 @@ use urlpattern_init::{UrlPatternMatchInput, process_values};
 use urlpattern_inputs::MatchInput;
 use urlpattern_syntax::Error;
 
-/// The texts of a URL.
+/// Copies the texts of a URL.
 fn of_url(alloc: Global, url: &Url) -> Result<MatchInput, AllocError>
     ensures { IfOk result (λ texts. texts_view texts ≡ texts_of_url url.now) }
 {
     copied(alloc, &url_texts(url))
 }
 
-/// The texts of an init's values.
+/// Returns the texts of an init's values.
 fn of_values(alloc: Global, values: Eight<Option<String>>) -> MatchInput
     ensures { texts_view result ≡ texts_of_values (values_of values) }
 {
@@ -31,16 +31,15 @@ fn of_values(alloc: Global, values: Eight<Option<String>>) -> MatchInput
     MatchInput::from_eight(values.map(text))
 }
 
-/// The text, or the empty one.
+/// Returns the text, or the empty text.
 fn text_or_empty(alloc: Global, text: Option<String>) -> String
     ensures { text_of result ≡ unwrap_or (option_map text_of text) [] }
 {
     text.unwrap_or(String::new(alloc))
 }
 
-/// The texts of an input, with what an init inherits from its base URL. `None`: `url` refuses one of them.
-///
-/// The error is that memory ran out.
+/// Returns the texts of an input, with what an init inherits from its base URL. `None`: `url`
+/// rejects a text.
 ///
 /// <https://urlpattern.spec.whatwg.org/#url-pattern-match>
 pub fn parse_match_input(

@@ -19,7 +19,7 @@ use urlpattern_components::{ComponentName, Eight, field_of, with_fields};
 use urlpattern_syntax::Error;
 use urlpattern_syntax::error::OutOfMemory;
 
-/// The result of a match, for each component.
+/// The result of a match: the result of each component.
 ///
 /// The path `/1/2`, which `/:b/:a{/:c}?` matches:
 ///
@@ -31,21 +31,21 @@ use urlpattern_syntax::error::OutOfMemory;
 /// <https://urlpattern.spec.whatwg.org/#dictdef-urlpatternresult>
 #[derive(Debug, PartialEq, Eq, Drop)]
 pub struct UrlPatternResult {
-    /// The result of the scheme.
+    /// The result of the protocol.
     pub protocol: UrlPatternComponentResult,
-    /// The result of the user name.
+    /// The result of the username.
     pub username: UrlPatternComponentResult,
     /// The result of the password.
     pub password: UrlPatternComponentResult,
-    /// The result of the host.
+    /// The result of the hostname.
     pub hostname: UrlPatternComponentResult,
     /// The result of the port.
     pub port: UrlPatternComponentResult,
-    /// The result of the path.
+    /// The result of the pathname.
     pub pathname: UrlPatternComponentResult,
-    /// The result of the query.
+    /// The result of the search.
     pub search: UrlPatternComponentResult,
-    /// The result of the fragment.
+    /// The result of the hash.
     pub hash: UrlPatternComponentResult,
 }
 
@@ -65,13 +65,14 @@ pub struct UrlPatternResult {
 /// <https://urlpattern.spec.whatwg.org/#dictdef-urlpatterncomponentresult>
 #[derive(Debug, PartialEq, Eq, Drop)]
 pub struct UrlPatternComponentResult {
-    /// The component's text, which was matched.
+    /// The text of the component, which was matched.
     pub input: String,
-    /// What the groups capture, by their names. A group that took no part has `None`, and of equal names the last counts.
+    /// The captures, by the names of the groups. `None`: the group took no part. The last of equal
+    /// names counts.
     pub groups: HashMap<String, Option<String>>,
 }
 
-/// The result of empty texts that have no groups. It does not allocate.
+/// Returns the result of empty texts without groups. Does not allocate.
 pub(crate) fn empty_result(alloc: Global) -> UrlPatternResult
     ensures { IsWithoutGroups result }
 {
@@ -98,37 +99,39 @@ impl Clone for UrlPatternResult {
 }
 
 impl UrlPatternResult {
-    /// The result of these components.
+    /// Returns the result of these components.
     pub fn from_eight(components: Eight<UrlPatternComponentResult>) -> Self
         ensures { results_of result ≡ components }
     {
         with_fields!(Self, components)
     }
 
-    /// The results of the components.
+    /// Returns the results of the components.
     pub fn into_eight(self) -> Eight<UrlPatternComponentResult>
         ensures { result ≡ results_of self }
     {
         with_fields!(Eight, self)
     }
 
-    /// The result of a component.
+    /// Returns the result of a component.
     pub fn component(&self, component: ComponentName) -> &UrlPatternComponentResult
         ensures { result.now ≡ at (results_of self.now) component }
     {
         field_of!(self, component)
     }
 
-    /// What the group of a name captured. `None`: there is no such group, or it took no part.
+    /// Returns what the group of a name captured. `None`: there is no such group, or it took no
+    /// part.
     pub fn get(&self, component: ComponentName, name: &str) -> Option<&str>
         ensures { option_text result ≡ captured_text (result_view self.now component) (chars name.now) }
     {
         self.component(component).get(name)
     }
 
-    /// The groups that took part, as `UrlPattern::link` and `generate` take them: each component and name, with what the group captured.
+    /// Returns the groups that took part: component, name and capture, as `UrlPattern::link` and
+    /// `generate` expect them.
     ///
-    /// Components are in the order of the standard, and the groups of each in any order. The error is that memory ran out.
+    /// Components are in the order of the standard, and the groups of each component in any order.
     pub fn to_groups(&self, alloc: Global) -> Result<Vec<(ComponentName, &str, &str)>, Error>
         ensures all { IfOk result (λ groups. map lent_group groups.items ≡ texts_captured (all_listed_groups self.now components)) }
         ensures differ { IfOk result (λ groups. (component : Name) → HasDistinctGroups self.now component) }
@@ -154,16 +157,15 @@ impl Clone for UrlPatternComponentResult {
 }
 
 impl UrlPatternComponentResult {
-    /// What the group of a name captured. `None`: there is no such group, or it took no part.
+    /// Returns what the group of a name captured. `None`: there is no such group, or it took no
+    /// part.
     pub fn get(&self, name: &str) -> Option<&str>
         ensures { option_text result ≡ captured_text (component_result_view self.now) (chars name.now) }
     {
         capture_of(&self.groups, name)
     }
 
-    /// The names of the groups, in the order of their bytes.
-    ///
-    /// The error is that memory ran out.
+    /// Returns the names of the groups, in the order of their bytes.
     pub fn sorted_names(&self, alloc: Global) -> Result<Vec<&str>, Error>
         ensures differ { IfOk result (λ names. IsUnique string_eq self.now.groups) }
         ensures all { IfOk result (λ names. IsPermutation (map (λ name. string_bytes name) (keys self.now.groups)) (lent_bytes names.items)) }
@@ -175,7 +177,7 @@ impl UrlPatternComponentResult {
         Ok(names)
     }
 
-    /// The result of the empty text that has no groups. It does not allocate.
+    /// Returns the result of an empty text without groups. Does not allocate.
     fn empty(alloc: Global) -> Self
         ensures { HasNoGroups result.groups }
     {
@@ -185,7 +187,7 @@ impl UrlPatternComponentResult {
         }
     }
 
-    /// Takes a copy of a text, and copies of what the groups with these names capture of it.
+    /// Copies a text, and what the groups with these names capture of it.
     pub(crate) fn fill(
         &mut self,
         alloc: Global,
@@ -219,7 +221,7 @@ fn add_taken<'r>(
     Ok(())
 }
 
-/// The names of groups.
+/// Returns the names of groups.
 fn names_of(alloc: Global, groups: &Groups) -> Result<Vec<&str>, AllocError>
     ensures all { IfOk result (λ names. lent_bytes names.items ≡ map (λ name. string_bytes name) (keys groups.now)) }
     ensures differ { IfOk result (λ names. IsUnique string_eq groups.now) }
@@ -231,7 +233,7 @@ fn names_of(alloc: Global, groups: &Groups) -> Result<Vec<&str>, AllocError>
     Ok(names)
 }
 
-/// What the group of a name captured, if it is there and took part.
+/// Returns what the group of a name captured. `None`: there is no such group, or it took no part.
 fn capture_of<'a>(groups: &'a Groups, name: &str) -> Option<&'a str>
     ensures { option_copied result ≡ captured_bytes (get_by_text groups.now name.now) }
 {

@@ -1,4 +1,4 @@
-//! The texts of what is matched, borrowed.
+//! The texts that a pattern is matched against, borrowed.
 ghost use Rattle.std.specs.Prelude.{◌≡◌, IfOk};
 ghost use Rattle.std.specs.Str.{chars};
 ghost use Rattle.urlpattern_init.specs.Inheritance as inherited;
@@ -13,7 +13,7 @@ use urlpattern_components::{ComponentName, Eight};
 use urlpattern_init::url_text;
 use urlpattern_inputs::MatchInput;
 
-/// The eight texts of a URL, borrowed: what it has for each component, without the marks between them.
+/// Returns the eight texts of a URL, borrowed, without the marks between them.
 pub fn url_texts(url: &Url) -> Eight<&str>
     ensures { borrowed_texts result ≡ texts_of_url url.now }
 {
@@ -23,7 +23,8 @@ pub fn url_texts(url: &Url) -> Eight<&str>
     Eight::from_fn(text)
 }
 
-/// The eight texts of a path alone: the others are empty. The path is not made canonical.
+/// Returns the eight texts of a path alone: the other texts are empty. The path is not made
+/// canonical.
 pub fn pathname_texts(pathname: &str) -> Eight<&str>
     ensures { borrowed_texts result ≡ pathname_alone (chars pathname.now) }
 {
@@ -39,7 +40,7 @@ pub fn pathname_texts(pathname: &str) -> Eight<&str>
     }
 }
 
-/// The texts of an input that has its own.
+/// Returns the eight texts of an input, borrowed.
 pub fn input_texts(input: &MatchInput) -> Eight<&str>
     ensures { borrowed_texts result ≡ texts_view input.now }
 {
@@ -49,7 +50,7 @@ pub fn input_texts(input: &MatchInput) -> Eight<&str>
     Eight::from_fn(text)
 }
 
-/// Copies of texts.
+/// Copies eight texts.
 pub(crate) fn copied(alloc: Global, texts: &Eight<&str>) -> Result<MatchInput, AllocError>
     ensures { IfOk result (λ copies. texts_view copies ≡ borrowed_texts texts.now) }
 {

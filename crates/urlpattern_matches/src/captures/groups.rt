@@ -1,11 +1,11 @@
-//! The groups of a match, one after the other.
+//! Iterators over the groups of a match.
 
 use super::UrlPatternCaptures;
 use std::slice;
 use urlpattern_components::{COMPONENTS, ComponentName};
 
-/// The groups of a component that are left, in their order: each name, with what the group captured. `None`: the group took no
-/// part.
+/// The remaining groups of a component, in order: each name with its capture. `None`: the group
+/// took no part.
 ///
 /// `UrlPatternCaptures::groups` returns it.
 ///
@@ -29,7 +29,7 @@ impl<'c, 'p, 'u> UrlPatternGroups<'c, 'p, 'u> {
     ghost use Rattle.urlpattern_matches.specs.GroupTexts.{texts_of};
     ghost use Rattle.urlpattern_syntax.specs.Text.{option_text};
 
-    /// The groups of these names, which capture this.
+    /// Returns the groups of these names and captures.
     pub(super) fn new(names: &'p [String], captures: &'c [Option<&'u str>]) -> Self
         ensures { groups_left result ≡ zip (texts_of names.now) (map option_text captures.now) }
     {
@@ -57,7 +57,7 @@ impl<'c, 'p, 'u> Iterator for UrlPatternGroups<'c, 'p, 'u> {
     }
 }
 
-/// The groups of all components that are left, in the order of the standard, each beside the name of its component.
+/// The remaining groups of all components, in the order of the standard, each with its component.
 ///
 /// `UrlPatternCaptures::iter` returns it.
 ///
@@ -73,9 +73,9 @@ impl<'c, 'p, 'u> Iterator for UrlPatternGroups<'c, 'p, 'u> {
 #[derive(Drop)]
 pub struct UrlPatternCapturesIter<'c, 'p, 'u> {
     captures: &'c UrlPatternCaptures<'p, 'u>,
-    /// The components whose groups have not begun.
+    /// The components whose groups are still to come.
     components: slice::Iter<'static, ComponentName>,
-    /// The component whose groups have begun.
+    /// The component whose groups are being returned.
     component: ComponentName,
     groups: UrlPatternGroups<'c, 'p, 'u>,
 }
@@ -85,7 +85,7 @@ impl<'c, 'p, 'u> UrlPatternCapturesIter<'c, 'p, 'u> {
     ghost use Rattle.urlpattern_matches.specs.BorrowedMatches.{all_groups_left, all_groups_view};
     ghost use Rattle.urlpattern_components.specs.Eight.{components};
 
-    /// All groups.
+    /// Returns all groups of a match.
     pub(super) fn new(captures: &'c UrlPatternCaptures<'p, 'u>) -> Self
         ensures { all_groups_left result ≡ all_groups_view captures.now components }
     {

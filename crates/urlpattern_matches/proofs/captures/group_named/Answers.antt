@@ -11,7 +11,7 @@ use Rattle.urlpattern_syntax.specs.Text.{option_text, text_of}
 use Rattle.urlpattern_matches.proofs.captures.group_named.Goals as goal
 use Rattle.urlpattern_matches.proofs.captures.group_named.Goals.{In-Some}
 
--- the capture beside a name counts where the name is the group's
+-- A capture counts if its name is that of the group.
 more : (c : In-Some) (test : Bool) → bytes_eq c.args.group.now (string_bytes c.in-Some.name.now) ≡ test → (found : Option (Option (Bor (List ℕ))))
     → option_map option_text found ≡ cond test (Some (option_text c.in-Some.capture.now)) (option_map option_text c.loop-name.found)
     → option_or (group_of (map (λ name. text_of name) (iter_rest (zip_first c.next.new.self))) (map option_text (iter_rest (zip_second c.next.new.self))) (chars c.args.group.now)) (option_map option_text found)

@@ -7,7 +7,7 @@ use Rattle.urlpattern_matches.specs.ResultViews.{group_of}
 use Rattle.urlpattern_syntax.specs.Text.{option_text, text_of}
 use Rattle.urlpattern_matches.proofs.captures.group_named.Given as goal
 
--- what is still to come counts before what was found
+-- Captures that are still to come count before the one that was found.
 abbrev pub invariant-loop-name : goal.invariant-loop-name
 invariant-loop-name l =
     option_or (group_of (map (λ name. text_of name) (iter_rest (zip_first l.name-iterator))) (map option_text (iter_rest (zip_second l.name-iterator))) (chars l.group)) (option_map option_text l.found)

@@ -6,7 +6,7 @@ use Rattle.urlpattern_matches.specs.ResultViews.{group_in, group_of}
 use Rattle.urlpattern_syntax.specs.Text.{option_text, text_of}
 use Rattle.urlpattern_matches.proofs.groups.add_groups.Given as goal
 
--- what is still to come counts before what is there
+-- Groups that are still to come count before those in the map.
 abbrev pub invariant-loop-name : goal.invariant-loop-name
 invariant-loop-name l = (group : List ℕ) →
     option_or (group_of (map (λ name. text_of name) (iter_rest (zip_first l.name-iterator))) (map option_text (iter_rest (zip_second l.name-iterator))) group) (group_in l.groups group)

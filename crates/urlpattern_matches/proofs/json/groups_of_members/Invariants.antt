@@ -6,7 +6,7 @@ use Rattle.serde_json.specs.View.{members_view}
 use Rattle.urlpattern_matches.specs.ResultJson.{are_captures, group_member, groups_by_name}
 use Rattle.urlpattern_matches.proofs.json.groups_of_members.Given as goal
 
--- what is still to come counts before what is there
+-- Members that are still to come count before the groups in the map.
 abbrev pub invariant-loop-name : goal.invariant-loop-name
 invariant-loop-name l = record {
   sorted : IsStrictlySortedBy string_cmp (keys_of l.name-iterator);

@@ -8,7 +8,7 @@ use Rattle.urlpattern_matches.specs.ResultJson.{are_captures, group_member, grou
 use Rattle.urlpattern_matches.proofs.ResultJsonLemmas.{named}
 use Rattle.urlpattern_matches.proofs.json.groups_tree.Given as goal
 
--- what is still to come counts before what is there
+-- Groups that are still to come count before the members of the object.
 abbrev pub invariant-loop-name : goal.invariant-loop-name
 invariant-loop-name l = record {
   distinct : IsDistinct string_eq (keys_of l.name-iterator);

@@ -4,7 +4,7 @@ use Rattle.std.specs.String.{string_eq}
 use Rattle.urlpattern_matches.specs.BorrowedMatches.{lent_group, listed_entries, listed_groups, named_groups, texts_captured}
 use Rattle.urlpattern_matches.proofs.result.add_taken.Given as goal
 
--- the groups that are added, and those that are still to come
+-- The groups that were added, and those that are still to come.
 abbrev pub invariant-loop-name : goal.invariant-loop-name
 invariant-loop-name l = record {
   added :

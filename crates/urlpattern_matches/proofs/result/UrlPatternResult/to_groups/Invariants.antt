@@ -3,7 +3,7 @@ use Rattle.std.specs.List.{All}
 use Rattle.urlpattern_matches.specs.BorrowedMatches.{HasDistinctGroups, all_listed_groups, lent_group, texts_captured}
 use Rattle.urlpattern_matches.proofs.result.UrlPatternResult.to_groups.Given as goal
 
--- the groups of the components so far
+-- The groups of the components so far.
 abbrev pub invariant-loop-component : goal.invariant-loop-component
 invariant-loop-component l = record {
   added : map lent_group l.taken.items ≡ texts_captured (all_listed_groups l.self (take l.component-index l.component-items));

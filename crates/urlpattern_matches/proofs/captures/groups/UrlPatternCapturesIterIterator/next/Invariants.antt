@@ -3,7 +3,7 @@ use Rattle.std.specs.Slice.Iter.{iter_rest}
 use Rattle.urlpattern_matches.specs.BorrowedMatches.{all_groups_left}
 use Rattle.urlpattern_matches.proofs.captures.groups.UrlPatternCapturesIterIterator.next.Given as goal
 
--- what is left stays the same
+-- The remaining groups stay the same.
 abbrev pub invariant-loop-name : goal.invariant-loop-name
 invariant-loop-name l = all_groups_left l.self ≡ all_groups_left l.initial.self
 

@@ -5,7 +5,7 @@ use Rattle.urlpattern_matches.specs.GroupTexts.{texts_of}
 use Rattle.urlpattern_syntax.specs.Text.{option_text}
 use Rattle.urlpattern_matches.proofs.captures.groups.UrlPatternGroupsIterator.next.Goals as goal
 
--- where no capture is left there are no groups any more
+-- Without captures there are no more groups.
 pub returns-in_err-capture-clause-steps : goal.returns-in_err-capture-clause-steps
 returns-in_err-capture-clause-steps c =
     let (none, same) = c.in_err-capture.ensures.steps in
