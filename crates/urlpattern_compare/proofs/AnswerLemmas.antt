@@ -1,4 +1,4 @@
--- What a search found, as an answer.
+-- The result of a comparison, by what a search found.
 use Rattle.std.proofs.Common.{◌≡◌, ◌≢◌, ℕ, Bool, true, false, List, [], ◌∷◌, refl, sym, subst, ap, ◌∙◌, ◌↔◌, inl, inr, Option, Some, None, Result, Ok, Err, IfOk, IfSome}
 use Rattle.std.specs.declared.alloc.{AllocError.AllocError}
 use Rattle.std.proofs.lemmas.List.Elements.{All-cons, All-head, All-nil, All-tail}
@@ -47,7 +47,7 @@ pub custom : (parts : List Part) → list_any is_custom_part parts ≡ true → 
 custom [] some are = absurd cc
 custom (part ∷ parts) some are = custom_cases part parts (is_custom_part part) refl some (custom parts) are
 
--- ---- answers
+-- ---- results
 
 pub found_answer : (options : OptionsView) (parts : List PartView) (other_options : OptionsView) (others : List PartView) (is_meant : Bool) (one other : Automaton) (found : Found) →
     AreGenerated parts → AreGenerated others → made_view one ≡ made options parts → made_view other ≡ made other_options others → IsFoundBy one other is_meant found →
@@ -62,7 +62,7 @@ found_answer options parts other_options others is_meant one other Nothing gen o
     whether_by (not is_meant) (AcceptsText other text) (MeansText other_options others text) there (is text fine plain (here.1 meant))
 found_answer options parts other_options others is_meant one other TooMany gen other_gen same other_same is = inr (inl (one, other, same, other_same, is))
 
--- ---- what was made
+-- ---- automata
 
 pub made_within : (options : OptionsView) (parts : List PartView) (result : Result (Option Automaton) AllocError) →
     IfOk result (λ found. IfSome found (λ automaton. made_view automaton ≡ made options parts)) → IfOk result (λ found. IfSome found IsWithin)

@@ -1,4 +1,4 @@
--- What is read from the starts of an automaton that is made.
+-- The texts that the starts of an automaton under construction read.
 use Rattle.std.proofs.Common.{◌≡◌, ◌≢◌, ℕ, zero, suc, ◌+◌, ◌<◌, ◌≤◌, Bool, true, false, List, [], ◌∷◌, ◌++◌, length, refl, sym, subst, ap, ◌∙◌, ◌⊎◌, inl, inr, ◌↔◌, arith, append-nil}
 use Rattle.std.proofs.lemmas.List.Elements.{Contains-append_cases, Contains-append_left, Contains-append_right}
 use Rattle.std.specs.List.{Contains}
@@ -17,7 +17,7 @@ use Rattle.urlpattern_syntax.specs.declared.parser.PartModifier.{PartModifier}
 
 -- ---- well made
 
--- edges of what was made begin below the number of its states
+-- The edges of what was made begin below its number of states.
 pub record IsMade (made : Made) : Type 0 where
   pub below : (edge : Edge) → Contains made.edges edge → edge.from < made.count
   pub some : 0 < made.count
@@ -37,7 +37,7 @@ pub cells_made : (made : Made) (cells : List Cell) → IsMade made → IsMade (w
 cells_made made [] is = is
 cells_made made (cell ∷ cells) is = cells_made (with_cell made cell) cells (cell_made made cell is)
 
--- what was made first stays within all
+-- What was made first stays a part of all edges.
 pub cells_within : (all : List Edge) (made : Made) (cells : List Cell) → IsMade made → IsPartOf all (with_cells made cells) → IsPartOf all made
 cells_within all made [] is within = within
 cells_within all made (cell ∷ cells) is within =
@@ -45,7 +45,7 @@ cells_within all made (cell ∷ cells) is within =
 
 -- ---- from the starts
 
--- from one of these or those
+-- A text leads from one of two lists of states if it leads from either list.
 pub from_append : (all : List Edge) (states others : List ℕ) (text : List ℕ) → LeadsFrom all (states ++ others) text ↔ (LeadsFrom all states text ⊎ LeadsFrom all others text)
 from_append all states others text = (
   λ (state, has, leads). elim (Contains-append_cases states others state has) [
@@ -58,7 +58,7 @@ from_append all states others text = (
   ],
 )
 
--- from this one
+-- A text leads from a list of one state if it leads from that state.
 pub from_one : (all : List Edge) (state : ℕ) (text : List ℕ) → LeadsFrom all (state ∷ []) text ↔ Leads all state text
 from_one all state text = (
   λ (other, has, leads). elim (contains_cons state other [] has) [
@@ -111,7 +111,7 @@ cell_read : (all : List Edge) (made : Made) (cell : Cell) → IsMade made → Is
 cell_read all made (One test) is within text = one_read all made test is within text
 cell_read all made (Many test) is within text = many_read all made test is within text
 
--- from the starts after the cells, what they take before what was made
+-- The starts after the cells read what the cells read, followed by what was made.
 pub cells_read : (all : List Edge) (made : Made) (cells : List Cell) → IsMade made → IsPartOf all (with_cells made cells) → (text : List ℕ) →
     LeadsFrom all (with_cells made cells).starts text ↔ CellsThen cells (LeadsFrom all made.starts) text
 cells_read all made [] is within text = (λ leads. leads, λ leads. leads)
@@ -130,7 +130,7 @@ starts_heads made [] = refl
 starts_heads made (One test ∷ cells) = starts_heads (with_cell made (One test)) cells
 starts_heads made (Many test ∷ cells) = starts_heads (with_cell made (Many test)) cells
 
--- where one character is taken always, what was there before is no start
+-- If a cell reads exactly one character, the earlier starts are no starts any more.
 pub heads_alone : (starts others : List ℕ) (count : ℕ) (cells : List Cell) → has_one cells ≡ true → heads starts count cells ≡ heads others count cells
 heads_alone starts others count [] one = absurd cc
 heads_alone starts others count (One test ∷ cells) one = refl

@@ -1,4 +1,4 @@
--- The texts that cells take before others.
+-- The texts that cells read, followed by other texts.
 use Rattle.std.proofs.Common.{◌≡◌, ◌≢◌, ℕ, zero, suc, ◌+◌, ◌<◌, ◌≤◌, Bool, true, false, List, [], ◌∷◌, ◌++◌, length, refl, sym, subst, ap, ◌∙◌, ◌⊎◌, inl, inr, ◌↔◌, arith, append_assoc, append-nil, ap₂, eqb-true, eq-eqb, map, reverse}
 use Rattle.std.proofs.lemmas.List.{reverse-append}
 use Rattle.std.proofs.lemmas.List.Folds.{list_any-append}
@@ -15,12 +15,12 @@ use Rattle.urlpattern_compare.proofs.StateSets.{both}
 abbrev pub Texts : Type 1
 Texts = List ℕ → Type 0
 
--- any number of characters that pass, and one of the texts
+-- Any number of characters that pass, followed by one of the texts.
 abbrev pub RunThen : Test → Texts → List ℕ → Type 0
 RunThen test Rest [] = Rest []
 RunThen test Rest (c ∷ text) = Rest (c ∷ text) ⊎ (IsTrue (passes test c) × RunThen test Rest text)
 
--- one character that passes, and one of the texts
+-- A character that passes, followed by one of the texts.
 abbrev pub OneThen : Test → Texts → List ℕ → Type 0
 OneThen test Rest [] = ⊥
 OneThen test Rest (c ∷ text) = IsTrue (passes test c) × Rest text
@@ -29,17 +29,17 @@ abbrev pub CellThen : Cell → Texts → List ℕ → Type 0
 CellThen (One test) Rest text = OneThen test Rest text
 CellThen (Many test) Rest text = RunThen test Rest text
 
--- what the cells take, the last first, and one of the texts
+-- What the cells read, which are in reverse order, followed by one of the texts.
 abbrev pub CellsThen : List Cell → Texts → List ℕ → Type 0
 CellsThen [] Rest text = Rest text
 CellsThen (cell ∷ cells) Rest text = CellsThen cells (CellThen cell Rest) text
 
--- n times
+-- What n copies of the cells read, followed by one of the texts.
 abbrev pub TimesThen : List Cell → ℕ → Texts → List ℕ → Type 0
 TimesThen cells zero Rest text = Rest text
 TimesThen cells (suc n) Rest text = CellsThen cells (TimesThen cells n Rest) text
 
--- ---- other texts after them
+-- ---- other texts that follow
 
 run_mono : (test : Test) (Rest Other : Texts) (n : ℕ) → ((text : List ℕ) → length text ≤ n → Rest text → Other text) → (text : List ℕ) → length text ≤ n → RunThen test Rest text → RunThen test Other text
 run_mono test Rest Other n more [] le is = more [] le is
@@ -56,13 +56,14 @@ cell_mono : (cell : Cell) (Rest Other : Texts) (n : ℕ) → ((text : List ℕ) 
 cell_mono (One test) Rest Other n more text le is = one_mono test Rest Other n (λ t lt. more t (omega arith)) text le is
 cell_mono (Many test) Rest Other n more text le is = run_mono test Rest Other n more text le is
 
--- for texts that are no longer
+-- Cells, followed by other texts of at most this length.
 pub cells_mono : (cells : List Cell) (Rest Other : Texts) (n : ℕ) → ((text : List ℕ) → length text ≤ n → Rest text → Other text) → (text : List ℕ) → length text ≤ n →
     CellsThen cells Rest text → CellsThen cells Other text
 cells_mono [] Rest Other n more text le is = more text le is
 cells_mono (cell ∷ cells) Rest Other n more text le is = cells_mono cells (CellThen cell Rest) (CellThen cell Other) n (cell_mono cell Rest Other n more) text le is
 
--- for shorter texts, where one character is taken always
+-- Cells, one of which reads exactly one character, followed by other texts of less than this
+-- length.
 pub cells_mono_below : (cells : List Cell) (Rest Other : Texts) (n : ℕ) → has_one cells ≡ true → ((text : List ℕ) → length text < n → Rest text → Other text) → (text : List ℕ) → length text ≤ n →
     CellsThen cells Rest text → CellsThen cells Other text
 cells_mono_below [] Rest Other n one more text le is = absurd cc
@@ -85,7 +86,7 @@ pub append_then : (cells others : List Cell) (Rest : Texts) (text : List ℕ) �
 append_then [] others Rest text = (λ is. is, λ is. is)
 append_then (cell ∷ cells) others Rest text = append_then cells others (CellThen cell Rest) text
 
--- the cells in their order
+-- What the cells read, in order, followed by one of the texts.
 abbrev pub InOrder : List Cell → Texts → List ℕ → Type 0
 InOrder [] Rest text = Rest text
 InOrder (cell ∷ cells) Rest text = CellThen cell (InOrder cells Rest) text
@@ -106,7 +107,7 @@ order_map (cell ∷ cells) Rest Other more text is = cell_map cell (InOrder cell
 
 -- ---- texts
 
--- the cells of a text take it
+-- The cells of a text read the text.
 pub text_then : (front : List ℕ) (Rest : Texts) (text : List ℕ) → InOrder (text_cells front) Rest text ↔ ((rest : List ℕ) × (text ≡ front ++ rest) × Rest rest)
 text_then [] Rest text = (λ is. (text, refl, is), λ (rest, e, is). subst Rest (sym e) is)
 text_then (c ∷ front) Rest [] = (λ is. absurd is, λ (rest, e, is). absurd cc)
@@ -116,7 +117,7 @@ text_then (c ∷ front) Rest (d ∷ text) =
       λ (rest, e, is). let head : d ≡ c = cc in let tail : text ≡ front ++ rest = cc in (eq-eqb d c head, same.1 (rest, tail, is)),
     )
 
--- a run takes characters that pass
+-- A run reads characters that pass.
 pub run_pieces : (test : Test) (Rest : Texts) (text : List ℕ) → RunThen test Rest text → (piece rest : List ℕ) × (text ≡ piece ++ rest) × IsTrue (list_all (passes test) piece) × Rest rest
 run_pieces test Rest [] is = ([], [], refl, refl, is)
 run_pieces test Rest (c ∷ text) is = elim is [
@@ -152,7 +153,7 @@ cells_some [] Rest text is = is
 cells_some (cell ∷ cells) Rest text is =
     cells_some cells (λ n. CellThen cell (Rest n)) text (cells_map cells (CellThen cell (λ t. (n : ℕ) × Rest n t)) (λ t. (n : ℕ) × CellThen cell (Rest n) t) (cell_some cell Rest) text is)
 
--- ---- cells in the other order
+-- ---- cells in reverse order
 
 pub reverse_cons : (cell : Cell) (cells : List Cell) → reverse (cell ∷ cells) ≡ reverse cells ++ cell ∷ []
 reverse_cons cell cells = reverse-append (cell ∷ []) cells
@@ -195,7 +196,7 @@ run_run test Rest (c ∷ text) is = elim is [
   | inr later ↦ inr (later.0, run_run test Rest text later.1)
 ]
 
--- a run as often as one likes is a run
+-- Any number of runs is a run.
 pub times_run : (test : Test) (n : ℕ) (Rest : Texts) (text : List ℕ) → TimesThen (Many test ∷ []) n Rest text → RunThen test Rest text
 times_run test zero Rest text is = run_start test Rest text is
 times_run test (suc n) Rest text is =

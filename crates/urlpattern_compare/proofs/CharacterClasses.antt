@@ -14,7 +14,7 @@ use Rattle.urlpattern_compare.proofs.StateSets.{contains_cons, contains_head, co
 
 -- ---- characters that tests name
 
--- characters that a test does not name are alike to it
+-- A test does not tell characters apart that it does not name.
 pub unnamed_same : (test : Test) (c other : ℕ) → c ≢ named test → other ≢ named test → passes test c ≡ passes test other
 unnamed_same (Only mark) c other h k = ne_eqb c mark h ∙ sym (ne_eqb other mark k)
 unnamed_same (AnyBut mark) c other h k = ap not (ne_eqb c mark h ∙ sym (ne_eqb other mark k))
@@ -38,7 +38,7 @@ contains_among (mark ∷ marks) c h = elim (contains_cons mark c marks h) [
   | inr later ↦ ap (λ b. (mark == c) || b) (contains_among marks c later) ∙ or_true (mark == c)
 ]
 
--- with one more, unless it is there
+-- Marks are kept when one is added, unless it is there.
 pub one_kept : (b : Bool) (marks : List ℕ) (more c : ℕ) → Contains marks c → Contains (if b then marks else (marks ++ more ∷ [])) c
 one_kept true marks more c h = h
 one_kept false marks more c h = Contains-append_left marks (more ∷ []) c h
@@ -47,7 +47,7 @@ one_there : (b : Bool) (marks : List ℕ) (more : ℕ) → is_among marks more �
 one_there true marks more h = among_contains marks more h
 one_there false marks more h = Contains-push marks more
 
--- with the named characters
+-- Marks are kept when the named characters are added.
 pub named_kept : (marks : List ℕ) (edges : List Edge) (c : ℕ) → Contains marks c → Contains (with_named marks edges) c
 named_kept marks [] c h = h
 named_kept marks (edge ∷ edges) c h =
@@ -64,14 +64,14 @@ named_there marks (edge ∷ edges) =
 
 -- ---- classes
 
--- each mark of the edges is one of the classes
+-- Each character that the edges name is one of the classes.
 abbrev pub AreNamed : (classes : List ℕ) → List Edge → Type 0
 AreNamed classes edges = All (λ edge. Contains classes (named edge.test)) edges
 
 unlike : (classes : List ℕ) (c mark : ℕ) → is_among classes c ≡ false → Contains classes mark → c ≢ mark
 unlike classes c mark h has e = let k = contains_among classes mark has in let j : is_among classes mark ≡ false = subst (λ m. is_among classes m ≡ false) e h in absurd cc
 
--- a character that is none of the marks is like another that is none
+-- Edges do not tell characters apart that are none of the marks.
 pub others_same : (classes : List ℕ) (edges : List Edge) (c other : ℕ) → is_among classes c ≡ false → is_among classes other ≡ false → AreNamed classes edges → IsSameFor edges c other
 others_same classes edges c other h k named_in =
     All-weaker (λ (edge : Edge). Contains classes (named edge.test)) (λ (edge : Edge). passes edge.test c ≡ passes edge.test other)
@@ -88,14 +88,14 @@ classes_cases marks edges others c free feed left right other true e =
 classes_cases marks edges others c free feed left right other false e =
     (c, Contains-push marks c, others_same marks edges other c e free left, others_same marks others other c e free right, λ fine. unlike marks c line_feed free feed)
 
--- the classes are the marks and another character, if there is one
+-- The classes are the marks and another character, if there is one.
 pub classes_with : (marks : List ℕ) (edges others : List Edge) (c : ℕ) → is_among marks c ≡ false → Contains marks line_feed → AreNamed marks edges → AreNamed marks others → AreClasses edges others (marks ++ c ∷ [])
 classes_with marks edges others c free feed left right other scalar = classes_cases marks edges others c free feed left right other (is_among marks other) refl
 
 pub classes_all : (marks : List ℕ) (edges others : List Edge) → ((c : ℕ) → IsScalar c → is_among marks c ≡ true) → AreClasses edges others marks
 classes_all marks edges others all c scalar = (c, among_contains marks c (all c scalar), itself edges c, itself others c, λ fine. fine)
 
--- characters that are alike lead to the same states
+-- Characters that are alike lead to the same states.
 pub same_moves : (flags from : List Bool) (c other : ℕ) (edges : List Edge) → IsSameFor edges c other → with_moves flags from c edges ≡ with_moves flags from other edges
 same_moves flags from c other [] same = refl
 same_moves flags from c other (edge ∷ edges) same =

@@ -1,4 +1,4 @@
--- What is known of one component.
+-- Comparisons of one component.
 use Rattle.std.proofs.Common.{◌≡◌, ℕ, List, [], ◌∷◌, ◌++◌, inl, inr, refl, sym, subst, append-nil, Some}
 use Rattle.std.specs.Prelude.{IsTrue}
 use Rattle.urlpattern_compare.specs.Answers.{IsCovering, IsOverlap, IsReason, IsTooMuch}
@@ -35,7 +35,7 @@ wildcard_means options text line =
       ),
     )
 
--- ---- answers of lists of parts
+-- ---- results of lists of parts
 
 pub covering_known : (component asked : ComponentParts) (covering : Covering) → IsKnown component → IsKnown asked → ¬ AreSame component asked →
     IsCovering (options_view component.options) (parts_view component.parts.items) (options_view asked.options) (parts_view asked.parts.items) covering →
@@ -63,7 +63,7 @@ overlap_known component other (overlaps.Unknown reasons.IgnoredCase) known other
 overlap_known component other (overlaps.Unknown reasons.IgnoredCase) known other_known (inr e) = inl e
 overlap_known component other (overlaps.Unknown reasons.TooMany) known other_known is = too_much_flips (options_view component.options) (parts_view component.parts.items) (options_view other.options) (parts_view other.parts.items) is
 
--- what covers a full wildcard takes each line
+-- A component that covers a full wildcard means each line.
 pub each_line : (component anything : ComponentParts) → IsKnown component → parts_view anything.parts.items ≡ anything_part ∷ [] →
     IsCovering (options_view component.options) (parts_view component.parts.items) (options_view anything.options) (parts_view anything.parts.items) coverings.Covered → TakesEachLine component
 each_line component anything known are is = record {
@@ -71,7 +71,7 @@ each_line component anything known are is = record {
   takes = λ text fine line. is text fine line (subst (λ parts. MeansText (options_view anything.options) parts text) (sym are) (wildcard_means (options_view anything.options) text line));
 }
 
--- what overlaps a full wildcard has an example
+-- The overlap with a full wildcard is an example.
 pub example_known : (component anything : ComponentParts) (overlap : Overlap) → IsKnown component →
     options_view anything.options ≡ default_options → parts_view anything.parts.items ≡ anything_part ∷ [] →
     IsOverlap (options_view component.options) (parts_view component.parts.items) (options_view anything.options) (parts_view anything.parts.items) overlap → IsExample component overlap

@@ -1,4 +1,4 @@
--- What is read from the starts of an automaton after copies of cells.
+-- The texts that the starts of an automaton read after copies of cells.
 use Rattle.std.proofs.Common.{◌≡◌, ◌≢◌, ℕ, zero, suc, ◌+◌, ◌<◌, ◌≤◌, Bool, true, false, List, [], ◌∷◌, ◌++◌, length, refl, sym, subst, ap, ◌∙◌, ◌⊎◌, inl, inr, ◌↔◌, arith}
 use Rattle.std.specs.Prelude.{◌&&◌, if◌then◌else◌}
 use Rattle.urlpattern_compare.specs.Automata.{LeadsFrom}
@@ -14,7 +14,7 @@ use Rattle.urlpattern_syntax.specs.declared.parser.PartModifier.{PartModifier}
 
 -- ---- loops of texts
 
--- what may be read again after the cells, or be left
+-- What may be read again after the cells, or be left, is read a number of times.
 loop_times : (cells : List Cell) (X Y Z : Texts) → has_one cells ≡ true → ((t : List ℕ) → Y t → X t ⊎ Z t) → ((t : List ℕ) → Z t → CellsThen cells Y t) →
     (limit : ℕ) (text : List ℕ) → length text ≤ limit → Y text → (n : ℕ) × TimesThen cells n X text
 loop_times cells X Y Z one split turn zero text le y = elim (split text y) [
@@ -37,13 +37,13 @@ times_loop : (cells : List Cell) (X Y Z : Texts) → ((t : List ℕ) → (X t �
 times_loop cells X Y Z join turn zero text is = join text (inl is)
 times_loop cells X Y Z join turn (suc n) text is = join text (inr (turn text (cells_map cells (TimesThen cells n X) Y (times_loop cells X Y Z join turn n) text is)))
 
--- ---- one copy, or such a one again
+-- ---- one copy, or repeated copies
 
--- n copies take no more than one
+-- Any number of copies reads no more than one copy.
 abbrev pub Absorbs : List Cell → Texts → Type 0
 Absorbs cells Rest = has_one cells ≡ false → (n : ℕ) (text : List ℕ) → TimesThen cells n Rest text → CellsThen cells Rest text
 
--- the starts of the copy's end where it stands again or not
+-- An automaton in which the copy may repeat is well made.
 again_made : (made : Made) (again : Bool) (cells : List Cell) → IsMade made → IsMade (with_again made again cells)
 again_made made again cells is = record { below = is.below; some = is.some }
 
@@ -97,7 +97,7 @@ copy_often all made cells is part one text =
 
 -- ---- by the modifier
 
--- as many copies as it allows
+-- As many copies as the modifier permits.
 abbrev pub CopiesThen : PartModifier → List Cell → Texts → List ℕ → Type 0
 CopiesThen modifier cells Rest text = (n : ℕ) × Allows modifier n × TimesThen cells n Rest text
 
@@ -116,7 +116,7 @@ not_missing all made inner text =
       λ leads. both.1 (inl leads),
     )
 
--- without the copy, or, where that is not said, what the copy takes as well
+-- Without the copy, or, if the copy may not be left out, where it reads the same.
 missing_or : (all : List Edge) (made inner : Made) (missing : Bool) (text : List ℕ) → (missing ≡ false → LeadsFrom all made.starts text → LeadsFrom all inner.starts text) →
     LeadsFrom all (with_missing made inner missing).starts text ↔ (LeadsFrom all inner.starts text ⊎ LeadsFrom all made.starts text)
 missing_or all made inner true text kept = from_append all inner.starts made.starts text
@@ -146,7 +146,7 @@ copies_made made modifier cells is =
     let inner = cells_made (with_again made (repeats modifier) cells) cells (again_made made (repeats modifier) cells is) in
     record { below = inner.below; some = inner.some }
 
--- what was made before the copies is part of all
+-- What was made before the copies is a part of all edges.
 pub copies_before : (all : List Edge) (made : Made) (modifier : PartModifier) (cells : List Cell) → IsMade made → IsPartOf all (with_copies made modifier cells) → IsPartOf all made
 copies_before all made modifier cells is part =
     let outer = cells_within all (with_again made (repeats modifier) cells) cells (again_made made (repeats modifier) cells is) (copies_part all made modifier cells part) in

@@ -1,4 +1,4 @@
--- Which patterns of a list are covered by one before them.
+-- The patterns of a list that an earlier one covers.
 use Rattle.std.proofs.Common.{◌≡◌, ◌∙◌, ◌<◌, ◌+◌, ◌⊎◌, ℕ, zero, suc, List, [], ◌∷◌, ◌++◌, inl, inr, refl, sym, subst, ap, get_or, length, map, take, arith, Option, Some, None}
 use Rattle.std.proofs.lemmas.Option.{get_or_from_slice_get, slice_get-map, slice_get_read, slice_get_within}
 use Rattle.std.specs.Borrow.{Bor}
@@ -10,32 +10,33 @@ use Rattle.urlpattern_compare.specs.declared.list.Shadowed.{Shadowed}
 use Rattle.urlpattern_compare.specs.declared.pattern.PatternParts.{PatternParts}
 use borrow.Author.Count
 
--- the patterns that references lead to
+-- The referenced pattern.
 abbrev pub now : Bor PatternParts → PatternParts
 now pattern = pattern.now
 
 abbrev pub all_now : List (Bor PatternParts) → List PatternParts
 all_now patterns = map now patterns
 
--- the pattern at an index
+-- The pattern at an index.
 pub now_at : (patterns : List (Bor PatternParts)) (i : ℕ) (pattern : Bor PatternParts) → i < length patterns → pattern ≡ get_or patterns i pattern
     → slice_get (all_now patterns) i ≡ Some pattern.now
 now_at patterns i pattern within is = slice_get-map now patterns i ∙ ap (option_map now) (slice_get_read patterns (length patterns) i pattern refl within is)
 
--- what holds of the patterns before one, and of that one, holds of those before the next
+-- What holds of the patterns before an index and of the pattern at the index holds of those before
+-- the next index.
 pub all_more : (P : PatternParts → Type 0) (patterns : List PatternParts) (i : ℕ) (pattern : PatternParts) → slice_get patterns i ≡ Some pattern
     → All P (take i patterns) → P pattern → All P (take (i + 1) patterns)
 all_more P patterns i pattern there before is =
     All-more P patterns i pattern (slice_get_within patterns i pattern there) before (subst P (sym (get_or_from_slice_get patterns i pattern pattern there)) is)
 
--- what is found of the patterns below an index
+-- The list so far, for the patterns below an index.
 pub record AreListedBelow (patterns : List PatternParts) (found : List Shadowed) (index : ℕ) : Type 0 where
   pub covered : All (IsShadowed patterns) found
   pub ordered : AreInOrder found
   pub below : All (λ one. one.pattern < index) found
   pub others : (k : ℕ) → k < index → (asked : PatternParts) → slice_get patterns k ≡ Some asked → IsListed patterns found k asked
 
--- the first of these patterns that is known to cover the asked one
+-- The index of the first of these patterns that is known to cover the asked one, or None.
 abbrev pub IsFirstBefore : List PatternParts → (asked : PatternParts) → Option ℕ → Type 0
 IsFirstBefore patterns asked by =
     MatchOption by (All (IsNotKnownToCover asked) patterns) (λ k. CoversAt patterns asked k × All (IsNotKnownToCover asked) (take k patterns))
@@ -67,7 +68,7 @@ shadowed_more patterns found i (Some k) asked there is before =
     let (pattern, at_k, covered) = is.0 in
     All-push (IsShadowed patterns) found (record { pattern = i; by = k }) before ((get_take patterns i k pattern at_k).0, (asked, there, is))
 
--- ---- their order
+-- ---- the order of indices
 
 pushed : (found : List Shadowed) (last : Shadowed) → AreInOrder found → All (λ (one : Shadowed). one.pattern < last.pattern) found → AreInOrder (found ++ last ∷ [])
 pushed [] last order below = (All-nil (λ (other : Shadowed). last.pattern < other.pattern), tt)

@@ -1,4 +1,4 @@
--- What is read from the states of an automaton that is made cell by cell.
+-- The texts that the states of an automaton read, which is made cell by cell.
 use Rattle.std.proofs.Common.{◌≡◌, ◌≢◌, ℕ, zero, suc, ◌+◌, ◌<◌, ◌≤◌, Bool, true, false, List, [], ◌∷◌, ◌++◌, length, refl, sym, subst, ap, ◌∙◌, ◌⊎◌, inl, inr, ◌↔◌, arith, map}
 use Rattle.std.proofs.lemmas.List.Elements.{Contains-append_cases, Contains-append_left, Contains-append_right}
 use Rattle.std.specs.List.{Contains}
@@ -37,14 +37,14 @@ has_edge_to from test (other ∷ others) to has =
 
 -- ---- what was made among all edges
 
--- All edges are those of what was made, and others from later states.
+-- All edges are those of what was made, and edges from later states.
 pub record IsPartOf (all : List Edge) (made : Made) : Type 0 where
   pub kept : (edge : Edge) → Contains made.edges edge → Contains all edge
   pub only : (edge : Edge) → edge.from < made.count → Contains all edge → Contains made.edges edge
   pub below : (edge : Edge) → Contains made.edges edge → edge.from < made.count
   pub some : 0 < made.count
 
--- the states to which the new state leads
+-- The states that the new state leads to.
 abbrev pub targets : Made → Cell → List ℕ
 targets made (One test) = made.starts
 targets made (Many test) = made.starts ++ made.count ∷ []
@@ -53,7 +53,7 @@ abbrev pub test_of : Cell → Test
 test_of (One test) = test
 test_of (Many test) = test
 
--- a cell adds edges from the new state, and is one state more
+-- A cell adds edges from the new state, and a state.
 pub cell_edges : (made : Made) (cell : Cell) → (with_cell made cell).edges ≡ made.edges ++ edges_to made.count (test_of cell) (targets made cell)
 cell_edges made (One test) = refl
 cell_edges made (Many test) = refl
@@ -62,7 +62,7 @@ pub cell_count : (made : Made) (cell : Cell) → (with_cell made cell).count ≡
 cell_count made (One test) = refl
 cell_count made (Many test) = refl
 
--- before the cell
+-- What was made before the cell is a part of all edges.
 pub within_before : (all : List Edge) (made : Made) (cell : Cell) → (within : IsPartOf all (with_cell made cell)) →
     ((edge : Edge) → Contains made.edges edge → edge.from < made.count) → 0 < made.count → IsPartOf all made
 within_before all made cell within below some =
@@ -79,7 +79,7 @@ within_before all made cell within below some =
       some = some;
     }
 
--- what the new state reads
+-- The texts that the new state reads.
 pub cell_state : (all : List Edge) (made : Made) (cell : Cell) → IsPartOf all (with_cell made cell) → ((edge : Edge) → Contains made.edges edge → edge.from < made.count) → (c : ℕ) (text : List ℕ) →
     Leads all made.count (c ∷ text) ↔ (IsTrue (passes (test_of cell) c) × LeadsFrom all (targets made cell) text)
 cell_state all made cell within below c text =

@@ -1,4 +1,4 @@
--- What parts mean does not depend on their names.
+-- The texts that parts mean do not depend on names.
 use Rattle.std.proofs.Common.{◌≡◌, ℕ, zero, suc, List, [], ◌∷◌, map, ap, refl, subst, sym}
 use Rattle.std.proofs.lemmas.List.Elements.{All-cons, All-head, All-map, All-nil, All-tail}
 use Rattle.std.specs.Prelude.{◌≢◌, Option}
@@ -11,7 +11,7 @@ use Rattle.urlpattern_syntax.specs.Options.{OptionsView}
 use Rattle.urlpattern_syntax.specs.Parts.{PartView, parts_view}
 use Rattle.urlpattern_syntax.specs.Text.{IsRepeated}
 
--- a part with another name, or with none
+-- The part with another name.
 abbrev pub with_name : (name : List ℕ) → PartView → PartView
 with_name name part = record part { name = name }
 

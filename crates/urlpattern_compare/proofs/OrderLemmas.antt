@@ -18,7 +18,7 @@ rank_total =
     (then_total (on_total (λ (rank : RankView). rank.value) nat_list_cmp_total)
     (on_total (λ (rank : RankView). rank.suffix) nat_list_cmp_total))))
 
--- one pair, and then the others
+-- Ranks are compared with no ranks by `cmp_none`.
 after_last : (ranks : List RankView) → ranks_cmp ranks [] ≡ cmp_none ranks
 after_last [] = refl
 after_last (rank ∷ ranks) = refl
@@ -30,13 +30,13 @@ first_decides [] (other ∷ others) = refl
 first_decides (rank ∷ ranks) [] = ap (λ o. ordering_then (rank_cmp rank no_rank) o) (sym (after_last ranks))
 first_decides (rank ∷ ranks) (other ∷ others) = refl
 
--- the test by which the code goes on
+-- The test by which the loop continues.
 pub is_equal : (order : Ordering) → not (ordering_index order == 1) ≡ false → order ≡ Equal
 is_equal Less h = absurd cc
 is_equal Equal h = refl
 is_equal Greater h = absurd cc
 
--- ---- as many pairs as are wanted
+-- ---- a number of pairs
 
 first_pairs : ℕ → List RankView → List RankView → Ordering
 first_pairs zero = λ ranks others. Equal

@@ -1,4 +1,4 @@
--- Pairs of a state and states, and what their texts lead to.
+-- Pairs of a state and a set of states, and the texts that lead to them.
 use Rattle.std.proofs.Common.{◌≡◌, ◌≢◌, ℕ, zero, suc, ◌<◌, Bool, true, false, List, [], ◌∷◌, ◌++◌, length, refl, sym, subst, ap, ◌∙◌, ◌⊎◌, inl, inr, ◌↔◌, arith, ◌+◌, ◌≤◌, append_assoc, append-nil, eq-eqb, take, get_or, take_all, length-append}
 use Rattle.std.proofs.lemmas.List.{get_or_append_left, take-append-le, take_more}
 use Rattle.std.proofs.lemmas.Bool.{ne_eqb}
@@ -16,9 +16,9 @@ use Rattle.urlpattern_syntax.specs.Text.{lacks, line_feed}
 use Rattle.urlpattern_compare.proofs.CharacterClasses.{same_moved}
 use Rattle.urlpattern_compare.proofs.StateSets.{contains_head, contains_tail, leads_moved, leads_starts, length_moved, length_starts}
 
--- ---- what is reached
+-- ---- pairs that are reached
 
--- a text without line feed, and one character more
+-- A text without line feed has none after a further character.
 lacks_more : (text : List ℕ) (c : ℕ) → c ≢ line_feed → IsTrue (lacks line_feed text) → IsTrue (lacks line_feed (text ++ c ∷ []))
 lacks_more text c other plain =
     list_all-append (λ d. not (d == line_feed)) text (c ∷ []) ∙ ap (λ b. b && (not (c == line_feed) && true)) plain ∙ ap (λ b. not b && true) (ne_eqb c line_feed other)
@@ -26,7 +26,7 @@ lacks_more text c other plain =
 within_width : (other : Automaton) (flags : List Bool) → IsWithin other → length flags ≡ other.states → All (λ edge. edge.to < length flags) other.edges.items
 within_width other flags within width = λ k d lt. let h = within.edges k d lt in omega arith
 
--- by one character more
+-- A pair is reached by a further character.
 pub step_reached : (one other : Automaton) (pair next : Pair) (c : ℕ) (edge : Edge) → c ≢ line_feed → IsWithin other → IsReached one other pair → Contains one.edges.items edge →
     edge.from ≡ pair.state → IsTrue (passes edge.test c) → IsStep edge.to (moved other.edges.items pair.states.items c) (pair.text.items ++ c ∷ []) next → IsReached one other next
 step_reached one other pair next c edge plain within reached has from passed (state_is, states_are, text_is) =
@@ -46,7 +46,7 @@ step_reached one other pair next c edge plain within reached has from passed (st
       line = subst (λ t. IsTrue (lacks line_feed t)) (sym text_is) (lacks_more pair.text.items c plain reached.line);
     }
 
--- before the first character
+-- The pairs before the first character are reached.
 pub start_reached : (one other : Automaton) (pair : Pair) → IsWithin other → Contains one.starts.items pair.state → pair.states.items ≡ starts_of other → pair.text.items ≡ [] → IsReached one other pair
 start_reached one other pair within has states_are text_is = record {
   come = subst (λ f. IsCome one other pair.state f) (sym states_are) (come_first has);
@@ -59,7 +59,7 @@ start_reached one other pair within has states_are text_is = record {
   line = subst (λ t. IsTrue (lacks line_feed t)) (sym text_is) refl;
 }
 
--- a copy of a pair
+-- A copy of a pair that is reached is reached.
 pub copy_reached : (one other : Automaton) (pair copy : Pair) → IsReached one other pair → IsStep pair.state pair.states.items pair.text.items copy → IsReached one other copy
 copy_reached one other pair copy reached (state_is, states_are, text_is) = record {
   come = subst (λ f. IsCome one other copy.state f) (sym states_are) (subst (λ s. IsCome one other s pair.states.items) (sym state_is) reached.come);
@@ -72,20 +72,20 @@ copy_reached one other pair copy reached (state_is, states_are, text_is) = recor
   line = subst (λ t. IsTrue (lacks line_feed t)) (sym text_is) reached.line;
 }
 
--- ---- what is found
+-- ---- results
 
 pub whether_by : (b : Bool) (P Q : Type 0) → P ↔ Q → IsWhether b P → IsWhether b Q
 whether_by true P Q same h = same.0 h
 whether_by false P Q same h = λ q. h (same.1 q)
 
--- without a character left
+-- The empty text, by whether state 0 is in the set.
 whether_empty : (edges : List Edge) (flags : List Bool) (b v : Bool) → is_in flags 0 ≡ v → v ≡ b → IsWhether b (LeadsIn edges flags [])
 whether_empty edges flags true true e h = (0, e, refl)
 whether_empty edges flags true false e h = absurd cc
 whether_empty edges flags false true e h = absurd cc
 whether_empty edges flags false false e h = λ leads. let k : is_in flags 0 ≡ true = subst (λ s. is_in flags s ≡ true) leads.2 leads.1 in absurd cc
 
--- the text of a pair whose state is the last
+-- The text of a pair whose state is 0.
 pub found_text : (one other : Automaton) (pair : Pair) (b : Bool) → IsReached one other pair → pair.state ≡ 0 → is_in pair.states.items 0 ≡ b →
     AcceptsText one pair.text.items × IsWhether b (AcceptsText other pair.text.items) × IsTrue (lacks line_feed pair.text.items)
 found_text one other pair b reached last states_is =
@@ -99,7 +99,7 @@ found_text one other pair b reached last states_is =
       reached.line,
     )
 
--- a pair that is no witness, and each that it leads to is seen
+-- The pair is no witness, and each pair that it leads to is seen.
 pub record IsDone (one other : Automaton) (classes : List ℕ) (is_accepted : Bool) (pairs : List Pair) (pair : Pair) : Type 0 where
   pub other_end : pair.state ≡ 0 → is_in pair.states.items 0 ≡ not is_accepted
   pub followed : IsFollowed one other classes pairs pair
@@ -108,7 +108,7 @@ and_first : (a b : Bool) → (a && b) ≡ true → (a ≡ true) × (b ≡ true)
 and_first true b h = (refl, h)
 and_first false b h = absurd cc
 
--- where each pair is done, no text is left out
+-- If each pair is done, no text is left out.
 pub nothing_left : (one other : Automaton) (classes : List ℕ) (is_accepted : Bool) (pairs : List Pair) → IsWithin other → AreClasses one.edges.items other.edges.items classes →
     All (IsReached one other) pairs → All (IsDone one other classes is_accepted pairs) pairs →
     (text : List ℕ) → IsTrue (all_scalars text) → IsTrue (lacks line_feed text) → (pair : Pair) → Contains pairs pair → Leads one.edges.items pair.state text →
@@ -133,7 +133,7 @@ nothing_left one other classes is_accepted pairs within are reached done (c ∷ 
     (leads_moved edges flags c text (within_width other flags within width))
     (subst (λ f. IsWhether (not is_accepted) (LeadsIn edges f text)) states_same rest)
 
--- from the starts
+-- If each pair is done, no text is found from the starts.
 pub nothing_found : (one other : Automaton) (classes : List ℕ) (is_accepted : Bool) (pairs : List Pair) → IsWithin other → AreClasses one.edges.items other.edges.items classes →
     All (IsReached one other) pairs → All (IsDone one other classes is_accepted pairs) pairs →
     ((state : ℕ) → Contains one.starts.items state → IsSeen pairs state (starts_of other)) →
@@ -147,15 +147,15 @@ nothing_found one other classes is_accepted pairs within are reached done starts
 
 -- ---- loops
 
--- one element more
+-- A further element.
 pub contains_more : {X : Type 0} (xs : List X) (i : ℕ) (d x : X) → i < length xs → Contains (take (i + 1) xs) x → Contains (take i xs) x ⊎ (get_or xs i d ≡ x)
 contains_more xs i d x lt has = Contains-push_cases (take i xs) (get_or xs i d) x (subst (λ l. Contains l x) (take_more xs i d lt) has)
 
--- all elements
+-- All elements.
 pub contains_all : {X : Type 0} (xs : List X) (i : ℕ) (x : X) → length xs ≤ i → Contains xs x → Contains (take i xs) x
 contains_all xs i x le has = subst (λ l. Contains l x) (sym (take_all i xs le)) has
 
--- what is seen stays seen
+-- What is seen stays seen.
 pub seen_more : (old new : List Pair) (state : ℕ) (states : List Bool) → IsExtended old new → IsSeen old state states → IsSeen new state states
 seen_more old new state states (more, e) (pair, has, state_is, states_are) =
     (pair, subst (λ l. Contains l pair) (sym e) (Contains-append_left old more pair has), state_is, states_are)
@@ -163,7 +163,7 @@ seen_more old new state states (more, e) (pair, has, state_is, states_are) =
 pub extended_more : (old mid new : List Pair) → IsExtended old mid → IsExtended mid new → IsExtended old new
 extended_more old mid new (more, e) (last, f) = (more ++ last, f ∙ ap (λ l. l ++ last) e ∙ append_assoc old more last)
 
--- pairs that are grown by one that is reached
+-- Pairs with a further pair that is reached.
 pub grown_reached : (one other : Automaton) (pair : Pair) (c : ℕ) (edge : Edge) (states : List Bool) (old new : List Pair) → c ≢ line_feed → IsWithin other → IsReached one other pair →
     Contains one.edges.items edge → states ≡ moved other.edges.items pair.states.items c → IsGrownBy (IsStepBy edge pair c states) old new →
     All (IsReached one other) old → All (IsReached one other) new
@@ -174,7 +174,7 @@ grown_reached one other pair c edge states old new plain within reached has e gr
       | inr (by_edge, (state_is, states_are, text_is)) ↦ step_reached one other pair it c edge plain within reached has by_edge.0 by_edge.1 (state_is, states_are ∙ e, text_is)
     ]
 
--- a pair that is done stays done
+-- A pair that is done stays done.
 pub done_more : (one other : Automaton) (classes : List ℕ) (is_accepted : Bool) (old new : List Pair) (pair : Pair) → IsExtended old new →
     IsDone one other classes is_accepted old pair → IsDone one other classes is_accepted new pair
 done_more one other classes is_accepted old new pair extended done = record {
@@ -182,7 +182,7 @@ done_more one other classes is_accepted old new pair extended done = record {
   followed = λ c has plain edge there by_edge. seen_more old new edge.to (moved other.edges.items pair.states.items c) extended (done.followed c has plain edge there by_edge);
 }
 
--- one pair more is done
+-- A further pair is done.
 pub done_next : (one other : Automaton) (classes : List ℕ) (is_accepted : Bool) (old new : List Pair) (next : ℕ) (pair copy : Pair) → IsExtended old new → next < length old →
     pair ≡ get_or old next pair → IsStep pair.state pair.states.items pair.text.items copy →
     (copy.state ≡ 0 → is_in copy.states.items 0 ≡ not is_accepted) → IsFollowed one other classes new copy →
@@ -208,7 +208,7 @@ seen_last pairs new state states (pair, has, state_is, states_are) = elim (Conta
   | inr e ↦ inr (ap (λ (it : Pair). it.state) e ∙ state_is, ap (λ (it : Pair). it.states.items) e ∙ states_are)
 ]
 
--- one more, which is like none of them
+-- A further pair, which is unlike all others.
 pub unlike_more : (pairs : List Pair) (new : Pair) → AreUnlike pairs → ¬ IsSeen pairs new.state new.states.items → AreUnlike (pairs ++ new ∷ [])
 unlike_more [] new unlike apart = (λ (pair, (k, lt, e), state_is, states_are). absurd (omega arith), tt)
 unlike_more (first ∷ pairs) new (apart_first, unlike) apart = (
@@ -219,7 +219,7 @@ unlike_more (first ∷ pairs) new (apart_first, unlike) apart = (
   unlike_more pairs new unlike (λ (pair, has, state_is, states_are). apart (pair, contains_tail first pair pairs has, state_is, states_are)),
 )
 
--- where the bound is passed
+-- The number of pairs exceeds the bound.
 pub many_pairs : (one other : Automaton) (pairs : List Pair) → All (IsReached one other) pairs → AreUnlike pairs → 10000 < length pairs → HasManyPairs one other
 many_pairs one other pairs reached unlike many =
     (pairs, All-weaker (IsReached one other) (λ (pair : Pair). IsCome one other pair.state pair.states.items) (λ pair is. is.come) pairs reached, unlike, many)

@@ -1,4 +1,4 @@
--- What the cells of parts take, and what parts mean.
+-- The texts that the cells of parts read, and the texts that parts mean.
 use Rattle.std.proofs.Common.{◌≡◌, ◌≢◌, ℕ, zero, suc, ◌+◌, true, List, [], ◌∷◌, ◌++◌, Some, refl, sym, subst, ap, ◌∙◌, ◌↔◌, append_assoc, reverse}
 use Rattle.std.proofs.lemmas.List.Elements.{All-head, All-tail}
 use Rattle.std.specs.List.{list_all}
@@ -18,7 +18,7 @@ use Rattle.urlpattern_syntax.specs.declared.parser.PartType.{PartType}
 use Rattle.urlpattern_syntax.specs.{Options.OptionsView, Parts.PartView}
 use Rattle.urlpattern_syntax.specs.Text.{lacks, line_feed}
 
--- the text begins with one of these
+-- The text begins with a text of which `Is` holds, and one of the texts follows.
 abbrev pub BeginsBy : (List ℕ → Type 0) → Texts → List ℕ → Type 0
 BeginsBy Is Rest text = (first rest : List ℕ) × (text ≡ first ++ rest) × Is first × Rest rest
 
@@ -40,7 +40,7 @@ segment_back d Rest (c ∷ text) (x ∷ piece) rest e some all is =
     let tail : text ≡ piece ++ rest = cc in
     (subst (λ y. IsTrue (passes (AnyBut d) y)) same two.0, pieces_run (AnyBut d) Rest text piece rest tail two.1 is)
 
--- a kind of wildcard
+-- The kind is a wildcard.
 abbrev IsGroup : PartType → Type 0
 IsGroup PartType.SegmentWildcard = Unit {0}
 IsGroup PartType.FullWildcard = Unit {0}
@@ -122,7 +122,7 @@ times_then options part other (suc n) Rest text =
           copy.1 (first, others ++ rest, e ∙ ap (λ t. t ++ rest) f ∙ append_assoc first others rest, one, times),
     )
 
--- ---- copies that are no more than one
+-- ---- copies that read no more than one copy
 
 absorbs_by : (options : OptionsView) (kind : PartType) (value prefix suffix name : List ℕ) (modifier : PartModifier) (Rest : Texts) →
     Absorbs (reverse (cells_of options kind (record { kind = kind; value = value; modifier = modifier; name = name; prefix = prefix; suffix = suffix }))) Rest
@@ -152,7 +152,7 @@ absorbs options part Rest = absorbs_by options part.kind part.value part.prefix 
 
 -- ---- parts
 
--- what the parts take, whatever they capture
+-- The texts that the cells of the parts read.
 abbrev pub PartsThen : OptionsView → List PartView → List ℕ → Type 0
 PartsThen options [] text = text ≡ []
 PartsThen options (part ∷ parts) text = CopiesThen part.modifier (reverse (cells_of options part.kind part)) (PartsThen options parts) text

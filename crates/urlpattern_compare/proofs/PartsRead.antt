@@ -1,4 +1,4 @@
--- An automaton of parts accepts what they mean.
+-- The automaton of parts accepts the texts that the parts mean.
 use Rattle.std.proofs.Common.{◌≡◌, ◌≢◌, ℕ, zero, suc, ◌+◌, ◌<◌, ◌≤◌, Bool, true, false, List, [], ◌∷◌, ◌++◌, length, refl, sym, subst, ap, ◌∙◌, ◌⊎◌, inl, inr, ◌↔◌, arith, append_assoc, reverse, get_or}
 use Rattle.std.proofs.lemmas.List.Elements.{Contains-append_cases, Contains-get_or}
 use Rattle.std.specs.List.{All, Contains}
@@ -20,7 +20,7 @@ use Rattle.urlpattern_meaning.specs.PartMeaning.{AreGenerated, Captures, PartsMe
 use Rattle.urlpattern_syntax.specs.{Options.OptionsView, Parts.PartView}
 use Rattle.urlpattern_syntax.specs.declared.parser.PartModifier.{PartModifier}
 
--- ---- what is accepted
+-- ---- accepted texts
 
 pub parts_made : (options : OptionsView) (parts : List PartView) → IsMade (made options parts)
 parts_made options [] = record { below = λ edge (k, lt, e). absurd (omega arith); some = omega arith }
@@ -49,7 +49,7 @@ parts_read all options (first ∷ parts) part text =
       λ (n, allowed, times). reads.1 (n, allowed, times_map cells n (PartsThen options parts) (LeadsFrom all rest.starts) (λ t. (same t).1) text times),
     )
 
--- the automaton of parts accepts the texts that they mean, and no others
+-- The automaton of parts accepts exactly the texts that the parts mean.
 pub parts_accepted : (options : OptionsView) (parts : List PartView) (automaton : Automaton) → AreGenerated parts → made_view automaton ≡ made options parts → (text : List ℕ) →
     AcceptsText automaton text ↔ ((captures : Captures) × PartsMean options parts text captures)
 parts_accepted options parts automaton generated same text =
@@ -147,7 +147,7 @@ parts_below options [] = record {
 }
 parts_below options (part ∷ parts) = copies_below (made options parts) part.modifier (reverse (cells_of options part.kind part)) (parts_below options parts)
 
--- the automaton of parts names no other states
+-- The states that the automaton of parts names are less than its number of states.
 pub parts_within : (options : OptionsView) (parts : List PartView) (automaton : Automaton) → made_view automaton ≡ made options parts → IsWithin automaton
 parts_within options parts automaton same =
     let below : IsBelow automaton.states (made_view automaton) = subst (λ (it : Made). IsBelow it.count it) (sym same) (parts_below options parts) in
@@ -156,7 +156,7 @@ parts_within options parts automaton same =
       starts = λ k d lt. below.starts (get_or automaton.starts.items k d) (Contains-get_or automaton.starts.items k d lt);
     }
 
--- ---- how many states there are
+-- ---- the number of states
 
 part_count : (options : OptionsView) (part : PartView) (parts : List PartView) → (made options (part ∷ parts)).count ≡ (made options parts).count + length (reverse (cells_of options part.kind part))
 part_count options part parts =
@@ -167,7 +167,7 @@ parts_count : (options : OptionsView) (front back : List PartView) → (made opt
 parts_count options [] back = omega arith
 parts_count options (part ∷ front) back = let e = part_count options part (front ++ back) in let le = parts_count options front back in omega arith
 
--- a part of many cells, or one before many states
+-- A part of too many cells, or a part before too many states.
 pub many_states : (options : OptionsView) (parts before rest : List PartView) (part : PartView) → parts ≡ (before ++ part ∷ []) ++ rest →
     (10000 < length (reverse (cells_of options part.kind part))) ⊎ (10000 < (made options rest).count) → HasManyStates options parts
 many_states options parts before rest part e many =

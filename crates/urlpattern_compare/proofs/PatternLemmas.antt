@@ -1,4 +1,4 @@
--- What is known of eight components.
+-- Comparisons of eight components.
 use Rattle.std.proofs.Common.{ℕ, ◌<◌, ◌+◌, List, length, take, get_or}
 use Rattle.std.proofs.lemmas.List.Elements.{All-more}
 use Rattle.std.specs.List.{All}
@@ -15,13 +15,13 @@ use Rattle.urlpattern_components.specs.declared.eight.ComponentName.{ComponentNa
 abbrev pub IsCoveredIn : (pattern asked : PatternParts) → ComponentName → Type 0
 IsCoveredIn pattern asked name = IsComponentCovered (at pattern.components name) (at asked.components name)
 
--- what was found of these components
+-- What was found in these components.
 abbrev pub IsSoFar : (pattern asked : PatternParts) → List ComponentName → First → Type 0
 IsSoFar pattern asked names firsts.Nowhere = All (IsCoveredIn pattern asked) names
 IsSoFar pattern asked names (firsts.At name text) = IsOnlyIn (at pattern.components name) (at asked.components name) text.items
 IsSoFar pattern asked names (firsts.Unknown name reason) = IsReasonToDoubt (at pattern.components name) (at asked.components name) reason
 
--- one component more
+-- A further component.
 pub so_far_more : (pattern asked : PatternParts) (names : List ComponentName) (i : ℕ) (d : ComponentName) (first : First) (covering : Covering) → i < length names →
     IsSoFar pattern asked (take i names) first → IsComponentCovering (at pattern.components (get_or names i d)) (at asked.components (get_or names i d)) covering →
     IsSoFar pattern asked (take (i + 1) names) (first_or first (get_or names i d) covering)
@@ -33,7 +33,7 @@ so_far_more pattern asked names i d (firsts.Unknown earlier why) coverings.Cover
 so_far_more pattern asked names i d (firsts.Unknown earlier why) (coverings.NotCovered text) lt before now = now
 so_far_more pattern asked names i d (firsts.Unknown earlier why) (coverings.Unknown reason) lt before now = now
 
--- all components
+-- All components.
 pub so_far_all : (pattern asked : PatternParts) (first : First) → IsSoFar pattern asked components first → IsFirst pattern asked first
 so_far_all pattern asked firsts.Nowhere all = of_each (IsCoveredIn pattern asked) all
 so_far_all pattern asked (firsts.At name text) is = is

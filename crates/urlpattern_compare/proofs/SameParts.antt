@@ -1,4 +1,4 @@
--- Components whose parts are the same but for names.
+-- Components with equal parts but for names.
 use Rattle.std.proofs.Common.{◌≡◌, ◌≢◌, ◌∙◌, ◌↔◌, ◌⊎◌, ℕ, Bool, true, false, List, ap, inl, inr, refl, subst, sym, true≢false, ◌+◌, ◌<◌, get_or, length, take}
 use Rattle.std.proofs.lemmas.List.{get_or-map, length-map, take_more_same}
 use Rattle.std.specs.List.{list_any}
@@ -22,7 +22,7 @@ use Rattle.urlpattern_syntax.specs.{Options.OptionsView, Options.options_view, P
 pub apart_false : {V : Type 0} (view other : V) → view ≢ other → IsTrue false ↔ (view ≡ other)
 apart_false view other apart = (λ never. absurd (true≢false (sym never)), λ same. absurd (apart same))
 
--- strings of the same bytes have the same text, and no others
+-- Strings have the same text if and only if they have the same bytes.
 pub same_text : (string other : String Global) → IsTrue (string_eq string other) ↔ text_of string ≡ text_of other
 same_text string other =
     let (same, equal) = bytes_decides (string_bytes string) (string_bytes other) in
@@ -39,7 +39,7 @@ unnamed_more parts others i part other within within_others at_i at_others same 
     take_more_same (unnamed parts) (unnamed others) i d (subst (λ (n : ℕ). i < n) (sym (length-map parts unnamed_view)) within)
     (subst (λ (n : ℕ). i < n) (sym (length-map others unnamed_view)) within_others) same (here ∙ now ∙ sym there)
 
--- a part that differs
+-- A part that differs makes the lists differ.
 pub unnamed_apart : (parts others : List Part) (i : ℕ) (part other : Part) → i < length parts → i < length others → part ≡ get_or parts i part → other ≡ get_or others i other
     → unnamed_view part ≢ unnamed_view other → unnamed parts ≢ unnamed others
 unnamed_apart parts others i part other within within_others at_i at_others apart same =
@@ -53,7 +53,7 @@ unnamed_apart parts others i part other within within_others at_i at_others apar
 pub same_nameless : (component asked : ComponentParts) → AreSame component asked → all_nameless (parts_view component.parts.items) ≡ all_nameless (parts_view asked.parts.items)
 same_nameless component asked same = sym (unnamed_views component.parts.items) ∙ same.parts ∙ unnamed_views asked.parts.items
 
--- what they mean is known, or not
+-- The texts that the parts mean are known, or not.
 pub known_or_not : (component : ComponentParts) → IsKnown component ⊎ ¬ IsKnown component
 known_or_not component = by component.options.ignore_case refl (list_any is_custom_part component.parts.items) refl
   where
@@ -62,7 +62,7 @@ known_or_not component = by component.options.ignore_case refl (list_any is_cust
     by false e true f = inr (λ known. custom component.parts.items f known.generated)
     by false e false f = inl (record { generated = generated component.parts.items f; case_kept = e })
 
--- case is ignored: it is settled where no part is custom
+-- Where case is ignored, the component is settled if no part is custom.
 pub settled_by : (component : ComponentParts) (some : Bool) → component.options.ignore_case ≡ true → some ≡ list_any is_custom_part component.parts.items → IsTrue (not some) ↔ IsSettled component
 settled_by component true ignored e = (
   λ never. absurd (true≢false (sym never)),
@@ -73,7 +73,7 @@ settled_by component true ignored e = (
 )
 settled_by component false ignored e = (λ is. inr (generated component.parts.items (sym e)), λ settled. refl)
 
--- the same parts mean the same, where that is known
+-- Equal parts mean the same texts, where these are known.
 pub same_within : (component asked : ComponentParts) → AreSame component asked → IsKnown component → MeansAllOf component asked
 same_within component asked same known =
     let parts = parts_view component.parts.items in

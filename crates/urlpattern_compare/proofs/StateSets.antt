@@ -21,7 +21,7 @@ pub contains_cons : {X : Type 0} (y x : X) (xs : List X) → Contains (y ∷ xs)
 contains_cons y x xs (zero, lt, e) = inl e
 contains_cons y x xs (suc k, lt, e) = inr (k, omega arith, e)
 
--- ---- one state more
+-- ---- a further state
 
 kept : (flags : List Bool) (state q : ℕ) → IsTrue (is_in flags q) → IsTrue (is_in (slice_set flags state true) q)
 kept [] state q h = h
@@ -47,7 +47,7 @@ none_in zero q h = cc
 none_in (suc n) zero h = cc
 none_in (suc n) (suc q) h = none_in n q h
 
--- ---- these states
+-- ---- several states
 
 states_kept : (flags : List Bool) (states : List ℕ) (q : ℕ) → IsTrue (is_in flags q) → IsTrue (is_in (with_states flags states) q)
 states_kept flags [] q h = h
@@ -77,7 +77,7 @@ length_states flags (state ∷ states) = length_states (slice_set flags state tr
 
 -- ---- moves
 
--- the edge leads to the state from one of these by the character
+-- The edge leads to the state from one of the set, by the character.
 abbrev pub MovesTo : (from : List Bool) (c : ℕ) → Edge → ℕ → Type 0
 MovesTo from c edge q = IsTrue (is_in from edge.from) × IsTrue (passes edge.test c) × (edge.to ≡ q)
 
@@ -141,9 +141,10 @@ in_moves flags from c (edge ∷ edges) q h =
       | inr (later, has, moves) ↦ inr (later, contains_tail edge later edges has, moves)
     ]
 
--- ---- what they lead to
+-- ---- texts from sets
 
--- after a character as before it
+-- A text leads from the set after a character if the text with that character leads from the set
+-- before it.
 pub leads_moved : (edges : List Edge) (from : List Bool) (c : ℕ) (text : List ℕ) → All (λ edge. edge.to < length from) edges →
     LeadsIn edges (moved edges from c) text ↔ LeadsIn edges from (c ∷ text)
 leads_moved edges from c text all = (
@@ -163,7 +164,7 @@ leads_moved edges from c text all = (
 pub length_moved : (edges : List Edge) (from : List Bool) (c : ℕ) → length (moved edges from c) ≡ length from
 length_moved edges from c = length_moves (replicate (length from) false) from c edges ∙ length-replicate (length from) false
 
--- the starts
+-- A text is accepted if it leads from the set of starts.
 pub leads_starts : (automaton : Automaton) (text : List ℕ) → IsWithin automaton → AcceptsText automaton text ↔ LeadsIn automaton.edges.items (starts_of automaton) text
 leads_starts automaton text within =
     let starts = automaton.starts.items in

@@ -1,4 +1,4 @@
--- What is answered of the texts that two lists of parts mean.
+-- The results of comparing the texts that two lists of parts mean.
 use Rattle.std.specs.Prelude.{◌≡◌, ◌↔◌, ℕ, Bool, true, false, not, ◌⊎◌, IfOk, IfSome, List, IsTrue, Option, Result}
 use Rattle.std.specs.Str.{all_scalars}
 use Rattle.urlpattern_compare.specs.Automata.{AcceptsText, IsWhether}
@@ -23,24 +23,25 @@ use Rattle.urlpattern_syntax.specs.declared.parser.Part.{Part}
 use Rattle.urlpattern_syntax.specs.declared.parser.PartType.{PartType}
 use Rattle.urlpattern_syntax.specs.Text.{lacks, line_feed}
 
--- a search of the automaton of one list of parts beside that of another comes to too many pairs
+-- A search of the automata of two lists of parts reaches too many pairs.
 abbrev pub IsSearchLong : OptionsView → List PartView → OptionsView → List PartView → Type 0
 IsSearchLong options parts other_options others =
     (one other : Automaton) × (made_view one ≡ made options parts) × (made_view other ≡ made other_options others) × HasManyPairs one other
 
--- the work is too much: one of the lists needs too many states, or a search of one beside the other is too long
+-- The work is too much: one of the lists needs too many states, or a search is too long.
 abbrev pub IsTooMuch : OptionsView → List PartView → OptionsView → List PartView → Type 0
 IsTooMuch options parts other_options others =
     (HasManyStates options parts ⊎ HasManyStates other_options others)
     ⊎ (IsSearchLong options parts other_options others ⊎ IsSearchLong other_options others options parts)
 
--- why nothing is known
+-- Why a comparison has no result.
 abbrev pub IsReason : OptionsView → List PartView → OptionsView → List PartView → Reason → Type 0
 IsReason options parts other_options others reasons.CustomExpression = ¬ (AreGenerated parts × AreGenerated others)
 IsReason options parts other_options others reasons.IgnoredCase = (options.ignore_case ≡ true) ⊎ (other_options.ignore_case ≡ true)
 IsReason options parts other_options others reasons.TooMany = IsTooMuch options parts other_options others
 
--- Whether each text without line feed that the asked parts mean is meant by the parts. A text that is not is an example.
+-- Whether the parts mean each text without line feed that the asked parts mean. `NotCovered` has a
+-- text that only the asked parts mean.
 abbrev pub IsCovering : OptionsView → List PartView → (asked_options : OptionsView) → (asked : List PartView) → Covering → Type 0
 IsCovering options parts asked_options asked coverings.Covered =
     (text : List ℕ) → IsTrue (all_scalars text) → IsTrue (lacks line_feed text) → MeansText asked_options asked text → MeansText options parts text
@@ -48,7 +49,7 @@ IsCovering options parts asked_options asked (coverings.NotCovered text) =
     MeansText asked_options asked text.items × (¬ MeansText options parts text.items) × IsTrue (lacks line_feed text.items)
 IsCovering options parts asked_options asked (coverings.Unknown reason) = IsReason asked_options asked options parts reason
 
--- whether both mean a text without line feed
+-- Whether both lists of parts mean a text without line feed.
 abbrev pub IsOverlap : OptionsView → List PartView → OptionsView → List PartView → Overlap → Type 0
 IsOverlap options parts other_options others overlaps.Apart =
     (text : List ℕ) → IsTrue (all_scalars text) → IsTrue (lacks line_feed text) → MeansText options parts text → ¬ MeansText other_options others text
@@ -56,25 +57,27 @@ IsOverlap options parts other_options others (overlaps.Common text) =
     MeansText options parts text.items × MeansText other_options others text.items × IsTrue (lacks line_feed text.items)
 IsOverlap options parts other_options others (overlaps.Unknown reason) = IsReason options parts other_options others reason
 
--- the same of options and parts as they are passed in
+-- `IsCovering`, of options and parts as arguments of a call.
 abbrev pub IsCoveringOf : Options → List Part → (asked_options : Options) → (asked : List Part) → Covering → Type 0
 IsCoveringOf options parts asked_options asked =
     IsCovering (options_view options) (parts_view parts) (options_view asked_options) (parts_view asked)
 
+-- `IsOverlap`, of options and parts as arguments of a call.
 abbrev pub IsOverlapOf : Options → List Part → Options → List Part → Overlap → Type 0
 IsOverlapOf options parts other_options others = IsOverlap (options_view options) (parts_view parts) (options_view other_options) (parts_view others)
 
 -- ---- steps
 
--- what is made, where memory does not run out and it has not too many states
+-- The automaton that was made, unless memory ran out or it would have too many states.
 abbrev pub IfMade : {E : Type 0} → Result (Option Automaton) E → (Automaton → Type 0) → Type 0
 IfMade result Is = IfOk result (λ found. IfSome found Is)
 
--- the automaton accepts the texts that the parts mean
+-- The automaton accepts the texts that the parts mean.
 abbrev pub AcceptsMeaning : OptionsView → List PartView → Automaton → Type 0
 AcceptsMeaning options parts automaton = (text : List ℕ) → AcceptsText automaton text ↔ MeansText options parts text
 
--- a text without line feed that the parts mean, and the others as wanted
+-- The result of looking for a text without line feed that the parts mean, and that the others mean
+-- or not, by `is_meant`.
 abbrev pub IsSought : OptionsView → List PartView → OptionsView → List PartView → (is_meant : Bool) → Answer → Type 0
 IsSought options parts other_options others is_meant (answers.Text text) =
     MeansText options parts text.items × IsWhether is_meant (MeansText other_options others text.items) × IsTrue (lacks line_feed text.items)
@@ -82,20 +85,21 @@ IsSought options parts other_options others is_meant answers.Nothing =
     (text : List ℕ) → IsTrue (all_scalars text) → IsTrue (lacks line_feed text) → MeansText options parts text → IsWhether (not is_meant) (MeansText other_options others text)
 IsSought options parts other_options others is_meant (answers.Unknown reason) = IsReason options parts other_options others reason
 
--- the same of options and parts as they are passed in
+-- `IsSought`, of options and parts as arguments of a call.
 abbrev pub IsSoughtOf : Options → List Part → Options → List Part → (is_meant : Bool) → Answer → Type 0
 IsSoughtOf options parts other_options others = IsSought (options_view options) (parts_view parts) (options_view other_options) (parts_view others)
 
--- the answer by what a search found
+-- The result by what a search found.
 abbrev pub answer_of : Found → Answer
 answer_of (founds.Text text) = answers.Text text
 answer_of founds.Nothing = answers.Nothing
 answer_of founds.TooMany = answers.Unknown reasons.TooMany
 
--- a part of this kind is a custom regular expression
+-- A part of this kind is a custom regular expression.
 abbrev pub is_custom_kind : PartType → Bool
 is_custom_kind PartType.Regexp = true
 is_custom_kind kind = false
 
+-- The part is a custom regular expression.
 abbrev pub is_custom_part : Part → Bool
 is_custom_part part = is_custom_kind part.kind

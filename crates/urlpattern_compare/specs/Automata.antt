@@ -1,40 +1,40 @@
--- Automata: the texts that they accept.
+-- The texts that automata accept.
 use Rattle.std.specs.Prelude.{◌≡◌, ℕ, ◌<◌, Bool, true, false, not, ◌==◌, All, Contains, List, [], ◌∷◌, IsTrue}
 use Rattle.urlpattern_compare.specs.declared.automaton.Automaton.{Automaton}
 use Rattle.urlpattern_compare.specs.declared.automaton.Edge.{Edge}
 use Rattle.urlpattern_compare.specs.declared.automaton.Test.{Test}
 use Rattle.urlpattern_compare.specs.declared.automaton.Test.TheVariants.{Only, AnyBut}
 
--- whether the character passes the test
+-- Whether the character passes the test.
 abbrev pub passes : Test → ℕ → Bool
 passes (Only c) other = other == c
 passes (AnyBut c) other = not (other == c)
 
--- the character that the test names
+-- The character that the test names.
 abbrev pub named : Test → ℕ
 named (Only c) = c
 named (AnyBut c) = c
 
--- the edges lead from the state by the text to the state 0, one edge for each character
+-- The edges lead from the state to state 0 by the text, one edge for each character.
 abbrev pub Leads : List Edge → (state : ℕ) → (text : List ℕ) → Type 0
 Leads edges state [] = state ≡ 0
 Leads edges state (c ∷ text) =
     (edge : Edge) × Contains edges edge × (edge.from ≡ state) × IsTrue (passes edge.test c) × Leads edges edge.to text
 
--- they lead from one of the states
+-- The edges lead from one of the states to state 0 by the text.
 abbrev pub LeadsFrom : List Edge → (states : List ℕ) → (text : List ℕ) → Type 0
 LeadsFrom edges states text = (state : ℕ) × Contains states state × Leads edges state text
 
--- the automaton accepts the text
+-- The automaton accepts the text.
 abbrev pub AcceptsText : Automaton → (text : List ℕ) → Type 0
 AcceptsText automaton text = LeadsFrom automaton.edges.items automaton.starts.items text
 
--- the states that the automaton names are below their number
+-- The states that the automaton names are less than its number of states.
 pub record IsWithin (automaton : Automaton) : Type 0 where
   pub edges : All (λ edge. edge.to < automaton.states) automaton.edges.items
   pub starts : All (λ state. state < automaton.states) automaton.starts.items
 
--- the fact holds, or its opposite does
+-- The fact holds if the flag is true, and fails if it is false.
 abbrev pub IsWhether : Bool → Type 0 → Type 0
 IsWhether true fact = fact
 IsWhether false fact = ¬ fact

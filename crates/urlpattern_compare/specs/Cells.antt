@@ -1,4 +1,4 @@
--- Cells: what parts take of a text, character by character.
+-- Cells: the tests of characters that parts consist of.
 use Rattle.std.specs.Prelude.{ℕ, Bool, true, false, List, [], ◌∷◌, ◌++◌, map, unwrap_or}
 use Rattle.std.specs.List.{list_any}
 use Rattle.urlpattern_compare.specs.declared.automaton.Test.{Test}
@@ -10,27 +10,27 @@ use Rattle.urlpattern_syntax.specs.declared.parser.PartType.{PartType}
 
 -- ---- the cells of parts
 
--- one cell for each character
+-- The cells of a text: one for each character.
 abbrev pub text_cells : List ℕ → List Cell
 text_cells text = map (λ c. One (Only c)) text
 
--- those of a wildcard
+-- The cells of a wildcard.
 abbrev pub wildcard_cells : OptionsView → PartType → List Cell
 wildcard_cells options PartType.SegmentWildcard =
     let test = AnyBut (unwrap_or options.delimiter line_feed) in One test ∷ Many test ∷ []
 wildcard_cells options PartType.FullWildcard = Many (AnyBut line_feed) ∷ []
 wildcard_cells options kind = []
 
--- those of one copy of a part of this kind
+-- The cells of one copy of a part of this kind.
 abbrev pub cells_of : OptionsView → PartType → PartView → List Cell
 cells_of options PartType.FixedText part = text_cells part.value
 cells_of options kind part = text_cells part.prefix ++ wildcard_cells options kind ++ text_cells part.suffix
 
--- the cell takes one character
+-- The cell reads exactly one character.
 abbrev pub is_one : Cell → Bool
 is_one (One test) = true
 is_one (Many test) = false
 
--- one of the cells takes one character
+-- A cell reads exactly one character.
 abbrev pub has_one : List Cell → Bool
 has_one cells = list_any is_one cells

@@ -7,7 +7,7 @@ use Rattle.std.specs.declared.cmp.Ordering.TheVariants.{Equal}
 use Rattle.urlpattern_compare.specs.declared.order.Rank.{Rank}
 use Rattle.urlpattern_syntax.specs.declared.parser.{Part.Part, PartModifier.PartModifier, PartType.PartType}
 
--- What is compared of a part: its kind, its modifier, and its texts as bytes.
+-- The rank of a part: kind, modifier, and texts as bytes.
 pub record RankView : Type 0 where
   pub kind : ℕ
   pub modifier : ℕ
@@ -18,14 +18,15 @@ pub record RankView : Type 0 where
 abbrev pub rank_view : Rank → RankView
 rank_view rank = record { kind = rank.kind; modifier = rank.modifier; prefix = rank.prefix.now; value = rank.value.now; suffix = rank.suffix.now }
 
--- fixed text, custom expression, segment, full wildcard, from greater to less
+-- Kinds, from the greatest to the least: fixed text, custom expression, segment wildcard, full
+-- wildcard.
 abbrev pub kind_rank : PartType → ℕ
 kind_rank PartType.FixedText = 3
 kind_rank PartType.Regexp = 2
 kind_rank PartType.SegmentWildcard = 1
 kind_rank PartType.FullWildcard = 0
 
--- once, `+`, `?`, `*`, from greater to less
+-- Modifiers, from the greatest to the least: none, `+`, `?`, `*`.
 abbrev pub modifier_rank : PartModifier → ℕ
 modifier_rank PartModifier.None = 3
 modifier_rank PartModifier.OneOrMore = 2
@@ -41,11 +42,11 @@ rank_of part = record {
   suffix = string_bytes part.suffix;
 }
 
--- that of an empty fixed text, which a missing part has
+-- The rank of a missing part, which counts as an empty fixed text.
 abbrev pub no_rank : RankView
 no_rank = record { kind = kind_rank PartType.FixedText; modifier = modifier_rank PartModifier.None; prefix = []; value = []; suffix = [] }
 
--- the first difference decides
+-- Ranks are compared field by field, and the first difference decides.
 abbrev pub rank_cmp : RankView → RankView → Ordering
 rank_cmp =
     then_cmp (on (λ (rank : RankView). rank.kind) nat_cmp)
@@ -54,24 +55,27 @@ rank_cmp =
     (then_cmp (on (λ (rank : RankView). rank.value) (slice_cmp nat_cmp))
     (on (λ (rank : RankView). rank.suffix) (slice_cmp nat_cmp)))))
 
--- the first, and those after it
+-- The first rank, or that of a missing part.
 abbrev pub first_rank : List RankView → RankView
 first_rank [] = no_rank
 first_rank (rank ∷ ranks) = rank
 
+-- The ranks after the first.
 abbrev pub other_ranks : List RankView → List RankView
 other_ranks [] = []
 other_ranks (rank ∷ ranks) = ranks
 
--- lists pairwise, where what is missing is an empty fixed text
+-- No ranks, compared with ranks: each is compared with that of a missing part.
 abbrev pub none_cmp : List RankView → Ordering
 none_cmp [] = Equal
 none_cmp (rank ∷ ranks) = ordering_then (rank_cmp no_rank rank) (none_cmp ranks)
 
+-- Ranks, compared with no ranks.
 abbrev pub cmp_none : List RankView → Ordering
 cmp_none [] = Equal
 cmp_none (rank ∷ ranks) = ordering_then (rank_cmp rank no_rank) (cmp_none ranks)
 
+-- Ranks are compared pairwise, and the first difference decides.
 abbrev pub ranks_cmp : List RankView → List RankView → Ordering
 ranks_cmp [] others = none_cmp others
 ranks_cmp (rank ∷ ranks) [] = cmp_none (rank ∷ ranks)

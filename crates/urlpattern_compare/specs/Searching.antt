@@ -12,60 +12,60 @@ use Rattle.urlpattern_syntax.specs.Text.{is_among, lacks, line_feed}
 
 -- ---- sets of states
 
--- the state is in the set, which has a flag for each state
+-- The state is in the set, which has a flag for each state.
 abbrev pub is_in : List Bool → ℕ → Bool
 is_in flags state = slice_index_or flags state false
 
--- the edges lead from a state of the set by the text to the state 0
+-- The edges lead from a state of the set to state 0 by the text.
 abbrev pub LeadsIn : List Edge → (flags : List Bool) → (text : List ℕ) → Type 0
 LeadsIn edges flags text = (state : ℕ) × IsTrue (is_in flags state) × Leads edges state text
 
--- these states are added to a set
+-- The states are added to a set.
 abbrev pub with_states : (flags : List Bool) → (states : List ℕ) → List Bool
 with_states flags [] = flags
 with_states flags (state ∷ states) = with_states (slice_set flags state true) states
 
--- what the edges lead to from one of the states by the character is added to a set
+-- The states that the edges lead to from a set, by the character, are added to another set.
 abbrev pub with_moves : (flags : List Bool) → (from : List Bool) → (c : ℕ) → List Edge → List Bool
 with_moves flags from c [] = flags
 with_moves flags from c (edge ∷ edges) =
     with_moves (if is_in from edge.from && passes edge.test c then slice_set flags edge.to true else flags) from c edges
 
--- the set after the character
+-- The set of states after the character.
 abbrev pub moved : List Edge → (from : List Bool) → (c : ℕ) → List Bool
 moved edges from c = with_moves (replicate (length from) false) from c edges
 
 -- ---- classes of characters
 
--- the characters that the tests name are added to others
+-- The characters that the tests name are added to others.
 abbrev pub with_named : (marks : List ℕ) → List Edge → List ℕ
 with_named marks [] = marks
 with_named marks (edge ∷ edges) = with_named (if is_among marks (named edge.test) then marks else (marks ++ named edge.test ∷ [])) edges
 
--- no test of the edges tells the characters apart
+-- No test of the edges tells the two characters apart.
 abbrev pub IsSameFor : List Edge → (c other : ℕ) → Type 0
 IsSameFor edges c other = All (λ edge. passes edge.test c ≡ passes edge.test other) edges
 
--- each character is like one of these, and no other is like a line feed
+-- Each character is like one of the classes, and only a line feed is like a line feed.
 abbrev pub AreClasses : (edges others : List Edge) → (classes : List ℕ) → Type 0
 AreClasses edges others classes = (c : ℕ) → IsScalar c →
     (same : ℕ) × Contains classes same × IsSameFor edges c same × IsSameFor others c same × (c ≢ line_feed → same ≢ line_feed)
 
 -- ---- pairs
 
--- the states before the first character
+-- The set of start states.
 abbrev pub starts_of : Automaton → List Bool
 starts_of automaton = with_states (replicate automaton.states false) automaton.starts.items
 
--- A search of one automaton beside another comes to this state and these states: before the first character, or by one more from
--- where it came to.
+-- The pairs of a state and a set of states that a search of two automata reaches: before the first
+-- character, or by a further character from a pair that is reached.
 pub data IsCome (one other : Automaton) : (state : ℕ) → (states : List Bool) → Type 0 where
   come_first : {state : ℕ} → Contains one.starts.items state → IsCome one other state (starts_of other)
   come_next : {states : List Bool} (edge : Edge) (c : ℕ) → Contains one.edges.items edge → IsTrue (passes edge.test c) → IsCome one other edge.from states →
       IsCome one other edge.to (moved other.edges.items states c)
 
--- What is true of a pair: the search comes to it, and its text leads from a start of the first automaton to its state, and from the
--- starts of the second to its states, and to no others. The text has no line feed.
+-- The pair is reached by its text, which has no line feed: the text leads from a start of the first
+-- automaton to the state, and from the starts of the second to exactly the set of states.
 pub record IsReached (one other : Automaton) (pair : Pair) : Type 0 where
   pub come : IsCome one other pair.state pair.states.items
   pub state : (text : List ℕ) → Leads one.edges.items pair.state text → LeadsFrom one.edges.items one.starts.items (pair.text.items ++ text)
@@ -73,55 +73,56 @@ pub record IsReached (one other : Automaton) (pair : Pair) : Type 0 where
   pub width : length pair.states.items ≡ other.states
   pub line : IsTrue (lacks line_feed pair.text.items)
 
--- one of the pairs has this state and these states
+-- A pair with this state and these states is among the pairs.
 abbrev pub IsSeen : List Pair → (state : ℕ) → (states : List Bool) → Type 0
 IsSeen pairs state states = (pair : Pair) × Contains pairs pair × (pair.state ≡ state) × (pair.states.items ≡ states)
 
--- the edge leads from the pair by the character
+-- The edge leads from the pair by the character.
 abbrev pub IsBy : Edge → Pair → (c : ℕ) → Type 0
 IsBy edge pair c = (edge.from ≡ pair.state) × IsTrue (passes edge.test c)
 
--- each pair to which the character leads is seen
+-- Each pair that the pair leads to by the character is seen.
 abbrev pub IsFollowedBy : (one other : Automaton) → (c : ℕ) → (pairs : List Pair) → Pair → Type 0
 IsFollowedBy one other c pairs pair = (edge : Edge) → Contains one.edges.items edge → IsBy edge pair c →
     IsSeen pairs edge.to (moved other.edges.items pair.states.items c)
 
--- each pair to which one of these characters leads is seen
+-- Each pair that the pair leads to by one of these characters, other than a line feed, is seen.
 abbrev pub IsFollowed : (one other : Automaton) → (classes : List ℕ) → (pairs : List Pair) → Pair → Type 0
 IsFollowed one other classes pairs pair = (c : ℕ) → Contains classes c → c ≢ line_feed → IsFollowedBy one other c pairs pair
 
--- the new list goes on where the old one ends
+-- The new list begins with the old one.
 abbrev pub IsExtended : (old new : List Pair) → Type 0
 IsExtended old new = (more : List Pair) × (new ≡ old ++ more)
 
--- each pair of the new list is one of the old list or such a one
+-- Each pair of the new list is in the old list, or `Is` holds of it.
 abbrev pub IsGrownBy : (Pair → Type 0) → (old new : List Pair) → Type 0
 IsGrownBy Is old new = (pair : Pair) → Contains new pair → Contains old pair ⊎ Is pair
 
--- the pair has this state, these states and this text
+-- The pair has this state, these states and this text.
 abbrev pub IsStep : (state : ℕ) → (states : List Bool) → (text : List ℕ) → Pair → Type 0
 IsStep state states text pair = (pair.state ≡ state) × (pair.states.items ≡ states) × (pair.text.items ≡ text)
 
--- the pair is the one to which the edge leads by the character, with these states
+-- The pair is the one that the edge leads to by the character, with these states.
 abbrev pub IsStepBy : Edge → Pair → (c : ℕ) → (states : List Bool) → Pair → Type 0
 IsStepBy edge pair c states next = IsBy edge pair c × IsStep edge.to states (pair.text.items ++ c ∷ []) next
 
 -- ---- the bound
 
--- no two of the pairs have the same state and the same states
+-- No two of the pairs have the same state and the same states.
 abbrev pub AreUnlike : List Pair → Type 0
 AreUnlike [] = Unit {0}
 AreUnlike (pair ∷ pairs) = (¬ IsSeen pairs pair.state pair.states.items) × AreUnlike pairs
 
--- it comes to more pairs than are allowed
+-- The search reaches more pairs than are permitted.
 abbrev pub HasManyPairs : (one other : Automaton) → Type 0
 HasManyPairs one other =
     (pairs : List Pair) × All (λ pair. IsCome one other pair.state pair.states.items) pairs × AreUnlike pairs × (MOST_PAIRS < length pairs)
 
--- ---- what is found
+-- ---- results
 
--- What a search finds. A text without line feed is accepted by the first automaton, and by the second as wanted. Where nothing is
--- found, there is no such text of characters. The search is given up only where it comes to many pairs.
+-- The outcome of a search. A text that is found has no line feed, the first automaton accepts it,
+-- and the second accepts it or not, by `is_accepted`. If nothing is found, no text of characters is
+-- like that. The search is given up only if it reaches too many pairs.
 abbrev pub IsFoundBy : (one other : Automaton) → (is_accepted : Bool) → Found → Type 0
 IsFoundBy one other is_accepted (Text text) =
     AcceptsText one text.items × IsWhether is_accepted (AcceptsText other text.items) × IsTrue (lacks line_feed text.items)

@@ -8,7 +8,7 @@ ghost use Rattle.urlpattern_compare.specs.Automata.{named, passes};
 pub enum Test {
     /// Only this character passes.
     Only(char),
-    /// Each other character passes.
+    /// Every other character passes.
     AnyBut(char),
 }
 
@@ -23,7 +23,7 @@ impl Test {
         }
     }
 
-    /// The character that the test names.
+    /// Returns the character that the test names.
     pub(crate) fn character(self) -> char
         ensures { result ≡ named self }
     {
@@ -44,13 +44,13 @@ pub struct Edge {
     pub to: usize,
 }
 
-/// An automaton. It accepts a text that leads from one of its starts to the state 0.
+/// An automaton, which accepts the texts that lead from a start state to state 0.
 #[derive(Debug, Drop)]
 pub struct Automaton {
-    /// Its edges.
+    /// The edges.
     pub edges: Vec<Edge>,
-    /// The states in which it may start.
+    /// The start states.
     pub starts: Vec<usize>,
-    /// The number of its states.
+    /// The number of states.
     pub states: usize,
 }

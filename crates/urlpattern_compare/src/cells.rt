@@ -1,4 +1,4 @@
-//! Texts in the order of their characters, as an automaton is made of them.
+//! Cells: the tests of characters that an automaton of parts consists of, in the order of a text.
 
 ghost use Rattle.std.specs.Prelude.{◌≡◌, ◌++◌, IfOk, OnOk, reverse};
 ghost use Rattle.std.specs.Str.{chars};
@@ -9,18 +9,18 @@ use crate::automaton::Test;
 use std::alloc::{AllocError, Global};
 use urlpattern_syntax::parser::{Options, Part, PartType};
 
-/// What takes characters of a text.
+/// A test of characters, once or repeated.
 #[derive(Clone, Copy, Debug)]
 pub(crate) enum Cell {
-    /// One character that passes.
+    /// A character that passes.
     One(Test),
     /// Any number of characters that pass.
     Many(Test),
 }
 
-/// The cells of one copy of a part, the last first.
+/// Returns the cells of one copy of a part, in reverse order.
 ///
-/// A custom regular expression has those of its prefix and suffix alone.
+/// A custom regular expression has only the cells of its prefix and suffix.
 pub(crate) fn cells_of(
     alloc: Global,
     options: &Options,
@@ -70,14 +70,14 @@ fn add_wildcard(cells: &mut Vec<Cell>, options: &Options, kind: &PartType) -> Re
     }
 }
 
-/// Whether one of the cells takes one character.
+/// Whether a cell reads exactly one character.
 pub(crate) fn has_one(cells: &[Cell]) -> bool
     ensures { result ≡ has_one cells.now }
 {
     cells.iter().any(|cell| is_one(*cell))
 }
 
-/// Whether the cell takes one character.
+/// Whether the cell reads exactly one character.
 fn is_one(cell: Cell) -> bool
     ensures { result ≡ is_one cell }
 {

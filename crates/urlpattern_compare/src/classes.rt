@@ -1,4 +1,4 @@
-//! Characters of which one is like each character that an automaton can read.
+//! Classes of characters that the tests of automata do not tell apart.
 
 ghost use Rattle.std.specs.Prelude.{◌≡◌, ◌<◌, ◌≤◌, ℕ, false, true, IfOk, IfNone, IfSome, OnOk, ◌∷◌, []};
 ghost use Rattle.std.specs.Char.{IsScalar};
@@ -8,7 +8,8 @@ ghost use Rattle.urlpattern_syntax.specs.Text.{is_among, line_feed};
 use crate::automaton::Edge;
 use std::alloc::{AllocError, Global};
 
-/// One character for each class that the tests of the edges tell apart: those that they name, a line feed, and one other.
+/// Returns a character of each class that the tests of the edges tell apart: the characters that
+/// they name, a line feed, and another character.
 pub(crate) fn classes(
     alloc: Global,
     edges: &[Edge],
@@ -28,7 +29,7 @@ pub(crate) fn classes(
     }
 }
 
-/// A line feed alone.
+/// Returns a line feed alone.
 fn line_feed(alloc: Global) -> Result<Vec<char>, AllocError>
     ensures { IfOk result (λ marks. marks.items ≡ line_feed ∷ []) }
 {
@@ -57,7 +58,8 @@ fn is_among(marks: &[char], c: char) -> bool
     marks.iter().any(|mark| *mark == c)
 }
 
-/// A character that is none of these, a small letter if one is left. `None`: each character is one of them.
+/// Returns a character that is none of these, a lowercase letter if one is left. `None`: every
+/// character is one of them.
 fn other_than(marks: &[char]) -> Option<char>
     ensures some { IfSome result (λ c. is_among marks.now c ≡ false) }
     ensures none { IfNone result ((c : ℕ) → IsScalar c → is_among marks.now c ≡ true) }
@@ -68,7 +70,8 @@ fn other_than(marks: &[char]) -> Option<char>
     other_within(marks, 0, u32::from(char::MAX) + 1)
 }
 
-/// The first character that is none of these, from a code up to another.
+/// Returns the first character that is none of these, from the code `first` up to but not including
+/// `end`.
 fn other_within(marks: &[char], first: u32, end: u32) -> Option<char>
     ensures some { IfSome result (λ c. is_among marks.now c ≡ false) }
     ensures none { IfNone result ((c : ℕ) → IsScalar c → first ≤ c → c < end → is_among marks.now c ≡ true) }

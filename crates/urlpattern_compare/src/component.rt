@@ -13,7 +13,7 @@ use std::alloc::{AllocError, Global};
 use urlpattern_syntax::ComponentParts;
 use urlpattern_syntax::parser::{Options, Part, PartModifier, PartType};
 
-/// A full wildcard alone, which means each text without line feed.
+/// Returns a full wildcard alone, which matches each text without line feed.
 fn anything(alloc: Global) -> Result<ComponentParts, AllocError>
     ensures options { IfOk result (λ component. options_view component.options ≡ default_options) }
     ensures parts { IfOk result (λ component. parts_view component.parts.items ≡ anything_part ∷ []) }
@@ -33,7 +33,7 @@ fn anything(alloc: Global) -> Result<ComponentParts, AllocError>
     })
 }
 
-/// Why nothing is known of what the parts mean. `None`: it is known.
+/// Returns why it is not known which texts the parts match. `None`: it is known.
 fn unknown(component: &ComponentParts) -> Option<Reason>
     ensures known { IfNone result (IsKnown component.now) }
     ensures reason { IfSome result (IsUnknownBy component.now) }
@@ -47,7 +47,8 @@ fn unknown(component: &ComponentParts) -> Option<Reason>
     None
 }
 
-/// Why it is not known how the parts compare with others. `None`: of both is known what they mean.
+/// Returns why the parts cannot be compared with others. `None`: it is known which texts both
+/// match.
 fn unknown_with(component: &ComponentParts, other: &ComponentParts) -> Option<Reason>
     ensures known { IfNone result (IsKnown component.now × IsKnown other.now) }
     ensures reason { IfSome result (IsReasonFor component.now other.now) }
@@ -58,7 +59,7 @@ fn unknown_with(component: &ComponentParts, other: &ComponentParts) -> Option<Re
     }
 }
 
-/// Whether the parts are known to mean each text without line feed.
+/// Whether the parts are known to match each text without line feed.
 fn takes_each_line(alloc: Global, component: &ComponentParts) -> Result<bool, AllocError>
     ensures { IfOk result (λ takes. IsTrue takes → TakesEachLine component.now) }
 {
@@ -68,7 +69,7 @@ fn takes_each_line(alloc: Global, component: &ComponentParts) -> Result<bool, Al
     }
 }
 
-/// Whether the parts, of which is known what they mean, mean each text without line feed.
+/// Whether the parts match each text without line feed. It is known which texts they match.
 fn covers_anything(alloc: Global, component: &ComponentParts) -> Result<bool, AllocError>
     requires { IsKnown component.now }
     ensures { IfOk result (λ takes. IsTrue takes → TakesEachLine component.now) }
@@ -87,7 +88,7 @@ fn covers_anything(alloc: Global, component: &ComponentParts) -> Result<bool, Al
     }
 }
 
-/// Whether the parts are the same but for names, under the same options, so that they match alike.
+/// Whether the parts are equal but for names, under equal options, so that they match alike.
 fn is_same(component: &ComponentParts, other: &ComponentParts) -> bool
     ensures { IsTrue result ↔ AreSame component.now other.now }
 {
@@ -103,7 +104,8 @@ fn is_settled(component: &ComponentParts) -> bool
     !component.options.ignore_case || !has_custom(&component.parts)
 }
 
-/// Returns whether each text without line feed that the asked parts mean is meant by these, or the parts are the same.
+/// Returns whether the parts match each text without line feed that those of `asked` match, or are
+/// the same parts.
 pub(crate) fn component_covers(
     alloc: Global,
     component: &ComponentParts,
@@ -131,7 +133,7 @@ pub(crate) fn component_covers(
     }
 }
 
-/// Returns whether both mean a text without line feed.
+/// Returns whether both components match a text without line feed.
 pub(crate) fn component_overlaps(
     alloc: Global,
     component: &ComponentParts,
@@ -151,7 +153,7 @@ pub(crate) fn component_overlaps(
     }
 }
 
-/// Returns a text without line feed that the parts mean, if there is one.
+/// Returns a text without line feed that the parts match, if there is one.
 pub(crate) fn component_example(
     alloc: Global,
     component: &ComponentParts,
@@ -164,7 +166,8 @@ pub(crate) fn component_example(
     }
 }
 
-/// Returns a text without line feed that the parts mean, if there is one. It is known what they mean.
+/// Returns a text without line feed that the parts match, if there is one. It is known which texts
+/// they match.
 fn common_with_anything(alloc: Global, component: &ComponentParts) -> Result<Overlap, AllocError>
     requires { IsKnown component.now }
     ensures { IfOk result (IsExample component.now) }
@@ -179,7 +182,7 @@ fn common_with_anything(alloc: Global, component: &ComponentParts) -> Result<Ove
     )
 }
 
-/// Whether both options are the same.
+/// Whether two options are equal.
 fn are_same_options(options: &Options, others: &Options) -> bool
     ensures { IsTrue result ↔ options_view options.now ≡ options_view others.now }
 {
@@ -189,7 +192,7 @@ fn are_same_options(options: &Options, others: &Options) -> bool
         && options.ignore_case == others.ignore_case
 }
 
-/// Whether the parts are the same but for the names of their groups.
+/// Whether two lists of parts are equal but for the names of their groups.
 fn are_same_parts(parts: &[Part], others: &[Part]) -> bool
     ensures { IsTrue result ↔ unnamed parts.now ≡ unnamed others.now }
 {
@@ -204,7 +207,7 @@ fn are_same_parts(parts: &[Part], others: &[Part]) -> bool
     true
 }
 
-/// Whether both parts are the same but for the names of their groups.
+/// Whether two parts are equal but for the names of their groups.
 fn is_same_part(part: &Part, other: &Part) -> bool
     ensures { IsTrue result ↔ unnamed_view part.now ≡ unnamed_view other.now }
 {
@@ -215,14 +218,14 @@ fn is_same_part(part: &Part, other: &Part) -> bool
         && is_same_text(&part.suffix, &other.suffix)
 }
 
-/// Whether both texts are the same.
+/// Whether two texts are equal.
 fn is_same_text(text: &String, other: &String) -> bool
     ensures { IsTrue result ↔ text_of text.now ≡ text_of other.now }
 {
     text == other
 }
 
-/// Whether one of the parts is a custom regular expression.
+/// Whether a part is a custom regular expression.
 fn has_custom(parts: &[Part]) -> bool
     ensures { result ≡ list_any is_custom_part parts.now }
 {

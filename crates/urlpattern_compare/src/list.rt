@@ -1,4 +1,4 @@
-//! Lists of patterns: which cover which.
+//! Compares the patterns of a list: which cover which.
 
 ghost use Rattle.std.specs.Prelude.{◌≡◌, map, IfOk, OnOk};
 ghost use Rattle.urlpattern_compare.specs.Comparing.{AreUnreachable, IsFirstCovering, Tells, with_found};
@@ -6,18 +6,19 @@ ghost use Rattle.urlpattern_compare.specs.Comparing.{AreUnreachable, IsFirstCove
 use crate::pattern::{PatternCovering, PatternParts};
 use std::alloc::{AllocError, Global};
 
-/// A pattern of a list that one before it covers.
+/// A pattern of a list that an earlier pattern covers.
 #[derive(Clone, Copy, Debug, PartialEq, Eq)]
 pub struct Shadowed {
     /// The index of the pattern.
     pub pattern: usize,
-    /// The index of the first that is known to cover it.
+    /// The index of the first pattern that is known to cover it.
     pub by: usize,
 }
 
-/// Returns the index of the first of these patterns that is known to cover the asked one.
+/// Returns the index of the first of these patterns that is known to cover `asked`.
 ///
-/// Each pattern before it does not mean some eight texts that the asked one means, or it is not known whether it does.
+/// Each earlier pattern does not match some eight texts that `asked` matches, or it is not known
+/// whether it covers `asked`.
 pub fn first_covering(
     alloc: Global,
     patterns: &[&PatternParts],
@@ -34,7 +35,7 @@ pub fn first_covering(
     Ok(None)
 }
 
-/// Whether it is known that the pattern covers the asked one.
+/// Whether the pattern is known to cover `asked`.
 fn is_known_to_cover(
     alloc: Global,
     pattern: &PatternParts,
@@ -53,9 +54,11 @@ fn is_known_to_cover(
     }
 }
 
-/// Lists each pattern that one before it is known to cover, in their order, with the index of the first such one.
+/// Lists the patterns that an earlier pattern is known to cover, in order, each with the index of
+/// the first such pattern.
 ///
-/// In a list whose first match counts these are never found. A pattern that several others cover only together is not listed.
+/// In a list whose first match counts, the listed patterns are never found. A pattern that several
+/// others cover only together is not listed.
 pub fn unreachable(alloc: Global, patterns: &[&PatternParts]) -> Result<Vec<Shadowed>, AllocError>
     ensures { IfOk result (λ found. AreUnreachable (map (λ pattern. pattern.now) patterns.now) found.items) }
 {
@@ -67,7 +70,7 @@ pub fn unreachable(alloc: Global, patterns: &[&PatternParts]) -> Result<Vec<Shad
     Ok(found)
 }
 
-/// Adds a pattern that this one covers, if one does.
+/// Adds the pattern if another one covers it.
 fn add(found: &mut Vec<Shadowed>, pattern: usize, by: Option<usize>) -> Result<(), AllocError>
     ensures { OnOk result (found.new.items ≡ with_found found.old.items pattern by) }
 {

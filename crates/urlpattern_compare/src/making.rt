@@ -1,4 +1,4 @@
-//! An automaton is made of parts, from the last to the first.
+//! Makes automata of parts, from the last part to the first.
 
 ghost use Rattle.std.specs.Prelude.{◌≡◌, ◌≤◌, ◌<◌, ◌+◌, ◌++◌, ℕ, [], IfNone, IfOk, OnOk, length};
 ghost use Rattle.urlpattern_compare.specs.{Answers.AcceptsMeaning, Answers.IfMade, Automata.IsWithin};
@@ -11,7 +11,8 @@ use crate::cells::{Cell, cells_of, has_one};
 use std::alloc::{AllocError, Global};
 use urlpattern_syntax::parser::{Options, Part, PartModifier};
 
-/// The number of states that an automaton of parts may have: one for each character of their texts, two for each wildcard, and one.
+/// The number of states that an automaton of parts may have: one for each character and each full
+/// wildcard, two for each segment wildcard, and one more.
 pub const MOST_STATES: usize = 10_000;
 
 /// Makes the automaton of parts. `None`: it would have more than [`MOST_STATES`] states.
@@ -41,10 +42,11 @@ pub(crate) fn make(
 }
 
 impl Automaton {
-    /// Makes the automaton of parts. `None`: it would have more than [`MOST_STATES`] states; where it has less than twice as many, it
-    /// may be made all the same.
+    /// Makes the automaton of parts. `None`: it would have more than [`MOST_STATES`] states; an
+    /// automaton with at most twice as many may be made all the same.
     ///
-    /// It accepts what the parts mean, if none of them is a custom regular expression.
+    /// The automaton accepts the texts that the parts match, if no part is a custom regular
+    /// expression.
     pub fn of_parts(
         alloc: Global,
         options: &Options,
@@ -57,7 +59,7 @@ impl Automaton {
         make(alloc, options, parts)
     }
 
-    /// Puts copies of the cells before it, as many as the modifier allows.
+    /// Prepends copies of the cells, as many as the modifier permits.
     fn add_copies(
         &mut self,
         alloc: Global,
@@ -77,7 +79,7 @@ impl Automaton {
         self.starts.extend_from_slice(&missing)
     }
 
-    /// Lets the cells that come before it stand again where they stood.
+    /// Lets the cells that are prepended next repeat.
     fn add_again(&mut self, alloc: Global, again: bool, cells: &[Cell]) -> Result<(), AllocError>
         requires { self.old.states + length cells.now ≤ usize.MAX }
         ensures { OnOk result (made_view self.new ≡ with_again (made_view self.old) again cells.now) }
@@ -89,7 +91,7 @@ impl Automaton {
         Ok(())
     }
 
-    /// Puts the cells before it, the last first.
+    /// Prepends cells, which are in reverse order.
     fn add_cells(&mut self, cells: &[Cell]) -> Result<(), AllocError>
         requires { self.old.states + length cells.now ≤ usize.MAX }
         ensures { OnOk result (made_view self.new ≡ with_cells (made_view self.old) cells.now) }
@@ -103,7 +105,7 @@ impl Automaton {
         Ok(())
     }
 
-    /// Puts one character before it.
+    /// Prepends a cell of one character.
     fn add_one(&mut self, test: Test) -> Result<(), AllocError>
         requires { self.old.states < usize.MAX }
         ensures { OnOk result (made_view self.new ≡ with_cell (made_view self.old) (Cell.One test)) }
@@ -115,7 +117,7 @@ impl Automaton {
         Ok(())
     }
 
-    /// Puts any number of characters before it.
+    /// Prepends a cell of any number of characters.
     fn add_many(&mut self, test: Test) -> Result<(), AllocError>
         requires { self.old.states < usize.MAX }
         ensures { OnOk result (made_view self.new ≡ with_cell (made_view self.old) (Cell.Many test)) }
@@ -155,7 +157,8 @@ fn add_edges(
     Ok(())
 }
 
-/// The states from which the cells are read that are made after so many states, the last first.
+/// Returns the start states of cells, which are in reverse order, if this number of states was made
+/// before.
 fn heads(alloc: Global, states: usize, cells: &[Cell]) -> Result<Vec<usize>, AllocError>
     requires { states + length cells.now ≤ usize.MAX }
     ensures { IfOk result (λ starts. starts.items ≡ heads [] states cells.now) }
@@ -172,7 +175,7 @@ fn heads(alloc: Global, states: usize, cells: &[Cell]) -> Result<Vec<usize>, All
     Ok(starts)
 }
 
-/// Whether a copy of a part may stand again where one stood.
+/// Whether a part may repeat.
 fn repeats(modifier: PartModifier) -> bool
     ensures { result ≡ repeats modifier }
 {

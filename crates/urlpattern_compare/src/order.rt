@@ -1,4 +1,4 @@
-//! The order of parts, in which the more specific are the greater.
+//! The order of parts: the more specific are the greater.
 
 ghost use Rattle.std.specs.Prelude.{◌≡◌, List, [], map};
 ghost use Rattle.urlpattern_compare.specs.Order.{first_rank, kind_rank, modifier_rank, other_ranks, parts_cmp, rank_cmp, rank_of, rank_view};
@@ -6,7 +6,7 @@ ghost use Rattle.urlpattern_compare.specs.Order.{first_rank, kind_rank, modifier
 use std::cmp::Ordering;
 use urlpattern_syntax::parser::{Part, PartModifier, PartType};
 
-/// What is compared of a part.
+/// The fields of a part that are compared.
 #[derive(Clone, Copy, Debug)]
 struct Rank<'a> {
     kind: u8,
@@ -18,9 +18,11 @@ struct Rank<'a> {
 
 /// Compares two lists of parts: the more specific is the greater.
 ///
-/// Parts are compared pairwise, and the first difference decides. A fixed text is greater than a custom regular expression, which is
-/// greater than a segment, and that than a full wildcard. Of one kind a part that stands once is greater than one with `+`, then
-/// `?`, then `*`. Next their prefixes, values and suffixes are compared byte by byte. A missing part counts as an empty fixed text.
+/// Parts are compared pairwise, and the first difference decides. A fixed text is greater than a
+/// custom regular expression, which is greater than a segment wildcard, which is greater than a
+/// full wildcard. Of one kind, a part without modifier is greater than one with `+`, then `?`, then
+/// `*`. Prefixes, values and suffixes are compared last, byte by byte. A missing part counts as an
+/// empty fixed text.
 pub fn compare_parts(parts: &[Part], others: &[Part]) -> Ordering
     ensures { result ≡ parts_cmp parts.now others.now }
 {
@@ -37,7 +39,7 @@ pub fn compare_parts(parts: &[Part], others: &[Part]) -> Ordering
     Ordering::Equal
 }
 
-/// What is compared of the first part, or of an empty fixed text if there is none.
+/// Returns the rank of the first part, or of an empty fixed text if there is none.
 fn first_rank(parts: &[Part]) -> Rank<'_>
     ensures { rank_view result ≡ first_rank (map rank_of parts.now) }
 {
@@ -53,7 +55,7 @@ fn first_rank(parts: &[Part]) -> Rank<'_>
     }
 }
 
-/// The parts after the first.
+/// Returns the parts after the first.
 fn other_parts(parts: &[Part]) -> &[Part]
     ensures { map rank_of result.now ≡ other_ranks (map rank_of parts.now) }
 {
@@ -63,7 +65,7 @@ fn other_parts(parts: &[Part]) -> &[Part]
     }
 }
 
-/// What is compared of a part.
+/// Returns the rank of a part.
 fn rank_of(part: &Part) -> Rank<'_>
     ensures { rank_view result ≡ rank_of part.now }
 {
@@ -76,7 +78,7 @@ fn rank_of(part: &Part) -> Rank<'_>
     }
 }
 
-/// The kinds in their order.
+/// Returns the rank of a kind.
 fn kind_rank(kind: &PartType) -> u8
     ensures { result ≡ kind_rank kind.now }
 {
@@ -88,7 +90,7 @@ fn kind_rank(kind: &PartType) -> u8
     }
 }
 
-/// The modifiers in their order.
+/// Returns the rank of a modifier.
 fn modifier_rank(modifier: PartModifier) -> u8
     ensures { result ≡ modifier_rank modifier }
 {
@@ -101,7 +103,7 @@ fn modifier_rank(modifier: PartModifier) -> u8
 }
 
 impl Rank<'_> {
-    /// Compares the two, field by field.
+    /// Compares two ranks, field by field.
     fn compare(self, other: Self) -> Ordering
         ensures { result ≡ rank_cmp (rank_view self.entry) (rank_view other.entry) }
     {

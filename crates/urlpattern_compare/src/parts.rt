@@ -1,4 +1,4 @@
-//! What parts mean, compared.
+//! Compares the texts that two lists of parts match.
 
 ghost use Rattle.std.specs.Prelude.{◌≡◌, IfOk, false, true};
 ghost use Rattle.std.specs.List.{list_any};
@@ -9,54 +9,54 @@ use crate::search::Found;
 use std::alloc::{AllocError, Global};
 use urlpattern_syntax::parser::{Options, Part, PartType};
 
-/// Whether each text that is asked for is meant.
+/// Whether parts match each text that other parts match.
 #[derive(Debug, Drop)]
 pub enum Covering {
-    /// Each is.
+    /// Each text matches.
     Covered,
-    /// This one is not: its characters.
+    /// The characters of a text that does not match.
     NotCovered(Vec<char>),
-    /// It is not known.
+    /// Not known.
     Unknown(Reason),
 }
 
-/// Whether both mean a text.
+/// Whether two lists of parts match a common text.
 #[derive(Debug, Drop)]
 pub enum Overlap {
-    /// They mean none.
+    /// No text matches both.
     Apart,
-    /// Both mean this one: its characters.
+    /// The characters of a text that matches both.
     Common(Vec<char>),
-    /// It is not known.
+    /// Not known.
     Unknown(Reason),
 }
 
-/// Why it is not known.
+/// Why a comparison has no result.
 #[derive(Clone, Copy, Debug, PartialEq, Eq)]
 pub enum Reason {
-    /// One of the parts is a custom regular expression.
+    /// A part is a custom regular expression.
     CustomExpression,
     /// Case is ignored.
     IgnoredCase,
-    /// The parts have more than [`MOST_STATES`](crate::MOST_STATES) characters and wildcards, or a search
-    /// comes to more than [`MOST_PAIRS`](crate::MOST_PAIRS) pairs.
+    /// The parts need more than [`MOST_STATES`](crate::MOST_STATES) states, or a search reaches
+    /// more than [`MOST_PAIRS`](crate::MOST_PAIRS) pairs.
     TooMany,
 }
 
-/// What is known of texts.
+/// The result of looking for a text.
 #[derive(Debug, Drop)]
 pub(crate) enum Answer {
-    /// This text.
+    /// The characters of the text.
     Text(Vec<char>),
-    /// There is no such text.
+    /// No text exists.
     Nothing,
-    /// It is not known.
+    /// Not known.
     Unknown(Reason),
 }
 
-/// Returns whether each text without line feed that the asked parts mean is meant by the parts.
+/// Returns whether the parts match each text without line feed that the asked parts match.
 ///
-/// `NotCovered` has one of the shortest texts that are not.
+/// `NotCovered` has one of the shortest texts that do not match.
 pub fn covers(
     alloc: Global,
     options: &Options,
@@ -74,7 +74,7 @@ pub fn covers(
     }
 }
 
-/// Returns whether both lists of parts mean a text without line feed.
+/// Returns whether both lists of parts match a text without line feed.
 ///
 /// `Common` has one of the shortest such texts.
 pub fn overlaps(
@@ -94,7 +94,8 @@ pub fn overlaps(
     }
 }
 
-/// Finds a text that the parts mean, and others mean or do not.
+/// Finds a text that the parts match, and that the others match if `is_meant`, and do not match
+/// otherwise.
 fn find_meant(
     alloc: Global,
     options: &Options,
@@ -127,7 +128,7 @@ fn find_meant(
     Ok(answer_of(found))
 }
 
-/// What a search found.
+/// Returns the result by what a search found.
 fn answer_of(found: Found) -> Answer
     ensures { result ≡ answer_of found }
 {
@@ -138,7 +139,7 @@ fn answer_of(found: Found) -> Answer
     }
 }
 
-/// Whether one of the parts is a custom regular expression.
+/// Whether a part is a custom regular expression.
 fn has_custom(parts: &[Part]) -> bool
     ensures { result ≡ list_any is_custom_part parts.now }
 {

@@ -26,12 +26,13 @@ use urlpattern_syntax::ComponentParts;
 /// ```
 #[derive(Debug)]
 pub struct PatternParts {
-    /// Those of each component.
+    /// The parts of each component.
     pub components: Eight<ComponentParts>,
 }
 
 impl Drop for PatternParts {
-    /// Drops the components. Where the parts of a pattern go out of scope, the prover handles one call in place of eight.
+    /// Drops the components. Where the parts of a pattern go out of scope, the prover handles one
+    /// call in place of eight.
     fn drop(self) {
         let Self {
             components: _components,
@@ -39,7 +40,7 @@ impl Drop for PatternParts {
     }
 }
 
-/// Eight texts in which two patterns part.
+/// Eight texts that one pattern matches and the other does not.
 ///
 /// The component, and the length of its text:
 ///
@@ -55,13 +56,13 @@ impl Drop for PatternParts {
 /// ```
 #[derive(Debug, Drop)]
 pub struct Parting {
-    /// A component whose text the one pattern does not mean.
+    /// A component whose text the one pattern does not match.
     pub component: ComponentName,
-    /// The texts, which the asked pattern means.
+    /// The texts, which the asked pattern matches.
     pub texts: Eight<String>,
 }
 
-/// Whether a pattern covers another one.
+/// Whether a pattern covers another.
 ///
 /// A test compares the length of a text that is not covered with the recorded one:
 ///
@@ -77,11 +78,11 @@ pub struct Parting {
 /// ```
 #[derive(Debug, Drop)]
 pub enum PatternCovering {
-    /// It means whatever the asked one means.
+    /// The pattern matches whatever the asked one matches.
     Covered,
-    /// It does not mean these texts, which the asked one means.
+    /// The asked pattern matches these texts, and the pattern does not.
     NotCovered(Parting),
-    /// It is not known, because of this component.
+    /// Not known, because of this component.
     Unknown(ComponentName, Reason),
 }
 
@@ -99,31 +100,31 @@ pub enum PatternCovering {
 /// ```
 #[derive(Debug, Drop)]
 pub enum PatternOverlap {
-    /// No eight texts are meant by both.
+    /// No eight texts match both patterns.
     Apart,
-    /// Both mean these.
+    /// Eight texts that match both patterns.
     Common(Eight<String>),
-    /// It is not known, because of this component.
+    /// Not known, because of this component.
     Unknown(ComponentName, Reason),
 }
 
-/// The first component in which two patterns part.
+/// The first component in which two patterns differ.
 #[derive(Debug, Drop)]
 pub(crate) enum First {
-    /// There is none.
+    /// No component.
     Nowhere,
-    /// This one, by this text.
+    /// The component, and a text.
     At(ComponentName, Vec<char>),
-    /// There is none, as far as is known, and of this one nothing is known.
+    /// No component as far as is known. Of this component nothing is known.
     Unknown(ComponentName, Reason),
 }
 
 /// Why a component has no text.
 #[derive(Debug, Drop)]
 pub(crate) enum Lack {
-    /// There is none.
+    /// No text of this component exists.
     Nothing(ComponentName),
-    /// It is not known.
+    /// Not known, because of this component.
     Unknown(ComponentName, Reason),
     /// Memory ran out.
     OutOfMemory,
@@ -142,7 +143,7 @@ impl From<AllocError> for Lack {
 impl First {
     ghost use Rattle.urlpattern_compare.specs.Comparing.{first_or};
 
-    /// What is found up to here, or else what is known of one component more.
+    /// Returns what was found so far, or else what is known of the next component.
     fn or(self, name: ComponentName, covering: Covering) -> First
         ensures { result ≡ first_or self name covering }
     {
@@ -159,12 +160,15 @@ impl PatternParts {
     ghost use Rattle.urlpattern_compare.specs.Order.{parts_cmp};
     ghost use Rattle.urlpattern_compare.specs.Comparing.{IsCommonText, IsFirst, IsMeantBy, IsOnlyIn, IsPatternCovering, IsPatternOverlap, IsTextWith, LacksExample, MeansEach};
 
-    /// Returns whether this pattern means all that the asked one means: eight texts without line feed.
+    /// Returns whether this pattern covers `asked`: whether its parts match every eight texts that
+    /// the parts of `asked` match. Texts with a line feed are left out.
     ///
-    /// Components are compared one by one. One that takes each text, with case counting, covers any other, and one covers the same parts
-    /// under the same options, whatever the names, also with custom regular expressions or where case is ignored, but not with both. Of
-    /// other components with a custom regular expression, and where case is ignored, nothing is known; and nothing where the work would be
-    /// too much, which has a bound. The texts of `NotCovered` are among the shortest, though no clause promises that.
+    /// Components are compared one by one. A component that matches each text, with case kept,
+    /// covers any other. A component covers equal parts under equal options, whatever the names,
+    /// also with custom regular expressions or with case ignored, but not with both. Nothing is
+    /// known of other components with custom regular expressions or with case ignored, nor where
+    /// the work exceeds its bound. The texts of `NotCovered` are among the shortest, though no
+    /// clause promises that.
     pub fn covers(&self, alloc: Global, asked: &Self) -> Result<PatternCovering, AllocError>
         ensures { IfOk result (IsPatternCovering self.now asked.now) }
     {
@@ -175,9 +179,11 @@ impl PatternParts {
         }
     }
 
-    /// Returns whether both patterns mean some eight texts without line feed, and such texts.
+    /// Returns whether the parts of both patterns match some eight texts without line feeds, and
+    /// which.
     ///
-    /// Nothing is known of a component with a custom regular expression, where case is ignored, and where the work would be too much.
+    /// Nothing is known of components with custom regular expressions or with case ignored, nor
+    /// where the work exceeds its bound.
     pub fn overlaps(&self, alloc: Global, other: &Self) -> Result<PatternOverlap, AllocError>
         ensures { IfOk result (IsPatternOverlap self.now other.now) }
     {
@@ -192,10 +198,11 @@ impl PatternParts {
         }
     }
 
-    /// Compares two patterns in one component, as [`compare_parts`] does: the more specific is the greater.
+    /// Compares one component of two patterns, as [`compare_parts`] does: the more specific is the
+    /// greater.
     ///
-    /// What is covered need not be less specific, nor the other way round: `/a{/b}?` is greater than `/:x`, and has the text `/a/b`, which
-    /// the other has not.
+    /// The more specific pattern need not be covered, nor the covered one more specific: `/a{/b}?`
+    /// is greater than `/:x`, and matches the text `/a/b`, which `/:x` does not match.
     pub fn compare_component(component: ComponentName, left: &Self, right: &Self) -> Ordering
         ensures { result ≡ parts_cmp (at left.now.components component).parts.items (at right.now.components component).parts.items }
     {
@@ -204,7 +211,7 @@ impl PatternParts {
         compare_parts(&left.parts, &right.parts)
     }
 
-    /// The first component in which the patterns part.
+    /// Returns the first component in which the patterns differ.
     fn first_parting(&self, alloc: Global, asked: &Self) -> Result<First, AllocError>
         ensures { IfOk result (IsFirst self.now asked.now) }
     {
@@ -217,7 +224,7 @@ impl PatternParts {
         Ok(first)
     }
 
-    /// The answer where the patterns part in this component, by this text.
+    /// Returns the result for patterns that differ in this component, by this text.
     fn parted(
         &self,
         alloc: Global,
@@ -237,7 +244,7 @@ impl PatternParts {
         }
     }
 
-    /// Eight texts that the pattern means, with this one for a component.
+    /// Returns eight texts that the pattern matches, with this text for a component.
     fn texts_with(
         &self,
         alloc: Global,
@@ -255,7 +262,8 @@ impl PatternParts {
         Eight::try_from_fn(value)
     }
 
-    /// A text of a component that the pattern means: this one for the component where patterns part.
+    /// Returns a text of a component that the pattern matches: the given text for the component in
+    /// which patterns differ.
     fn text_with(
         &self,
         alloc: Global,
@@ -275,7 +283,7 @@ impl PatternParts {
         }
     }
 
-    /// A text of a component that both patterns mean.
+    /// Returns a text of a component that both patterns match.
     fn common_text(&self, alloc: Global, other: &Self, name: ComponentName) -> Result<String, Lack>
         ensures { IsCommonText self.now other.now name result }
     {
@@ -289,7 +297,7 @@ impl PatternParts {
     }
 }
 
-/// A text of its characters.
+/// Returns the text of these characters.
 fn string_of(alloc: Global, characters: &[char]) -> Result<String, AllocError>
     ensures { IfOk result (λ text. text_of text ≡ characters.now) }
 {

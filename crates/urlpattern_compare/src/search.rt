@@ -1,4 +1,4 @@
-//! A search for a text that one automaton accepts, and another accepts or does not.
+//! Searches for a text that one automaton accepts, and another accepts or rejects.
 
 ghost use Rattle.std.specs.Prelude.{◌≡◌, ◌≢◌, ◌↔◌, ℕ, All, Contains, IfOk, OnOk, IsTrue};
 ghost use Rattle.urlpattern_compare.specs.Automata.{IsWithin};
@@ -13,18 +13,18 @@ use std::alloc::{AllocError, Global};
 /// What a search found.
 #[derive(Debug, Drop)]
 pub enum Found {
-    /// This text.
+    /// A text.
     Text(Vec<char>),
-    /// There is no such text.
+    /// No text exists.
     Nothing,
-    /// The search came to its bound.
+    /// The search exceeded its bound.
     TooMany,
 }
 
 /// The number of pairs after which a search is given up.
 pub const MOST_PAIRS: usize = 10_000;
 
-/// A state of one automaton and the states of another in which a text may leave them.
+/// A state of one automaton and a set of states of another, to which a text leads.
 #[derive(Debug, Drop)]
 pub(crate) struct Pair {
     pub(crate) state: usize,
@@ -33,9 +33,11 @@ pub(crate) struct Pair {
 }
 
 impl Automaton {
-    /// Finds a text without line feed that this automaton accepts and the other accepts, or does not accept.
+    /// Finds a text without line feed that this automaton accepts, and that `other` accepts if
+    /// `is_accepted`, and rejects otherwise.
     ///
-    /// It is one of the shortest. The search is given up where it comes to more than [`MOST_PAIRS`] pairs of a state and states.
+    /// The text is one of the shortest. The search is given up when it reaches more than
+    /// [`MOST_PAIRS`] pairs of a state and a set of states.
     pub fn find(
         &self,
         alloc: Global,
@@ -64,7 +66,7 @@ impl Automaton {
     }
 }
 
-/// The pairs before the first character.
+/// Returns the pairs before the first character.
 fn first_pairs(alloc: Global, one: &Automaton, other: &Automaton) -> Result<Vec<Pair>, AllocError>
     requires { IsWithin other.now }
     ensures reached { IfOk result (λ pairs. All (IsReached one.now other.now) pairs.items) }
@@ -87,7 +89,7 @@ fn first_pairs(alloc: Global, one: &Automaton, other: &Automaton) -> Result<Vec<
     Ok(pairs)
 }
 
-/// Adds the pairs to which one of the characters leads from a pair.
+/// Adds the pairs that a pair leads to by one of the characters.
 fn follow(
     alloc: Global,
     one: &Automaton,
@@ -110,7 +112,7 @@ fn follow(
     Ok(())
 }
 
-/// Adds the pairs to which the character leads from a pair, unless it is a line feed.
+/// Adds the pairs that a pair leads to by the character, unless it is a line feed.
 fn follow_by(
     alloc: Global,
     one: &Automaton,
@@ -137,7 +139,7 @@ fn follow_by(
     Ok(())
 }
 
-/// Adds the pair to which an edge leads by the character, if it leads there and the pair is not there yet.
+/// Adds the pair that an edge leads to by the character, if it does and the pair is new.
 fn follow_edge(
     alloc: Global,
     edge: Edge,
@@ -167,7 +169,7 @@ fn follow_edge(
     Ok(())
 }
 
-/// A copy of a pair.
+/// Copies a pair.
 fn copy_of(alloc: Global, pair: &Pair) -> Result<Pair, AllocError>
     ensures { IfOk result (IsStep pair.now.state pair.now.states.items pair.now.text.items) }
 {
@@ -178,7 +180,7 @@ fn copy_of(alloc: Global, pair: &Pair) -> Result<Pair, AllocError>
     })
 }
 
-/// Whether one of the pairs has this state and these states.
+/// Whether a pair with this state and these states is among the pairs.
 fn is_seen(pairs: &[Pair], state: usize, states: &[bool]) -> bool
     ensures { IsTrue result ↔ IsSeen pairs.now state states.now }
 {
@@ -190,7 +192,7 @@ fn is_seen(pairs: &[Pair], state: usize, states: &[bool]) -> bool
     false
 }
 
-/// Whether the sets of states are the same.
+/// Whether two sets of states are equal.
 fn are_same(states: &[bool], others: &[bool]) -> bool
     ensures { IsTrue result ↔ states.now ≡ others.now }
 {

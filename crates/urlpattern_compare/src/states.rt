@@ -1,4 +1,4 @@
-//! Sets of an automaton's states, with a flag for each state.
+//! Sets of states of an automaton, with a flag for each state.
 
 ghost use Rattle.std.specs.Prelude.{◌≡◌, IfOk, false, replicate, slice_set, true};
 ghost use Rattle.urlpattern_compare.specs.Searching.{is_in, moved, with_states};
@@ -22,14 +22,14 @@ fn add(flags: &mut [bool], state: usize)
     }
 }
 
-/// No state, of so many.
+/// Returns the empty set, for this number of states.
 fn none(alloc: Global, states: usize) -> Result<Vec<bool>, AllocError>
     ensures { IfOk result (λ flags. flags.items ≡ replicate states false) }
 {
     vec![in alloc; false; states]
 }
 
-/// These states, of so many.
+/// Returns the set of these states, for this number of states.
 pub(crate) fn set_of(
     alloc: Global,
     starts: &[usize],
@@ -44,7 +44,7 @@ pub(crate) fn set_of(
     Ok(flags)
 }
 
-/// The states to which the edges lead from these by the character.
+/// Returns the set of states that the edges lead to from a set, by the character.
 pub(crate) fn moved(
     alloc: Global,
     edges: &[Edge],

@@ -10,7 +10,7 @@ use Rattle.urlpattern_syntax.specs.Text.{is_among, line_feed}
 use Rattle.urlpattern_compare.proofs.StateSets.{contains_head}
 use Rattle.urlpattern_compare.proofs.classes.classes.Goals as goal
 
--- both are named in what names the second after the first
+-- The marks of both lists of edges are named.
 both_named : (edges others : List Edge) → let marks = with_named (with_named (line_feed ∷ []) edges) others in AreNamed marks edges × AreNamed marks others
 both_named edges others =
     let first = with_named (line_feed ∷ []) edges in (

@@ -2,6 +2,6 @@ use Rattle.std.proofs.Common.{◌≡◌, take}
 use Rattle.urlpattern_compare.specs.Comparing.{unnamed}
 use Rattle.urlpattern_compare.proofs.component.are_same_parts.Given as goal
 
--- the parts so far are the same but for names
+-- The parts so far are equal but for names.
 abbrev pub invariant-loop-index : goal.invariant-loop-index
 invariant-loop-index l = take l.index (unnamed l.parts) ≡ take l.index (unnamed l.others)

@@ -9,7 +9,7 @@ use Rattle.urlpattern_compare.proofs.parts.find_meant.Goals as goal
 use Rattle.urlpattern_meaning.specs.PartMeaning.{AreGenerated}
 use Rattle.urlpattern_syntax.specs.{Options.OptionsView, Options.options_view, Parts.PartView, Parts.parts_view}
 
--- an automaton that was made
+-- The automaton that was made is that of the parts.
 that_made : (options : OptionsView) (parts : List PartView) (found : Option Automaton) (automaton : Automaton) → found ≡ Some automaton →
     IfSome found (λ it. made_view it ≡ made options parts) → made_view automaton ≡ made options parts
 that_made options parts found automaton e is = subst (λ o. IfSome o (λ it. made_view it ≡ made options parts)) e is

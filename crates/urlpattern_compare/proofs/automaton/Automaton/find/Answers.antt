@@ -17,7 +17,7 @@ other_than true false h = refl
 other_than false true h = refl
 other_than false false h = absurd cc
 
--- the copy of a pair that was reached
+-- A copy of a pair that is reached is reached.
 reached_copy : (one other : Automaton) (pairs : List Pair) (next : ℕ) (pair copy : Pair) → All (IsReached one other) pairs → next < length pairs → pair ≡ get_or pairs next pair
     → IsStep pair.state pair.states.items pair.text.items copy → IsReached one other copy
 reached_copy one other pairs next pair copy reached lt at same = copy_reached one other pair copy (subst (IsReached one other) (sym at) (All-get_or (IsReached one other) pairs next pair lt reached)) same
