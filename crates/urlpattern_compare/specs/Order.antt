@@ -33,6 +33,7 @@ modifier_rank PartModifier.OneOrMore = 2
 modifier_rank PartModifier.Optional = 1
 modifier_rank PartModifier.ZeroOrMore = 0
 
+-- The rank of a part.
 abbrev pub rank_of : Part → RankView
 rank_of part = record {
   kind = kind_rank part.kind;
@@ -81,5 +82,6 @@ ranks_cmp [] others = none_cmp others
 ranks_cmp (rank ∷ ranks) [] = cmp_none (rank ∷ ranks)
 ranks_cmp (rank ∷ ranks) (other ∷ others) = ordering_then (rank_cmp rank other) (ranks_cmp ranks others)
 
+-- Parts are compared by their ranks.
 abbrev pub parts_cmp : List Part → List Part → Ordering
 parts_cmp parts others = ranks_cmp (map rank_of parts) (map rank_of others)

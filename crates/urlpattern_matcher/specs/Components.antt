@@ -48,6 +48,7 @@ ignores_case flags = not (lacks 0x69 flags)
 abbrev pub FlagsAgree : OptionsView → (flags : List ℕ) → Type 0
 FlagsAgree options flags = ignores_case flags ≡ options.ignore_case
 
+-- The part is a custom regular expression.
 abbrev pub is_custom : PartType → Bool
 is_custom PartType.Regexp = true
 is_custom kind = false

@@ -83,9 +83,9 @@ pub trait RegExp: Sized + Drop {
     fn pattern_string(&self) -> &str
         ensures { chars result.now ≡ text_made_of self.now };
 
-    /// Whether each value that was made of the expression of parts, none of them custom, with the
-    /// flag `u` alone, is known to return what the parts mean. An engine for which this is not
-    /// known keeps this body.
+    /// Whether each value that was made of the regular expression of parts, none of them custom,
+    /// with the flag `u` alone, is known to return what the parts mean. An engine for which this is
+    /// not known keeps this body.
     fn agrees_with_parts() -> bool
         ensures { IsTrue result → ValuesAgreeWithParts IsMade answer }
     {

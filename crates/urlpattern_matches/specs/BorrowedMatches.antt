@@ -34,9 +34,11 @@ groups_left groups = zip (texts_of (iter_rest groups.names)) (map option_text (i
 abbrev pub NamedGroup : Type 0
 NamedGroup = ComponentName × List ℕ × Option (List ℕ)
 
+-- A group with its component and its texts.
 abbrev pub named_group_text : ComponentName × Bor (List ℕ) × Option (Bor (List ℕ)) → NamedGroup
 named_group_text group = (group.0, chars group.1.now, option_text group.2)
 
+-- The groups of a component, each with the component.
 abbrev pub named_groups : ComponentName → List (List ℕ × Option (List ℕ)) → List NamedGroup
 named_groups component groups = map (λ group. (component, group.0, group.1)) groups
 
@@ -55,6 +57,7 @@ all_groups_left groups =
 abbrev pub GroupText : Type 0
 GroupText = ComponentName × List ℕ × List ℕ
 
+-- The group with what it captured, or None if it took no part.
 abbrev pub text_captured : NamedGroup → Option GroupText
 text_captured group = option_map (λ text. (group.0, group.1, text)) group.2
 
@@ -62,6 +65,7 @@ text_captured group = option_map (λ text. (group.0, group.1, text)) group.2
 abbrev pub texts_captured : List NamedGroup → List GroupText
 texts_captured groups = filter_map text_captured groups
 
+-- A group with borrowed name and capture, as texts.
 abbrev pub lent_group : ComponentName × Bor (List ℕ) × Bor (List ℕ) → GroupText
 lent_group group = (group.0, chars group.1.now, chars group.2.now)
 
@@ -75,6 +79,7 @@ GetTaken old new component groups = map lent_group new ≡ map lent_group old ++
 abbrev pub listed_entries : List (String Global × Option (String Global)) → List (List ℕ × Option (List ℕ))
 listed_entries entries = map (λ group. (text_of group.0, option_map text_of group.1)) entries
 
+-- The groups of a map, in any order.
 abbrev pub listed_groups : {S : Type 0} → HashMap (String Global) (Option (String Global)) S → List (List ℕ × Option (List ℕ))
 listed_groups groups = listed_entries groups.entries
 

@@ -27,6 +27,7 @@ pub record PlainResultView : Type 0 where
   pub input : List ℕ
   pub group : GroupsByName
 
+-- The groups of a map, by name.
 abbrev pub groups_by_name : {S : Type 0} → HashMap (String Global) (Option (String Global)) S → GroupsByName
 groups_by_name groups = λ name. option_map (option_map string_bytes) (get_by_text groups name)
 
@@ -55,15 +56,18 @@ are_captures (member name tree rest) = is_some (captured_read tree) && are_captu
 abbrev pub groups_of_members : Members → Option GroupsByName
 groups_of_members members = if are_captures members then Some (group_member members) else None
 
+-- The groups that an object is read as, or None if a member is neither a text nor null.
 unfoldable pub groups_read : Data → Option GroupsByName
 groups_read tree = as_object tree >>= groups_of_members
 
+-- The result that an object with the members `input` and `groups` is read as.
 unfoldable pub component_result_read : Data → Option PlainResultView
 component_result_read tree = do
   input ← text_read (codes "input") tree
   group ← member_read groups_read (codes "groups") tree
   Some (record { input = input; group = group })
 
+-- The results that an object with a member for each component is read as.
 abbrev pub result_read : Data → Option (Eight PlainResultView)
 result_read tree = read_each (λ name. member_read component_result_read (name_text name) tree)
 

@@ -21,10 +21,9 @@ use urlpattern_syntax::error::{Error, RegExpError};
 impl<R: RegExp> Component<R> {
     /// Compiles the component of a pattern text, or of an asterisk if there is none.
     ///
-    /// Each fixed text, prefix and suffix of the pattern is passed to the callback, which returns
-    /// its canonical form. An expression that the engine rejects is kept in the component as an
-    /// error. If the pattern has a custom regular expression, an engine of ECMAScript's syntax has
-    /// to compile the expression at once.
+    /// Each fixed text, prefix and suffix of the pattern is encoded by the callback. An expression
+    /// that the engine rejects is kept in the component as an error. If the pattern has a custom
+    /// regular expression, an engine of ECMAScript's syntax has to compile the expression at once.
     ///
     /// If the pattern has no custom regular expression and case is kept, the component's matcher
     /// returns what the parts of the pattern mean, provided that an engine that it calls follows

@@ -35,8 +35,9 @@ impl<R: RegExp> UrlPattern<R> {
     /// The pattern keeps the parts that its texts were parsed into. Its components are made of
     /// these parts.
     ///
-    /// With an engine whose matchers return the first way of their parts, as those of
-    /// `PatternRegexp` do, the pattern matches by its texts (`AnswersByItsText`).
+    /// With an engine whose matchers return first ways, as those of `PatternRegexp` do, the pattern
+    /// matches by its texts (`AnswersByItsText`). The first way is the captures that a backtracking
+    /// engine finds first.
     ///
     /// Here `Pattern` is `UrlPattern<PatternRegexp>`, and the init has a pattern for the path alone:
     ///
@@ -125,9 +126,9 @@ impl<R: RegExp> UrlPattern<R> {
     /// The groups of a match are captures with which the pattern texts mean the texts of the input;
     /// without a match, the pattern texts do not mean them. The premises: components without custom
     /// regular expressions, case that is kept, texts without line feeds, and an engine that follows
-    /// its regular expression, where one is needed. With an engine whose matchers return first ways, as
-    /// those of `PatternRegexp` do, the groups are those of the first way, without a premise on the
-    /// engine.
+    /// its regular expression, where one is needed. With an engine whose matchers return first
+    /// ways, as those of `PatternRegexp` do, the groups are those of the first way, without a
+    /// premise on the engine.
     ///
     /// The error is why the pattern is rejected, or that memory ran out.
     pub fn exec_once(
