@@ -1,18 +1,18 @@
--- Which texts fit the parts of a pathname.
+-- Texts that fit the parts of a pathname.
 use Rattle.std.specs.Prelude.{◌≡◌, ℕ, Bool, List, [], ◌∷◌, ◌++◌, IsTrue, Option, Some}
 use Rattle.urlpattern_syntax.specs.declared.parser.{PartModifier.PartModifier, PartType.PartType}
 use Rattle.urlpattern_syntax.specs.Parts.{PartView}
 use Rattle.urlpattern_syntax.specs.Text.{lacks}
 
--- the text fits a part of this kind that stands once: it is the fixed text; prefix, a run without
--- delimiter and suffix; or it begins with the prefix
+-- the text fits a part of this kind without a modifier: it is the fixed text; it is prefix, a run
+-- without delimiter and suffix; or it begins with the prefix
 abbrev pub FitsOnce : PartType → (delimiter : Option ℕ) → PartView → List ℕ → Type 0
 FitsOnce PartType.FixedText delimiter part text = text ≡ part.value
 FitsOnce PartType.SegmentWildcard (Some end) part text =
     (run : List ℕ) × (text ≡ part.prefix ++ run ++ part.suffix) × IsTrue (lacks end run)
 FitsOnce kind delimiter part text = (more : List ℕ) × (text ≡ part.prefix ++ more)
 
--- so it does by the part's modifier, and any text fits a part that may stand otherwise
+-- the text fits a part with this modifier; any text fits an optional or repeated part
 abbrev pub FitsBy : PartModifier → (delimiter : Option ℕ) → PartView → List ℕ → Type 0
 FitsBy PartModifier.None delimiter part text = FitsOnce part.kind delimiter part text
 FitsBy modifier delimiter part text = Unit {0}
@@ -27,7 +27,7 @@ pub record PathView : Type 0 where
   pub delimiter : Option ℕ
   pub is_whole : Bool
 
--- the text is made up of texts that fit the parts, one after the other, and of what may follow
+-- the text is made up of texts that fit the parts, and of more unless the path is whole
 abbrev pub FitsParts : (is_whole : Bool) → (delimiter : Option ℕ) → List PartView → List ℕ
     → Type 0
 FitsParts is_whole delimiter [] text = IsTrue is_whole → text ≡ []
