@@ -1,11 +1,11 @@
--- The plain value of what is compiled: an engine's value becomes the text that it was made of.
+-- The plain value of a compiled component: each engine is replaced by the text that it was made of.
 use Rattle.std.specs.Prelude.{ℕ, List, [], Result, Ok, Err}
 use Rattle.urlpattern_matcher.specs.Components as compiled
 use Rattle.urlpattern_meaning.specs.Matching as matching
 use Rattle.urlpattern_plain.specs.Values.{PlainComponentView, PlainInnerView, PlainMatcherView, literal, regexp, single_capture}
 use Rattle.urlpattern_syntax.specs.Errors.{ErrorView}
 
--- the empty text where an error is kept in the engine's place
+-- the text that an engine was made of, or the empty text in place of an error
 abbrev pub engine_text : {E : Type 0} → (text_made_of : E → List ℕ) → Result E ErrorView → List ℕ
 engine_text text_made_of (Ok engine) = text_made_of engine
 engine_text text_made_of (Err error) = []
