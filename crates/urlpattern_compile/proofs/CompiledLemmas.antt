@@ -59,11 +59,11 @@ default_port-IsAscii protocol =
     (ascii_port (bytes_eq protocol (codes "ftp")) (Some (codes "21")) _ (two_digits _ _ (omega arith) (omega arith))
     (ascii_port (bytes_eq protocol (codes "file")) None None tt tt)))))
 
--- the text of an optional ASCII text is ASCII
+-- the text that an optional ASCII text holds is ASCII
 pub ascii_some : (found : Option (Bor (List ℕ))) (text : Bor (List ℕ)) → found ≡ Some text → IfSome (option_copied found) IsAscii → IsAscii text.now
 ascii_some found text is ascii = rw is at ascii
 
--- a text equals an ASCII word if its bytes do
+-- a text equals an ASCII word exactly if its bytes do
 pub text_eq-ascii : (text : String Global) (word : List ℕ) → IsAscii word → bytes_eq (string_bytes text) word ≡ bytes_eq (text_of text) word
 text_eq-ascii text word ascii = sym (bytes_eq-chars (string_bytes text) word (IsUtf8-string_bytes text) ascii)
 

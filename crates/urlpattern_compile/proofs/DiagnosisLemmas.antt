@@ -27,7 +27,7 @@ use Rattle.urlpattern_syntax.specs.declared.error.OutOfMemory.{OutOfMemory}
 use Rattle.urlpattern_components.specs.Eight.{Values}
 use Rattle.urlpattern_syntax.specs.Errors.{ErrorView, ErrorView as views, MemoryOr, error_view}
 
--- an error other than `OutOfMemory` is one of `P`
+-- an error other than `OutOfMemory` has the property `P`
 pub is_other : (P : ErrorView → Type 0) (error other : Error) → MemoryOr P error → (other ≡ error) × (error_view error ≢ views.OutOfMemory) → P (error_view other)
 is_other P error other (inl e) same = absurd (same.1 e)
 is_other P error other (inr h) same = subst (λ (x : Error). P (error_view x)) (sym same.0) h

@@ -62,7 +62,7 @@ in_syntax asked options = record options { syntax = asked.regex_syntax }
 abbrev pub with_case : UrlPatternOptions → OptionsView → OptionsView
 with_case asked options = record options { syntax = asked.regex_syntax; ignore_case = asked.ignore_case }
 
--- whether a character is a mark, given as a text
+-- whether a character is `mark`, a text of one character
 abbrev pub is_mark : List ℕ → ℕ → Bool
 is_mark mark c = c == slice_index mark 0
 
@@ -123,7 +123,7 @@ abbrev pub IsComponentCompiled : {E : Type 0} → Engine E → Manner → Compon
 IsComponentCompiled engine manner compiled =
     IsCompiledFrom engine manner.text manner.options (canonical_encoding manner.canonical) compiled × HasEngine compiled
 
--- a component in this manner is rejected with this error
+-- the component, parsed in this manner, is rejected with this error
 abbrev pub IsComponentRefused : {E : Type 0} → Engine E → Manner → ErrorView → Type 0
 IsComponentRefused engine manner = IsRefusedFrom engine manner.text manner.options (canonical_encoding manner.canonical)
 

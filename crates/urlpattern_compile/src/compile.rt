@@ -37,8 +37,8 @@ use urlpattern_syntax::{Error, RegexSyntax};
 /// first, then the hostname and the pathname, then the others in the order of a URL. A component is
 /// rejected for its syntax, by `url` for a fixed text, or by the engine for a regular expression.
 ///
-/// `known` is the text of a protocol and its component, which a constructor string may have
-/// compiled already. The component is reused if the processed text and the options are the same.
+/// `known` is the text of a protocol and its component, if a constructor string has compiled them
+/// already. The component is reused if the processed text and the options are the same.
 ///
 /// <https://urlpattern.spec.whatwg.org/#url-pattern-create>
 pub fn compile_init<R: RegExp>(
@@ -201,7 +201,7 @@ fn holds_error<R: RegExp>(matcher: &Matcher<R>) -> bool
 pub struct Compiler<'a> {
     /// The allocator.
     pub alloc: Global,
-    /// Makes fixed texts canonical.
+    /// The canonicalizer of fixed texts.
     pub canonicalizer: Canonicalizer,
     /// The values.
     pub values: &'a UrlPatternInit,

@@ -42,7 +42,7 @@ IsSpanOfBody bytes token span = IsSpanAt bytes (token.index + 1) (length token.v
 abbrev pub IsFaultIn : (bytes : List ℕ) → Fault → Type 0
 IsFaultIn bytes fault = IsSpanIn bytes fault.span × IfSome fault.earlier (IsSpanIn bytes)
 
--- the fault has a single span, which is one of `Is`
+-- the fault has a single span, with the property `Is`
 abbrev pub IsAlone : (Is : Span → Type 0) → Fault → Type 0
 IsAlone Is fault = Is fault.span × (fault.earlier ≡ None)
 

@@ -76,8 +76,8 @@ impl Fault {
 }
 
 impl Fault {
-    /// The colon after a text that is no protocol, since it has a character of a path, a search or a
-    /// hash.
+    /// The colon after a text that is no protocol, since it has a character of a path, a search or
+    /// a hash.
     pub fn of_colon(text: &str, before: &str) -> Option<Self>
         ensures fault { IfSome result (IsColonFault text.now before.now) }
         ensures other { IfNone result (list_any is_path_sign before.now ≡ false) }

@@ -11,7 +11,7 @@ use urlpattern_components::ComponentName;
 /// The place of a pattern in a text.
 #[derive(Debug, Clone, Copy, PartialEq, Eq)]
 pub struct Place {
-    /// The byte index in the text at which the pattern begins, after the bytes that the text lacks.
+    /// The byte index in the text of the pattern, without the bytes that the text lacks.
     pub start: usize,
     /// The number of bytes at the beginning of the pattern that the text lacks: those of the base
     /// URL, before a relative path.

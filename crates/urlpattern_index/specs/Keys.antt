@@ -32,6 +32,7 @@ pub record Hashes : Type 0 where
   pub hostname : ℕ
   pub segments : List ℕ
 
+-- the hashes of an address, with at most 13 segments
 abbrev pub hashes_of : AddressTexts → Hashes
 hashes_of address = record {
   protocol = text_hash address.protocol;

@@ -15,7 +15,7 @@ abbrev pub IsOfParts : {E : Type 0} → Engine E → ComponentParts → Componen
 IsOfParts engine kept component =
     IsComponentOf engine (kept_options kept) (kept_parts kept) (component_view component)
 
--- each text that the component matches is one of `Is`
+-- each text that the component matches has the property `Is`
 abbrev pub MatchesOnly : {E : Type 0} → (answer : E → List ℕ → Option Captures) → Component E
     → (Is : List ℕ → Type 0) → Type 0
 MatchesOnly answer component Is =

@@ -17,6 +17,7 @@ abbrev pub FitsBy : PartModifier → (delimiter : Option ℕ) → PartView → L
 FitsBy PartModifier.None delimiter part text = FitsOnce part.kind delimiter part text
 FitsBy modifier delimiter part text = Unit {0}
 
+-- the text fits the part, by its kind and modifier
 abbrev pub FitsPart : (delimiter : Option ℕ) → PartView → List ℕ → Type 0
 FitsPart delimiter part text = FitsBy part.modifier delimiter part text
 
@@ -35,5 +36,6 @@ FitsParts is_whole delimiter (part ∷ parts) text =
     (first rest : List ℕ) × (text ≡ first ++ rest) × FitsPart delimiter part first
     × FitsParts is_whole delimiter parts rest
 
+-- the text fits what is known of a path
 abbrev pub FitsPath : PathView → List ℕ → Type 0
 FitsPath path text = FitsParts path.is_whole path.delimiter path.parts text

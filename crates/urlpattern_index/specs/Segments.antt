@@ -49,8 +49,7 @@ abbrev pub IsCurrent : (current : Option ℕ) → (own : ℕ) → Type 0
 IsCurrent (Some hash) own = own ≡ hash
 IsCurrent None own = Unit {0}
 
--- The segments of the path are done up to a next segment, and `own` is the hash of what precedes
--- the rest in that.
+-- The path is read up to some segment, and `own` is the hash of that segment before the rest.
 pub record IsReadTo (segments : Segments) (path rest : List ℕ) : Type 0 where
   pub done : List ℕ
   pub own : ℕ

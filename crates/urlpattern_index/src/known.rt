@@ -69,7 +69,8 @@ fn matches_parts<R: RegExp>(kept: &ComponentParts, component: &Component<R>) -> 
     }
 }
 
-/// The plain fixed text that the parts begin with, if case is kept; otherwise none of the parts.
+/// The plain fixed text that the parts begin with, if there is one and case is kept; otherwise none
+/// of the parts.
 fn first_text(kept: &ComponentParts) -> &[Part]
     ensures { IsFirstText (kept_options kept.now) (kept_parts kept.now) (parts_view result.now) }
 {

@@ -75,7 +75,7 @@ pub record AreInputs (input : StringOrInit) (base : Option (List ℕ)) (again : 
 abbrev pub IsFound : StringOrInit → (base : Option (List ℕ)) → UrlPatternMatchInput × (StringOrInit × Option (String Global)) → Type 0
 IsFound input base found = IsMatchInput input base found.0 × AreInputs input base found.1
 
--- the input has no URL, or its base URL is rejected
+-- `url` rejects the text of the input, or the base URL
 abbrev pub IsNoInputOf : StringOrInit → (base : Option (List ℕ)) → Type 0
 IsNoInputOf (inputs.String text) base = IsRefusedText (cow_str_bytes text) base
 IsNoInputOf (inputs.Init plain) None = IsRefusedByUrl (parsed_base (plain_base plain)) (text_bytes (plain_base plain))

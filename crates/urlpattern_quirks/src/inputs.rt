@@ -20,8 +20,8 @@ use urlpattern_init::UrlPatternMatchInput;
 use urlpattern_inputs::{Inputs, StringOrInit, UrlPatternInit};
 use urlpattern_syntax::Error;
 
-/// Returns the init of a pattern: that of a constructor string, with a base URL if there is one, or
-/// one with its own components.
+/// Returns the init of a pattern, from a constructor string with an optional base URL, or from a
+/// plain init.
 ///
 /// The error is that of a rejected base URL or a rejected constructor string, `BaseUrlWithInit` if
 /// a base URL is passed with an init, or `OutOfMemory`.
@@ -44,7 +44,7 @@ pub fn process_construct_pattern_input(
     }
 }
 
-/// Copies an init, and parses its base URL.
+/// Converts a plain init, and parses its base URL.
 fn init_of(alloc: Global, init: UrlPatternInit) -> Result<init::UrlPatternInit, Error>
     ensures init { IfOk result (IsInitOf init) }
     ensures refused { IfErr result (MemoryOr (Reports (parsed_base (plain_base init)) (text_bytes (plain_base init)))) }

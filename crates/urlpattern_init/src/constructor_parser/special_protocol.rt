@@ -13,7 +13,7 @@ use urlpattern_matcher::regexp::RegExp;
 use urlpattern_parser::parser::{Options, parse_pattern_string};
 use urlpattern_syntax::Error;
 
-/// Whether a protocol is special, given as a pattern: whether its matcher accepts a special scheme.
+/// Whether a protocol's pattern is special: whether its matcher accepts a special scheme.
 ///
 /// If `keeps`, compiles the whole component and returns it with its text.
 ///
