@@ -90,8 +90,8 @@ fn forbidden(name: &str) -> Option<(usize, usize)> {
     None
 }
 
-/// Whether a character is forbidden in a domain wherever it is. Not counted are a colon, which is no
-/// text in a pattern, and tabs and line ends, which are skipped.
+/// Whether a character is forbidden in a domain wherever it is. Not counted are a colon, which is
+/// no text in a pattern, and tabs and line ends, which are skipped.
 fn is_forbidden(c: char) -> bool {
     FORBIDDEN.contains(c) || c.is_ascii_control() && !SKIPPED.contains(c)
 }
