@@ -1,4 +1,4 @@
--- Lemmas on patterns that are compiled.
+-- Lemmas on compiled patterns.
 use Rattle.std.proofs.Common.{◌≡◌, ℕ, Bool, true, false, ◌<◌, List, [], ◌∷◌, ◌++◌, codes, Option, Some, None, Result, Ok, Err, String, string_bytes, Bor, refl, sym, ap, ◌∙◌, subst, inl, inr, arith}
 use Rattle.std.proofs.lemmas.Bool.{false≢true}
 use Rattle.std.proofs.lemmas.Str.Ascii.{IsAscii-cons, IsAscii-nil}
@@ -49,7 +49,7 @@ eighty = two_digits _ _ (omega arith) (omega arith)
 secure : IsAscii (codes "443")
 secure = three_digits _ _ _ (omega arith) (omega arith) (omega arith)
 
--- each default port is of ASCII
+-- each default port is ASCII
 pub default_port-IsAscii : (protocol : List ℕ) → IfSome (default_port protocol) IsAscii
 default_port-IsAscii protocol =
     ascii_port (bytes_eq protocol (codes "http")) (Some (codes "80")) _ eighty
@@ -59,11 +59,11 @@ default_port-IsAscii protocol =
     (ascii_port (bytes_eq protocol (codes "ftp")) (Some (codes "21")) _ (two_digits _ _ (omega arith) (omega arith))
     (ascii_port (bytes_eq protocol (codes "file")) None None tt tt)))))
 
--- what an Option has is of ASCII
+-- the text that an optional ASCII text holds is ASCII
 pub ascii_some : (found : Option (Bor (List ℕ))) (text : Bor (List ℕ)) → found ≡ Some text → IfSome (option_copied found) IsAscii → IsAscii text.now
 ascii_some found text is ascii = rw is at ascii
 
--- a text against one of ASCII, by its bytes
+-- a text equals an ASCII word exactly if its bytes do
 pub text_eq-ascii : (text : String Global) (word : List ℕ) → IsAscii word → bytes_eq (string_bytes text) word ≡ bytes_eq (text_of text) word
 text_eq-ascii text word ascii = sym (bytes_eq-chars (string_bytes text) word (IsUtf8-string_bytes text) ascii)
 
@@ -72,14 +72,14 @@ pub default_port-test : (protocol : List ℕ) (port default : Option (List ℕ))
 default_port-test protocol port default special is =
     ap (is_same port) is ∙ ap (λ test. test && is_same port (default_port protocol)) (sym special)
 
--- a default port is emptied
+-- the values with an emptied port, if the port is the default
 pub emptied : (values : Values) (empty : List ℕ) → empty ≡ [] → has_default_port values.protocol values.port ≡ true
     → record values { port = Some empty } ≡ without_default_port values
 emptied values empty e is =
     ap (λ text. record values { port = Some text }) e
     ∙ sym (ap (λ test. if test then record values { port = Some [] } else values) is)
 
--- ---- texts that are there and empty
+-- ---- texts that are present and empty
 
 pub there_and_empty : (text : List ℕ) (tested : Bool) → tested ≡ is_empty text
     → (IsTrue tested → Some text ≡ Some []) × (Some text ≡ Some [] → IsTrue tested)
@@ -113,7 +113,7 @@ kept_are_compiled engine asked values made kept = record {
 pub memory_or-map : (P Q : ErrorView → Type 0) (error : Error) → ((view : ErrorView) → P view → Q view) → MemoryOr P error → MemoryOr Q error
 memory_or-map P Q error step reported = elim reported [ inl memory ↦ inl memory | inr refused ↦ inr (step _ refused) ]
 
--- a refusal that is passed on is a later one
+-- an error that is passed on, in terms of the caller
 pub refused_later : {T : Type 0} (result : Result T Error) (error : Error) (Refuses Later : ErrorView → Type 0)
     → IsErrAnd result (λ passed. passed ≡ error) → MemoryOr Refuses error → ((view : ErrorView) → Refuses view → Later view)
     → IfErr result (MemoryOr Later)
@@ -130,7 +130,7 @@ first_refused engine manner [] after component view compiled refused = inl refus
 first_refused engine manner (earlier ∷ before) after component view (first, compiled) refused =
     inr (first, first_refused engine manner before after component view compiled refused)
 
--- a refusal that is passed on is the first, where the components before its own are compiled
+-- an error that is passed on is the first, if all components before its own are compiled
 pub refused_after : {E T : Type 0} (engine : Engine E) (manner : Names → Manner) (result : Result T Error)
     (error : Error) (before after : List Names) (component : Names)
     → IsErrAnd result (λ passed. passed ≡ error)
@@ -142,7 +142,7 @@ refused_after engine manner result error before after component same reported co
     (FirstRefused engine manner (before ++ component ∷ after)) same reported
     (λ view. first_refused engine manner before after component view compiled)
 
--- ---- a component under an encoding that answers no less
+-- ---- a component under a stronger encoding
 
 pub kept_weaker : {E : Type 0} (engine : Engine E)
     (strong : Encoding) (manner : Manner) → Weakens strong (canonical_encoding manner.canonical) → (text : List ℕ) (options : OptionsView) (result : Result (ComponentWithParts E) Error)

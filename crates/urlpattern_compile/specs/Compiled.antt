@@ -1,5 +1,5 @@
--- What a pattern is that is compiled from an init and options, after the URLPattern Standard, section "The URLPattern
--- class", at "create a URL pattern".
+-- Patterns compiled from an init and options, after the URLPattern Standard, section "The
+-- URLPattern class", "create a URL pattern".
 use Rattle.std.specs.Prelude.{◌≡◌, ◌↔◌, ◌⊎◌, ⊤, ℕ, Bool, true, false, not, ◌&&◌, ◌||◌, ◌==◌, List, [], ◌∷◌, bytes_eq, codes, length, slice_index, Option, Some, None, unwrap_or, Ok, IsOk, IsTrue, if◌then◌else◌}
 use Rattle.std.specs.Str.{chars}
 use Rattle.url.specs.Parser.{Parsed, and_then}
@@ -21,30 +21,30 @@ use Rattle.urlpattern_syntax.specs.Reading.{Encoding, Reads, Refuses, encoding_o
 use Rattle.urlpattern_syntax.specs.Text.{begins_with}
 use Rattle.urlpattern_components.specs.Eight.{Values, at}
 
--- ---- the values that are compiled
+-- ---- values to compile
 
--- two texts are the same, or both are missing
+-- whether two texts are equal, or both are missing
 abbrev pub is_same : Option (List ℕ) → Option (List ℕ) → Bool
 is_same None None = true
 is_same (Some text) (Some other) = bytes_eq text other
 is_same text other = false
 
--- the protocol is special, and the port is its default one; `file` has none
+-- whether the protocol is special and the port is its default; for `file` that is no port
 abbrev pub has_default_port : (protocol port : Option (List ℕ)) → Bool
 has_default_port None port = false
 has_default_port (Some protocol) port = is_special protocol && is_same port (default_port protocol)
 
--- a default port is emptied
+-- the values, with a default port emptied
 abbrev pub without_default_port : Values → Values
 without_default_port values = if has_default_port values.protocol values.port then record values { port = Some [] } else values
 
--- the values of an init as a pattern
+-- the processed values of an init as a pattern
 abbrev pub pattern_values : UrlPatternInit → Parsed Values
 pattern_values init = and_then (init_values Pattern init) (λ values. Ok (without_default_port values))
 
--- ---- how the pattern of a component is read
+-- ---- how a component's pattern is parsed
 
--- The text, the options under which it is read, and the canonical value of a fixed text.
+-- A pattern text, the options under which it is parsed, and the canonical value of a fixed text.
 pub record Manner : Type 0 where
   pub text : List ℕ
   pub options : OptionsView
@@ -54,30 +54,31 @@ pub record Manner : Type 0 where
 abbrev pub pattern_of : Values → ComponentName → List ℕ
 pattern_of values component = unwrap_or (at values component) (codes "*")
 
--- options in the requested syntax
+-- the options, in the requested syntax
 abbrev pub in_syntax : UrlPatternOptions → OptionsView → OptionsView
 in_syntax asked options = record options { syntax = asked.regex_syntax }
 
--- the same, and case is ignored where that is requested
+-- the options, in the requested syntax, and ignoring case if requested
 abbrev pub with_case : UrlPatternOptions → OptionsView → OptionsView
 with_case asked options = record options { syntax = asked.regex_syntax; ignore_case = asked.ignore_case }
 
+-- whether a character is `mark`, a text of one character
 abbrev pub is_mark : List ℕ → ℕ → Bool
 is_mark mark c = c == slice_index mark 0
 
--- the pattern of a hostname begins as an IPv6 address does: with a bracket, which may stand after one open brace or one
--- backslash; a bracket alone is none
+-- whether a hostname pattern begins as an IPv6 address does: with a bracket, perhaps after one open
+-- brace or one backslash; a bracket alone does not count
 abbrev pub is_ipv6_pattern : List ℕ → Bool
 is_ipv6_pattern text =
     not (bytes_eq text (codes "["))
     && (begins_with (is_mark (codes "[")) (without_first (slice_index (codes "{") 0) text)
     || begins_with (is_mark (codes "[")) (without_first (slice_index (codes "\\") 0) text))
 
--- the canonical value of a text in a hostname's pattern
+-- the canonical value of a fixed text in a hostname pattern
 abbrev pub canonical_in_hostname : (pattern : List ℕ) → List ℕ → Parsed (List ℕ)
 canonical_in_hostname pattern text = if is_ipv6_pattern pattern then canonical_ipv6_hostname text else canonical_hostname text
 
--- the options of a component's pattern, and what is made of its fixed texts
+-- the options of a component's pattern, and the canonical value of its fixed texts
 abbrev pub rules_of : UrlPatternOptions → Values → (hierarchical : Bool) → ComponentName → OptionsView × (List ℕ → Parsed (List ℕ))
 rules_of asked values hierarchical Protocol = (in_syntax asked default_options, canonical_protocol)
 rules_of asked values hierarchical Username = (in_syntax asked default_options, canonical_username)
@@ -89,50 +90,52 @@ rules_of asked values hierarchical Pathname =
 rules_of asked values hierarchical Search = (with_case asked default_options, canonical_search)
 rules_of asked values hierarchical Hash = (with_case asked default_options, canonical_hash)
 
--- how the pattern of a component is read, of those that are compiled
+-- how a component's pattern is parsed, given the values to compile
 abbrev pub manner_of : UrlPatternOptions → Values → (hierarchical : Bool) → ComponentName → Manner
 manner_of asked values hierarchical component =
     let rules = rules_of asked values hierarchical component in
     record { text = pattern_of values component; options = rules.0; canonical = rules.1 }
 
--- what `canonical` makes of fixed texts
+-- the encoding of fixed texts by `canonical`
 abbrev pub canonical_encoding : (List ℕ → Parsed (List ℕ)) → Encoding
 canonical_encoding canonical = encoding_of (λ bytes returned. IsAnswer (canonical (chars bytes)) (length bytes) returned)
 
--- ---- one component
+-- ---- components
 
--- The engine took the component's regular expression, and that which the component's matcher needs, if it needs one.
+-- The engine accepted the component's regular expression, and also its matcher's, if the matcher
+-- needs one.
 pub record HasEngine {E : Type 0} (compiled : ComponentView E) : Type 0 where
   pub whole : IsOk compiled.regexp
   pub of_matcher : TookText (λ value. ⊤) compiled.matcher.inner
 
--- the text is refused with this error, or one of its regular expressions is, by the engine
+-- the text is rejected with this error, or the engine rejects one of its regular expressions
 abbrev pub IsRefusedFrom : {E : Type 0} → Engine E → (text : List ℕ) → OptionsView → Encoding → ErrorView → Type 0
 IsRefusedFrom {E} engine text options encoding error =
     Refuses text options encoding error
     ⊎ ((compiled : ComponentView E) × IsCompiledFrom engine text options encoding compiled × (¬ HasEngine compiled) × (error ≡ views.RegExp))
 
--- the pattern text reads as these parts
+-- the pattern text is parsed to these parts
 abbrev pub ReadsAs : Manner → List PartView → Type 0
 ReadsAs manner parts = Reads manner.text manner.options (canonical_encoding manner.canonical) parts
 
--- a component is compiled in this manner, and the engine took what it needs
+-- the component is compiled in this manner, and the engine accepted what it needs
 abbrev pub IsComponentCompiled : {E : Type 0} → Engine E → Manner → ComponentView E → Type 0
 IsComponentCompiled engine manner compiled =
     IsCompiledFrom engine manner.text manner.options (canonical_encoding manner.canonical) compiled × HasEngine compiled
 
--- it is refused with this error
+-- the component, parsed in this manner, is rejected with this error
 abbrev pub IsComponentRefused : {E : Type 0} → Engine E → Manner → ErrorView → Type 0
 IsComponentRefused engine manner = IsRefusedFrom engine manner.text manner.options (canonical_encoding manner.canonical)
 
--- ---- a whole pattern
+-- ---- whole patterns
 
--- the pathname is hierarchical: the protocol is empty, its matcher accepts a special scheme, or the pathname begins with a slash
+-- the pathname is hierarchical: the protocol is empty, its matcher accepts a special scheme, or the
+-- pathname begins with a slash
 abbrev pub HasHierarchicalPath : {E : Type 0} → (answer : E → List ℕ → Option Captures) → Values → (protocol : MatcherView E) → Type 0
 HasHierarchicalPath answer values protocol =
     (values.protocol ≡ Some []) ⊎ AcceptsSpecialScheme answer protocol ⊎ IsTrue (begins_with (is_mark (codes "/")) (unwrap_or values.pathname []))
 
--- this is whether the pathname is so
+-- `hierarchical` is whether the pathname is hierarchical
 abbrev pub IsPathKind : {E : Type 0} → (answer : E → List ℕ → Option Captures) → Values → (protocol : MatcherView E) → (hierarchical : Bool) → Type 0
 IsPathKind answer values protocol hierarchical = IsTrue hierarchical ↔ HasHierarchicalPath answer values protocol
 
@@ -140,7 +143,8 @@ IsPathKind answer values protocol hierarchical = IsTrue hierarchical ↔ HasHier
 abbrev pub EachIsCompiled : {E : Type 0} → Engine E → (manner : ComponentName → Manner) → PatternView E → Type 0
 EachIsCompiled engine manner pattern = (component : ComponentName) → IsComponentCompiled engine (manner component) (pattern component)
 
--- The values are compiled to this pattern: by its protocol the pathname is hierarchical or not, and each component is compiled.
+-- The values are compiled to this pattern: the pathname is hierarchical or not, and each component
+-- is compiled accordingly.
 pub record AreCompiled {E : Type 0} (engine : Engine E) (asked : UrlPatternOptions) (values : Values) (pattern : PatternView E) : Type 0 where
   pub hierarchical : Bool
   pub path_kind : IsPathKind engine.answer values (pattern Protocol).matcher hierarchical
@@ -151,20 +155,20 @@ abbrev pub IsPatternOfInit : {E : Type 0} → Engine E → UrlPatternInit → Ur
 IsPatternOfInit engine init asked pattern =
     (values : Values) × (pattern_values init ≡ Ok values) × AreCompiled engine asked values pattern
 
--- ---- refusals
+-- ---- rejections
 
 -- the order in which components are compiled, after the protocol
 abbrev pub after_protocol : List ComponentName
 after_protocol = Hostname ∷ Pathname ∷ Username ∷ Password ∷ Port ∷ Search ∷ Hash ∷ []
 
--- one of these components is refused with this error, and those before it are compiled
+-- a component of the list is rejected with this error, and all before it are compiled
 abbrev pub FirstRefused : {E : Type 0} → Engine E → (manner : ComponentName → Manner) → List ComponentName → ErrorView → Type 0
 FirstRefused engine manner [] error = ⊥
 FirstRefused {E} engine manner (component ∷ components) error =
     IsComponentRefused engine (manner component) error
     ⊎ (((compiled : ComponentView E) × IsComponentCompiled engine (manner component) compiled) × FirstRefused engine manner components error)
 
--- The protocol is compiled, and of the components after it one is refused with this error.
+-- The protocol is compiled, and a component after it is rejected with this error.
 pub record RefusesAfterProtocol {E : Type 0} (engine : Engine E) (asked : UrlPatternOptions) (values : Values) (error : ErrorView) : Type 0 where
   pub protocol : ComponentView E
   pub hierarchical : Bool
@@ -172,12 +176,12 @@ pub record RefusesAfterProtocol {E : Type 0} (engine : Engine E) (asked : UrlPat
   pub path_kind : IsPathKind engine.answer values protocol.matcher hierarchical
   pub refused : FirstRefused engine (manner_of asked values hierarchical) after_protocol error
 
--- the values are refused with this error, that of the first component that is refused
+-- the values are rejected with this error, that of the first rejected component
 abbrev pub RefusesValues : {E : Type 0} → Engine E → UrlPatternOptions → Values → ErrorView → Type 0
 RefusesValues engine asked values error =
     IsComponentRefused engine (manner_of asked values false Protocol) error ⊎ RefusesAfterProtocol engine asked values error
 
--- the init is refused with this error
+-- the init is rejected with this error
 abbrev pub RefusesInit : {E : Type 0} → Engine E → UrlPatternInit → UrlPatternOptions → ErrorView → Type 0
 RefusesInit engine init asked error =
     (values : Values) × (pattern_values init ≡ Ok values) × RefusesValues engine asked values error

@@ -1,5 +1,5 @@
--- What a pattern is that is compiled from a constructor string, after the URLPattern Standard, section "The URLPattern
--- class", at "create a URL pattern".
+-- Patterns compiled from a constructor string, after the URLPattern Standard, section "The
+-- URLPattern class", "create a URL pattern".
 use Rattle.std.specs.Prelude.{◌≡◌, ◌⊎◌, ℕ, List, Option, Ok}
 use Rattle.url.specs.Parts.{Parts}
 use Rattle.urlpattern_canonical.specs.BaseUrls.{parsed_base, text_bytes}
@@ -15,17 +15,18 @@ use Rattle.urlpattern_syntax.specs.Errors.{ErrorView}
 
 -- ---- inits
 
--- The init of a constructor string with this base URL; the engine decides which protocols are special.
+-- The init of a constructor string with this base URL; the engine decides which protocols are
+-- special.
 pub record IsInitOfText {E : Type 0} (engine : Engine E) (text : List ℕ) (base : Option (List ℕ)) (init : UrlPatternInit) : Type 0 where
   pub has_base : parsed_base base ≡ Ok init.base_url
   pub is_split : SplitsInto (IsSpecialTo engine) text (values_view init)
   pub is_complete : HasProtocolOrBase init
 
--- a constructor string whose base URL is parsed is refused with this error
+-- a constructor string whose base URL is parsed is rejected with this error
 abbrev pub RefusesSplit : (text : List ℕ) → (base : Option (List ℕ)) → ErrorView → Type 0
 RefusesSplit text base error = (url : Option Parts) × (parsed_base base ≡ Ok url) × RefusesString text url error
 
--- a constructor string is refused with this error, that of its base URL or its own
+-- a constructor string is rejected with this error, its own or that of its base URL
 abbrev pub RefusesText : (text : List ℕ) → (base : Option (List ℕ)) → ErrorView → Type 0
 RefusesText text base error =
     Reports (parsed_base base) (text_bytes base) error ⊎ RefusesSplit text base error
@@ -38,7 +39,8 @@ pub record IsPatternOfText {E : Type 0} (engine : Engine E) (text : List ℕ) (b
   pub is_constructed : IsInitOfText engine text base init
   pub is_compiled : IsPatternOfInit engine init asked pattern
 
--- it is refused with this error, as a constructor string or when it is compiled
+-- the constructor string is rejected with this error, when it is parsed or when its init is
+-- compiled
 abbrev pub RefusesPatternOfText : {E : Type 0} → Engine E → (text : List ℕ) → (base : Option (List ℕ)) → UrlPatternOptions → ErrorView → Type 0
 RefusesPatternOfText engine text base asked error =
     RefusesText text base error

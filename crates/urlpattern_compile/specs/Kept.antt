@@ -1,4 +1,5 @@
--- Patterns with their parts: each component beside the parts that its text reads as, of which it is made.
+-- Patterns with their parts: each component with the parts of its pattern text, of which it is
+-- made.
 use Rattle.std.specs.Prelude.{◌≡◌, Bool, Ok}
 use Rattle.urlpattern_matcher.specs.Components.{IsComponentOf, component_view}
 use Rattle.urlpattern_matcher.specs.declared.component.ComponentWithParts.{ComponentWithParts}
@@ -12,20 +13,20 @@ use Rattle.urlpattern_init.specs.declared.init.UrlPatternInit.{UrlPatternInit}
 use Rattle.urlpattern_inputs.specs.declared.options.UrlPatternOptions.{UrlPatternOptions}
 use Rattle.urlpattern_syntax.specs.ComponentParts.{kept_options, kept_parts}
 
--- The parts are those that the pattern text reads as in this manner, under its options; the component is made of them, and the engine
--- took what it needs.
+-- The pattern text is parsed to the parts in this manner, under its options; the component is made
+-- of them, and the engine accepted what it needs.
 pub record IsKept {E : Type 0} (engine : Engine E) (manner : Manner) (made : ComponentWithParts E) : Type 0 where
   pub options_are : kept_options made.kept ≡ manner.options
   pub reads : ReadsAs manner (kept_parts made.kept)
   pub is_made : IsComponentOf engine manner.options (kept_parts made.kept) (component_view made.component)
   pub has_engine : HasEngine (component_view made.component)
 
--- each of eight components is, in its manner
+-- each of eight components is kept with its parts, in its manner
 abbrev pub EachIsKept : {E : Type 0} → Engine E → (manner : ComponentName → Manner) → Eight (ComponentWithParts E) → Type 0
 EachIsKept engine manner made = (name : ComponentName) → IsKept engine (manner name) (at made name)
 
--- The values are compiled to these components: by the protocol the pathname is hierarchical or not, and each component is made of the
--- parts of its text.
+-- The values are compiled to these components: the pathname is hierarchical or not, and each
+-- component is made of the parts of its text accordingly.
 pub record AreCompiledKeeping {E : Type 0} (engine : Engine E) (asked : UrlPatternOptions) (values : Values) (made : Eight (ComponentWithParts E)) : Type 0 where
   pub hierarchical : Bool
   pub path_kind : IsPathKind engine.answer values (component_view made.protocol.component).matcher hierarchical

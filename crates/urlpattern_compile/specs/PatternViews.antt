@@ -7,7 +7,7 @@ use Rattle.urlpattern_components.specs.Eight.{at, components}
 use Rattle.urlpattern_matcher.specs.declared.component.Component.{Component}
 use Rattle.urlpattern_matcher.specs.Components.{ComponentView, component_view}
 
--- A pattern: what each component is compiled to.
+-- A pattern: the view of each component.
 abbrev pub PatternView : Type 0 → Type 0
 PatternView E = ComponentName → ComponentView E
 
@@ -15,10 +15,10 @@ PatternView E = ComponentName → ComponentView E
 abbrev pub eight_view : {E : Type 0} → Eight (Component E) → ComponentName → ComponentView E
 eight_view components name = component_view (at components name)
 
--- a component has a custom regular expression
+-- whether any component has a custom regular expression
 abbrev pub has_regexp_groups : {E : Type 0} → PatternView E → Bool
 has_regexp_groups pattern = list_any (λ component. (pattern component).has_regexp_group) components
 
--- where eight components are the result, this holds of their pattern
+-- if the result is eight components, `Holds` is true of their pattern
 abbrev pub IfComponents : {E Fault : Type 0} → Result (Eight (Component E)) Fault → (PatternView E → Type 0) → Type 0
 IfComponents result Holds = IfOk result (λ made. Holds (eight_view made))

@@ -30,14 +30,15 @@ use urlpattern_matcher::regexp::RegExp;
 use urlpattern_parser::parser::Options;
 use urlpattern_syntax::{Error, RegexSyntax};
 
-/// Compiles the components of a pattern from an init: from its own texts, and from what they inherit from its base URL.
+/// Compiles the components of a pattern from an init: from its own texts, and from what they
+/// inherit from its base URL.
 ///
-/// The error is that of the first component that is refused, or that memory ran out. The protocol is compiled first, then
-/// the hostname and the pathname, and then the others as they stand in a URL. A component is refused for its text, by
-/// `url` for a fixed text in it, or by the engine for its regular expression.
+/// The error is that of the first rejected component, or `OutOfMemory`. The protocol is compiled
+/// first, then the hostname and the pathname, then the others in the order of a URL. A component is
+/// rejected for its syntax, by `url` for a fixed text, or by the engine for a regular expression.
 ///
-/// A protocol may be known, as that of a constructor string is: its text, and what it was compiled
-/// to. It is not compiled again if the processed text and the options are the same.
+/// `known` is the text of a protocol and its component, if a constructor string has compiled them
+/// already. The component is reused if the processed text and the options are the same.
 ///
 /// <https://urlpattern.spec.whatwg.org/#url-pattern-create>
 pub fn compile_init<R: RegExp>(
@@ -58,9 +59,9 @@ pub fn compile_init<R: RegExp>(
     components
 }
 
-/// The components that the values are compiled to.
+/// Compiles the values to components.
 ///
-/// The error is that of the first component that is refused, or that memory ran out.
+/// The error is that of the first rejected component, or `OutOfMemory`.
 fn compile_values<R: RegExp>(
     alloc: Global,
     values: &UrlPatternInit,
@@ -81,9 +82,7 @@ fn compile_values<R: RegExp>(
     compiler.components(known)
 }
 
-/// The values of an init as a pattern, where a default port is emptied.
-///
-/// The error is that memory ran out.
+/// Processes an init as a pattern, and empties a default port.
 pub fn pattern_values(alloc: Global, init: &UrlPatternInit) -> Result<UrlPatternInit, Error>
     ensures ok { IfOk result (λ values. pattern_values init.now ≡ Ok (values_view values)) }
     ensures memory { OnlyOutOfMemory result }
@@ -92,7 +91,7 @@ pub fn pattern_values(alloc: Global, init: &UrlPatternInit) -> Result<UrlPattern
     Ok(without_default_port(alloc, values))
 }
 
-/// The values, where a default port is emptied.
+/// Returns the values, with a default port emptied.
 fn without_default_port(alloc: Global, mut values: UrlPatternInit) -> UrlPatternInit
     ensures { values_view result ≡ without_default_port (values_view values) }
 {
@@ -102,7 +101,7 @@ fn without_default_port(alloc: Global, mut values: UrlPatternInit) -> UrlPattern
     values
 }
 
-/// Whether the port of an init is this one, or both are missing.
+/// Whether a port equals the default, or both are missing.
 fn is_port(port: &Option<String>, default: Option<&str>) -> bool
     requires { IfSome (option_copied default) IsAscii }
     ensures { result ≡ is_same (option_map text_of port.now) (option_copied default.entry) }
@@ -114,7 +113,7 @@ fn is_port(port: &Option<String>, default: Option<&str>) -> bool
     }
 }
 
-/// Whether the protocol is special and the port is its default one.
+/// Whether the protocol is special and the port is its default.
 fn has_default_port(values: &UrlPatternInit) -> bool
     ensures { result ≡ has_default_port (values_view values.now).protocol (values_view values.now).port }
 {
@@ -152,8 +151,8 @@ pub fn pattern_of(values: &UrlPatternInit, component: ComponentName) -> Option<&
     values.get(component)
 }
 
-/// The component of a pattern text, with its parts. A regular expression that the engine refuses is an error, the whole one or that of
-/// the matcher.
+/// Compiles a pattern text to a component with its parts. If the engine rejects a regular
+/// expression, the whole component's or the matcher's, that is an error.
 #[inline(always)]
 fn compile_component<R: RegExp, F: Fn(&str) -> Result<String, Error> + Drop>(
     alloc: Global,
@@ -174,7 +173,7 @@ fn compile_component<R: RegExp, F: Fn(&str) -> Result<String, Error> + Drop>(
     compiled
 }
 
-/// Whether a component was compiled of which the engine refused a regular expression.
+/// Whether a component was compiled, but the engine rejected one of its regular expressions.
 #[inline(always)]
 fn lacks_engine<R: RegExp>(compiled: &Result<ComponentWithParts<R>, Error>) -> bool
     ensures compiled { IfOk compiled.now (λ made. MatchBool result (¬ HasEngine (component_view made.component)) (HasEngine (component_view made.component))) }
@@ -197,12 +196,12 @@ fn holds_error<R: RegExp>(matcher: &Matcher<R>) -> bool
     }
 }
 
-/// The values that are compiled to a pattern, under its options.
+/// The values to compile to a pattern, and the options.
 #[derive(Drop)]
 pub struct Compiler<'a> {
     /// The allocator.
     pub alloc: Global,
-    /// What makes values canonical.
+    /// The canonicalizer of fixed texts.
     pub canonicalizer: Canonicalizer,
     /// The values.
     pub values: &'a UrlPatternInit,
@@ -211,9 +210,10 @@ pub struct Compiler<'a> {
 }
 
 impl Compiler<'_> {
-    /// The components: the protocol is compiled first, since it decides whether the pathname is hierarchical.
+    /// Compiles the components, the protocol first, since it decides whether the pathname is
+    /// hierarchical.
     ///
-    /// The error is that of the first component that is refused, or that memory ran out.
+    /// The error is that of the first rejected component, or `OutOfMemory`.
     pub(crate) fn components<R: RegExp>(
         &self,
         known: Option<(&str, ComponentWithParts<R>)>,
@@ -227,9 +227,9 @@ impl Compiler<'_> {
         self.after_protocol(protocol, hierarchical)
     }
 
-    /// The component of the protocol: what is known, if it is of this text and these options.
+    /// Compiles the protocol, or returns the known component if its text and options are the same.
     ///
-    /// The error is that its text or its regular expression is refused, or that memory ran out.
+    /// The error is that of a rejected text or regular expression, or `OutOfMemory`.
     fn protocol<R: RegExp>(
         &self,
         known: Option<(&str, ComponentWithParts<R>)>,
@@ -250,9 +250,9 @@ impl Compiler<'_> {
         self.component(ComponentName::Protocol, false)
     }
 
-    /// The components with this protocol.
+    /// Compiles the components after the protocol.
     ///
-    /// The error is that of the first component that is refused, or that memory ran out.
+    /// The error is that of the first rejected component, or `OutOfMemory`.
     fn after_protocol<R: RegExp>(
         &self,
         protocol: ComponentWithParts<R>,
@@ -275,9 +275,9 @@ impl Compiler<'_> {
         })
     }
 
-    /// The component of the pattern.
+    /// Compiles a component of the pattern.
     ///
-    /// The error is that its text or its regular expression is refused, or that memory ran out.
+    /// The error is that of a rejected text or regular expression, or `OutOfMemory`.
     pub(crate) fn component<R: RegExp>(
         &self,
         component: ComponentName,
@@ -294,9 +294,7 @@ impl Compiler<'_> {
         compile_component(self.alloc, pattern, canonicalize, options)
     }
 
-    /// The options that the pattern of the component is read under.
-    ///
-    /// The error is that memory ran out.
+    /// The options under which a component's pattern is parsed.
     pub fn options_of(&self, component: ComponentName, hierarchical: bool) -> Result<Options, Error>
         ensures ok { IfOk result (λ options. options_view options ≡ (manner_by self.now hierarchical component).options) }
         ensures memory { OnlyOutOfMemory result }
@@ -317,9 +315,9 @@ impl Compiler<'_> {
         })
     }
 
-    /// The canonical value of a fixed text in the pattern of the component.
+    /// The canonical value of a fixed text in a component's pattern.
     ///
-    /// The error is the refusal of `url`, or that memory ran out.
+    /// The error is that of `url`, or `OutOfMemory`.
     pub fn canonical(
         &self,
         component: ComponentName,
@@ -342,9 +340,10 @@ impl Compiler<'_> {
         }
     }
 
-    /// The canonical value of a fixed text in the pattern of the hostname, which may be that of an IPv6 address.
+    /// The canonical value of a fixed text in a hostname pattern, which may be that of an IPv6
+    /// address.
     ///
-    /// The error is the refusal of `url`, or that memory ran out.
+    /// The error is that of `url`, or `OutOfMemory`.
     fn canonical_in_hostname(&self, text: &str) -> Result<String, Error>
         ensures { IsAnswer (canonical_in_hostname (unwrap_or (compiled_values self.now).hostname []) (chars text.now)) (length text.now) result }
     {
@@ -356,9 +355,7 @@ impl Compiler<'_> {
         }
     }
 
-    /// Whether the pathname of the pattern is hierarchical, by what its protocol was compiled to.
-    ///
-    /// The error is that memory ran out.
+    /// Whether the pathname of the pattern is hierarchical, given the compiled protocol.
     pub fn is_hierarchical<R: RegExp>(&self, protocol: &Component<R>) -> Result<bool, Error>
         ensures path_kind { IfOk result (IsPathKind R.answer (compiled_values self.now) (component_view protocol.now).matcher) }
         ensures memory { OnlyOutOfMemory result }
@@ -370,7 +367,7 @@ impl Compiler<'_> {
     }
 }
 
-/// Whether a text is there and empty.
+/// Whether a text is present and empty.
 fn is_there_and_empty(text: &Option<String>) -> bool
     ensures { IsTrue result ↔ (option_map text_of text.now ≡ Some []) }
 {
@@ -380,7 +377,7 @@ fn is_there_and_empty(text: &Option<String>) -> bool
     }
 }
 
-/// Whether a text is there and begins with a slash.
+/// Whether a text is present and begins with a slash.
 fn is_there_with_slash(text: &Option<String>) -> bool
     ensures { result ≡ begins_with (is_mark (codes "/")) (unwrap_or (option_map text_of text.now) []) }
 {

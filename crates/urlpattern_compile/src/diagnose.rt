@@ -1,4 +1,4 @@
-//! What is wrong with a pattern that is refused.
+//! Diagnoses of rejected patterns.
 
 ghost use Rattle.std.specs.Prelude.{◌≡◌, option_copied, string_bytes, IfOk, IfSome};
 ghost use Rattle.std.specs.Str.{chars};
@@ -28,9 +28,10 @@ use urlpattern_parser::tokenizer::{TokenizePolicy, tokenize};
 use urlpattern_syntax::Error;
 use urlpattern_syntax::error::{OutOfMemory, RegExpError};
 
-/// What is wrong with a constructor string, or with its base URL. `None`: it is accepted.
+/// Diagnoses a constructor string or its base URL. `None`: both are accepted.
 ///
-/// A string that is refused is read a second time. The error is that memory ran out.
+/// If the init of the string is rejected, its components are compiled again to find the one at
+/// fault.
 pub fn diagnose_text<R: RegExp>(
     alloc: Global,
     pattern: &str,
@@ -62,10 +63,10 @@ pub fn diagnose_text<R: RegExp>(
     found
 }
 
-/// What is wrong with an init. `None`: it is accepted.
+/// Diagnoses an init. `None`: the init is accepted.
 ///
-/// The text of the diagnosis is the value of the component that is refused. An init that is refused is read a second
-/// time. The error is that memory ran out.
+/// The text of the diagnosis is the value of the rejected component. If the init is rejected, its
+/// components are compiled again to find the one at fault.
 pub fn diagnose_init<R: RegExp>(
     alloc: Global,
     init: &UrlPatternInit,
@@ -79,9 +80,7 @@ pub fn diagnose_init<R: RegExp>(
     init_diagnosis::<R>(alloc, init, &options, None)
 }
 
-/// What is wrong with a constructor string that is refused when it is split.
-///
-/// The error is that memory ran out.
+/// Diagnoses a constructor string that is rejected when it is split.
 fn protocol_diagnosis(alloc: Global, error: Error, text: &str) -> Result<Diagnosis, OutOfMemory>
     ensures error { IfOk result (λ diagnosis. diagnosis.error ≡ error) }
     ensures text { IfOk result (λ diagnosis. string_bytes diagnosis.text ≡ text.now) }
@@ -106,7 +105,8 @@ fn protocol_diagnosis(alloc: Global, error: Error, text: &str) -> Result<Diagnos
     }
 }
 
-/// The fault of the colon after what is no protocol, unless this error is of a token before it.
+/// The fault of a colon after a text that is no protocol, unless the error is that of a token
+/// before it.
 fn colon_fault(text: &str, protocol: &str, error: &Error) -> Option<Fault>
     ensures fault { IfSome result (IsColonFault text.now protocol.now) }
     ensures within { IfSome result (IsFaultIn text.now) }
@@ -117,14 +117,13 @@ fn colon_fault(text: &str, protocol: &str, error: &Error) -> Option<Fault>
     }
 }
 
-/// Whether a text that is refused with this error has no protocol, or no colon after it, or `;` in its place.
+/// Whether a text that is rejected with this error has no protocol, no colon after it, or `;` in
+/// place of the colon.
 fn lacks_colon(text: &str, error: &Error) -> bool {
     matches!(error, Error::BaseUrlRequired) || Fault::of_url(text) != Fault::whole(text)
 }
 
-/// What is wrong with an init, in a constructor string or else in its own values.
-///
-/// The error is that memory ran out.
+/// Diagnoses an init, in its constructor string if there is one, else in its own values.
 fn init_diagnosis<R: RegExp>(
     alloc: Global,
     init: &UrlPatternInit,
@@ -146,9 +145,7 @@ fn init_diagnosis<R: RegExp>(
     found
 }
 
-/// What is wrong with values.
-///
-/// The error is that memory ran out.
+/// Diagnoses the processed values of an init.
 fn values_diagnosis<R: RegExp>(
     alloc: Global,
     values: &UrlPatternInit,
@@ -182,7 +179,7 @@ fn values_diagnosis<R: RegExp>(
     }
 }
 
-/// What is given as a pattern: an init, and the constructor string that it is of, if there is one.
+/// A pattern as given: an init, and the constructor string that it was parsed from, if any.
 #[derive(Clone, Copy)]
 struct Given<'a> {
     string: Option<&'a str>,
@@ -195,7 +192,7 @@ impl<'a> Given<'a> {
         self.init.get(component)
     }
 
-    /// Where the value of a component begins: a byte index.
+    /// The byte index at which the value of a component begins.
     fn start(&self, component: ComponentName) -> usize {
         let Some(string) = self.string else {
             return 0;
@@ -215,9 +212,7 @@ impl<'a> Given<'a> {
 }
 
 impl Compiler<'_> {
-    /// What is wrong with values that are refused with this error.
-    ///
-    /// The error is that memory ran out.
+    /// Diagnoses values that are rejected with this error.
     fn diagnosis<R: RegExp>(&self, error: Error, given: Given<'_>) -> Result<Diagnosis, OutOfMemory>
         requires { RefusesValues R.RegExp self.now.options.now (compiled_values self.now) (error_view error) }
         ensures refused { IfOk result (HasErrorOf (RefusesValues R.RegExp self.now.options.now (compiled_values self.now))) }
@@ -234,9 +229,7 @@ impl Compiler<'_> {
         }
     }
 
-    /// What is wrong with a component that is refused.
-    ///
-    /// The error is that memory ran out.
+    /// Diagnoses a rejected component.
     fn component_diagnosis<R: RegExp>(
         &self,
         refusal: Refusal,
@@ -271,9 +264,8 @@ impl Compiler<'_> {
         Ok(Diagnosis::of_part(self.alloc, error, subject, text, pattern, fault, place)?)
     }
 
-    /// The part of a pattern that is refused by itself: a custom expression by the engine, or a row of characters by `url`.
-    ///
-    /// The error is that memory ran out.
+    /// The fault of the part of a pattern that is rejected by itself: a custom expression by the
+    /// engine, or a run of characters by `url`.
     fn refused_part<R: RegExp>(
         &self,
         component: ComponentName,
@@ -291,9 +283,7 @@ impl Compiler<'_> {
         }
     }
 
-    /// The first custom expression of a pattern that the engine refuses by itself, and what is at fault in it.
-    ///
-    /// The error is that memory ran out.
+    /// The fault of the first custom expression of a pattern that the engine rejects by itself.
     fn refused_expression<R: RegExp>(&self, pattern: &str) -> Result<Option<Fault>, OutOfMemory>
         ensures { IfOk result (λ found. IfSome found (IsFaultIn pattern.now)) }
     {
@@ -313,9 +303,7 @@ impl Compiler<'_> {
         }
     }
 
-    /// The first row of characters of a pattern that `url` refuses by itself, and what is at fault in it.
-    ///
-    /// The error is that memory ran out.
+    /// The fault of the first run of characters of a pattern that `url` rejects by itself.
     fn refused_row(
         &self,
         component: ComponentName,

@@ -13,9 +13,9 @@ use urlpattern_matcher::component::ComponentWithParts;
 use urlpattern_matcher::regexp::RegExp;
 use urlpattern_syntax::Error;
 
-/// The init of a constructor string, whose base URL is parsed first.
+/// Parses a constructor string to an init, after parsing its base URL.
 ///
-/// The error is that `url` refuses the base URL, that the string is refused, or that memory ran out.
+/// The error is that of a rejected base URL or of a rejected string, or `OutOfMemory`.
 pub fn init_of_text<R: RegExp>(
     alloc: Global,
     text: &str,
@@ -28,7 +28,8 @@ pub fn init_of_text<R: RegExp>(
     UrlPatternInit::parse_constructor_string::<R>(alloc, text, base_url)
 }
 
-/// The same; if `keeps`, also the text of the protocol and what it was compiled to.
+/// Parses a constructor string like `init_of_text`; if `keeps`, also returns the text of the
+/// protocol and its compiled component.
 ///
 /// The error is that of `init_of_text`.
 pub fn init_of_text_keeping<'a, R: RegExp>(

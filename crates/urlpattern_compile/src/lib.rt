@@ -1,6 +1,7 @@
-//! Creates patterns: compiles the eight components of an init or of a constructor string, and says why they are refused.
+//! Compiles the eight components of an init or of a constructor string to a pattern, and diagnoses
+//! what is rejected.
 //!
-//! `urlpattern` has these as calls of its type `UrlPattern`.
+//! `urlpattern` offers these functions as methods of its type `UrlPattern`.
 #![tactic(auto)]
 
 mod compile;

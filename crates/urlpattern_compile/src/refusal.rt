@@ -1,4 +1,4 @@
-//! The component for which a pattern is refused.
+//! The component for which a pattern is rejected.
 
 ghost use Rattle.std.specs.Prelude.{◌≡◌, ◌≢◌, false, IfNone, IfOk, IfSome};
 ghost use Rattle.urlpattern_compile.specs.CompilerSteps.{compiled_values, manner_by};
@@ -25,21 +25,19 @@ const AFTER_PROTOCOL: [ComponentName; 7] = [
     ComponentName::Hash,
 ];
 
-/// A component that is refused.
+/// A rejected component.
 #[derive(Drop)]
 pub(super) struct Refusal {
-    /// Which one it is.
+    /// The component.
     pub(super) component: ComponentName,
-    /// Whether the pathname is hierarchical, as far as the protocol was compiled.
+    /// Whether the pathname is hierarchical; `false` if the protocol is rejected.
     pub(super) hierarchical: bool,
     /// The error.
     pub(super) error: Error,
 }
 
 impl Compiler<'_> {
-    /// The first component that is refused, in the order in which they are compiled.
-    ///
-    /// The error is that memory ran out.
+    /// The first rejected component, in the order of compilation.
     pub(super) fn first_refused<R: RegExp>(&self) -> Result<Option<Refusal>, OutOfMemory>
         ensures { IfOk result (λ found. IfSome found (IsRefusalOf R.RegExp self.now.options.now (compiled_values self.now))) }
     {
@@ -56,9 +54,7 @@ impl Compiler<'_> {
         }
     }
 
-    /// The first component that is refused after this protocol.
-    ///
-    /// The error is that memory ran out.
+    /// The first rejected component after the protocol.
     fn first_refused_after<R: RegExp>(
         &self,
         protocol: ComponentWithParts<R>,
@@ -72,9 +68,7 @@ impl Compiler<'_> {
         }
     }
 
-    /// The first of these components that is refused.
-    ///
-    /// The error is that memory ran out.
+    /// The first rejected component of a list.
     fn first_refused_of<R: RegExp>(
         &self,
         hierarchical: bool,
@@ -92,9 +86,7 @@ impl Compiler<'_> {
         Ok(None)
     }
 
-    /// The refusal of a component, if it is refused.
-    ///
-    /// The error is that memory ran out.
+    /// Compiles a component, and returns its refusal if it is rejected.
     fn refused<R: RegExp>(
         &self,
         hierarchical: bool,
@@ -121,7 +113,7 @@ impl Compiler<'_> {
     }
 }
 
-/// An error that is not that memory ran out.
+/// Returns an error other than `OutOfMemory`.
 pub(super) fn not_memory(error: Error) -> Result<Error, OutOfMemory>
     ensures { IfOk result (λ other. (other ≡ error) × (error_view error ≢ views.OutOfMemory)) }
 {

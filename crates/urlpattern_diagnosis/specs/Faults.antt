@@ -20,7 +20,8 @@ use Rattle.urlpattern_syntax.specs.Tokens.{AreTokens, FaultView, IncompleteEscap
 
 -- ---- tokens
 
--- how many bytes of a token's spelling are none of its value: a colon, a backslash, or two brackets
+-- the number of bytes in a token's spelling that are not part of its value: a colon, a backslash,
+-- or two parentheses
 abbrev pub marks_len : TokenType → ℕ
 marks_len Name = 1
 marks_len EscapedChar = 1
@@ -37,11 +38,11 @@ IsSpanOfBody bytes token span = IsSpanAt bytes (token.index + 1) (length token.v
 
 -- ---- faults
 
--- both spans lie in the text
+-- the spans of the fault are within the text
 abbrev pub IsFaultIn : (bytes : List ℕ) → Fault → Type 0
 IsFaultIn bytes fault = IsSpanIn bytes fault.span × IfSome fault.earlier (IsSpanIn bytes)
 
--- there is one span, which is so
+-- the fault has a single span, with the property `Is`
 abbrev pub IsAlone : (Is : Span → Type 0) → Fault → Type 0
 IsAlone Is fault = Is fault.span × (fault.earlier ≡ None)
 
@@ -51,11 +52,12 @@ IsWholeFault bytes fault = IsAlone (λ span. span ≡ whole_span bytes) fault
 
 -- ---- where a URL is expected
 
+-- whether the text begins with `front`
 abbrev pub begins : (bytes front : List ℕ) → Bool
 begins bytes front = starts_with nat_eq bytes front
 
--- how long the special scheme at the front of a text is, or the pattern of two, if two slashes follow it: the place where its colon
--- is missing
+-- the length of the special scheme at the beginning of a text, or of the pattern of two schemes, if
+-- two slashes follow: the place of the missing colon
 abbrev pub missing_colon : (bytes : List ℕ) → Option ℕ
 missing_colon bytes =
     if begins bytes (codes "http{s}?//") then Some 8
@@ -65,7 +67,8 @@ missing_colon bytes =
     else if begins bytes (codes "ws//") then Some 2
     else None
 
--- how long the special scheme at the front of a text is, if a `;` and two slashes follow it: the place of the `;`
+-- the length of the special scheme at the beginning of a text, if `;` and two slashes follow: the
+-- place of the `;`
 abbrev pub mistyped_colon : (bytes : List ℕ) → Option ℕ
 mistyped_colon bytes =
     if begins bytes (codes "https;//") then Some 5
@@ -74,12 +77,12 @@ mistyped_colon bytes =
     else if begins bytes (codes "ws;//") then Some 2
     else None
 
--- the `;` in the place of the colon after a scheme is at fault, or else the whole text
+-- the `;` in place of the colon after a scheme is at fault, or else the whole text
 abbrev pub IsSignFault : (bytes : List ℕ) → Fault → Type 0
 IsSignFault bytes fault =
     MatchOption (mistyped_colon bytes) (IsWholeFault bytes fault) (λ place. IsAlone (IsSpanAt bytes place 1) fault)
 
--- the place where the colon after a scheme is missing is at fault, or what is in its place, or else the whole text
+-- the place of the missing or mistyped colon after a scheme is at fault, or else the whole text
 abbrev pub IsUrlFault : (bytes : List ℕ) → Fault → Type 0
 IsUrlFault bytes fault =
     MatchOption (missing_colon bytes) (IsSignFault bytes fault) (λ place. IsAlone (IsSpanAt bytes place 0) fault)
@@ -88,26 +91,28 @@ IsUrlFault bytes fault =
 abbrev pub is_path_sign : ℕ → Bool
 is_path_sign c = is_among (codes "/#=") c
 
--- the colon after a text that has such a character is at fault: it ends no protocol
+-- the colon after a text with a character of a path, a search or a hash is at fault: that text is
+-- no protocol
 abbrev pub IsColonFault : (bytes before : List ℕ) → Fault → Type 0
 IsColonFault bytes before fault = IsTrue (list_any is_path_sign before) × IsAlone (IsSpanAt bytes (length before) 1) fault
 
 -- ---- where no token begins
 
--- this is left of what follows a `(`, after a front that may be there before a fault
+-- `left` is the end of `rest`, which follows a `(`, after an incomplete expression
 abbrev pub IsAfterFront : (rest left : List ℕ) → Type 0
 IsAfterFront rest left = (front : List ℕ) × IsRegexpFront front × (rest ≡ front ++ left)
 
--- A custom expression does not go on with so many bytes at the front of this: a character that is not ASCII, that after a backslash,
--- or a `(` that no `?` follows.
+-- A custom expression does not go on with the first `len` bytes of `left`: a character that is not
+-- ASCII, with or without a backslash, or a `(` that no `?` follows.
 abbrev pub IsRefusedFront : (left : List ℕ) → (len : ℕ) → Type 0
 IsRefusedFront left len =
     ((c : ℕ) × (more : List ℕ) × (left ≡ c ∷ more) × (128 ≤ c) × (len ≡ byte_len (c ∷ [])))
     ⊎ ((c : ℕ) × (more : List ℕ) × (left ≡ codes "\\" ++ c ∷ more) × (128 ≤ c) × (len ≡ 1 + byte_len (c ∷ [])))
     ⊎ ((more : List ℕ) × (left ≡ codes "(" ++ more) × ¬ BeginsWith is_question_mark more × (len ≡ 1))
 
--- What follows a `(` at this place is no custom expression: it is empty, or begins with `?`; or it does not end, and the `(` is
--- at fault; or else a part of it is at fault, and at odds with the `(`.
+-- `rest` follows the `(` at the place, and is no custom expression: it is empty or begins with `?`;
+-- or it does not end, and the `(` is at fault; or else a part of it is at fault, and conflicts with
+-- the `(`.
 abbrev pub IsBodyFault : (bytes : List ℕ) → (place : ℕ) → (rest : List ℕ) → Fault → Type 0
 IsBodyFault bytes place rest fault =
     (BeginsWith (is_among (codes "?)")) rest × IsAlone (IsSpanAt bytes place 2) fault)
@@ -115,37 +120,42 @@ IsBodyFault bytes place rest fault =
     ⊎ ((left : List ℕ) × (start len : ℕ) × IsAfterFront rest left × IsRefusedFront left len × BeginsAt (chars bytes) left start
     × IsSpanAt bytes start len fault.span × IsSomeAnd fault.earlier (IsSpanAt bytes place 1))
 
+-- whether a character is a square bracket
 abbrev pub is_bracket : ℕ → Bool
 is_bracket c = is_among (codes "[]") c
 
--- the text has this bracket at the place, and none after it
+-- the text has this bracket at the place, and no bracket after it
 abbrev pub IsLastBracket : (bracket bytes : List ℕ) → (place : ℕ) → Type 0
 IsLastBracket bracket bytes place =
     (rest : List ℕ) × (drop place bytes ≡ bracket ++ rest) × (list_any is_bracket rest ≡ false)
 
--- the last bracket of the text is a `[` at this place; or it is a `]`, or there is none
+-- the last square bracket of the text is a `[` at the place; or, for `None`, a `]`, or there is
+-- none
 abbrev pub IsOpenBracket : (bytes : List ℕ) → Option ℕ → Type 0
 IsOpenBracket bytes (Some place) = IsLastBracket (codes "[") bytes place
 IsOpenBracket bytes None = (list_any is_bracket bytes ≡ false) ⊎ ((place : ℕ) × IsLastBracket (codes "]") bytes place)
 
+-- whether the component is the hostname
 abbrev pub is_of_hostname : Option ComponentName → Bool
 is_of_hostname None = false
 is_of_hostname (Some Hostname) = true
 is_of_hostname (Some component) = false
 
--- the first of two places, or the one that there is
+-- the lesser of two places, or the place that there is
 abbrev pub first_place : Option ℕ → ℕ → ℕ
 first_place None place = place
 first_place (Some other) place = min other place
 
--- No name follows the colon at this place. The colon is at fault, or in a hostname a `[` before it that is not closed.
+-- No name follows the colon at the place. The colon is at fault, or in a hostname an unclosed `[`
+-- before it.
 abbrev pub IsNameFault : Option ComponentName → (bytes : List ℕ) → (place : ℕ) → Fault → Type 0
 IsNameFault component bytes place fault =
     MatchBool (is_of_hostname component)
     ((bracket : Option ℕ) × IsOpenBracket bytes bracket × IsAlone (IsSpanAt bytes (first_place bracket place) 1) fault)
     (IsAlone (IsSpanAt bytes place 1) fault)
 
--- At this place, where `left` begins, no token begins for this reason: a backslash at the end is at fault, a name, or a custom expression.
+-- No token begins at the place, where `left` begins, for this reason: the fault is a backslash at
+-- the end, a name, or a custom expression.
 abbrev pub IsTokenFault : Option ComponentName → (bytes : List ℕ) → (place : ℕ) → (left : List ℕ) → FaultView → Fault → Type 0
 IsTokenFault component bytes place left IncompleteEscapeCode fault =
     (start : ℕ) × BeginsAt (chars bytes) (codes "\\") start × IsAlone (IsSpanAt bytes start 1) fault
@@ -153,7 +163,7 @@ IsTokenFault component bytes place left InvalidName fault = IsNameFault componen
 IsTokenFault component bytes place left (InvalidRegex reported) fault =
     (rest : List ℕ) × (left ≡ codes "(" ++ rest) × IsBodyFault bytes place rest fault
 
--- this is the first fault of the text, and what is at fault there
+-- the first fault of the text is at the place, for this reason, and `fault` is what is at fault
 abbrev pub HasTokenFault : Option ComponentName → (bytes : List ℕ) → FaultView → (place : ℕ) → Fault → Type 0
 HasTokenFault component bytes reported place fault =
     (is : IsFault (chars bytes) reported place) × IsTokenFault component bytes place is.left reported fault
@@ -162,13 +172,14 @@ abbrev pub is_end_kind : TokenType → Bool
 is_end_kind End = true
 is_end_kind kind = false
 
--- the token at which the pieces of the text before the place end, unless they are all of it
+-- the token at which the pieces of the text before the place end, unless they are all of that text
 abbrev pub IsStopBefore : (bytes point : List ℕ) → (place : ℕ) → Option Span → Type 0
 IsStopBefore bytes point place earlier =
     (stop : Stop) × IsStopOf (chars (take place bytes)) point (token_view stop.first) (token_view stop.found)
     × MatchBool (is_end_kind stop.found.kind) (earlier ≡ None) (IsSomeAnd earlier (IsSpanOfToken bytes stop.found))
 
--- the same fault; if it is at odds with nothing, the token at which the pieces end before it is at fault too
+-- the fault is that of `alone`; if it has no earlier part, the token at which the pieces before it
+-- end is at fault too
 abbrev pub IsWithStop : (bytes point : List ℕ) → (place : ℕ) → (alone fault : Fault) → Type 0
 IsWithStop bytes point place alone fault =
     (fault.span ≡ alone.span)
@@ -181,7 +192,7 @@ IsFirstFault component bytes point reported place fault =
 
 -- ---- where the tokens are no pattern
 
--- the token at which the pieces end is at fault, and before it the brace of a group that lacks its end
+-- the token at which the pieces end is at fault, with the brace of a group that lacks its end
 abbrev pub IsStopFault : (bytes : List ℕ) → Stop → Fault → Type 0
 IsStopFault bytes stop fault =
     IsSpanOfToken bytes stop.found fault.span
@@ -191,30 +202,30 @@ abbrev pub is_name : TokenType → Bool
 is_name Name = true
 is_name kind = false
 
--- the token gives this name
+-- the token is this name
 abbrev pub gives_name : (name : List ℕ) → Token → Bool
 gives_name name token = is_name token.kind && bytes_eq token.value.now name
 
--- of the tokens that give a name the second is at fault, after the first
+-- the second of the tokens with a name is at fault, with the first
 abbrev pub IsSecondFault : (bytes : List ℕ) → List Token → Fault → Type 0
 IsSecondFault bytes (first ∷ second ∷ more) fault =
     IsSpanOfToken bytes second fault.span × IsSomeAnd fault.earlier (IsSpanOfToken bytes first)
 IsSecondFault bytes tokens fault = IsWholeFault bytes fault
 
--- the fault of tokens that are no pattern, where this is the stop of their pieces
+-- the fault of tokens that are no pattern, and whose pieces end at `stop`
 abbrev pub IsParserFault : (bytes : List ℕ) → Stop → ParserError → Fault → Type 0
 IsParserFault bytes stop (parser_errors.ExpectedToken expected found value) fault = IsStopFault bytes stop fault
 IsParserFault bytes stop (parser_errors.DuplicateName name) fault =
     (tokens : List Token) × AreTokens (chars bytes) (map token_view tokens)
     × IsSecondFault bytes (filter (gives_name (string_bytes name)) tokens) fault
 
--- the fault of a text whose tokens are read, by the error with which it is refused
+-- the fault of a text that consists of tokens, by the error with which the text is rejected
 abbrev pub IsFaultOfError : (bytes point : List ℕ) → Error → Fault → Type 0
 IsFaultOfError bytes point (errors.Parser error) fault =
     (stop : Stop) × IsStopOf (chars bytes) point (token_view stop.first) (token_view stop.found) × IsParserFault bytes stop error fault
 IsFaultOfError bytes point other fault = IsWholeFault bytes fault
 
--- Where the first character begins no token is the fault. If each begins one, the error decides.
+-- The fault is at the first character that begins no token. If each begins one, the error decides.
 abbrev pub IsFaultOf : Option ComponentName → (bytes point : List ℕ) → Error → Fault → Type 0
 IsFaultOf component bytes point error fault =
     ((reported : FaultView) × (place : ℕ) × IsFirstFault component bytes point reported place fault)

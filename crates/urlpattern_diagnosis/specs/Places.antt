@@ -1,4 +1,4 @@
--- Where the pattern of a component is in a text that was given. Texts are their bytes.
+-- The place of a component's pattern in a given text. Texts are their bytes.
 use Rattle.std.specs.Prelude.{◌≡◌, ℕ, ◌+◌, ◌-◌, ◌≤◌, ◌⊎◌, List, length, drop, nat_eq, nat_le, IsTrue, MatchBool, MatchOption, None, IsSomeAnd}
 use Rattle.std.specs.List.{starts_with}
 use Rattle.urlpattern_diagnosis.specs.Faults.{IsWholeFault}
@@ -7,26 +7,26 @@ use Rattle.urlpattern_diagnosis.specs.declared.fault.Fault.{Fault}
 use Rattle.urlpattern_diagnosis.specs.declared.place.Place.{Place}
 use Rattle.urlpattern_diagnosis.specs.declared.span.Span.{Span}
 
--- The part is in the text at the place, but for the bytes at its front that the text lacks.
+-- The part is in the text at the place, except for its first bytes, which the text lacks.
 pub record IsPlaceOf (bytes part : List ℕ) (place : Place) : Type 0 where
   pub lacks : place.lead ≤ length part
   pub within : place.start + (length part - place.lead) ≤ length bytes
   pub is_there : IsTrue (starts_with nat_eq (drop place.start bytes) (drop place.lead part))
 
--- a span of the part as one of the text, or the whole text for a span that begins in what the text lacks
+-- a span of the part, moved to the text; the whole text if the span begins in what the text lacks
 abbrev pub IsMovedSpan : (bytes : List ℕ) → Place → (span moved : Span) → Type 0
 IsMovedSpan bytes place span moved =
     MatchBool (nat_le place.lead span.start)
     (IsSpanAt bytes (place.start + (span.start - place.lead)) (span.end - span.start) moved)
     (moved ≡ whole_span bytes)
 
--- both spans of a fault
+-- a fault of the part, with both spans moved to the text
 abbrev pub IsMovedFault : (bytes : List ℕ) → Place → (fault moved : Fault) → Type 0
 IsMovedFault bytes place fault moved =
     IsMovedSpan bytes place fault.span moved.span
     × MatchOption fault.earlier (moved.earlier ≡ None) (λ span. IsSomeAnd moved.earlier (IsMovedSpan bytes place span))
 
--- a fault of the part as one of the text: at a place of the part in it, or else the whole text
+-- a fault of the part, moved to a place of the part in the text, or else to the whole text
 abbrev pub IsFaultMoved : (bytes part : List ℕ) → (fault moved : Fault) → Type 0
 IsFaultMoved bytes part fault moved =
     ((place : Place) × IsPlaceOf bytes part place × IsMovedFault bytes place fault moved) ⊎ IsWholeFault bytes moved

@@ -1,4 +1,4 @@
--- Parts of a text by their places, in bytes.
+-- Spans of a text, in bytes.
 use Rattle.std.specs.Prelude.{◌≡◌, ℕ, ◌+◌, ◌≤◌, ◌⊎◌, List, length, IsCharBoundary}
 use Rattle.urlpattern_diagnosis.specs.declared.span.Span.{Span}
 
@@ -6,14 +6,15 @@ use Rattle.urlpattern_diagnosis.specs.declared.span.Span.{Span}
 abbrev pub span_between : (start end : ℕ) → Span
 span_between start end = record { start = start; end = end }
 
--- the span lies in the text of these bytes, and cuts no character
+-- the span is within the text, and cuts no character
 abbrev pub IsSpanIn : (bytes : List ℕ) → Span → Type 0
 IsSpanIn bytes span = (span.start ≤ span.end) × IsCharBoundary bytes span.start × IsCharBoundary bytes span.end
 
 abbrev pub whole_span : (bytes : List ℕ) → Span
 whole_span bytes = span_between 0 (length bytes)
 
--- so many bytes from the place on, or the whole text where these are no characters of it
+-- the span of `len` bytes from `start` on, or of the whole text if these are not whole characters
+-- of it
 abbrev pub IsSpanAt : (bytes : List ℕ) → (start len : ℕ) → Span → Type 0
 IsSpanAt bytes start len span =
     (IsSpanIn bytes (span_between start (start + len)) × (span ≡ span_between start (start + len)))

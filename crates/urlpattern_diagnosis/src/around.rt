@@ -1,9 +1,9 @@
-//! What stands around a place in a pattern text.
+//! The surroundings of a place in a pattern text.
 
 use crate::fault::Fault;
 use crate::wide::ascii_form;
 
-/// Whether the first bracket of a kind from a place on is not closed.
+/// Whether the first bracket of a kind at or after a place is not closed.
 pub(crate) fn is_unclosed(part: &str, place: usize, open: u8, close: u8) -> bool {
     let mut depth = 0usize;
     let mut is_escaped = false;
@@ -24,7 +24,7 @@ pub(crate) fn is_unclosed(part: &str, place: usize, open: u8, close: u8) -> bool
     depth > 0
 }
 
-/// Whether a place is in square brackets that begin at another place or after it.
+/// Whether a place is within square brackets that begin at or after `start`.
 pub(crate) fn is_in_class(part: &str, start: usize, place: usize) -> bool {
     let mut is_open = false;
     let mut is_escaped = false;
@@ -40,7 +40,8 @@ pub(crate) fn is_in_class(part: &str, start: usize, place: usize) -> bool {
     is_open
 }
 
-/// Whether the first class between two places that has a `)` ends after it, before another one begins.
+/// Whether the first class between two places that contains a `)` ends after it, before another
+/// class begins.
 pub(crate) fn has_cut_class(part: &str, start: usize, end: usize) -> bool {
     let mut is_open = false;
     let mut is_cut = false;
@@ -60,7 +61,7 @@ pub(crate) fn has_cut_class(part: &str, start: usize, end: usize) -> bool {
     false
 }
 
-/// The first `]` or `}` from a place on that closes neither a class nor a count.
+/// The first `]` or `}` at or after a place that closes neither a class nor a count.
 pub(crate) fn stray_bracket(part: &str, place: usize) -> Option<char> {
     let mut is_escaped = false;
     let mut awaited = b' ';
@@ -78,7 +79,7 @@ pub(crate) fn stray_bracket(part: &str, place: usize) -> Option<char> {
     None
 }
 
-/// The mark whose full-width form is the first one before a place.
+/// The ASCII form of the first full-width mark before a place.
 pub(crate) fn wide_mark(part: &str, place: usize) -> Option<char> {
     for (index, c) in part.char_indices() {
         if index >= place {
@@ -92,7 +93,7 @@ pub(crate) fn wide_mark(part: &str, place: usize) -> Option<char> {
     None
 }
 
-/// Whether a modifier is before a place, and not the same sign escaped.
+/// Whether a modifier is right before a place, and not escaped.
 pub(crate) fn is_after_modifier(part: &str, place: usize) -> bool {
     let bytes = part.as_bytes();
     match place.checked_sub(1) {
@@ -104,7 +105,7 @@ pub(crate) fn is_after_modifier(part: &str, place: usize) -> bool {
     }
 }
 
-/// Whether a class, `.` or a backslash and a letter is before a place.
+/// Whether a class, `.` or a backslash and a letter is right before a place.
 pub(crate) fn is_after_expression(part: &str, place: usize) -> bool {
     let bytes = part.as_bytes();
     match bytes.get(place.saturating_sub(1)) {
@@ -116,7 +117,7 @@ pub(crate) fn is_after_expression(part: &str, place: usize) -> bool {
     }
 }
 
-/// The `-` or `^` at a place.
+/// The `-` or `^` at a place, if there is one.
 pub(crate) fn sign_at(part: &str, place: usize) -> Option<char> {
     match part.as_bytes().get(place) {
         Some(b'-') => Some('-'),
@@ -125,7 +126,7 @@ pub(crate) fn sign_at(part: &str, place: usize) -> Option<char> {
     }
 }
 
-/// Whether only a word is between the brace of a group and what is at fault in it.
+/// Whether only a word is between the brace of a group and the fault in the group.
 pub(crate) fn is_after_word(part: &str, fault: Fault) -> bool {
     let Some(open) = fault.earlier else {
         return false;

@@ -1,4 +1,4 @@
-//! Why no name follows a colon, in words.
+//! Reasons why no name follows a colon.
 
 use crate::diagnosis::Subject;
 use crate::hint::{Hint, next_hint};
@@ -6,12 +6,12 @@ use crate::reason::Faulty;
 use crate::sentence::Sentence;
 use urlpattern_components::ComponentName;
 
-/// Why no name follows a colon in the pattern of a component.
+/// The reason why no name follows a colon in a component's pattern.
 pub(crate) fn colon_sentence<'a>(faulty: &'a Faulty<'_>) -> Sentence<'a> {
     faulty.sentence(colon_words(faulty), "write `\\:` for the character itself")
 }
 
-/// What is said of a colon in the pattern of a component.
+/// The words for a colon in a component's pattern.
 fn colon_words(faulty: &Faulty<'_>) -> &'static str {
     match (faulty.subject, faulty.hint) {
         _ if faulty.part == "[" => {
@@ -36,7 +36,7 @@ fn colon_words(faulty: &Faulty<'_>) -> &'static str {
     }
 }
 
-/// What is said of a colon before what is no name.
+/// The words for a colon before a text that is no name.
 fn name_words(hint: Hint) -> &'static str {
     match hint {
         Hint::NameBegins(_) => {
@@ -50,7 +50,7 @@ fn name_words(hint: Hint) -> &'static str {
     }
 }
 
-/// Why the colon at a byte index ends no protocol, where a path, a search or a hash is before it.
+/// The reason why the colon at a byte index ends no protocol, after a path, a search or a hash.
 pub(crate) fn path_colon_sentence(text: &str, place: usize) -> Sentence<'_> {
     let bytes = text.as_bytes();
     let hint = next_hint(bytes.get(place.saturating_add(1)));

@@ -1,4 +1,4 @@
-//! What is wrong with a pattern that is refused.
+//! Diagnoses of rejected patterns.
 
 ghost use Rattle.std.specs.Prelude.{◌≡◌, string_bytes, IfOk, IfSome};
 ghost use Rattle.urlpattern_diagnosis.specs.declared.diagnosis.Subject.TheVariants as subjects;
@@ -34,7 +34,7 @@ pub enum Subject {
     Component(ComponentName),
 }
 
-/// What is wrong with a pattern that is refused: the error, and which part of which text is at fault.
+/// The diagnosis of a rejected pattern: the error, and which part of which text is at fault.
 ///
 /// Here `diagnosed` calls `UrlPattern::diagnose`:
 ///
@@ -50,20 +50,20 @@ pub enum Subject {
 /// ```
 #[derive(Debug, Drop)]
 pub struct Diagnosis {
-    /// The error with which the pattern is refused.
+    /// The error with which the pattern is rejected.
     pub error: Error,
     /// What is at fault.
     pub subject: Subject,
-    /// The text that is at fault, as it was given: the constructor string, the base URL, or the value of an init.
+    /// The text at fault, as given: the constructor string, the base URL, or the value of an init.
     pub text: String,
-    /// Which part of the text is at fault, in bytes.
+    /// The part of the text at fault, in bytes.
     pub fault: Fault,
-    /// Why it is refused, and what to do, in one line.
+    /// Why the pattern is rejected, and what to do, in one line.
     pub reason: String,
 }
 
 impl Subject {
-    /// What is at fault, in words.
+    /// The subject, in words.
     pub fn name(self) -> &'static str {
         match self {
             Subject::Whole => "pattern",
@@ -74,9 +74,8 @@ impl Subject {
 }
 
 impl Diagnosis {
-    /// A whole text is at fault, or the place where the colon after its scheme is missing, or what is there in its place.
-    ///
-    /// The error is that memory ran out.
+    /// Diagnoses a whole text, or the place where the colon after its scheme is missing or
+    /// mistyped.
     pub fn whole(
         alloc: Global,
         error: Error,
@@ -94,9 +93,7 @@ impl Diagnosis {
         Self::of_fault(alloc, error, subject, text, fault, hint)
     }
 
-    /// A part of a text has a fault, or the whole text is at fault if it does not have the part.
-    ///
-    /// The error is that memory ran out.
+    /// Diagnoses a fault in a part of a text, or the whole text if it lacks the part.
     pub fn of_part(
         alloc: Global,
         error: Error,
@@ -122,9 +119,7 @@ impl Diagnosis {
         Self::of_fault(alloc, error, subject, text, moved, hint)
     }
 
-    /// A colon of a text, where no name follows it, has this fault: what is before it is no protocol.
-    ///
-    /// The error is that memory ran out.
+    /// Diagnoses a colon of a text that no name follows, and before which there is no protocol.
     pub fn of_colon(
         alloc: Global,
         error: Error,
@@ -147,7 +142,7 @@ impl Diagnosis {
         })
     }
 
-    /// A text has a fault.
+    /// Diagnoses a fault of a text.
     fn of_fault(
         alloc: Global,
         error: Error,

@@ -1,4 +1,4 @@
-//! Where an engine refuses a custom expression, by the crate `regex`.
+//! Where an engine rejects a custom expression, according to the crate `regex`.
 ghost use Rattle.std.specs.Prelude.{IfOk, IfSome};
 ghost use Rattle.urlpattern_diagnosis.specs.Faults.{IsFaultIn};
 ghost use Rattle.urlpattern_diagnosis.specs.Spans.{IsSpanIn};
@@ -9,9 +9,8 @@ use crate::span::Span;
 use regex_syntax::{Config, Error, ErrorKind};
 use std::alloc::{AllocError, Global};
 
-/// Where in a text an expression is at fault that an engine refuses, if `regex` refuses it too; or else the whole expression.
-///
-/// The error is that memory ran out.
+/// The fault of an expression that an engine rejects: the place in the text where `regex` rejects
+/// it too, or else the whole expression.
 pub fn fault_of_expression(alloc: Global, text: &str, body: Span) -> Result<Fault, AllocError>
     requires { IsSpanIn text.now body }
     ensures within { IfOk result (IsFaultIn text.now) }
@@ -31,9 +30,8 @@ pub fn fault_of_expression(alloc: Global, text: &str, body: Span) -> Result<Faul
     })
 }
 
-/// Why `regex` refuses an expression, in its own words, and what to do. `None`: it accepts it.
-///
-/// The error is that memory ran out.
+/// Why `regex` rejects an expression, in its own words, and what to do. `None`: the expression is
+/// accepted.
 pub(crate) fn message(
     alloc: Global,
     expression: &str,
@@ -49,7 +47,8 @@ pub(crate) fn message(
     }
 }
 
-/// What to do about a refusal at a place that its message leaves open, after a semicolon, or nothing.
+/// What to do about an error at a place, if its message does not say so: a text after a semicolon,
+/// or an empty text.
 fn advice(kind: ErrorKind, expression: &str, place: usize, hint: Hint) -> &'static str {
     let refused = expression.as_bytes().get(place);
     let next = expression.as_bytes().get(place.saturating_add(1));
@@ -80,7 +79,7 @@ fn advice(kind: ErrorKind, expression: &str, place: usize, hint: Hint) -> &'stat
     }
 }
 
-/// The same of a refused repetition, where this byte is at fault.
+/// What to do about a rejected repetition, where this byte is at fault.
 fn count_advice(kind: ErrorKind, refused: Option<&u8>) -> &'static str {
     match kind {
         ErrorKind::RepetitionCountDecimalEmpty if refused == Some(&b',') => {
@@ -102,9 +101,7 @@ fn count_advice(kind: ErrorKind, refused: Option<&u8>) -> &'static str {
     }
 }
 
-/// The refusal of an expression by `regex`. `None`: it accepts it.
-///
-/// The error is that memory ran out.
+/// The error with which `regex` rejects an expression. `None`: the expression is accepted.
 fn refusal(alloc: Global, expression: &str) -> Result<Option<Error>, AllocError> {
     match regex_syntax::parse(alloc, expression, &Config::default()) {
         Ok(parsed) => {

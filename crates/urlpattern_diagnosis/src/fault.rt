@@ -31,13 +31,14 @@ use urlpattern_syntax::tokenizer::{Token, TokenType, TokenizePolicy};
 pub struct Fault {
     /// The part at fault.
     pub span: Span,
-    /// The part that it is at odds with: the first of two equal names, the brace of a group that lacks its end, or the
-    /// parenthesis of a custom expression. Or else an earlier token that is at fault too.
+    /// The part with which the span conflicts: the first of two equal names, the brace of a group
+    /// that lacks its end, or the parenthesis of a custom expression. Or else an earlier token that
+    /// is at fault too.
     pub earlier: Option<Span>,
 }
 
 impl Fault {
-    /// A whole text.
+    /// The fault of a whole text.
     pub fn whole(text: &str) -> Self
         ensures whole { IsWholeFault text.now result }
         ensures within { IsFaultIn text.now result }
@@ -50,8 +51,8 @@ impl Fault {
 }
 
 impl Fault {
-    /// The place in a text where the colon after a special scheme is missing, or the `;` there, or else the whole text, which is
-    /// no URL.
+    /// The place in a text where the colon after a special scheme is missing, or the `;` in place
+    /// of that colon, or else the whole text, which is no URL.
     pub fn of_url(text: &str) -> Self
         ensures fault { IsUrlFault text.now result }
         ensures within { IsFaultIn text.now result }
@@ -62,7 +63,7 @@ impl Fault {
         }
     }
 
-    /// The `;` in a text for the colon after a special scheme, or else the whole text.
+    /// The `;` in place of the colon after a special scheme, or else the whole text.
     fn of_sign(text: &str) -> Self
         ensures fault { IsSignFault text.now result }
         ensures within { IsFaultIn text.now result }
@@ -75,7 +76,8 @@ impl Fault {
 }
 
 impl Fault {
-    /// The colon after a text that is no protocol, since it has a character of a path, a search or a hash.
+    /// The colon after a text that is no protocol, since it has a character of a path, a search or
+    /// a hash.
     pub fn of_colon(text: &str, before: &str) -> Option<Self>
         ensures fault { IfSome result (IsColonFault text.now before.now) }
         ensures other { IfNone result (list_any is_path_sign before.now ≡ false) }
@@ -96,15 +98,15 @@ fn has_path_sign(text: &str) -> bool
     text.as_bytes().iter().any(|byte| is_path_sign(*byte))
 }
 
-/// Whether a byte is such a character.
+/// Whether a byte is a character of a path, a search or a hash that no protocol has.
 fn is_path_sign(byte: u8) -> bool
     ensures { result ≡ is_path_sign byte }
 {
     matches!(byte, b'/' | b'#' | b'=')
 }
 
-/// How long the special scheme at the front of a text is, or the pattern `http{s}?` of two, if two slashes follow it, and so its
-/// colon is missing.
+/// The length of the special scheme at the beginning of a text, or of the pattern `http{s}?`, if
+/// two slashes follow, so that the colon is missing.
 fn missing_colon(text: &str) -> Option<usize>
     ensures { result ≡ missing_colon text.now }
 {
@@ -124,7 +126,8 @@ fn missing_colon(text: &str) -> Option<usize>
     }
 }
 
-/// How long the special scheme at the front of a text is, if `;` and two slashes follow it, and so its colon is mistyped.
+/// The length of the special scheme at the beginning of a text, if `;` and two slashes follow, so
+/// that the colon is mistyped.
 fn mistyped_colon(text: &str) -> Option<usize>
     ensures { result ≡ mistyped_colon text.now }
 {
@@ -143,7 +146,7 @@ fn mistyped_colon(text: &str) -> Option<usize>
 }
 
 impl Fault {
-    /// One part of a text.
+    /// The fault of a part of a text.
     pub fn of_span(span: Span) -> Self
         ensures { result ≡ record { span = span; earlier = None } }
     {
@@ -154,10 +157,8 @@ impl Fault {
     }
 }
 
-/// Where the pattern text of a component is at fault, by the error with which it is refused under this prefix code point.
-/// Without a component the text is no pattern of a hostname.
-///
-/// The error is that memory ran out.
+/// Where the pattern text of a component is at fault, by the error with which it is rejected under
+/// this prefix code point. Without a component the text is no hostname pattern.
 pub fn fault_of(
     alloc: Global,
     component: Option<ComponentName>,
@@ -183,7 +184,7 @@ pub fn fault_of(
     }
 }
 
-/// The fault of a text whose tokens are no pattern, where this is the stop of its pieces.
+/// The fault of a text whose tokens are no pattern, and whose pieces end at `stop`.
 fn parser_fault(
     alloc: Global,
     text: &str,
@@ -222,7 +223,7 @@ fn stop_fault(text: &str, stop: &Stop<'_>) -> Fault
     }
 }
 
-/// The second of the tokens that give a name, and the first.
+/// The second token with this name, and the first.
 fn second_fault(text: &str, tokens: &[Token<'_>], name: &str) -> Fault
     ensures fault { IsSecondFault text.now (filter (gives_name name.now) tokens.now) result }
     ensures within { IsFaultIn text.now result }
@@ -245,7 +246,7 @@ fn second_fault(text: &str, tokens: &[Token<'_>], name: &str) -> Fault
     Fault::whole(text)
 }
 
-/// Whether a token gives this name.
+/// Whether a token is this name.
 fn gives_name(token: &Token<'_>, name: &str) -> bool
     ensures { result ≡ gives_name name.now token.now }
 {
@@ -261,7 +262,7 @@ pub(crate) fn span_of(text: &str, token: Token<'_>) -> Span
     Span::at(text, token.index, len)
 }
 
-/// How many bytes of a token's spelling are none of its value.
+/// The number of bytes in a token's spelling that are not part of its value.
 fn marks_len(kind: TokenType) -> usize
     ensures { result ≡ marks_len kind }
 {

@@ -1,4 +1,4 @@
-//! What explains a fault besides the part at fault.
+//! Hints: what explains a fault, apart from the part at fault.
 
 use crate::around::{
     has_cut_class, is_after_expression, is_after_modifier, is_after_word, is_in_class, is_unclosed,
@@ -13,18 +13,19 @@ use urlpattern_components::ComponentName;
 use urlpattern_syntax::error::{Error, ParserError, RegexFault, TokenizerError};
 use urlpattern_syntax::tokenizer::TokenType;
 
-/// What explains a fault besides the part at fault.
+/// What explains a fault, apart from the part at fault.
 #[derive(Clone, Copy)]
 pub(crate) enum Hint {
-    /// Nothing does.
+    /// Nothing.
     Nothing,
     /// A `?` after the pattern begins the search.
     Search,
-    /// A `?` follows the `(` at fault. After one at the end of the pattern it begins the search.
+    /// A `?` follows the `(` at fault; after a `(` at the end of the pattern the `?` begins the
+    /// search.
     QuestionMark,
     /// A `?` follows the `(` at fault, as in look-around.
     LookAround,
-    /// A `?` follows the `(` at fault, as where case is ignored.
+    /// A `?` follows the `(` at fault, as in a flag that ignores case.
     Flag,
     /// The fault is in square brackets: those of an IPv6 address, or of a class.
     Brackets,
@@ -36,29 +37,29 @@ pub(crate) enum Hint {
     ClosedBy(char),
     /// A `)` after a custom expression's `(` is escaped.
     Escaped,
-    /// This character, which no name has, follows a colon.
+    /// A colon is followed by this character, with which no name begins.
     NameBegins(char),
-    /// This character, which no name has, follows a name.
+    /// A name is followed by this character, which no name contains.
     NameEnds(char),
     /// A regular expression is not in parentheses, or an expression follows a colon.
     Expression,
     /// The character at fault is repeated.
     Repeated,
-    /// The modifier at fault follows another one.
+    /// The modifier at fault follows another modifier.
     SecondModifier,
     /// The full-width form of this character is at fault, or before the modifier at fault.
     Wide(char),
-    /// A name is in brackets, as in other templates: only a word is before the modifier at fault in its group, or a bracket
-    /// follows a colon.
+    /// A name is in brackets, as in other template languages: only a word is before the modifier at
+    /// fault in its group, or a bracket follows a colon.
     Word,
-    /// A group after what is at fault is not closed.
+    /// A group after the fault is not closed.
     OpenGroup,
-    /// The pattern is `https?`, as a regular expression may be.
+    /// The pattern is `https?`, as in a regular expression.
     Scheme,
 }
 
 impl Hint {
-    /// The character that a hint has.
+    /// The character of the hint, if it has one.
     pub(crate) fn sign(self) -> Option<char> {
         match self {
             Hint::ClosedBy(sign)
@@ -69,7 +70,7 @@ impl Hint {
         }
     }
 
-    /// What explains that a text with this fault is no URL.
+    /// The hint for a text with this fault, which is no URL.
     pub(crate) fn of_url(text: &str, fault: Fault) -> Self {
         if fault == Fault::whole(text) {
             Hint::Nothing
@@ -78,7 +79,7 @@ impl Hint {
         }
     }
 
-    /// What explains the fault of a pattern that is at a place in a text.
+    /// The hint for the fault of a pattern that is at a place in a text.
     pub(crate) fn of_part(
         error: &Error,
         subject: Subject,
@@ -111,7 +112,7 @@ impl Hint {
     }
 }
 
-/// What explains that no name follows a colon, which is before this place.
+/// The hint for a colon that no name follows, right before a place.
 fn colon_hint(subject: Subject, part: &str, place: usize) -> Hint {
     match subject {
         Subject::Component(ComponentName::Hostname) if is_in_class(part, 0, place) => {
@@ -124,7 +125,7 @@ fn colon_hint(subject: Subject, part: &str, place: usize) -> Hint {
     }
 }
 
-/// What explains that no name follows a colon, by what does.
+/// The hint for a colon that no name follows, by the byte that does.
 pub(crate) fn next_hint(next: Option<&u8>) -> Hint {
     match next {
         Some(b'\\' | b'[' | b'(') => Hint::Expression,
@@ -146,7 +147,7 @@ pub(crate) fn next_hint(next: Option<&u8>) -> Hint {
     }
 }
 
-/// What explains that a group begins in another: its brace follows that of the first.
+/// The hint for a group that begins within a group: whether the two braces are adjacent.
 fn brace_hint(fault: Fault) -> Hint {
     match fault.earlier {
         Some(open) if open.end == fault.span.start => Hint::Repeated,
@@ -154,7 +155,8 @@ fn brace_hint(fault: Fault) -> Hint {
     }
 }
 
-/// What explains that a parenthesis begins no custom expression. The `?` after the pattern is at this place in the text.
+/// The hint for a parenthesis that begins no custom expression. `search` is the place in the text
+/// of the `?` after the pattern.
 fn expression_hint(
     reason: RegexFault,
     text: &str,
@@ -180,7 +182,7 @@ fn expression_hint(
     }
 }
 
-/// What a `?` at a place, after a `(`, is meant for.
+/// The hint for a `?` at a place after a `(`: what it is meant for.
 fn question_hint(text: &str, place: usize) -> Hint {
     let bytes = text.as_bytes();
     let next = bytes.get(place.saturating_add(1));
@@ -192,7 +194,7 @@ fn question_hint(text: &str, place: usize) -> Hint {
     }
 }
 
-/// What a character is that is not ASCII: full-width, in a class, or before what repeats it.
+/// The hint for a character that is not ASCII: full-width, in a class, or repeated.
 fn letter_hint(part: &str, fault: Fault) -> Hint {
     let letter = part.get(fault.span.start..fault.span.end).unwrap_or("");
     if let Some(sign) = ascii_form_of(letter) {
@@ -205,7 +207,7 @@ fn letter_hint(part: &str, fault: Fault) -> Hint {
     }
 }
 
-/// What explains that a name occurs twice.
+/// The hint for a name that occurs twice.
 fn name_hint(part: &str, fault: Fault) -> Hint {
     let first = fault.earlier.unwrap_or(fault.span);
     match sign_at(part, first.end).or(sign_at(part, fault.span.end)) {
@@ -214,7 +216,7 @@ fn name_hint(part: &str, fault: Fault) -> Hint {
     }
 }
 
-/// What explains that a modifier, maybe within a group, follows nothing that it could repeat.
+/// The hint for a modifier, perhaps within a group, that follows nothing that it could repeat.
 fn modifier_hint(part: &str, fault: Fault, is_in_group: bool) -> Hint {
     let place = fault.span.start;
     if !is_in_group && is_after_modifier(part, place) {
@@ -248,7 +250,7 @@ fn modifier_hint(part: &str, fault: Fault, is_in_group: bool) -> Hint {
     }
 }
 
-/// What explains that no expression is before a modifier at a place.
+/// The hint for a modifier at a place with no expression before it.
 fn unread_hint(part: &str, place: usize) -> Hint {
     if has_cut_class(part, part.find('(').unwrap_or(place), place) {
         return Hint::Brackets;
@@ -261,12 +263,12 @@ fn unread_hint(part: &str, place: usize) -> Hint {
     }
 }
 
-/// The part that a fault is in, or else the fault.
+/// The earlier part of a fault, or else the part at fault.
 fn outer(fault: Fault) -> Span {
     fault.earlier.unwrap_or(fault.span)
 }
 
-/// Where a `?` follows a part of a text.
+/// The place of a `?` right after a part of a text, if there is one.
 fn search_after(text: &str, part: &str, place: Option<Place>) -> Option<usize> {
     let Place { start, lead } = place?;
     let end = start.saturating_add(part.len().saturating_sub(lead));

@@ -1,4 +1,4 @@
-//! Where and why a hostname is at fault that `url` refuses.
+//! Where and why `url` rejects a hostname.
 ghost use Rattle.urlpattern_diagnosis.specs.Faults.{IsFaultIn};
 ghost use Rattle.urlpattern_diagnosis.specs.Spans.{IsSpanIn};
 
@@ -6,16 +6,17 @@ use crate::fault::Fault;
 use crate::span::Span;
 use crate::wide::{ascii_form, ascii_form_of};
 
-/// The digits of a number in decimal.
+/// The decimal digits.
 const DIGITS: [char; 10] = ['0', '1', '2', '3', '4', '5', '6', '7', '8', '9'];
 
-/// The characters that no domain has, but for controls.
+/// The characters that no domain contains, except controls, `%`, `:` and `\`.
 const FORBIDDEN: &str = " #/<>?@[]^|";
 
-/// The controls that are skipped as a URL is read.
+/// The controls that URL parsing skips.
 const SKIPPED: &str = "\t\n\r";
 
-/// The first character of a refused hostname that no domain has, or its first number that no IPv4 address has, or else all of it.
+/// The fault of a rejected hostname: its first character that no domain contains, or its first
+/// number that no IPv4 address contains, or else all of it.
 ///
 /// <https://url.spec.whatwg.org/#forbidden-host-code-point>
 pub fn fault_of_host(text: &str, host: Span) -> Fault
@@ -35,7 +36,7 @@ pub fn fault_of_host(text: &str, host: Span) -> Fault
     }
 }
 
-/// What is said of a part that is no hostname, and of the reason of `url`.
+/// The words for a part that is no hostname, with `#` for the reason of `url`.
 pub(crate) fn host_words(part: &str) -> &'static str {
     match part {
         " " => "a hostname has no space",
@@ -52,7 +53,8 @@ pub(crate) fn host_words(part: &str) -> &'static str {
     }
 }
 
-/// What is said of a part that is no port. One that begins with a dot may be meant as a hostname that begins with a name.
+/// The words for a part that is no port. A part that begins with a dot may be meant as a hostname
+/// that begins with a name.
 pub(crate) fn port_words(part: &str) -> &'static str {
     if is_number(part) {
         "`@` is no port: a port is a number up to 65535"
@@ -65,8 +67,8 @@ pub(crate) fn port_words(part: &str) -> &'static str {
     }
 }
 
-/// Where the first character that no domain has begins in the pattern of one, and how long it is. A backslash is one if it is
-/// escaped itself.
+/// The byte index and length of the first character in a hostname pattern that no domain contains.
+/// A backslash counts if it is itself escaped.
 fn forbidden(name: &str) -> Option<(usize, usize)> {
     let mut is_escaped = false;
     for (start, c) in name.char_indices() {
@@ -88,12 +90,13 @@ fn forbidden(name: &str) -> Option<(usize, usize)> {
     None
 }
 
-/// Whether no domain has the character. A colon, which none has, is no text in a pattern, and tabs and line ends are skipped there.
+/// Whether a character is forbidden in a domain wherever it is. Not counted are a colon, which is
+/// no text in a pattern, and tabs and line ends, which are skipped.
 fn is_forbidden(c: char) -> bool {
     FORBIDDEN.contains(c) || c.is_ascii_control() && !SKIPPED.contains(c)
 }
 
-/// Whether a character is the full-width form of one that no domain has, as it is read.
+/// Whether a character is the full-width form of a character that no domain contains.
 fn is_wide_forbidden(c: char) -> bool {
     match ascii_form(c) {
         Some(sign) => ":%\\".contains(sign) || is_forbidden(sign),
@@ -101,7 +104,7 @@ fn is_wide_forbidden(c: char) -> bool {
     }
 }
 
-/// Whether a text is one character that no domain has.
+/// Whether a text is a single character that no domain contains.
 fn is_one_forbidden(text: &str) -> bool {
     let mut characters = text.chars();
     match (characters.next(), characters.next()) {
@@ -122,7 +125,7 @@ fn has_digits_after(name: &str, index: usize) -> bool {
     }
 }
 
-/// Where the first number over 255 begins among the four of a hostname, and how long it is.
+/// The byte index and length of the first number over 255 among the four of a hostname.
 fn large_number(name: &str) -> Option<(usize, usize)> {
     let mut found = None;
     let mut count = 0usize;
@@ -140,7 +143,7 @@ fn large_number(name: &str) -> Option<(usize, usize)> {
     if count == 4 { found } else { None }
 }
 
-/// Whether a text is a number in decimal.
+/// Whether a text is a decimal number.
 pub(crate) fn is_number(label: &str) -> bool {
     !label.is_empty() && label.trim_start_matches(DIGITS).is_empty()
 }

@@ -1,4 +1,4 @@
-//! Diagnoses of refused patterns: where a text is at fault, and why, in words for its author.
+//! Diagnoses of rejected patterns: where a text is at fault, and why, in words for its author.
 #![tactic(auto)]
 
 mod around;

@@ -1,4 +1,5 @@
-//! The parts of a pattern text that others may refuse: its custom expressions, and its rows of characters.
+//! The parts of a pattern text that a callback may reject: custom expressions, and runs of
+//! characters.
 ghost use Rattle.std.specs.Prelude.{◌≡◌, IfOk, IfSome, Ok, true};
 ghost use Rattle.urlpattern_diagnosis.specs.Faults.{IsSpanOfBody};
 ghost use Rattle.urlpattern_diagnosis.specs.Spans.{IsSpanIn};
@@ -10,7 +11,7 @@ use std::alloc::Global;
 use urlpattern_syntax::error::OutOfMemory;
 use urlpattern_syntax::tokenizer::{Token, TokenType};
 
-/// The first custom expression of a text that is refused, without its parentheses.
+/// The first custom expression of a text that the callback rejects, without its parentheses.
 ///
 /// The error is that of the callback.
 pub fn refused_expression<F: Fn(&str) -> Result<bool, OutOfMemory>>(
@@ -41,9 +42,9 @@ fn span_of_body(text: &str, token: Token<'_>) -> Span
     Span::at(text, token.index + 1, token.value.len())
 }
 
-/// The first row of characters of a text that is refused, as long as it can be.
+/// The first run of characters of a text that the callback rejects. Runs are as long as possible.
 ///
-/// The error is that of the callback, or that memory ran out.
+/// The error is that of the callback, or of an allocation.
 pub fn refused_row<F: Fn(&str) -> Result<bool, OutOfMemory>>(
     alloc: Global,
     text: &str,

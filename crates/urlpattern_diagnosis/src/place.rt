@@ -1,4 +1,4 @@
-//! Where the pattern of a component is in a text that was given.
+//! The place of a component's pattern in a given text.
 ghost use Rattle.std.specs.Prelude.{◌≡◌, IfSome};
 ghost use Rattle.urlpattern_diagnosis.specs.Faults.{IsFaultIn};
 ghost use Rattle.urlpattern_diagnosis.specs.Places.{IsMovedFault, IsMovedSpan, IsPlaceOf};
@@ -8,17 +8,18 @@ use crate::fault::Fault;
 use crate::span::Span;
 use urlpattern_components::ComponentName;
 
-/// Where a pattern is in a text.
+/// The place of a pattern in a text.
 #[derive(Debug, Clone, Copy, PartialEq, Eq)]
 pub struct Place {
-    /// The byte index in the text of what the text has of the pattern.
+    /// The byte index in the text of the pattern, without the bytes that the text lacks.
     pub start: usize,
-    /// How many bytes at the front of the pattern the text lacks: those of the base URL, before a relative path.
+    /// The number of bytes at the beginning of the pattern that the text lacks: those of the base
+    /// URL, before a relative path.
     pub lead: usize,
 }
 
 impl Place {
-    /// The place of a pattern in a text, if all but its first bytes is there.
+    /// The place of a pattern in a text, if all but its first `lead` bytes are at `start`.
     pub fn of(text: &str, part: &str, start: usize, lead: usize) -> Option<Self>
         ensures place { IfSome result (IsPlaceOf text.now part.now) }
         ensures given { IfSome result (λ place. (place.start ≡ start) × (place.lead ≡ lead)) }
@@ -34,8 +35,9 @@ impl Place {
         }
     }
 
-    /// The place of the pattern of a component in a text, where its value, which has this length, begins at `start`. A mark
-    /// before or after the value is no part of the pattern, and what is before a relative path is no part of the value.
+    /// The place of a component's pattern in a text, where its value, of `len` bytes, begins at
+    /// `start`. A mark before or after the value is not part of the pattern, and what is before a
+    /// relative path is not part of the value.
     pub fn of_component(
         text: &str,
         part: &str,
@@ -54,7 +56,7 @@ impl Place {
         }
     }
 
-    /// A fault of the pattern as one of the text.
+    /// Moves a fault of the pattern to the text.
     pub fn moved(self, text: &str, part: &str, fault: Fault) -> Fault
         requires place { IsPlaceOf text.now part.now self }
         requires within { IsFaultIn part.now fault }
@@ -74,7 +76,7 @@ impl Place {
         }
     }
 
-    /// A span of the pattern as one of the text.
+    /// Moves a span of the pattern to the text.
     fn moved_span(self, text: &str, part: &str, span: Span) -> Span
         requires place { IsPlaceOf text.now part.now self }
         requires within { IsSpanIn part.now span }

@@ -1,28 +1,30 @@
-//! How a diagnosis is printed.
+//! Printing of diagnoses.
 
 use crate::diagnosis::Diagnosis;
 use crate::span::Span;
 use std::fmt;
 use unicode_width::UnicodeWidthChar;
 
-/// How many columns of a text are printed at most.
+/// The maximum number of columns that are printed of a text.
 const WIDTH: usize = 80;
 
-/// How many columns of a longer text are printed, beside the dots where it is cut.
+/// The number of columns that are printed of a longer text, apart from the dots where it is cut.
 const CUT_WIDTH: usize = 74;
 
-/// How many columns up to the end of the marks are printed of a longer text, if it has as many.
+/// The number of columns up to the end of the marks that are printed of a longer text, if there are
+/// as many.
 const WIDTH_TO_MARKS: usize = 54;
 
-/// What is printed where a text is cut.
+/// The dots where a text is cut.
 const DOTS: &str = "...";
 
-/// Prints three lines: the reason, the text, and a line that marks the part at fault by `^` and the one that it is at odds with by
-/// `-`.
+/// Prints three lines: the reason, the text, and a line that marks the part at fault with `^` and
+/// the earlier part with `-`.
 ///
-/// The marks are as wide as the characters above them in a terminal. Of a text wider than 80 columns a part is printed, with dots
-/// where it is cut, and a mark that is not in this part is named after the others, with the number of its first character. Tabs and
-/// line ends are printed as spaces.
+/// The marks are as wide as the characters above them in a terminal. Of a text wider than 80
+/// columns a part is printed, with dots where it is cut, and a mark outside of this part is named
+/// after the others, with the number of its first character. Control characters, such as tabs and
+/// line ends, are printed as spaces.
 impl fmt::Display for Diagnosis {
     fn fmt<W: fmt::Write>(&self, f: &mut fmt::Formatter<W>) -> fmt::Result {
         writeln!(f, "{}", self.reason)?;
@@ -58,7 +60,7 @@ impl Diagnosis {
         Span { start, end }
     }
 
-    /// From where the text is printed so that the marks are in it.
+    /// The byte index from which the text is printed, so that the marks are visible.
     fn shown_from(&self, marks: Span) -> usize {
         let room = width_between(&self.text, marks.start, marks.end).max(WIDTH_TO_MARKS);
         let mut left = width_between(&self.text, 0, marks.end);
@@ -71,7 +73,8 @@ impl Diagnosis {
         self.text.len()
     }
 
-    /// From the first mark to the last, if there is room for both, or else the part at fault.
+    /// The span from the first mark to the last, if there is room for both, or else the part at
+    /// fault.
     fn marks_to_show(&self) -> Span {
         let span = self.fault.span;
         let Some(earlier) = self.fault.earlier else {
@@ -88,7 +91,7 @@ impl Diagnosis {
         }
     }
 
-    /// Writes what is shown of the text.
+    /// Writes the part of the text that is printed.
     fn write_text<W: fmt::Write>(&self, shown: Span, f: &mut fmt::Formatter<W>) -> fmt::Result {
         if shown.start > 0 {
             f.write_str(DOTS)?;
@@ -100,7 +103,7 @@ impl Diagnosis {
         Ok(())
     }
 
-    /// Writes a part of the text, with spaces for tabs and line ends.
+    /// Writes a part of the text, with spaces for control characters.
     fn write_part<W: fmt::Write>(&self, part: Span, f: &mut fmt::Formatter<W>) -> fmt::Result {
         for c in self.part(part).chars() {
             f.write_char(if c.is_control() { ' ' } else { c })?;
@@ -132,7 +135,7 @@ impl Diagnosis {
         Ok(())
     }
 
-    /// Writes where a part is that is not printed.
+    /// Writes a part that is not printed, and its place.
     fn write_left_out<W: fmt::Write>(&self, part: Span, f: &mut fmt::Formatter<W>) -> fmt::Result {
         let front = Span {
             start: 0,
@@ -149,7 +152,7 @@ impl Diagnosis {
         self.text.get(span.start..span.end).unwrap_or("")
     }
 
-    /// What follows the last character that is marked.
+    /// The byte index after the last marked character.
     fn last_marked(&self) -> usize {
         let end = match self.fault.earlier {
             Some(earlier) => earlier.end.max(self.fault.span.end),
@@ -175,17 +178,17 @@ impl Diagnosis {
     }
 }
 
-/// Whether a span has the byte at an index.
+/// Whether a span contains the byte at an index.
 fn has(span: Span, index: usize) -> bool {
     span.start <= index && index < span.end
 }
 
-/// Whether two spans have a byte in common.
+/// Whether two spans overlap.
 fn meets(span: Span, other: Span) -> bool {
     span.start < other.end && other.start < span.end
 }
 
-/// How many columns the characters take that begin from one byte on up to another.
+/// The number of columns of the characters that begin between two byte indices.
 fn width_between(text: &str, start: usize, end: usize) -> usize {
     let mut width = 0usize;
     for (index, c) in text.char_indices() {
@@ -196,7 +199,7 @@ fn width_between(text: &str, start: usize, end: usize) -> usize {
     width
 }
 
-/// How many columns a character takes as it is printed.
+/// The number of columns of a character as it is printed.
 fn width_of(c: char) -> usize {
     if c.is_control() {
         return 1;

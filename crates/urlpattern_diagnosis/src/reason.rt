@@ -1,4 +1,4 @@
-//! Why a pattern is refused, in words for its author.
+//! Why a pattern is rejected, in words for its author.
 
 use crate::colon::colon_sentence;
 use crate::diagnosis::Subject;
@@ -15,21 +15,22 @@ use urlpattern_components::ComponentName;
 use urlpattern_syntax::error::{Error, ParserError, RegexFault, TokenizerError};
 use urlpattern_syntax::tokenizer::TokenType;
 
-/// What a reason speaks of.
+/// What a reason is about.
 #[derive(Clone, Copy)]
 pub(crate) struct Faulty<'a> {
     /// What is at fault.
     pub(crate) subject: Subject,
     /// The part at fault.
     pub(crate) part: &'a str,
-    /// The part that this is at odds with, or an earlier token that is at fault too.
+    /// The part with which the part at fault conflicts, or an earlier token that is at fault too.
     pub(crate) earlier: Option<&'a str>,
-    /// What explains the fault besides.
+    /// What else explains the fault.
     pub(crate) hint: Hint,
 }
 
 impl Faulty<'_> {
-    /// A sentence about the part at fault, another text, and the sign of the hint, or that of which the part is the full-width form.
+    /// A sentence about the part at fault, another text, and the sign of the hint, or else the
+    /// ASCII form of a full-width part.
     pub(crate) fn sentence<'a>(&'a self, words: &'static str, other: &'a str) -> Sentence<'a> {
         let sign = match self.hint.sign() {
             Some(sign) => sign,
@@ -44,9 +45,7 @@ impl Faulty<'_> {
     }
 }
 
-/// Why a pattern is refused with this error, and what to do.
-///
-/// The error is that memory ran out.
+/// Why a pattern is rejected with this error, and what to do.
 pub(crate) fn reason_of(
     alloc: Global,
     error: &Error,
@@ -57,7 +56,7 @@ pub(crate) fn reason_of(
     Ok(reason)
 }
 
-/// Appends why a pattern is refused.
+/// Appends why a pattern is rejected.
 fn append_reason(
     alloc: Global,
     out: &mut String,
@@ -121,7 +120,7 @@ fn append_earlier(out: &mut String, token: &str) -> Result<(), AllocError> {
     out.push_str("` is at fault too")
 }
 
-/// Appends why a custom expression does not have a character that is not ASCII, and how URLs have it.
+/// Appends why a custom expression contains no character that is not ASCII, and how URLs encode it.
 fn append_ascii_reason(
     alloc: Global,
     out: &mut String,
@@ -135,7 +134,8 @@ fn append_ascii_reason(
         .append_to(out)
 }
 
-/// What is said of a character of a custom expression that is not ASCII, and of its percent-encoding.
+/// The words for a character in a custom expression that is not ASCII, with `#` for its
+/// percent-encoding.
 fn ascii_words(faulty: &Faulty<'_>) -> &'static str {
     match (faulty.subject, faulty.hint) {
         (_, Hint::Wide(_)) => {
@@ -157,7 +157,7 @@ fn ascii_words(faulty: &Faulty<'_>) -> &'static str {
     }
 }
 
-/// What is said of a parenthesis where no custom expression begins.
+/// The words for a parenthesis where no custom expression begins.
 fn expression_words(fault: RegexFault, hint: Hint) -> &'static str {
     match (fault, hint) {
         (_, Hint::ClosedBy(_)) => {
@@ -199,7 +199,7 @@ fn expression_words(fault: RegexFault, hint: Hint) -> &'static str {
     }
 }
 
-/// What is said of a name that may not occur again.
+/// The words for a name that occurs twice.
 fn name_words(hint: Hint) -> &'static str {
     match hint {
         Hint::NameEnds(_) => {
@@ -209,7 +209,7 @@ fn name_words(hint: Hint) -> &'static str {
     }
 }
 
-/// What is said of a token that is not expected where it stands.
+/// The words for an unexpected token.
 fn stop_words(expected: TokenType, found: TokenType, hint: Hint) -> &'static str {
     let is_in_group = matches!(expected, TokenType::Close);
     match found {
@@ -220,7 +220,7 @@ fn stop_words(expected: TokenType, found: TokenType, hint: Hint) -> &'static str
     }
 }
 
-/// What is said of a token that does not stand in a group.
+/// The words for a token that a group does not contain.
 fn group_words(found: TokenType, hint: Hint) -> &'static str {
     match (found, hint) {
         (TokenType::End, Hint::Search) => {
@@ -241,7 +241,7 @@ fn group_words(found: TokenType, hint: Hint) -> &'static str {
     }
 }
 
-/// What is said of a modifier that does not stand where it does, maybe in a group.
+/// The words for a misplaced modifier, perhaps in a group.
 fn modifier_words(is_in_group: bool, hint: Hint) -> &'static str {
     match hint {
         Hint::Word => {
@@ -277,7 +277,7 @@ fn modifier_words(is_in_group: bool, hint: Hint) -> &'static str {
     }
 }
 
-/// Appends why a part is no such component or no URL, by the reason of `url`.
+/// Appends why a part is no such component or no URL, with the reason of `url`.
 fn append_url_reason(
     alloc: Global,
     out: &mut String,
@@ -290,7 +290,7 @@ fn append_url_reason(
         .append_to(out)
 }
 
-/// What is said of a part that is no such component or no URL, and of the reason of `url`.
+/// The words for a part that is no such component or no URL, with `#` for the reason of `url`.
 fn url_words(reason: ParseError, faulty: &Faulty<'_>) -> &'static str {
     let part = faulty.part;
     match (faulty.subject, reason) {
@@ -317,7 +317,7 @@ fn url_words(reason: ParseError, faulty: &Faulty<'_>) -> &'static str {
     }
 }
 
-/// Appends why an engine refuses an expression, in the words of the crate `regex`.
+/// Appends why an engine rejects an expression, in the words of the crate `regex`.
 fn append_engine_reason(
     alloc: Global,
     out: &mut String,

@@ -1,9 +1,9 @@
-//! Why a text has no protocol, in words.
+//! Reasons why a text has no protocol.
 
 use crate::host::is_number;
 use crate::sentence::Sentence;
 
-/// What is said of a scheme without its colon, by what is in its place.
+/// The words for a scheme without its colon, by what is in place of the colon.
 pub(crate) fn missing_words(sign: &str) -> &'static str {
     if sign.is_empty() {
         "`:` is missing before `//`: a protocol ends with it, as in `https://`"
@@ -12,7 +12,8 @@ pub(crate) fn missing_words(sign: &str) -> &'static str {
     }
 }
 
-/// Why a pattern needs a base URL, and what to write: a pattern has neither the `^` nor the `$` that a regular expression may have.
+/// The reason why a pattern needs a base URL, and what to write, without the `^` and `$` of a
+/// regular expression.
 pub(crate) fn base_sentence(part: &str) -> Sentence<'_> {
     if let Some(words) = misread_words(part) {
         return Sentence {
@@ -42,7 +43,8 @@ pub(crate) fn base_sentence(part: &str) -> Sentence<'_> {
     }
 }
 
-/// What a URL has before a text that is relative to it: also a hostname, unless the text may begin with one, as it has a dot there.
+/// What precedes a relative URL in an absolute one: also a hostname, unless the relative URL may
+/// begin with one, since it has a dot there.
 fn front_of_url(text: &str) -> &'static str {
     if text.starts_with("//") {
         return "https:";
@@ -59,7 +61,8 @@ fn front_of_url(text: &str) -> &'static str {
     }
 }
 
-/// What is said of a text without a protocol that may be meant to have one, or is no URL at all. `None`: nothing tells.
+/// The words for a text without a protocol that may be meant to have one, or is no URL at all.
+/// `None`: nothing suggests that.
 fn misread_words(text: &str) -> Option<&'static str> {
     if is_quoted(text) {
         Some(
@@ -90,7 +93,7 @@ fn misread_words(text: &str) -> Option<&'static str> {
     }
 }
 
-/// Whether a text begins with a method of HTTP.
+/// Whether a text begins with an HTTP method.
 fn has_method(text: &str) -> bool {
     match text.split_once(' ') {
         Some((word, _)) => matches!(
@@ -128,7 +131,7 @@ fn is_of_numbers(text: &str) -> bool {
     }
 }
 
-/// What is said of a text that is no protocol.
+/// The words for a text that is no protocol.
 pub(crate) fn protocol_words(part: &str) -> &'static str {
     if part.starts_with('^') {
         "`@` is no protocol: a pattern matches a whole URL, without `^`"

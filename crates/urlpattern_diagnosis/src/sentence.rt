@@ -2,10 +2,10 @@
 
 use std::alloc::AllocError;
 
-/// A sentence about two texts and a sign, or fewer of them.
+/// A sentence about up to two texts and a sign.
 #[derive(Clone, Copy)]
 pub(crate) struct Sentence<'a> {
-    /// Its words, with `@` for the first text, `#` for the second and `~` for the sign.
+    /// The words, with `@` for the first text, `#` for the second and `~` for the sign.
     pub(crate) words: &'static str,
     /// The first text.
     pub(crate) text: &'a str,
@@ -17,8 +17,6 @@ pub(crate) struct Sentence<'a> {
 
 impl Sentence<'_> {
     /// Appends the sentence.
-    ///
-    /// The error is that memory ran out.
     pub(crate) fn append_to(&self, out: &mut String) -> Result<(), AllocError> {
         for c in self.words.chars() {
             match c {
@@ -32,7 +30,7 @@ impl Sentence<'_> {
     }
 }
 
-/// Appends a text as a part of a line: tabs and line ends are spaces there.
+/// Appends a text as part of a line, with spaces for control characters.
 fn append_line(out: &mut String, text: &str) -> Result<(), AllocError> {
     for c in text.chars() {
         out.push(if c.is_control() { ' ' } else { c })?;

@@ -2,7 +2,7 @@
 ghost use Rattle.std.specs.Prelude.{◌≡◌, length};
 ghost use Rattle.urlpattern_diagnosis.specs.Spans.{IsSpanAt, IsSpanIn, whole_span};
 
-/// A part of a text, by the byte indices of its first character and of what follows its last.
+/// A part of a text, by the byte indices of its first character and after its last.
 ///
 /// A test compares a span, if there is one, with a recorded list of two numbers:
 ///
@@ -17,14 +17,14 @@ ghost use Rattle.urlpattern_diagnosis.specs.Spans.{IsSpanAt, IsSpanIn, whole_spa
 /// ```
 #[derive(Debug, Clone, Copy, PartialEq, Eq)]
 pub struct Span {
-    /// Where it begins.
+    /// The index of the first byte.
     pub start: usize,
-    /// Where it ends.
+    /// The index after the last byte.
     pub end: usize,
 }
 
 impl Span {
-    /// A whole text.
+    /// The span of a whole text.
     pub fn whole(text: &str) -> Self
         ensures whole { result ≡ whole_span text.now }
         ensures within { IsSpanIn text.now result }
@@ -35,7 +35,8 @@ impl Span {
         }
     }
 
-    /// So many bytes of a text from a place on, or the whole text if these are no characters of it.
+    /// The span of `len` bytes from `start` on, or of the whole text if these are not whole
+    /// characters of it.
     pub fn at(text: &str, start: usize, len: usize) -> Self
         ensures at { IsSpanAt text.now start len result }
         ensures within { IsSpanIn text.now result }

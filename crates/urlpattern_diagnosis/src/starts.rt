@@ -3,9 +3,11 @@ ghost use Rattle.std.specs.Prelude.{◌≤◌, length};
 
 use urlpattern_components::{ComponentName, Eight};
 
-/// Where a component begins in a constructor string that is split into these, a byte index.
+/// The byte index at which a component begins in a constructor string that is split into
+/// `components`.
 ///
-/// Text and components are read side by side: each component follows the signs before it, which may be escaped.
+/// Text and components are read side by side: each component follows the signs before it, which may
+/// be escaped.
 pub fn component_start(
     text: &str,
     components: &Eight<Option<&str>>,
@@ -49,7 +51,7 @@ fn after_signs<'a>(
     }
 }
 
-/// Whether a component is there and empty.
+/// Whether a component is present and empty.
 fn is_empty(component: &Option<&str>) -> bool {
     match component {
         Some(text) => text.is_empty(),
@@ -57,7 +59,7 @@ fn is_empty(component: &Option<&str>) -> bool {
     }
 }
 
-/// The text after this part, if it begins with it.
+/// The text after this part, if the text begins with it.
 fn after<'a>(text: &'a str, part: &str) -> &'a str
     ensures { length result.now ≤ length text.now }
 {
@@ -67,7 +69,8 @@ fn after<'a>(text: &'a str, part: &str) -> &'a str
     }
 }
 
-/// The text after this character, which may be escaped, and after what is skipped then.
+/// The text after this character, which may be escaped, and after the tabs and line ends that
+/// follow.
 fn after_sign(text: &str, sign: char) -> &str
     ensures { length result.now ≤ length text.now }
 {
@@ -78,7 +81,7 @@ fn after_sign(text: &str, sign: char) -> &str
     }
 }
 
-/// The text after two slashes, if it begins with both.
+/// The text after two slashes, if the text begins with both.
 fn after_slashes(text: &str) -> &str
     ensures { length result.now ≤ length text.now }
 {
@@ -91,7 +94,7 @@ fn after_slashes(text: &str) -> &str
     }
 }
 
-/// The text after the tabs and line ends that it begins with.
+/// The text after the tabs and line ends with which it begins.
 fn after_ignored(text: &str) -> &str
     ensures { length result.now ≤ length text.now }
 {

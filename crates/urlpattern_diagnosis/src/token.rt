@@ -1,4 +1,4 @@
-//! What is at fault where a text has no token.
+//! Faults where no token begins.
 ghost use Rattle.std.specs.Prelude.{◌≡◌, ◌≤◌, ◌++◌, codes, length, List, ℕ, IfNone, IfOk, IfSome};
 ghost use Rattle.std.specs.Str.{chars};
 ghost use Rattle.urlpattern_diagnosis.specs.Faults.{IsBodyFault, IsFaultIn, IsAfterFront, IsFirstFault, IsNameFault, IsOpenBracket, IsRefusedFront, HasTokenFault, is_end_kind, is_of_hostname};
@@ -14,9 +14,8 @@ use urlpattern_syntax::error::{OutOfMemory, TokenizerError};
 use urlpattern_syntax::text::split_first;
 use urlpattern_syntax::tokenizer::TokenType;
 
-/// The fault of a text whose first fault is this one, at this place, with an earlier token that is at fault too.
-///
-/// The error is that memory ran out.
+/// The fault of a text whose first fault is `fault`, at a place, with an earlier token that is at
+/// fault too.
 pub(crate) fn first_fault(
     alloc: Global,
     component: Option<ComponentName>,
@@ -52,7 +51,7 @@ fn is_end(kind: TokenType) -> bool
     matches!(kind, TokenType::End)
 }
 
-/// The fault of a text whose first fault is this one, at this place, in the pattern of this component.
+/// The fault of a text whose first fault is `fault`, at a place in the pattern of this component.
 fn token_fault(
     component: Option<ComponentName>,
     text: &str,
@@ -75,8 +74,8 @@ fn token_fault(
     }
 }
 
-/// The fault of a text where no name follows the colon at this place: the colon, or in a hostname a `[` before it that is not
-/// closed.
+/// The fault of a text where no name follows the colon at a place: the colon, or in a hostname an
+/// unclosed `[` before it.
 fn name_fault(component: Option<ComponentName>, text: &str, place: usize) -> Fault
     ensures fault { IsNameFault component text.now place result }
     ensures within { IsFaultIn text.now result }
@@ -97,7 +96,7 @@ fn is_hostname(component: Option<ComponentName>) -> bool
     matches!(component, Some(ComponentName::Hostname))
 }
 
-/// Where the last bracket of a text is, if it is a `[`.
+/// The place of the last square bracket of a text, if it is a `[`.
 fn open_bracket(text: &str) -> Option<usize>
     ensures { IsOpenBracket text.now result }
 {
@@ -114,7 +113,7 @@ fn open_bracket(text: &str) -> Option<usize>
     None
 }
 
-/// The fault of a text that has no custom expression where this body follows a `(`, which is at this place.
+/// The fault of a text where `body` follows the `(` at a place, and is no custom expression.
 fn body_fault(text: &str, place: usize, body: &str) -> Fault
     requires faulty { (reported : List ℕ) × IsFaultAt (codes "(" ++ chars body.now) (InvalidRegex reported) }
     requires within { length body.now ≤ length text.now }
@@ -134,8 +133,8 @@ fn body_fault(text: &str, place: usize, body: &str) -> Fault
     }
 }
 
-/// What is left of a body from where it may not go on, and how many bytes of that may not be there. `None`: the text ends before
-/// the body does.
+/// The rest of a body from its first invalid character on, and the number of invalid bytes. `None`:
+/// the text ends before the body does.
 fn refused_in(body: &str) -> Option<(&str, usize)>
     requires faulty { (reported : List ℕ) × IsFaultAt (codes "(" ++ chars body.now) (InvalidRegex reported) }
     requires unmarked { ¬ BeginsWith (is_among (codes "?)")) (chars body.now) }

@@ -1,4 +1,4 @@
--- What is fixed of the inputs that a pattern matches, and the texts of an input.
+-- The fixed texts of the inputs that a pattern matches, and the texts of an input.
 use Rattle.std.specs.Prelude.{◌≡◌, ℕ, List, Option, None, Some, chars, option_map}
 use Rattle.urlpattern_index.specs.Paths.{FitsPath, PathView}
 use Rattle.urlpattern_index.specs.declared.fixed.{Address.Address, Fixed.Fixed, KnownPath.KnownPath}
@@ -16,6 +16,7 @@ pub record AddressTexts : Type 0 where
   pub hostname : List ℕ
   pub pathname : List ℕ
 
+-- the given text is the fixed text, if there is one
 abbrev pub IsText : Option (List ℕ) → List ℕ → Type 0
 IsText (Some text) given = given ≡ text
 IsText None given = Unit {0}
@@ -26,7 +27,7 @@ pub record HasTexts (fixed : FixedTexts) (address : AddressTexts) : Type 0 where
   pub hostname : IsText fixed.hostname address.hostname
   pub pathname : FitsPath fixed.pathname address.pathname
 
--- what contracts see of paths, fixed texts and addresses
+-- the view of what is known of a path
 abbrev pub path_view : KnownPath → PathView
 path_view path = record {
   parts = parts_view path.parts.now;

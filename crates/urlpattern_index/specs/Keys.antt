@@ -1,4 +1,4 @@
--- The hashes of an address, and the keys that are made of them.
+-- The hashes of an address, and the keys made of them.
 use Rattle.std.specs.Prelude.{◌≡◌, ◌<◌, ℕ, ◌+◌, ◌*◌, ◌%◌, ◌^◌, ◌==◌, if◌then◌else◌, Bool, true, false, List, [], ◌∷◌, ◌++◌, encode_utf8_all, length, slice_index_or, take, Option, None, Some}
 use Rattle.std.specs.Hash.FoldHasher as folding
 use Rattle.urlpattern_index.specs.FixedTexts.{AddressTexts}
@@ -7,30 +7,32 @@ use Rattle.urlpattern_index.specs.declared.form.Form.{Form}
 
 -- ---- hashes
 
--- a hash after one more value
+-- a hash with another value mixed in
 unfoldable pub mixed : (hash value : ℕ) → ℕ
 mixed hash value = ((hash * 1099511628211) % 2 ^ 64 + value) % 2 ^ 64
 
--- that of the bytes of a text
+-- the hash of the bytes of a text
 abbrev pub text_hash : List ℕ → ℕ
 text_hash text = folding.finish (folding.write folding.initial (encode_utf8_all text))
 
--- that of a text, and 0 where there is none
+-- the hash of a text, 0 if there is none
 abbrev pub option_hash : Option (List ℕ) → ℕ
 option_hash (Some text) = text_hash text
 option_hash None = 0
 
--- the hashes of the segments of a path, which slashes separate; what precedes the path in its first segment has this hash
+-- the hashes of the segments of a path, which are separated by slashes; `hash` is that of what
+-- precedes the path in its first segment
 abbrev pub segment_hashes : (hash : ℕ) → List ℕ → List ℕ
 segment_hashes hash [] = hash ∷ []
 segment_hashes hash (c ∷ path) = if c == 47 then hash ∷ segment_hashes 0 path else segment_hashes (mixed hash c) path
 
--- Hashes of protocol and hostname, and of the first segments of the path.
+-- The hashes of protocol and hostname, and of the first segments of the path.
 pub record Hashes : Type 0 where
   pub protocol : ℕ
   pub hostname : ℕ
   pub segments : List ℕ
 
+-- the hashes of an address, with at most 13 segments
 abbrev pub hashes_of : AddressTexts → Hashes
 hashes_of address = record {
   protocol = text_hash address.protocol;
@@ -43,8 +45,8 @@ hashes_view hashes = record { protocol = hashes.protocol; hostname = hashes.host
 
 -- ---- keys
 
--- Which texts a key is made of: protocol, hostname, and each of the first segments of the path (true: its text, false: it can be any);
--- and whether the path has no more segments, or has some.
+-- Which texts have a part in a key: protocol, hostname, and each of the first segments of the path
+-- (`false`: the segment is arbitrary); and whether the path has no more segments, or has some.
 pub record FormView : Type 0 where
   pub has_protocol : Bool
   pub has_hostname : Bool
@@ -54,15 +56,16 @@ pub record FormView : Type 0 where
 abbrev pub form_view : Form → FormView
 form_view form = record { has_protocol = form.has_protocol; has_hostname = form.has_hostname; segments = form.segments.items; is_whole = form.is_whole }
 
--- so many segments of a path are as many as those of a form, or more where the path has others
+-- `count` is the number of segments that a form requires, or above it if the path has more
 abbrev pub AreEnough : (is_whole : Bool) → (segments count : ℕ) → Type 0
 AreEnough true segments count = count ≡ segments
 AreEnough false segments count = segments < count
 
+-- the path has as many segments as the form requires
 abbrev pub Fits : FormView → Hashes → Type 0
 Fits form hashes = AreEnough form.is_whole (length form.segments) (length hashes.segments)
 
--- the group of a form: that of whole paths with so many segments, or the first, of paths that have more
+-- the group of a form: for whole paths that of their number of segments, else the first
 abbrev pub group_of_form : FormView → ℕ
 group_of_form form = if form.is_whole then length form.segments else 0
 
@@ -70,22 +73,22 @@ group_of_form form = if form.is_whole then length form.segments else 0
 abbrev pub group : List (List FormView) → ℕ → List FormView
 group forms number = slice_index_or forms number []
 
--- the forms that a path of so many segments can fit
+-- the forms that a path with `count` segments can fit
 abbrev pub forms_for : List (List FormView) → (count : ℕ) → List FormView
 forms_for forms count = group forms 0 ++ group forms count
 
--- a hash after those of the segments whose text counts, and a 1 for each other
+-- a hash with those of the segments mixed in, and a 1 for each arbitrary segment
 abbrev pub mixed_segments : (hash : ℕ) → List Bool → (hashes : List ℕ) → ℕ
 mixed_segments hash [] hashes = hash
 mixed_segments hash (has_text ∷ segments) [] = hash
 mixed_segments hash (has_text ∷ segments) (own ∷ hashes) = mixed_segments (mixed hash (if has_text then own else 1)) segments hashes
 
--- the key of an address, by a form
+-- the key of an address, in a form
 abbrev pub form_key : FormView → Hashes → ℕ
 form_key form hashes =
     let hosts = mixed (if form.has_protocol then hashes.protocol else 0) (if form.has_hostname then hashes.hostname else 0) in
     mixed (mixed_segments hosts form.segments hashes.segments) (if form.is_whole then 1 else 0)
 
--- the address fits the form, and has this key by it
+-- the address fits the form, and has this key in it
 abbrev pub IsKeyBy : FormView → Hashes → (key : ℕ) → Type 0
 IsKeyBy form hashes key = Fits form hashes × (key ≡ form_key form hashes)

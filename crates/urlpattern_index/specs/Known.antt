@@ -1,4 +1,4 @@
--- What is known of the texts that a component matches, by its parts.
+-- What the parts of a component say about the texts that it matches.
 use Rattle.std.specs.Prelude.{◌≡◌, ℕ, false, true, List, [], ◌∷◌, IsTrue, Option}
 use Rattle.urlpattern_matcher.specs.Components.{IsComponentOf, component_view}
 use Rattle.urlpattern_matcher.specs.declared.component.Component.{Component}
@@ -15,7 +15,7 @@ abbrev pub IsOfParts : {E : Type 0} → Engine E → ComponentParts → Componen
 IsOfParts engine kept component =
     IsComponentOf engine (kept_options kept) (kept_parts kept) (component_view component)
 
--- each text that the component matches is one of these
+-- each text that the component matches has the property `Is`
 abbrev pub MatchesOnly : {E : Type 0} → (answer : E → List ℕ → Option Captures) → Component E
     → (Is : List ℕ → Type 0) → Type 0
 MatchesOnly answer component Is =
@@ -25,7 +25,7 @@ MatchesOnly answer component Is =
 abbrev pub FitsKept : ComponentParts → List ℕ → Type 0
 FitsKept kept text = FitsParts true (kept_options kept).delimiter (kept_parts kept) text
 
--- these are none of the parts, or the plain fixed text that they begin with, where case is kept
+-- `first` is empty, or the plain fixed text that the parts begin with, where case is kept
 abbrev pub IsFirstText : OptionsView → List PartView → (first : List PartView) → Type 0
 IsFirstText options parts [] = Unit {0}
 IsFirstText options parts (first ∷ []) =

@@ -4,19 +4,19 @@ use Rattle.std.specs.HashMap.{HashMap, get}
 use Rattle.urlpattern_index.specs.FixedTexts.{AddressTexts, FixedTexts, HasTexts}
 use Rattle.urlpattern_index.specs.Keys.{Fits, FormView, Hashes, form_key, forms_for, hashes_of}
 
--- The keys of the patterns, by number, and the forms by which they are made, in groups.
+-- The keys of the patterns, by number, and the forms of the keys, in groups.
 pub record Listing : Type 0 where
   pub keys : List ℕ
   pub forms : List (List FormView)
 
 -- ---- numbers by key
 
--- the numbers of the keys that are this one, where the first of the list has a number
+-- the numbers under which a key is in a list, of which the first number is `first`
 abbrev pub numbers_of : (key first : ℕ) → List ℕ → List ℕ
 numbers_of key first [] = []
 numbers_of key first (k ∷ keys) = if key == k then first ∷ numbers_of key (first + 1) keys else numbers_of key (first + 1) keys
 
--- what each key has
+-- the numbers of each key
 abbrev pub NumbersByKey : Type 0
 NumbersByKey = (key : ℕ) → List ℕ
 
@@ -24,48 +24,48 @@ NumbersByKey = (key : ℕ) → List ℕ
 abbrev pub numbers_at : {A S : Type 0} → HashMap ℕ (Vec ℕ A) S → NumbersByKey
 numbers_at numbers = λ key. unwrap_or (option_map (λ listed. listed.items) (get nat_eq numbers key)) []
 
--- they are the numbers of these keys
+-- the numbers of each key are those under which it is in the list
 abbrev pub AreListed : (keys : List ℕ) → NumbersByKey → Type 0
 AreListed keys numbers = (key : ℕ) → numbers key ≡ numbers_of key 0 keys
 
--- a key has numbers only if there is a mark for its remainder
+-- a key has numbers only if its remainder is marked
 abbrev pub AreMarked : (marks : List Bool) → NumbersByKey → Type 0
 AreMarked marks numbers = (key : ℕ) → slice_index_or marks (key % 1024) true ≡ false → numbers key ≡ []
 
--- a key has one more number, and the others have what they had
+-- a key gains a number, and the other keys keep theirs
 abbrev pub GainsNumber : (old new : NumbersByKey) → (key number : ℕ) → Type 0
 GainsNumber old new key number = (other : ℕ) → new other ≡ old other ++ (if other == key then number ∷ [] else [])
 
--- each key has what it had
+-- each key keeps its numbers
 abbrev pub HaveSameNumbers : (old new : NumbersByKey) → Type 0
 HaveSameNumbers old new = (key : ℕ) → new key ≡ old key
 
--- ---- a number less
+-- ---- removing a number
 
--- a number above another becomes less by one
+-- `other`, lowered by one if it is above `number`
 abbrev pub lowered : (number other : ℕ) → ℕ
 lowered number other = if nat_lt number other then other - 1 else other
 
--- the others, where those above it become less by one
+-- a list without a number, with each number above it lowered by one
 abbrev pub without : (number : ℕ) → List ℕ → List ℕ
 without number list = map (lowered number) (filter (λ other. not (other == number)) list)
 
--- so it is with what each key has
+-- each key loses a number, and each number above it is lowered by one
 abbrev pub LosesNumber : (old new : NumbersByKey) → (number : ℕ) → Type 0
 LosesNumber old new number = (key : ℕ) → new key ≡ without number (old key)
 
 -- ---- least numbers
 
--- the least number of which this is true, if there is one
+-- the least number of which `P` is true, if there is one
 abbrev pub IsLeast : (ℕ → Type 0) → Option ℕ → Type 0
 IsLeast P (Some least) = P least × ((number : ℕ) → P number → least ≤ number)
 IsLeast P None = (number : ℕ) → ¬ P number
 
--- the least number of a list that is not below another, if there is one
+-- the least number of a list that is at or above `from`, if there is one
 abbrev pub IsFirstFrom : (from : ℕ) → List ℕ → Option ℕ → Type 0
 IsFirstFrom from list = IsLeast (λ number. (from ≤ number) × Contains list number)
 
--- the lesser of two numbers that may be there
+-- the lesser of two optional numbers
 abbrev pub lesser : Option ℕ → Option ℕ → Option ℕ
 lesser (Some a) (Some b) = Some (min a b)
 lesser (Some a) None = Some a
@@ -73,23 +73,25 @@ lesser None b = b
 
 -- ---- what is found
 
--- the pattern of this number is found by one of the forms: the address has its key
+-- the pattern with this number is found by one of the forms: its key is that of the address
 abbrev pub FindsBy : (forms : List FormView) → (keys : List ℕ) → Hashes → (number : ℕ) → Type 0
 FindsBy forms keys hashes number =
     (form : FormView) × Contains forms form × Fits form hashes × (slice_get keys number ≡ Some (form_key form hashes))
 
--- the pattern of this number, not below another, is found by one of the forms
+-- the pattern with this number, at or above `from`, is found by one of the forms
 abbrev pub FindsByFrom : (forms : List FormView) → (keys : List ℕ) → Hashes → (from number : ℕ) → Type 0
 FindsByFrom forms keys hashes from number = (from ≤ number) × FindsBy forms keys hashes number
 
--- the pattern of this number, not below another, is found by the form
+-- the pattern with this number, at or above `from`, is found by the form
 abbrev pub FindsFrom : FormView → (keys : List ℕ) → Hashes → (from number : ℕ) → Type 0
 FindsFrom form keys hashes from number = (from ≤ number) × Fits form hashes × (slice_get keys number ≡ Some (form_key form hashes))
 
+-- the pattern with this number is found by the forms for the number of segments
 abbrev pub Finds : Listing → Hashes → (number : ℕ) → Type 0
 Finds listing hashes number = FindsBy (forms_for listing.forms (length hashes.segments)) listing.keys hashes number
 
--- A pattern has the next number. It is found by each address that has its fixed texts, and the others as before.
+-- A pattern gets the next number. An address that has its fixed texts finds it, and what was found
+-- before still is.
 pub record GetsPattern (old new : Listing) (fixed : FixedTexts) : Type 0 where
   pub one_more : length new.keys ≡ length old.keys + 1
   pub others : (hashes : Hashes) (number : ℕ) → Finds old hashes number → Finds new hashes number

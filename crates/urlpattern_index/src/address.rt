@@ -7,10 +7,11 @@ use crate::fixed::Address;
 use crate::hashes::{mixed, text_hash};
 use arrayvec::ArrayVec;
 
-/// How many segments of a path have a hash: one more than a form has at most.
+/// The number of path segments that are hashed: one more than a form has at most.
 pub(crate) const SEGMENTS: usize = 13;
 
-/// The hashes by which patterns are looked up: of the protocol, of the hostname and of the first segments of the pathname.
+/// The hashes by which patterns are looked up: of the protocol, the hostname and the first segments
+/// of the pathname.
 #[derive(Debug, Drop)]
 pub struct AddressHashes {
     pub(crate) protocol: u64,
@@ -19,7 +20,7 @@ pub struct AddressHashes {
 }
 
 impl AddressHashes {
-    /// The hashes of no address yet.
+    /// Creates hashes to be filled with those of an address.
     pub fn new() -> Self {
         Self {
             protocol: 0,
@@ -28,9 +29,9 @@ impl AddressHashes {
         }
     }
 
-    /// Replaces the hashes by those of an address. It does not allocate.
+    /// Replaces the hashes by those of an address. Does not allocate.
     ///
-    /// They are written in place, since a copy of what was just written takes longer than the writing.
+    /// The hashes are written in place, since copying them takes longer than computing them.
     pub fn fill(&mut self, address: Address<'_>)
         ensures { hashes_view self.new ≡ hashes_of (address_texts address.entry) }
     {
@@ -41,7 +42,7 @@ impl AddressHashes {
     }
 }
 
-/// Appends the hashes of the first segments of a path to none.
+/// Appends the hashes of a path's first segments to an empty list.
 fn push_segments(hashes: &mut ArrayVec<u64, SEGMENTS>, path: &str)
     requires { hashes.old.items ≡ [] }
     ensures { hashes.new.items ≡ take 13 (segment_hashes 0 (chars path.now)) }

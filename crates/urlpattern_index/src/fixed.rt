@@ -1,21 +1,21 @@
-//! What is fixed of the inputs that a pattern matches, and the texts of an input.
+//! The fixed texts of the inputs that a pattern matches, and the texts of an input.
 ghost use Rattle.urlpattern_index.specs.FixedTexts.{AddressTexts, HasTexts, fixed_texts};
 
 use urlpattern_syntax::parser::Part;
 
-/// What is fixed of the inputs that a pattern matches.
+/// The fixed texts of the inputs that a pattern matches.
 #[derive(Debug, Clone, Copy, Drop)]
 pub struct Fixed<'a> {
-    /// The protocol. `None`: it can be any.
+    /// The protocol. `None`: any protocol.
     pub protocol: Option<&'a str>,
-    /// The hostname. `None`: it can be any.
+    /// The hostname. `None`: any hostname.
     pub hostname: Option<&'a str>,
     /// What is known of the pathname.
     pub pathname: KnownPath<'a>,
 }
 
 impl Fixed<'_> {
-    /// Nothing is fixed.
+    /// Fixes nothing.
     pub fn nothing() -> Self
         ensures { (address : AddressTexts) → HasTexts (fixed_texts result) address }
     {
@@ -31,14 +31,14 @@ impl Fixed<'_> {
     }
 }
 
-/// The parts that a pathname is made up of, or those that it begins with.
+/// The parts of a pathname, or of its beginning.
 #[derive(Debug, Clone, Copy, Drop)]
 pub struct KnownPath<'a> {
     /// The parts.
     pub parts: &'a [Part],
     /// The character that ends a segment.
     pub delimiter: Option<char>,
-    /// Whether nothing follows the parts. Any text can if not.
+    /// Whether nothing follows the parts; otherwise any text may follow.
     pub is_whole: bool,
 }
 

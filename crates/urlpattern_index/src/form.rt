@@ -11,29 +11,30 @@ use crate::hashes::{mixed, text_hash};
 use crate::reading::read_segments;
 use arrayvec::ArrayVec;
 
-/// How many segments of a path have a part in a key at most.
+/// The maximum number of path segments in a key.
 pub(crate) const DEPTH: usize = 12;
 
-/// How many groups of forms there are: one for each number of segments that a whole path has, and one for paths that have more.
+/// The number of groups of forms: one for each number of segments of a whole path, and one for
+/// paths with more segments than the form.
 pub(crate) const GROUPS: usize = 13;
 
-/// What has the part of a segment that can be any.
+/// The part in a key of an arbitrary segment.
 const ANY: u64 = 1;
 
 /// Which texts of an address have a part in a key.
 #[derive(Debug, Drop)]
 pub(crate) struct Form {
-    /// Whether the protocol has.
+    /// Whether the protocol has a part.
     pub(crate) has_protocol: bool,
-    /// Whether the hostname has.
+    /// Whether the hostname has a part.
     pub(crate) has_hostname: bool,
-    /// Whether each of the first segments of the path has. It can be any if not.
+    /// For each of the first path segments, whether it has a part; otherwise it is arbitrary.
     pub(crate) segments: ArrayVec<bool, DEPTH>,
-    /// Whether the path has no more segments. It has some if not.
+    /// Whether the path has no more segments; otherwise it has some.
     pub(crate) is_whole: bool,
 }
 
-/// Where a pattern is listed: a form, and the key by it.
+/// Where a pattern is listed: a form, and the key in that form.
 #[derive(Drop)]
 pub(crate) struct Place {
     pub(crate) form: Form,
@@ -41,7 +42,7 @@ pub(crate) struct Place {
 }
 
 impl Form {
-    /// The key of an address. `None`: its path has too few segments, or too many.
+    /// The key of an address. `None`: its path has too few or too many segments.
     pub(crate) fn key(&self, hashes: &AddressHashes) -> Option<u64>
         ensures some { IfSome result (IsKeyBy (form_view self.now) (hashes_view hashes.now)) }
         ensures none { IfNone result (¬ Fits (form_view self.now) (hashes_view hashes.now)) }
@@ -53,7 +54,7 @@ impl Form {
         }
     }
 
-    /// Whether a path of so many segments has as many as the form.
+    /// Whether a path with `count` segments has as many as the form requires.
     fn fits(&self, count: usize) -> bool
         ensures { IsTrue result ↔ AreEnough self.now.is_whole (array_vec_len self.now.segments) count }
     {
@@ -64,7 +65,7 @@ impl Form {
         }
     }
 
-    /// The group of the form: that of whole paths with so many segments, or the first, of paths that have more.
+    /// The group of the form: for whole paths that of their number of segments, else the first.
     pub(crate) fn group(&self) -> usize
         ensures group { result ≡ group_of_form (form_view self.now) }
         ensures bound { result < 13 }
@@ -76,7 +77,7 @@ impl Form {
         }
     }
 
-    /// The key of hashes.
+    /// The key of hashes that fit the form.
     fn key_of(&self, hashes: &AddressHashes) -> u64
         requires { length self.now.segments.items ≤ length hashes.now.segments.items }
         ensures { result ≡ form_key (form_view self.now) (hashes_view hashes.now) }
@@ -92,7 +93,7 @@ impl Form {
         mixed(key, u64::from(self.is_whole))
     }
 
-    /// Whether it is the same form.
+    /// Whether the forms are equal.
     pub(crate) fn is_same(&self, other: &Form) -> bool
         ensures { IsTrue result → form_view self.now ≡ form_view other.now }
     {
@@ -110,7 +111,7 @@ impl Form {
 }
 
 impl Place {
-    /// The place of a pattern, by all that is fixed.
+    /// The place of a pattern, by all of its fixed texts.
     pub(crate) fn of(fixed: Fixed<'_>) -> Place
         ensures { IsPlaceFor (fixed_texts fixed.entry) result }
     {
@@ -150,14 +151,14 @@ impl Place {
     }
 }
 
-/// The hash of a text that has a part in a key, or else the other number.
+/// The hash of a text that has a part in a key, or else `other`.
 fn part(has_part: bool, hash: u64, other: u64) -> u64
     ensures { result ≡ (if has_part then hash else other) }
 {
     if has_part { hash } else { other }
 }
 
-/// The hash of a text, and 0 where there is none.
+/// The hash of a text; 0 if there is none.
 fn option_hash(text: Option<&str>) -> u64
     ensures { result ≡ option_hash (option_map (λ text. chars text.now) text.entry) }
 {

@@ -4,10 +4,10 @@ ghost use Rattle.urlpattern_index.specs.Keys.{mixed, text_hash};
 
 use std::hash::{FoldHasher, Hasher};
 
-/// A number to multiply by, as FNV-1a has it.
+/// The 64-bit FNV prime.
 const MULTIPLIER: u64 = 0x100_0000_01b3;
 
-/// A hash after one more value.
+/// Mixes another value into a hash.
 pub(crate) fn mixed(hash: u64, value: u64) -> u64
     ensures { result ≡ mixed hash value }
 {

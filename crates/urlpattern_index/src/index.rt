@@ -1,4 +1,4 @@
-//! The keys of patterns, by number, and the patterns that an address finds.
+//! The keys of patterns, by number, and the patterns found for an address.
 ghost use Rattle.std.specs.List.Sorted.{IsNonDecreasing};
 ghost use Rattle.std.specs.List.{remove};
 ghost use Rattle.std.specs.Prelude.{◌≡◌, ◌≤◌, ◌<◌, ◌++◌, ◌∷◌, [], if◌then◌else◌, Some, length, map, replicate, vec_capacity, vec_len, IsTrue, Contains, OnErr, OnOk};
@@ -15,7 +15,8 @@ use std::alloc::{AllocError, Global};
 use std::array;
 use std::marker::Model;
 
-/// How many forms of keys a group has at most, beside the form of what nothing is known of.
+/// The maximum number of forms in a group, apart from the form of patterns of which nothing is
+/// known.
 const FORMS: usize = 32;
 
 /// The keys of patterns. Each pattern has a number, from 0 on.
@@ -42,7 +43,7 @@ impl Model for Index {
 }
 
 impl Index {
-    /// An index of no patterns. It does not allocate.
+    /// Creates an empty index. Does not allocate.
     pub fn new(alloc: Global) -> Self
         ensures { result ≡ record { keys = []; forms = replicate 13 [] } }
     {
@@ -56,9 +57,9 @@ impl Index {
         }
     }
 
-    /// Appends a pattern, by what is fixed of what it matches. It has the next number.
+    /// Appends a pattern, by its fixed texts. The pattern gets the next number.
     ///
-    /// The error is that memory ran out. The index is then as it was.
+    /// If memory runs out, the index is unchanged.
     pub fn push(&mut self, fixed: Fixed<'_>) -> Result<(), AllocError>
         ensures appended { OnOk result (GetsPattern self.old self.new (fixed_texts fixed.entry)) }
         ensures unchanged { OnErr result (self.new ≡ self.old) }
@@ -77,7 +78,7 @@ impl Index {
         }
     }
 
-    /// Removes a pattern. The number of each later one becomes less by one. It does not allocate.
+    /// Removes a pattern, and lowers the number of each later pattern by one. Does not allocate.
     pub fn remove(&mut self, number: usize)
         requires { number < length self.old.keys }
         ensures { self.new ≡ record self.old { keys = remove self.old.keys number } }
@@ -86,9 +87,10 @@ impl Index {
         self.keys.remove(number);
     }
 
-    /// The least number, not below another, of a pattern whose fixed texts an address has. Some other patterns may be found.
+    /// Returns the least number, at or above `from`, of a pattern whose fixed texts an address has.
+    /// Some other patterns may be found.
     ///
-    /// It does not allocate.
+    /// Does not allocate.
     pub fn first_from(&self, hashes: &AddressHashes, from: usize) -> Option<usize>
         ensures { IsLeast (λ number. (from ≤ number) × Finds self.now (hashes_view hashes.now) number) result }
     {
@@ -97,7 +99,7 @@ impl Index {
         lesser(least, self.first_by_forms(whole, hashes, from))
     }
 
-    /// The same of the patterns that are listed by some forms.
+    /// Returns the least number, at or above `from`, of a pattern found by one of the forms.
     fn first_by_forms(&self, forms: &[Form], hashes: &AddressHashes, from: usize) -> Option<usize>
         ensures { IsLeast (FindsByFrom (map (λ form. form_view form) forms.now) self.now.keys (hashes_view hashes.now) from) result }
     {
@@ -108,7 +110,7 @@ impl Index {
         least
     }
 
-    /// The same of the patterns that are listed by a form.
+    /// Returns the least number, at or above `from`, of a pattern found by the form.
     fn first_by(&self, form: &Form, hashes: &AddressHashes, from: usize) -> Option<usize>
         ensures { IsLeast (FindsFrom (form_view form.now) self.now.keys (hashes_view hashes.now) from) result }
     {
@@ -116,7 +118,7 @@ impl Index {
         first_from(self.numbers.get(key), from)
     }
 
-    /// The forms of the group at a number, none where there is no such group.
+    /// The forms of a group, none if there is no such group.
     fn forms_of(&self, number: usize) -> &[Form]
         ensures { map (λ form. form_view form) result.now ≡ group self.now.forms number }
     {
@@ -126,7 +128,8 @@ impl Index {
         }
     }
 
-    /// Where a pattern is listed. Where there are too many forms, it is by the one of what nothing is known of.
+    /// Where to list a pattern: by its fixed texts, or, if their group has too many forms already,
+    /// as a pattern of which nothing is known.
     fn place_for(&self, fixed: Fixed<'_>) -> Place
         ensures { IsPlaceFor (fixed_texts fixed.entry) result }
     {
@@ -138,7 +141,7 @@ impl Index {
         }
     }
 
-    /// Whether keys have the form.
+    /// Whether the index has the form.
     fn has_form(&self, form: &Form) -> bool
         ensures { IsTrue result → Contains (group self.now.forms (group_of_form (form_view form.now))) (form_view form.now) }
     {
@@ -151,7 +154,7 @@ impl Index {
     }
 }
 
-/// Appends a form if it is new. There is room for it.
+/// Appends a form if it is new. The list has room for it.
 fn add_form(forms: &mut Vec<Form>, form: Form, is_new: bool)
     requires { vec_len forms.old < vec_capacity forms.old }
     ensures { forms.new.items ≡ forms.old.items ++ (if is_new then form ∷ [] else []) }
@@ -165,7 +168,7 @@ fn add_form(forms: &mut Vec<Form>, form: Form, is_new: bool)
     }
 }
 
-/// The first number of an ascending list that is not below another.
+/// The first number of an ascending list that is at or above `from`.
 fn first_from(list: &[usize], from: usize) -> Option<usize>
     requires { IsNonDecreasing list.now }
     ensures { IsFirstFrom from list.now result }
@@ -174,7 +177,7 @@ fn first_from(list: &[usize], from: usize) -> Option<usize>
     list.get(first).copied()
 }
 
-/// The lesser of two numbers that may be there.
+/// The lesser of two optional numbers.
 fn lesser(a: Option<usize>, b: Option<usize>) -> Option<usize>
     ensures { result ≡ lesser a b }
 {

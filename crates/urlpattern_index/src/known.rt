@@ -1,4 +1,4 @@
-//! What is known of the texts that a component matches, by the parts that it was compiled of.
+//! What the parts of a component say about the texts that it matches.
 ghost use Rattle.std.specs.Prelude.{IsTrue};
 ghost use Rattle.urlpattern_index.specs.FixedTexts.{IsText, path_view};
 ghost use Rattle.urlpattern_index.specs.Known.{FitsKept, IsFirstText, IsOfParts, MatchesOnly};
@@ -14,7 +14,7 @@ use urlpattern_matcher::regexp::RegExp;
 use urlpattern_syntax::ComponentParts;
 use urlpattern_syntax::parser::Part;
 
-/// The only text that the component of some parts matches. `None`: it may match others.
+/// The only text that a component matches, by its parts. `None`: the component may match others.
 pub fn fixed_text<'a, R: RegExp>(
     kept: &'a ComponentParts,
     component: &Component<R>,
@@ -32,7 +32,7 @@ pub fn fixed_text<'a, R: RegExp>(
     }
 }
 
-/// What is known of the paths that the component of some parts matches.
+/// What is known of the paths that a component matches, by its parts.
 pub fn known_path<'a, R: RegExp>(
     kept: &'a ComponentParts,
     component: &Component<R>,
@@ -55,7 +55,7 @@ pub fn known_path<'a, R: RegExp>(
     }
 }
 
-/// Whether it is known that each text that the component of some parts matches fits the parts.
+/// Whether each text that a component matches is known to fit its parts.
 fn matches_parts<R: RegExp>(kept: &ComponentParts, component: &Component<R>) -> bool
     requires { IsOfParts R.RegExp kept.now component.now }
     ensures { IsTrue result → MatchesOnly R.answer component.now (FitsKept kept.now) }
@@ -69,7 +69,8 @@ fn matches_parts<R: RegExp>(kept: &ComponentParts, component: &Component<R>) -> 
     }
 }
 
-/// The plain fixed text that the parts begin with, if case is kept. None of them if not.
+/// The plain fixed text that the parts begin with, if there is one and case is kept; otherwise none
+/// of the parts.
 fn first_text(kept: &ComponentParts) -> &[Part]
     ensures { IsFirstText (kept_options kept.now) (kept_parts kept.now) (parts_view result.now) }
 {

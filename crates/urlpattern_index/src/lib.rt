@@ -1,9 +1,11 @@
-//! An index of patterns by what is known of the inputs that they match: protocol, hostname, and the segments of the pathname.
+//! An index of patterns by what is known of the inputs that they match: protocol, hostname, and the
+//! segments of the pathname.
 //!
-//! Each pattern has a number, and is listed under a key: a hash of the protocol and the hostname, where they are fixed, and of the
-//! first segments of the pathname, of which each has a fixed text or can be any. The patterns of an input are looked up by a key for
-//! each [`Form`](form::Form) of keys that a path with so many segments can have. Hashes are compared, so others may be found, and
-//! none is left out.
+//! Each pattern has a number, and is listed under a key: a hash of the protocol and the hostname,
+//! where they are fixed, and of the first segments of the pathname, each of which is fixed or
+//! arbitrary. An input is looked up by one key for each [`Form`](form::Form) that a path with its
+//! number of segments can have. Hashes are compared, so a lookup may find other patterns too, but
+//! it misses none.
 #![tactic(auto)]
 
 mod address;

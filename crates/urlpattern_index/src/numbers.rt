@@ -5,22 +5,22 @@ ghost use Rattle.urlpattern_index.specs.Listed.{AreMarked, HaveSameNumbers, Gain
 use std::alloc::{AllocError, Global};
 use std::collections::HashMap;
 
-/// How many marks there are.
+/// The number of marks.
 const MARKS: u64 = 1024;
 
 /// The numbers of the patterns with a key, in ascending order.
 ///
-/// Most keys that have none are told by their mark, without a look into the map.
+/// Marks rule out most keys without numbers, without a lookup in the map.
 #[derive(Debug, Drop)]
 pub(crate) struct Numbers {
     by_key: HashMap<u64, Vec<usize>>,
-    /// For each remainder of keys whether a key that leaves it may have numbers.
+    /// For each remainder of keys, whether a key with that remainder may have numbers.
     marks: [bool; MARKS as usize],
     ghost marked: { AreMarked marks (numbers_at by_key) },
 }
 
 impl Numbers {
-    /// No numbers. It does not allocate.
+    /// Creates an empty map. Does not allocate.
     pub(crate) fn new(alloc: Global) -> Self
         ensures { (key : ℕ) → numbers_at result.by_key key ≡ [] }
     {
@@ -32,7 +32,7 @@ impl Numbers {
 
     /// Appends a number to those of a key.
     ///
-    /// The error is that memory ran out. The numbers are then as they were.
+    /// If memory runs out, the numbers are unchanged.
     pub(crate) fn push(&mut self, key: u64, number: usize) -> Result<(), AllocError>
         ensures appended { OnOk result (GainsNumber (numbers_at self.old.by_key) (numbers_at self.new.by_key) key number) }
         ensures unchanged { OnErr result (HaveSameNumbers (numbers_at self.old.by_key) (numbers_at self.new.by_key)) }
@@ -55,7 +55,8 @@ impl Numbers {
         }
     }
 
-    /// Removes a number from those of each key. Each above it becomes less by one. It does not allocate.
+    /// Removes a number from those of each key, and lowers each number above it by one. Does not
+    /// allocate.
     pub(crate) fn remove(&mut self, number: usize)
         ensures { LosesNumber (numbers_at self.old.by_key) (numbers_at self.new.by_key) number }
     {
@@ -66,7 +67,7 @@ impl Numbers {
     }
 }
 
-/// Removes a number from a list. Each above it becomes less by one.
+/// Removes a number from a list, and lowers each number above it by one.
 fn take_out(list: &mut Vec<usize>, number: usize)
     ensures { list.new.items ≡ without number list.old.items }
 {
@@ -76,7 +77,7 @@ fn take_out(list: &mut Vec<usize>, number: usize)
     }
 }
 
-/// The other number, less by one if it is above the number.
+/// Lowers `other` by one if it is above the number.
 fn lowered(number: usize, other: usize) -> usize
     ensures { result ≡ lowered number other }
 {

@@ -17,18 +17,18 @@ use urlpattern_syntax::parser::{Part, PartModifier, PartType};
 /// The first segments of a path.
 #[derive(Drop)]
 pub(crate) struct Segments {
-    /// Whether each segment has a fixed text. It can be any if not.
+    /// For each segment, whether it has a fixed text; otherwise it is arbitrary.
     pub(crate) have_texts: ArrayVec<bool, DEPTH>,
-    /// The hashes of the texts, and some number for each other segment.
+    /// The hashes of the fixed texts, and some number for each arbitrary segment.
     pub(crate) hashes: ArrayVec<u64, SEGMENTS>,
-    /// The hash of the segment that is read. `None`: it can be any.
+    /// The hash of the segment being read. `None`: the segment is arbitrary.
     current: Option<u64>,
-    /// Whether there are no more segments. There are some if not.
+    /// Whether there are no more segments; otherwise there are some.
     pub(crate) is_whole: bool,
 }
 
 impl Segments {
-    /// No segments yet, and maybe more to come.
+    /// Creates an empty list, to which segments may be added.
     fn new() -> Segments
         ensures { AreNone result }
     {
@@ -40,7 +40,7 @@ impl Segments {
         }
     }
 
-    /// Ends the segment that is read. Returns whether there was room for it.
+    /// Ends the segment being read. Returns whether there was room for it.
     fn push(&mut self) -> bool
         requires { AreOpen self.old }
         ensures added { IsTrue result → AddsSegment self.old self.new }
@@ -55,7 +55,8 @@ impl Segments {
         true
     }
 
-    /// Reads a text. Returns whether it was read to its end, as there may be no room for its segments.
+    /// Reads a text. Returns whether it was read to its end, since there may be no room for its
+    /// segments.
     fn read_text(&mut self, text: &str) -> bool
         requires { AreOpen self.old }
         ensures open { AreOpen self.new }
@@ -74,7 +75,7 @@ impl Segments {
         true
     }
 
-    /// Reads a part. Returns whether it was read to its end, as it may not be known where that is.
+    /// Reads a part. Returns whether it was read to its end, since the end may be unknown.
     fn read_part(&mut self, part: &Part, delimiter: Option<char>) -> bool
         requires { AreOpen self.old }
         ensures open { AreOpen self.new }
@@ -98,7 +99,7 @@ impl Segments {
     }
 }
 
-/// The first segments of a path, up to one of which it is not known where it ends.
+/// Reads the first segments of a path, up to the first whose end is unknown.
 pub(crate) fn read_segments(path: KnownPath<'_>) -> Segments
     ensures { AreSegmentsOf (path_view path.entry) result }
 {
@@ -114,7 +115,7 @@ pub(crate) fn read_segments(path: KnownPath<'_>) -> Segments
     segments
 }
 
-/// The hash of a segment after one more character, if the segment has a fixed text.
+/// Mixes another character into the hash of a segment, if the segment has a fixed text.
 fn mixed_in(hash: Option<u64>, c: char) -> Option<u64>
     ensures { result ≡ option_map (λ hash. mixed hash c) hash }
 {

@@ -1,4 +1,4 @@
--- A constructor string has a split, whatever the answer on its protocol.
+-- A constructor string has a split, whether its protocol is special or not.
 use Rattle.std.proofs.Common.{◌≡◌, ℕ, zero, suc, ◌+◌, ◌<◌, ◌≤◌, ◌⊎◌, Bool, true, false, not, ◌&&◌, ◌||◌, Option, Some, None, List, [], ◌∷◌, length, refl, sym, ap, ◌∙◌, inl, inr, arith, length-append}
 use Rattle.std.proofs.lemmas.Bool.{and_from, and_parts, both_ways, cases_eq, cases_lt, false≢true, or_cases, or_left, or_right}
 use Rattle.std.specs.Prelude.{codes, IsSomeAnd, IsTrue}
@@ -15,9 +15,9 @@ use Rattle.urlpattern_meaning.proofs.TokensExist.{lenient_tokens_exist}
 use Rattle.urlpattern_syntax.specs.Tokens.{AreLenientTokens, TokenView, end_of}
 use Rattle.urlpattern_components.specs.Eight.{Values, each}
 
--- ---- components that are still to be found
+-- ---- components still to be found
 
--- a hash with which this holds, whatever the other components are
+-- a hash for which `Is` holds, whatever the other components are
 abbrev HashFor : (Is : Values → Type 0) → Type 0
 HashFor Is = (hash : Option (List ℕ)) × ((c : Values) → Is (record c { hash = hash }))
 
@@ -91,11 +91,11 @@ module _ (text : List ℕ) (tokens : List TokenView) (are_tokens : AreLenientTok
   ends_some section from depth within =
       ends_within (suc (length tokens)) section from depth from (omega arith) within (omega arith) (λ other after before may. omega arith)
 
-  -- there is a text up to where it ends
+  -- the text between a position and the end of its section
   takes_some : (section : Section) (from depth : ℕ) (ends : Ends section from depth) → (taken : Option (List ℕ)) × IsComponentBetween text tokens from ends.0 taken
   takes_some section from depth ends = let b = text_between text tokens from ends.0 are_tokens ends.1.after ends.1.within in (Some b.0, b.1)
 
-  -- ---- from the hash to the front
+  -- ---- from the hash backwards
 
   hash_from : (from : ℕ) → from < length tokens → HashFor (HashFrom text tokens from)
   hash_from from within =
@@ -183,7 +183,7 @@ module _ (text : List ℕ) (tokens : List TokenView) (are_tokens : AreLenientTok
       let p = pathname_at special place within more in
       (Some [], p.0, p.1, p.2, λ c. inr (no_colon, refl, p.3 (record c { port = Some [] })))
 
-  -- where a hostname ends a port begins or not
+  -- without a colon, a hostname is followed by what may follow a port
   colon_or_more : (place : ℕ) → ¬ IsTrue (is_colon_sign tokens place) → (balanced : Bool) → IsTrue ((balanced && is_colon_sign tokens place) || is_slash_sign tokens place || is_search_sign tokens place || is_hash_sign tokens place) → Follows place
   colon_or_more place no_colon balanced signs =
       follows place (without (balanced && is_colon_sign tokens place) (is_slash_sign tokens place) (is_search_sign tokens place) (is_hash_sign tokens place)
@@ -344,12 +344,12 @@ module _ (text : List ℕ) (tokens : List TokenView) (are_tokens : AreLenientTok
           )
       by_slashes false other = by_special special refl other
 
--- a protocol that is there has the answer
+-- a protocol, where there is one, is special as given
 answered : (text : List ℕ) (tokens : List TokenView) (until : ℕ) (special : Bool) (taken : Option (List ℕ)) → IsComponentBetween text tokens 0 until taken → IsSomeAnd taken (λ protocol. special ≡ special)
 answered text tokens until special None h = absurd h
 answered text tokens until special (Some protocol) h = refl
 
--- A text has a split, whatever the answer on its protocol.
+-- A text has a split, whether its protocol is special or not.
 pub split_exists : (text : List ℕ) (special : Bool) → (components : Values) × SplitsAs text special components
 split_exists text special =
     let (tokens, are_tokens) = lenient_tokens_exist text in

@@ -1,4 +1,4 @@
--- A constructor string has one split, where its protocol has one answer.
+-- A constructor string has one split, once it is decided whether its protocol is special.
 use Rattle.std.proofs.Common.{◌≡◌, ℕ, zero, suc, ◌+◌, ◌<◌, ◌⊎◌, Bool, true, false, not, ◌&&◌, ◌||◌, Option, Some, None, List, [], ◌∷◌, ◌++◌, refl, sym, ap, ◌∙◌, subst, inl, inr, arith}
 use Rattle.std.proofs.lemmas.Bool.{and_parts, both_ways, cases_lt, false≢true, or_cases, or_left, or_right}
 use Rattle.std.proofs.lemmas.List.{append_cancel_left}
@@ -21,7 +21,7 @@ use Rattle.urlpattern_components.specs.Eight.{Values}
 
 -- ---- texts
 
--- two fronts of a text with as many bytes are one
+-- two prefixes of a text with the same length in bytes are equal
 front_one : (front other rest left : List ℕ) → front ++ rest ≡ other ++ left → byte_len front ≡ byte_len other → front ≡ other
 front_one [] [] rest left e n = refl
 front_one [] (c ∷ other) rest left e n =
@@ -43,7 +43,7 @@ index_one : (found : Option TokenView) (m n : ℕ) → IsSomeAnd found (λ token
 index_one None m n h g = absurd h
 index_one (Some token) m n h g = sym h ∙ g
 
--- the text between two tokens is one
+-- the text between two tokens is unique
 between_one : (text : List ℕ) (tokens : List TokenView) (from until : ℕ) (between other : List ℕ) → IsTextBetween text tokens from until between → IsTextBetween text tokens from until other → between ≡ other
 between_one text tokens from until between other h g =
     let m = index_one (slice_get tokens from) (byte_len h.front) (byte_len g.front) h.begins g.begins in
@@ -86,7 +86,7 @@ search_value tokens place h =
       | inr value ↦ (and_parts (passes_at (λ token. bytes_eq token.value (codes "?")) tokens place) (not (follows_modified tokens place)) value).0
     ]
 
--- values that differ are not at one place
+-- unequal values are not equal
 differ : (one two : List ℕ) → bytes_eq one two ≡ false → one ≡ two → ⊥
 differ one two other e = false≢true (sym other ∙ (bytes_eq-Decides one two).1 e)
 
@@ -148,14 +148,14 @@ module _ (text : List ℕ) (tokens : List TokenView) (are_tokens : AreLenientTok
     | inr is_end ↦ let last = closed.last place h.within is_end in let within = g.within in omega arith
   ]
 
-  -- a section ends at one place
+  -- a section ends at a single place
   ends_one : (section : Section) (from depth place other : ℕ) → EndsAt section tokens from depth place → EndsAt section tokens from depth other → place ≡ other
   ends_one section from depth place other h g = elim (cases_lt place other) [
     | inl less ↦ absurd (not_before section from depth place other h g less)
     | inr le ↦ elim (cases_lt other place) [ inl more ↦ absurd (not_before section from depth other place g h more) | inr ge ↦ omega arith ]
   ]
 
-  -- End is at one place
+  -- End is at a single place
   end_one : (place other : ℕ) → IsTrue (ends_at tokens place) → IsTrue (ends_at tokens other) → place ≡ other
   end_one place other h g =
       let one = closed.last place (found_at (λ token. is_end token.kind) tokens place h).3 h in
@@ -254,7 +254,7 @@ module _ (text : List ℕ) (tokens : List TokenView) (are_tokens : AreLenientTok
         password_one (inr a) (inr b) =
             takes_one text tokens (g.0 + 1) until c.password d.password (subst (λ place. IsComponentBetween text tokens (place + 1) until c.password) e a.1) b.1
 
-    -- the two forms of an authority, by where it ends
+    -- the two forms of an authority, by where its first section ends
     abbrev AuthorityAt : Values → (special : Bool) → (from until : ℕ) → Type 0
     AuthorityAt components special from until =
         (IsTrue (is_at_sign tokens until) × UserinfoFrom text tokens from until components × HostnameFrom text tokens special (until + 1) 0 components)
@@ -348,7 +348,7 @@ module _ (text : List ℕ) (tokens : List TokenView) (are_tokens : AreLenientTok
 -- ---- splits
 
 module _ (IsSpecial : List ℕ → Bool → Type 0) (text : List ℕ) where
-  -- the protocol of the text has two answers
+  -- the protocol of the text is both special and not special
   abbrev HasTwoAnswers : Type 0
   HasTwoAnswers = HasProtocol text (λ protocol. IsSpecial protocol true × IsSpecial protocol false)
 
@@ -371,13 +371,13 @@ module _ (IsSpecial : List ℕ → Bool → Type 0) (text : List ℕ) where
   split_one tokens c d t (inr h) (inl g) = absurd (relative_or_absolute text tokens t d c h.1 h.0 g h.2)
   split_one tokens c d t (inr h) (inr g) = absolutes_one tokens c d h.1 g.1 h.0 g.0 t h.2 g.2 h.3 g.3
 
-  -- Two splits of a text are one, but where its protocol has two answers.
+  -- Two splits of a text are equal, unless its protocol is both special and not special.
   pub splits_one : (c d : Values) → SplitsInto IsSpecial text c → SplitsInto IsSpecial text d → (c ≡ d) ⊎ HasTwoAnswers
   splits_one c d h g =
       let e = lenient_tokens_one text h.0 g.0 h.1 g.1 in
       split_one g.0 c d g.1 (subst (λ tokens. IsSplit IsSpecial text tokens c) e h.2) g.2
 
--- Under one answer for the protocol two splits of a text are one.
+-- Two splits of a text are equal, once it is decided whether its protocol is special.
 pub splits_one_given : (text : List ℕ) (special : Bool) (c d : Values) → SplitsAs text special c → SplitsAs text special d → c ≡ d
 splits_one_given text special c d h g = elim (splits_one (λ protocol answer. answer ≡ special) text c d h g) [
   | inl same ↦ same

@@ -1,4 +1,4 @@
--- What parsing a constructor string answers.
+-- The outcomes of parsing a constructor string.
 use Rattle.std.specs.Prelude.{◌≡◌, ℕ, ◌*◌, ◌≤◌, ◌⊎◌, Bool, true, false, List, Option, None, length}
 use Rattle.url.specs.declared.Url.{Url}
 use Rattle.urlpattern_init.specs.SpecialProtocol.{RefusesProtocol}
@@ -15,31 +15,33 @@ abbrev pub SplitsInto : (IsSpecial : List ℕ → Bool → Type 0) → (text : L
 SplitsInto IsSpecial text components =
     (tokens : List TokenView) × AreLenientTokens text tokens × IsSplit IsSpecial text tokens components
 
--- so the text of a source is, by the tokens that the source has
+-- a source's text is split into the components of a `Split`, by the tokens of the source
 abbrev pub IsSplitOf : (IsSpecial : List ℕ → Bool → Type 0) → Source → Split → Type 0
 IsSplitOf IsSpecial source split = IsSplit IsSpecial (text_of_source source) (tokens_of source) (split_values split)
 
--- The text is split into these components where its protocol, if it has one, is given this answer.
+-- The text is split into these components if its protocol, where it has one, is special or not as
+-- given.
 abbrev pub SplitsAs : (text : List ℕ) → (special : Bool) → Values → Type 0
 SplitsAs text special components = SplitsInto (λ protocol answer. answer ≡ special) text components
 
--- so many turns are at most two for each lenient token of the text
+-- the turns are at most two for each lenient token of the text
 abbrev pub AreFewTurns : (text : List ℕ) → (turns : ℕ) → Type 0
 AreFewTurns text turns = (tokens : List TokenView) × AreLenientTokens text tokens × (turns ≤ 2 * length tokens)
 
--- The text is refused with this error: that of its protocol, or that it has neither a protocol nor a base.
+-- The text is rejected with this error: that of its protocol, or `BaseUrlRequired` if it has
+-- neither a protocol nor a base URL.
 abbrev pub RefusesString : (text : List ℕ) → (base_url : Option Url) → ErrorView → Type 0
 RefusesString text base_url error =
     HasProtocol text (λ protocol. RefusesProtocol protocol error)
     ⊎ (LacksProtocol text × (base_url ≡ None) × (error ≡ ErrorView.BaseUrlRequired))
 
--- there is a protocol or a base
+-- the init has a protocol or a base URL
 abbrev pub HasProtocolOrBase : UrlPatternInit → Type 0
 HasProtocolOrBase init = ¬ ((init.protocol ≡ None) × (init.base_url ≡ None))
 
--- ---- splits are one
+-- ---- uniqueness of splits
 
--- a text has one split at most where the answers on protocols are these, unless its protocol is special by them and also not
+-- a text has at most one split, unless its protocol is both special and not by `IsSpecial`
 abbrev pub SplitsAreOneOrInDoubt : (IsSpecial : List ℕ → Bool → Type 0) → Type 0
 SplitsAreOneOrInDoubt IsSpecial = (text : List ℕ) (components others : Values) →
     SplitsInto IsSpecial text components → SplitsInto IsSpecial text others →

@@ -1,5 +1,5 @@
--- Whether the protocol of a constructor string is special, after the URLPattern Standard, section "Compute protocol
--- matches a special scheme flag".
+-- Whether the protocol of a constructor string is special, after the URLPattern Standard, section
+-- "Compute protocol matches a special scheme flag".
 use Rattle.std.specs.Prelude.{◌≡◌, ℕ, ◌↔◌, Bool, false, List, Any, IsTrue, Option, Result, String, codes, length}
 use Rattle.std.specs.{Borrow.Bor, Str.chars}
 use Rattle.std.specs.declared.alloc.Global.{Global}
@@ -18,14 +18,15 @@ use Rattle.urlpattern_syntax.specs.Reading.{Encoding, Reads, Refuses, encoding_o
 abbrev pub CanonicalizesProtocol : List ℕ → Result (String Global) Error → Type 0
 CanonicalizesProtocol bytes returned = IsAnswer (canonical_protocol (chars bytes)) (length bytes) returned
 
+-- the encoding by `canonicalize_protocol`
 abbrev pub protocol_encoding : Encoding
 protocol_encoding = encoding_of CanonicalizesProtocol
 
--- the matcher accepts one of these texts, where engines' values answer in this way
+-- the matcher accepts one of these texts, with engines that match by `answer`
 abbrev pub AcceptsAny : {E : Type 0} → (answer : E → List ℕ → Option Captures) → Matcher E → List (Bor (List ℕ)) → Type 0
 AcceptsAny answer matcher texts = Any (λ text. IsMatched answer (matcher_view matcher) (chars text.now)) texts
 
--- the matcher accepts one of the special schemes, where engines' values answer in this way
+-- the matcher accepts one of the special schemes, with engines that match by `answer`
 abbrev pub AcceptsSpecialScheme : {E : Type 0} → (answer : E → List ℕ → Option Captures) → MatcherView E → Type 0
 AcceptsSpecialScheme answer matcher = Any (λ scheme. IsMatched answer matcher scheme.0) special_schemes
 
@@ -33,7 +34,8 @@ AcceptsSpecialScheme answer matcher = Any (λ scheme. IsMatched answer matcher s
 abbrev pub AcceptsOnly : {E : Type 0} → (answer : E → List ℕ → Option Captures) → MatcherView E → (only : List ℕ) → Type 0
 AcceptsOnly answer matcher only = (text : List ℕ) → IsMatched answer matcher text ↔ (text ≡ only)
 
--- The engine compiles the pattern of a protocol under the default options, and the matcher decides whether it is special.
+-- The engine compiles the protocol's pattern under the default options, and the matcher decides
+-- whether the protocol is special.
 pub record IsSpecialTo {E : Type 0} (engine : Engine E) (protocol : List ℕ) (special : Bool) : Type 0 where
   pub parts : List PartView
   pub matcher : MatcherView E
@@ -41,10 +43,10 @@ pub record IsSpecialTo {E : Type 0} (engine : Engine E) (protocol : List ℕ) (s
   pub is_made : IsMadeOf (IsEngineOf engine false (codes "u")) default_options parts matcher
   pub decides : IsTrue special ↔ AcceptsSpecialScheme engine.answer matcher
 
--- the text of a protocol, and what it is compiled to under the default options, with its parts
+-- the text of a protocol and its component, compiled with its parts under the default options
 abbrev pub IsKnownProtocol : {E : Type 0} → Engine E → Bor (List ℕ) × ComponentWithParts E → Type 0
 IsKnownProtocol engine known = IsCompiledKeeping engine (chars known.0.now) default_options protocol_encoding known.1
 
--- the pattern of a protocol is refused with this error
+-- the pattern of a protocol is rejected with this error
 abbrev pub RefusesProtocol : List ℕ → ErrorView → Type 0
 RefusesProtocol protocol error = Refuses protocol default_options protocol_encoding error

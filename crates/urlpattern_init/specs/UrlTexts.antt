@@ -1,4 +1,4 @@
--- What the texts of a URL are.
+-- The texts of a URL are lines.
 use Rattle.std.specs.Prelude.{ℕ, List, IsTrue}
 use Rattle.std.specs.Str.{all_scalars}
 use Rattle.url.specs.Parts.{IsValid, Parts}

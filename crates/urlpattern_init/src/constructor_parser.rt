@@ -1,4 +1,4 @@
-//! Cuts a constructor string, the pattern of a whole URL, into the patterns of its components.
+//! Splits a constructor string, the pattern of a whole URL, into the patterns of its components.
 //!
 //! <https://urlpattern.spec.whatwg.org/#constructor-string-parsing>
 
@@ -28,9 +28,11 @@ use urlpattern_parser::tokenizer::{TokenizePolicy, tokenize};
 use urlpattern_syntax::Error;
 
 impl UrlPatternInit {
-    /// Splits a constructor string, the pattern of a whole URL, into the patterns of its components.
+    /// Splits a constructor string, the pattern of a whole URL, into the patterns of its
+    /// components.
     ///
-    /// The error is that of the protocol's pattern, that there is neither a protocol nor a base URL, or that memory ran out.
+    /// The error is that of the protocol's pattern, `BaseUrlRequired` if there is neither a
+    /// protocol nor a base URL, or `OutOfMemory`.
     ///
     /// <https://urlpattern.spec.whatwg.org/#parse-a-constructor-string>
     pub fn parse_constructor_string<R: RegExp>(
@@ -47,7 +49,8 @@ impl UrlPatternInit {
         Ok(init)
     }
 
-    /// The same, with the number of turns: how many looks at a token were taken.
+    /// Splits a constructor string like `parse_constructor_string`, and also returns the number of
+    /// turns: how many times the parser looked at a token.
     pub fn parse_constructor_string_counted<R: RegExp>(
         alloc: Global,
         pattern: &str,
@@ -64,9 +67,8 @@ impl UrlPatternInit {
         Ok((init, turns))
     }
 
-    /// The same; if `keeps`, also the text of the protocol and what it was compiled to.
-    ///
-    /// It is compiled under the default options.
+    /// Splits a constructor string like `parse_constructor_string_counted`; if `keeps`, also
+    /// returns the text of the protocol and its component, compiled under the default options.
     pub fn parse_constructor_string_keeping<'a, R: RegExp>(
         alloc: Global,
         pattern: &'a str,
@@ -95,8 +97,6 @@ impl UrlPatternInit {
 }
 
 /// The pattern of the protocol in a constructor string, if it has one.
-///
-/// The error is that memory ran out.
 pub fn protocol_of(alloc: Global, pattern: &str) -> Result<Option<&str>, Error>
     ensures protocol { IfOk result (λ found. IfSome found (λ protocol. HasProtocol (chars pattern.now) (λ text. text ≡ chars protocol.now))) }
     ensures memory { OnlyOutOfMemory result }
@@ -119,11 +119,11 @@ pub fn protocol_of(alloc: Global, pattern: &str) -> Result<Option<&str>, Error>
     }
 }
 
-/// The components of a constructor string. Its protocol is read first, and whether it is special.
+/// Splits a constructor string, after finding its protocol and whether that is special.
 ///
-/// If `keeps`, the text of the protocol and what it was compiled to are returned too.
+/// If `keeps`, also returns the text of the protocol and its compiled component.
 ///
-/// The error is that of the protocol's pattern, or that memory ran out.
+/// The error is that of the protocol's pattern, or `OutOfMemory`.
 fn split<'a, R: RegExp>(
     alloc: Global,
     source: &Source<'_, 'a>,
@@ -152,8 +152,6 @@ fn split<'a, R: RegExp>(
 }
 
 /// An init with these components and a base URL.
-///
-/// The error is that memory ran out.
 fn to_init(alloc: Global, split: &Split<'_>, base_url: Option<Url>) -> Result<UrlPatternInit, Error>
     ensures components { IfOk result (λ init. values_view init ≡ split_values split.now) }
     ensures base { IfOk result (λ init. init.base_url ≡ base_url) }
@@ -166,7 +164,7 @@ fn to_init(alloc: Global, split: &Split<'_>, base_url: Option<Url>) -> Result<Ur
     Ok(UrlPatternInit::from_eight(values, base_url))
 }
 
-/// A text of one's own, if there is one.
+/// An owned copy of a text, if there is one.
 fn owned(alloc: Global, text: Option<&str>) -> Result<Option<String>, Error>
     ensures { IsOwned (option_text text.entry) result }
 {

@@ -13,7 +13,7 @@ use std::alloc::AllocError;
 use url::Url;
 use urlpattern_components::{ComponentName, Eight, field_of, with_fields};
 
-/// The components of a URL pattern, each with its own pattern, or those of a URL to be matched.
+/// The patterns of a URL pattern's components, or the components of a URL to match.
 ///
 /// Here `Pattern` is `UrlPattern<PatternRegexp>`:
 ///
@@ -73,7 +73,7 @@ impl UrlPatternInit {
         field_of!(self, name).clone()
     }
 
-    /// The init of these texts, with this base URL.
+    /// Creates an init from eight optional texts and a base URL.
     pub fn from_eight(texts: Eight<Option<String>>, base_url: Option<Url>) -> Self
         ensures texts { values_view result ≡ values_of texts }
         ensures base { result.base_url ≡ base_url }

@@ -1,6 +1,6 @@
 //! The laws of constructor strings and of the texts of URLs.
 //!
-//! Each function here does nothing; what it promises is a theorem.
+//! Each function does nothing; its contract is a theorem.
 
 ghost use Rattle.std.specs.Prelude.{ℕ, Bool, List};
 ghost use Rattle.url.specs.Parts.{IsValid};
@@ -14,8 +14,8 @@ ghost use Rattle.urlpattern_components.specs.Eight.{Values};
 use url::Url;
 use urlpattern_matcher::regexp::RegExp;
 
-/// A constructor string has one split under a given answer on whether its protocol is special. By the answers of a type of
-/// engines it has one at most, unless its protocol is special by them and also not.
+/// A constructor string has exactly one split once it is decided whether its protocol is special.
+/// With engines of one type it has at most one, unless they permit both decisions.
 pub fn splits_are_one<R: RegExp>()
     ensures exist { (text : List ℕ) (special : Bool) → (components : Values) × SplitsAs text special components }
     ensures given { (text : List ℕ) (special : Bool) → AtMostOne (SplitsAs text special) }
@@ -27,11 +27,11 @@ pub fn texts_of_urls_are_lines()
     ensures { TextsOfUrlsAreLines }
 {}
 
-/// This URL is valid, as each is, and so its eight texts are lines.
+/// A `Url` is valid, so its eight texts are lines.
 pub fn texts_are_lines(url: &Url)
     ensures valid { IsValid url.now }
     ensures lines { EachIsLine (texts_of_url url.now) }
 {
-    // Nothing is done with the text: the call says that the URL is valid.
+    // The call is made for its contract, which says that the URL is valid.
     let _ = url.as_str();
 }

@@ -1,5 +1,5 @@
-//! What a pattern is built of: the patterns of a URL's components, cut out of one string or given one by one, with what they
-//! inherit from a base URL.
+//! Constructor strings and inits: the patterns of a URL's components, split out of one string or
+//! given one by one, and what they inherit from a base URL.
 #![tactic(auto)]
 
 mod constructor_parser;

@@ -1,4 +1,4 @@
--- What an input and an init are read as.
+-- Lemmas on reading inits and inputs.
 use Rattle.std.proofs.Common.{◌≡◌, ℕ, true, is_some, codes, List, Option, None, Some, refl, option_map}
 use Rattle.std.proofs.lemmas.Bool.{false≢true}
 use Rattle.serde_json.specs.Data.{Data, null, boolean, number, string, array, object, Members}
@@ -12,7 +12,7 @@ use Rattle.urlpattern_inputs.specs.declared.reading.Unread.TheVariants.{OutOfMem
 use Rattle.urlpattern_inputs.proofs.EachLemmas.{nothing}
 use Rattle.urlpattern_components.specs.Eight.{name_text}
 
--- a tree that is no text is an init or nothing
+-- a tree that is no string is read as an init or not at all
 pub input_read-init : (tree : Data) → as_str tree ≡ None → input_read tree ≡ option_map of_init (init_read tree)
 input_read-init null e = refl
 input_read-init (boolean b) e = refl
@@ -50,7 +50,7 @@ init_from tree values of_object =
     let there = is_there (as_object tree) of_object in
     init_among tree there.0 values there.1
 
--- a component's text is not read, for this reason
+-- the text of a component is not read, for this reason
 pub init_fails : (tree : Data) (reason : Unread)
     → IsUnread reason (read_each (λ name. optional_read as_str (name_text name) tree)) → IsUnread reason (init_read tree)
 unfolding init_read

@@ -1,4 +1,4 @@
--- What is given, without where it lies in memory. Texts are seen as their bytes in UTF-8, which are those of JSON.
+-- Inputs as values, apart from their memory. Texts are their bytes in UTF-8, as in JSON.
 use Rattle.std.specs.Prelude.{ℕ, List, Option, String, option_map, string_bytes}
 use Rattle.std.specs.Cow.{cow_str_bytes}
 use Rattle.std.specs.declared.alloc.Global.{Global}
@@ -8,9 +8,9 @@ use Rattle.urlpattern_inputs.specs.declared.match_input.MatchInput.{MatchInput}
 use Rattle.urlpattern_components.specs.declared.eight.Eight.{Eight}
 use Rattle.urlpattern_components.specs.Eight.{at, each}
 
--- ---- what is given
+-- ---- inits and inputs
 
--- what an init has for each component
+-- the texts of an init's components
 abbrev pub plain_init_texts : UrlPatternInit → Eight (Option (String Global))
 plain_init_texts given = record { protocol = given.protocol; username = given.username; password = given.password; hostname = given.hostname; port = given.port; pathname = given.pathname; search = given.search; hash = given.hash }
 
@@ -25,7 +25,7 @@ init_view init = record {
   base_url = option_map string_bytes init.base_url;
 }
 
--- one text, or an init
+-- an input: a text, or an init
 pub data InputView : Type 0 where
   of_text : List ℕ → InputView
   of_init : InitView → InputView
@@ -34,9 +34,9 @@ abbrev pub input_view : StringOrInit → InputView
 input_view (StringOrInit.String string) = of_text (cow_str_bytes string)
 input_view (StringOrInit.Init values) = of_init (init_view values)
 
--- ---- what is matched
+-- ---- match inputs
 
--- the text of each component
+-- the texts of the components
 abbrev pub matched_texts : MatchInput → Eight (String Global)
 matched_texts input = record { protocol = input.protocol; username = input.username; password = input.password; hostname = input.hostname; port = input.port; pathname = input.pathname; search = input.search; hash = input.hash }
 

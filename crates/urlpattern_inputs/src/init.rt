@@ -1,4 +1,4 @@
-//! The patterns of a URL's components as a caller gives them.
+//! The patterns of a URL's components, as a caller passes them.
 
 ghost use Rattle.std.specs.Prelude.{◌≡◌, IfOk, option_copied, option_map, string_bytes};
 ghost use Rattle.serde_json.specs.Data.{object};
@@ -17,7 +17,8 @@ use std::alloc::{AllocError, Global};
 use urlpattern_components::{ComponentName, Eight, field_of, with_fields};
 use urlpattern_syntax::Error;
 
-/// The patterns of a URL's components, or its texts, and the text of a base URL. What is not given is `None`.
+/// The patterns of a URL's components, or its texts, and the text of a base URL. `None`: the text
+/// is not given.
 ///
 /// Here `fields` is JSON with a string or an init:
 ///
@@ -73,9 +74,7 @@ impl Clone for UrlPatternInit {
 }
 
 impl UrlPatternInit {
-    /// The JSON of the init: an object with a key for each text that is given.
-    ///
-    /// The error is that memory ran out.
+    /// Returns the JSON of the init: an object with a key for each text that is given.
     pub fn to_json_value(&self, alloc: Global) -> Result<Value, Error>
         ensures tree { IfOk result (λ tree. view tree ≡ init_tree (init_view self.now)) }
         ensures memory { OnlyOutOfMemory result }
@@ -94,10 +93,8 @@ impl UrlPatternInit {
         Ok(members)
     }
 
-    /// The init that the JSON stands for: an object, in which each key may be missing or null. Other keys are passed
-    /// over. `None`: the JSON has another shape.
-    ///
-    /// The error is that memory ran out.
+    /// Reads an init from JSON: an object, in which each key may be missing or null. Other keys are
+    /// ignored. `None`: the JSON has another shape.
     pub fn from_json_value(alloc: Global, value: &Value) -> Result<Option<Self>, Error>
         ensures read { IfOk result (λ found. option_map init_view found ≡ init_read (view value.now)) }
         ensures memory { OnlyOutOfMemory result }
@@ -117,7 +114,7 @@ impl UrlPatternInit {
         Ok(Self::from_eight(texts, base_url))
     }
 
-    /// The init of these texts, with this base URL.
+    /// Creates an init from eight optional texts and the text of a base URL.
     pub fn from_eight(texts: Eight<Option<String>>, base_url: Option<String>) -> Self
         ensures texts { plain_init_texts result ≡ texts }
         ensures base_url { result.base_url ≡ base_url }
@@ -125,7 +122,7 @@ impl UrlPatternInit {
         with_fields!(Self, texts, base_url)
     }
 
-    /// The text of each component, where it is given. The base URL is dropped.
+    /// Returns the texts of the components, and drops that of the base URL.
     pub fn into_eight(self) -> Eight<Option<String>>
         ensures { result ≡ plain_init_texts self }
     {

@@ -1,4 +1,4 @@
-//! What a pattern or an input is given as.
+//! The input of a pattern, or of a match.
 
 ghost use Rattle.std.specs.Prelude.{◌≡◌, IfOk, option_map};
 ghost use Rattle.serde_json.specs.View.{view};
@@ -13,7 +13,7 @@ use std::alloc::Global;
 use std::borrow::CowStr;
 use urlpattern_syntax::Error;
 
-/// What a pattern, or what is matched against one, is given as.
+/// What a pattern is constructed from, or what it is matched against.
 ///
 /// Here `fields` is JSON with a string or an init:
 ///
@@ -28,16 +28,14 @@ use urlpattern_syntax::Error;
 /// <https://urlpattern.spec.whatwg.org/#typedefdef-urlpatterninput>
 #[derive(Debug, Clone, PartialEq, Eq, Drop)]
 pub enum StringOrInit<'a> {
-    /// One text: a constructor string, or a URL.
+    /// A constructor string or a URL.
     String(CowStr<'a>),
-    /// The components one by one.
+    /// The components, each with its own text.
     Init(UrlPatternInit),
 }
 
 impl<'a> StringOrInit<'a> {
-    /// The JSON of the input: a text, or the object of an init.
-    ///
-    /// The error is that memory ran out.
+    /// Returns the JSON of the input: a string, or the object of an init.
     pub fn to_json_value(&self, alloc: Global) -> Result<Value, Error>
         ensures tree { IfOk result (λ tree. view tree ≡ input_tree (input_view self.now)) }
         ensures memory { OnlyOutOfMemory result }
@@ -48,10 +46,8 @@ impl<'a> StringOrInit<'a> {
         }
     }
 
-    /// The input that the JSON stands for, which owns its text: a text, or the object of an init. `None`: the JSON
-    /// has another shape.
-    ///
-    /// The error is that memory ran out.
+    /// Reads an input, which owns its text, from JSON: a string, or the object of an init. `None`:
+    /// the JSON has another shape.
     pub fn from_json_value(alloc: Global, value: &Value) -> Result<Option<Self>, Error>
         ensures read { IfOk result (λ found. option_map input_view found ≡ input_read (view value.now)) }
         ensures memory { OnlyOutOfMemory result }
@@ -72,5 +68,5 @@ impl<'a> StringOrInit<'a> {
     }
 }
 
-/// An input as it was given, and the text of its base URL, if there was one beside it.
+/// An input as it was passed, and the text of the base URL that was passed with it, if any.
 pub type Inputs<'a> = (StringOrInit<'a>, Option<String>);

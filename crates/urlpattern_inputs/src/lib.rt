@@ -1,4 +1,4 @@
-//! What a browser gives, as plain data with its JSON: options, inits, inputs, and the texts of a match.
+//! Plain data with its JSON, as browsers pass it: options, inits, inputs, and the texts of a match.
 #![tactic(auto)]
 
 mod init;

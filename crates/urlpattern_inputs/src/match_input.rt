@@ -56,16 +56,14 @@ impl Clone for MatchInput {
 }
 
 impl MatchInput {
-    /// Eight empty texts.
+    /// Creates eight empty texts.
     pub fn default(alloc: Global) -> Self
         ensures { match_input_view result ≡ each (λ name. []) }
     {
         Self::from_eight(Eight::from_fn(|_| String::new(alloc)))
     }
 
-    /// The JSON of the input: an object with a key for each text.
-    ///
-    /// The error is that memory ran out.
+    /// Returns the JSON of the input: an object with a key for each text.
     pub fn to_json_value(&self, alloc: Global) -> Result<Value, Error>
         ensures tree { IfOk result (λ tree. view tree ≡ match_input_tree (match_input_view self.now)) }
         ensures memory { OnlyOutOfMemory result }
@@ -83,10 +81,8 @@ impl MatchInput {
         Ok(Value::Object(members))
     }
 
-    /// The input that the JSON stands for: an object with a text for each key. Other keys are passed over. `None`: the JSON
-    /// has another shape.
-    ///
-    /// The error is that memory ran out.
+    /// Reads an input from JSON: an object with a text for each key. Other keys are ignored.
+    /// `None`: the JSON has another shape.
     pub fn from_json_value(alloc: Global, value: &Value) -> Result<Option<Self>, Error>
         ensures read { IfOk result (λ found. option_map match_input_view found ≡ match_input_read (view value.now)) }
         ensures memory { OnlyOutOfMemory result }
@@ -101,7 +97,7 @@ impl MatchInput {
         Ok(Self::from_eight(texts))
     }
 
-    /// The input of these texts.
+    /// Creates an input from eight texts.
     pub fn from_eight(texts: Eight<String>) -> Self
         ensures { matched_texts result ≡ texts }
     {

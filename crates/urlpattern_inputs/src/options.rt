@@ -1,4 +1,4 @@
-//! How a whole pattern is built.
+//! The options of a pattern.
 
 ghost use Rattle.std.specs.Prelude.{◌≡◌, IfOk, Ok};
 ghost use Rattle.serde_json.specs.{Find.get, View.view};
@@ -10,7 +10,7 @@ use serde_json::{Value, json};
 use std::alloc::Global;
 use urlpattern_syntax::{Error, RegexSyntax};
 
-/// How a whole pattern is built. The default is the syntax of Rust's `regex`, with case kept.
+/// The options of a whole pattern. The default is the syntax of Rust's `regex`, with case kept.
 ///
 /// ```rust new_users
 /// let options = UrlPatternOptions::default();
@@ -30,9 +30,7 @@ pub struct UrlPatternOptions {
 }
 
 impl UrlPatternOptions {
-    /// The JSON of the options: `regexSyntax` and `ignoreCase`.
-    ///
-    /// The error is that memory ran out.
+    /// Returns the JSON of the options: `regexSyntax` and `ignoreCase`.
     pub fn to_json_value(&self, alloc: Global) -> Result<Value, Error>
         ensures tree { IfOk result (λ tree. view tree ≡ options_tree self.now) }
         ensures memory { OnlyOutOfMemory result }
@@ -41,10 +39,10 @@ impl UrlPatternOptions {
         Ok(json!(in alloc; {"regexSyntax": syntax, "ignoreCase": self.ignore_case})?)
     }
 
-    /// The options that the JSON stands for: an object with `ignoreCase`, and `regexSyntax` if it is not the default.
-    /// Other keys are passed over. `None`: the JSON has another shape.
+    /// Reads options from JSON: an object with `ignoreCase`, and `regexSyntax` if it is not the
+    /// default. Other keys are ignored. `None`: the JSON has another shape.
     ///
-    /// Nothing is allocated, and there is no error.
+    /// Does not allocate, and never returns an error.
     pub fn from_json_value(_alloc: Global, value: &Value) -> Result<Option<Self>, Error>
         ensures { result ≡ Ok (options_read (view value.now)) }
     {
@@ -64,7 +62,7 @@ impl UrlPatternOptions {
     }
 }
 
-/// The syntax's name in JSON.
+/// The name of a syntax in JSON.
 fn syntax_name(syntax: RegexSyntax) -> &'static str
     ensures { result.now ≡ syntax_name syntax }
 {
@@ -74,7 +72,7 @@ fn syntax_name(syntax: RegexSyntax) -> &'static str
     }
 }
 
-/// The syntax of this name.
+/// The syntax with this name, if there is one.
 fn syntax_of(name: &str) -> Option<RegexSyntax>
     ensures { result ≡ syntax_of name.now }
 {
@@ -87,7 +85,7 @@ fn syntax_of(name: &str) -> Option<RegexSyntax>
     }
 }
 
-/// The syntax of a member, which is the default where there is none.
+/// The syntax of a member; the default if the member is missing.
 fn syntax_field(tree: &Value, name: &str) -> Option<RegexSyntax>
     ensures { result ≡ syntax_read (get name.now (view tree.now)) }
 {

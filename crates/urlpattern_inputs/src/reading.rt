@@ -1,4 +1,4 @@
-//! The steps of reading plain values from JSON, by which the types of this crate and those of compiled patterns are read.
+//! The steps of reading plain values from JSON, for the types of this crate and for plain patterns.
 
 ghost use Rattle.std.specs.Prelude.{◌≡◌, option_map, string_bytes};
 ghost use Rattle.serde_json.specs.Find.{as_str, get};
@@ -14,9 +14,9 @@ use urlpattern_syntax::Error;
 /// Why no value was read.
 #[derive(Drop)]
 pub enum Unread {
-    /// The tree stands for none.
+    /// The JSON has another shape.
     Shape,
-    /// The allocator had no memory.
+    /// Memory ran out.
     OutOfMemory,
 }
 
@@ -36,7 +36,7 @@ impl<T: Drop> From<AllocFailed<T>> for Unread {
     }
 }
 
-/// The answer of a public call.
+/// The result of a public call.
 pub fn read_or_none<T>(read: Result<T, Unread>) -> Result<Option<T>, Error>
     ensures { result ≡ read_or_none read }
 {
@@ -47,7 +47,7 @@ pub fn read_or_none<T>(read: Result<T, Unread>) -> Result<Option<T>, Error>
     }
 }
 
-/// The member that has to be there.
+/// The member with this name, which must be present.
 pub fn member<'v>(tree: &'v Value, name: &str) -> Result<&'v Value, Unread>
     ensures { ReturnsRead (λ found. view found.now) result (get name.now (view tree.now)) }
 {
@@ -57,7 +57,7 @@ pub fn member<'v>(tree: &'v Value, name: &str) -> Result<&'v Value, Unread>
     }
 }
 
-/// The text of a member, lent.
+/// The text of a member, borrowed.
 pub fn text_of<'v>(tree: &'v Value, name: &str) -> Result<&'v str, Unread>
     ensures { ReturnsRead (λ text. text.now) result (text_read name.now (view tree.now)) }
 {
@@ -67,7 +67,7 @@ pub fn text_of<'v>(tree: &'v Value, name: &str) -> Result<&'v str, Unread>
     }
 }
 
-/// The text of a member.
+/// The text of a member, as an owned copy.
 pub fn text_field(alloc: Global, tree: &Value, name: &str) -> Result<String, Unread>
     ensures { ReturnsRead string_bytes result (text_read name.now (view tree.now)) }
 {
@@ -75,7 +75,7 @@ pub fn text_field(alloc: Global, tree: &Value, name: &str) -> Result<String, Unr
     Ok(String::from_str(alloc, text)?)
 }
 
-/// The text of a member that may be missing.
+/// The text of an optional member, as an owned copy.
 pub fn optional_text_field(
     alloc: Global,
     tree: &Value,

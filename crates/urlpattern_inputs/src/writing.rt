@@ -1,4 +1,4 @@
-//! The steps of writing plain values as JSON, by which the types of this crate and those of compiled patterns are written.
+//! The steps of writing plain values as JSON, for the types of this crate and for plain patterns.
 
 ghost use Rattle.std.specs.Prelude.{OnOk, Some, option_copied, option_map};
 ghost use Rattle.serde_json.specs.Data.{string};

@@ -1,4 +1,4 @@
--- What a pattern is read as.
+-- Lemmas on reading patterns.
 use Rattle.std.proofs.Common.{◌≡◌, None, Some, codes, refl}
 use Rattle.serde_json.specs.Data.{Data}
 use Rattle.urlpattern_inputs.specs.ReadResults.{IsUnread}

@@ -1,4 +1,4 @@
--- Reading compiled patterns undoes writing them.
+-- Reading plain patterns undoes writing them.
 use Rattle.std.proofs.Common.{◌≡◌, ℕ, Bool, List, [], ◌∷◌, Option, None, Some, refl, ap, codes, option_map, map}
 use Rattle.std.specs.Prelude.{IfSome}
 use Rattle.std.specs.Char.{IsScalar}

@@ -1,4 +1,4 @@
--- The plain values, without where they lie in memory. Texts are seen as their bytes in UTF-8, which are those of JSON.
+-- Plain values, apart from their memory. Texts are their bytes in UTF-8, as in JSON.
 use Rattle.std.specs.Prelude.{ℕ, Bool, List, Option, map, IfSome, ⊤, String, string_bytes}
 use Rattle.std.specs.Char.{IsScalar}
 use Rattle.std.specs.declared.alloc.Global.{Global}
@@ -7,14 +7,15 @@ use Rattle.urlpattern_components.specs.declared.eight.ComponentName.{ComponentNa
 use Rattle.urlpattern_components.specs.declared.eight.Eight.{Eight}
 use Rattle.urlpattern_components.specs.Eight.{at, each}
 
--- ---- what a pattern is
+-- ---- patterns
 
+-- An inner matcher.
 pub data PlainInnerView : Type 0 where
   literal : List ℕ → PlainInnerView
   single_capture : (filter : Option ℕ) → (allow_empty : Bool) → PlainInnerView
   regexp : List ℕ → PlainInnerView
 
--- the value, with each text seen by this function
+-- an inner matcher, with each text through the view `seen`
 abbrev pub inner_by : (String Global → List ℕ) → InnerMatcher → PlainInnerView
 inner_by seen (InnerMatcher.Literal string) = literal (seen string)
 inner_by seen (InnerMatcher.SingleCapture filter allow_empty) = single_capture filter allow_empty
@@ -23,11 +24,13 @@ inner_by seen (InnerMatcher.RegExp string) = regexp (seen string)
 abbrev pub plain_inner_view : InnerMatcher → PlainInnerView
 plain_inner_view inner = inner_by string_bytes inner
 
+-- A matcher.
 pub record PlainMatcherView : Type 0 where
   pub prefix : List ℕ
   pub suffix : List ℕ
   pub inner : PlainInnerView
 
+-- a matcher, with each text through the view `seen`
 abbrev pub matcher_by : (String Global → List ℕ) → Matcher → PlainMatcherView
 matcher_by seen matcher = record {
   prefix = seen matcher.prefix;
@@ -38,12 +41,14 @@ matcher_by seen matcher = record {
 abbrev pub plain_matcher_view : Matcher → PlainMatcherView
 plain_matcher_view matcher = matcher_by string_bytes matcher
 
+-- A component.
 pub record PlainComponentView : Type 0 where
   pub pattern_string : List ℕ
   pub regexp_string : List ℕ
   pub matcher : PlainMatcherView
   pub group_name_list : List (List ℕ)
 
+-- a component, with each text through the view `seen`
 abbrev pub component_by : (String Global → List ℕ) → UrlPatternComponent → PlainComponentView
 component_by seen component = record {
   pattern_string = seen component.pattern_string;
@@ -55,15 +60,16 @@ component_by seen component = record {
 abbrev pub plain_component_view : UrlPatternComponent → PlainComponentView
 plain_component_view component = component_by string_bytes component
 
--- the pattern of each component
+-- the components of a pattern
 abbrev pub component_patterns : UrlPattern → Eight UrlPatternComponent
 component_patterns pattern = record { protocol = pattern.protocol; username = pattern.username; password = pattern.password; hostname = pattern.hostname; port = pattern.port; pathname = pattern.pathname; search = pattern.search; hash = pattern.hash }
 
--- A pattern: its components, and whether one of them has a custom regular expression.
+-- A pattern: its components, and whether any has a custom regular expression.
 pub record PlainPatternView : Type 0 where
   pub components : Eight PlainComponentView
   pub has_regexp_groups : Bool
 
+-- a pattern, with each text through the view `seen`
 abbrev pub pattern_by : (String Global → List ℕ) → UrlPattern → PlainPatternView
 pattern_by seen pattern = record {
   components = each (λ name. component_by seen (at (component_patterns pattern) name));

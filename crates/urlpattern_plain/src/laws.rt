@@ -1,6 +1,6 @@
-//! The law of the JSON: what a value is written as is read as that value.
+//! The law of the JSON: reading undoes writing.
 //!
-//! Each function here does nothing; what it promises is a theorem.
+//! Each function does nothing; its contract is a theorem.
 
 ghost use Rattle.std.specs.Prelude.{ℕ, List};
 ghost use Rattle.urlpattern_inputs.specs.declared.options.UrlPatternOptions.{UrlPatternOptions};
@@ -11,7 +11,7 @@ ghost use Rattle.urlpattern_plain.specs.Json.{component_read, component_tree, in
 ghost use Rattle.urlpattern_plain.specs.Values.{PlainComponentView, HasFilter, HasFilters, PlainInnerView, PlainMatcherView, PlainPatternView};
 ghost use Rattle.urlpattern_components.specs.declared.eight.Eight.{Eight};
 
-/// The tree of a value is read as this value. A filter has to be a character, as it is in each value of a program.
+/// Each value is read back from its JSON. A filter has to be a character, as each `char` is.
 pub fn reading_undoes_writing()
     ensures options { (options : UrlPatternOptions) → IsReadBack options_tree options_read options }
     ensures init { (values : InitView) → IsReadBack init_tree init_read values }

@@ -1,4 +1,4 @@
-//! What a browser gets: compiled patterns, as plain data with its JSON.
+//! Compiled patterns as plain data with its JSON, as browsers receive them.
 #![tactic(auto)]
 
 pub mod laws;

@@ -1,4 +1,4 @@
-//! What a component is matched with, as plain data.
+//! The matcher of a component, as plain data.
 
 ghost use Rattle.std.specs.Prelude.{◌≡◌, IfOk, OnOk, option_map};
 ghost use Rattle.serde_json.specs.View.{view};
@@ -20,20 +20,21 @@ use urlpattern_matcher::matcher;
 use urlpattern_matcher::regexp::RegExp;
 use urlpattern_syntax::Error;
 
-/// What a text is matched with: its prefix, its suffix, and what stands between them.
+/// The matcher of a component: a prefix, a suffix, and what matches between them.
 #[derive(Debug, Clone, PartialEq, Eq, Drop, Serialize, Deserialize)]
 #[serde(rename_all = "camelCase")]
 pub struct Matcher {
-    /// The text that a matched text begins with.
+    /// The text with which a matched text begins.
     pub prefix: String,
-    /// The text that a matched text ends with, after the prefix and what stands between.
+    /// The text with which a matched text ends, after the prefix and what is between.
     pub suffix: String,
-    /// What stands between prefix and suffix. In JSON its keys stand beside theirs.
+    /// What matches between prefix and suffix. In JSON its keys are beside theirs.
     #[serde(flatten)]
     pub inner: InnerMatcher,
 }
 
-/// What stands between the prefix and the suffix of a text. In JSON the key `kind` says which of the three it is.
+/// What matches between the prefix and the suffix of a text. In JSON the key `kind` names the
+/// variant.
 ///
 /// ```rust inner_matcher
 /// let middle = InnerMatcher::RegExp {
@@ -43,29 +44,27 @@ pub struct Matcher {
 #[derive(Debug, Clone, PartialEq, Eq, Drop, Serialize, Deserialize)]
 #[serde(tag = "kind", rename_all = "camelCase", rename_all_fields = "camelCase")]
 pub enum InnerMatcher {
-    /// This text.
+    /// A literal text.
     Literal {
         /// The text.
         literal: String,
     },
     /// Any text, which is captured.
     SingleCapture {
-        /// A character that may not stand in the text.
+        /// A character that the text may not contain.
         filter: Option<char>,
         /// Whether the text may be empty.
         allow_empty: bool,
     },
-    /// What an engine matches, which captures.
+    /// What a regular expression matches, with its captures.
     RegExp {
-        /// The regular expression, empty if an engine refused it.
+        /// The regular expression, empty if an engine rejected it.
         regexp: String,
     },
 }
 
 impl Matcher {
-    /// The plain value of a matcher.
-    ///
-    /// The error is that memory ran out.
+    /// Returns the plain value of a matcher.
     pub fn from_matcher<R: RegExp>(
         alloc: Global,
         matcher: matcher::Matcher<R>,
@@ -81,9 +80,8 @@ impl Matcher {
         })
     }
 
-    /// The JSON of the matcher: an object with `prefix`, `suffix` and `kind`, and the keys of its kind.
-    ///
-    /// The error is that memory ran out.
+    /// Returns the JSON of the matcher: an object with `prefix`, `suffix` and `kind`, and the keys
+    /// of its kind.
     pub fn to_json_value(&self, alloc: Global) -> Result<Value, Error>
         ensures tree { IfOk result (λ tree. view tree ≡ matcher_tree (plain_matcher_view self.now)) }
         ensures memory { OnlyOutOfMemory result }
@@ -95,10 +93,8 @@ impl Matcher {
         Ok(Value::Object(members))
     }
 
-    /// The matcher that the JSON stands for: an object with `prefix`, `suffix` and `kind`, and the keys of its kind.
-    /// Other keys are passed over. `None`: the JSON has another shape.
-    ///
-    /// The error is that memory ran out.
+    /// Reads a matcher from JSON: an object with `prefix`, `suffix` and `kind`, and the keys of its
+    /// kind. Other keys are ignored. `None`: the JSON has another shape.
     pub fn from_json_value(alloc: Global, value: &Value) -> Result<Option<Self>, Error>
         ensures read { IfOk result (λ found. option_map plain_matcher_view found ≡ matcher_read (view value.now)) }
         ensures memory { OnlyOutOfMemory result }
@@ -119,10 +115,8 @@ impl Matcher {
 }
 
 impl InnerMatcher {
-    /// The plain value of what stands between prefix and suffix: an engine's value becomes its text, and the empty text
-    /// stands where an error is kept.
-    ///
-    /// The error is that memory ran out.
+    /// Returns the plain value of an inner matcher: the text of an engine, empty if the engine is
+    /// an error.
     pub fn from_inner<R: RegExp>(
         alloc: Global,
         inner: matcher::InnerMatcher<R>,
@@ -146,9 +140,7 @@ impl InnerMatcher {
         }
     }
 
-    /// The JSON of what stands between prefix and suffix: an object with `kind`, and the keys of its kind.
-    ///
-    /// The error is that memory ran out.
+    /// Returns the JSON of the inner matcher: an object with `kind`, and the keys of its kind.
     pub fn to_json_value(&self, alloc: Global) -> Result<Value, Error>
         ensures tree { IfOk result (λ tree. view tree ≡ inner_tree (plain_inner_view self.now)) }
         ensures memory { OnlyOutOfMemory result }
@@ -158,7 +150,7 @@ impl InnerMatcher {
         Ok(Value::Object(members))
     }
 
-    /// Puts the kind, and the keys that go with it, into an object.
+    /// Puts `kind`, and the keys of that kind, into an object.
     fn put_members(&self, members: &mut Map<String, Value>, alloc: Global) -> Result<(), AllocError>
         ensures { OnOk result (GainAll members.old.entries members.new.entries (inner_members (plain_inner_view self.now))) }
     {
@@ -182,10 +174,8 @@ impl InnerMatcher {
         }
     }
 
-    /// What the JSON stands for: an object with `kind`, and the keys of its kind. Other keys are passed over. `None`: the
-    /// JSON has another shape.
-    ///
-    /// The error is that memory ran out.
+    /// Reads an inner matcher from JSON: an object with `kind`, and the keys of its kind. Other
+    /// keys are ignored. `None`: the JSON has another shape.
     pub fn from_json_value(alloc: Global, value: &Value) -> Result<Option<Self>, Error>
         ensures read { IfOk result (λ found. option_map plain_inner_view found ≡ inner_read (view value.now)) }
         ensures memory { OnlyOutOfMemory result }
@@ -193,7 +183,7 @@ impl InnerMatcher {
         read_or_none(Self::read(alloc, value))
     }
 
-    /// By the kind that the object names.
+    /// Reads the keys of the kind that the object names.
     #[tactic(auto, unfolding(crate::specs::Json::inner_read))]
     fn read(alloc: Global, value: &Value) -> Result<Self, Unread>
         ensures { ReturnsRead plain_inner_view result (inner_read (view value.now)) }
@@ -225,7 +215,7 @@ impl InnerMatcher {
     }
 }
 
-/// The text that an engine's value was made of, or the empty text where an error is kept.
+/// The text that an engine was made of, or the empty text in place of an error.
 pub(crate) fn engine_text<R: RegExp>(
     alloc: Global,
     engine: &Result<R, Error>,

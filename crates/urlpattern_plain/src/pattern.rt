@@ -55,7 +55,7 @@ pub struct UrlPattern {
     pub search: UrlPatternComponent,
     /// The fragment.
     pub hash: UrlPatternComponent,
-    /// Whether one of the patterns has a custom regular expression.
+    /// Whether any component has a custom regular expression.
     pub has_regexp_groups: bool,
 }
 
@@ -73,11 +73,11 @@ pub struct UrlPattern {
 #[derive(Debug, PartialEq, Eq, Drop, Serialize, Deserialize)]
 #[serde(rename_all = "camelCase")]
 pub struct UrlPatternComponent {
-    /// The pattern's text, as it is printed.
+    /// The pattern text, as it is printed.
     pub pattern_string: String,
-    /// The regular expression of the whole pattern, empty if an engine refused it.
+    /// The regular expression of the whole component, empty if an engine rejected it.
     pub regexp_string: String,
-    /// What a text is matched with.
+    /// The matcher.
     pub matcher: Matcher,
     /// The names of the groups, in the order of their captures.
     pub group_name_list: Vec<String>,
@@ -94,9 +94,8 @@ impl Clone for UrlPattern {
 }
 
 impl UrlPattern {
-    /// The JSON of the pattern: an object with a key for each component, and `hasRegexpGroups`.
-    ///
-    /// The error is that memory ran out.
+    /// Returns the JSON of the pattern: an object with a key for each component, and
+    /// `hasRegexpGroups`.
     pub fn to_json_value(&self, alloc: Global) -> Result<Value, Error>
         ensures tree { IfOk result (λ tree. view tree ≡ pattern_tree (plain_pattern_view self.now)) }
         ensures memory { OnlyOutOfMemory result }
@@ -110,10 +109,8 @@ impl UrlPattern {
         Ok(Value::Object(members))
     }
 
-    /// The pattern that the JSON stands for: an object with a component for each key, and `hasRegexpGroups`. Other keys
-    /// are passed over. `None`: the JSON has another shape.
-    ///
-    /// The error is that memory ran out.
+    /// Reads a pattern from JSON: an object with a component for each key, and `hasRegexpGroups`.
+    /// Other keys are ignored. `None`: the JSON has another shape.
     pub fn from_json_value(alloc: Global, value: &Value) -> Result<Option<Self>, Error>
         ensures read { IfOk result (λ found. option_map plain_pattern_view found ≡ pattern_read (view value.now)) }
         ensures memory { OnlyOutOfMemory result }
@@ -130,7 +127,7 @@ impl UrlPattern {
         Ok(Self::from_eight(components, has_regexp_groups))
     }
 
-    /// The pattern of these components.
+    /// Creates a pattern from eight components.
     pub fn from_eight(components: Eight<UrlPatternComponent>, has_regexp_groups: bool) -> Self
         ensures components { component_patterns result ≡ components }
         ensures groups { result.has_regexp_groups ≡ has_regexp_groups }
@@ -138,7 +135,7 @@ impl UrlPattern {
         with_fields!(Self, components, has_regexp_groups)
     }
 
-    /// The pattern of a component.
+    /// The component with this name.
     pub fn get(&self, name: ComponentName) -> &UrlPatternComponent
         ensures { result.now ≡ at (component_patterns self.now) name }
     {
@@ -161,10 +158,7 @@ impl Clone for UrlPatternComponent {
 }
 
 impl UrlPatternComponent {
-    /// The plain value of a component: an engine's value becomes its text, and the empty text stands where an error is
-    /// kept.
-    ///
-    /// The error is that memory ran out.
+    /// Returns the plain value of a component: the texts of its engines, empty for an error.
     pub fn from_component<R: RegExp>(alloc: Global, component: Component<R>) -> Result<Self, Error>
         ensures plain { IfOk result (λ plain. component_by text_of plain ≡ plain_component R.text_made_of (compiled.component_view component)) }
         ensures memory { OnlyOutOfMemory result }
@@ -178,9 +172,8 @@ impl UrlPatternComponent {
         })
     }
 
-    /// The JSON of the component: an object with `patternString`, `regexpString`, `matcher` and `groupNameList`.
-    ///
-    /// The error is that memory ran out.
+    /// Returns the JSON of the component: an object with `patternString`, `regexpString`, `matcher`
+    /// and `groupNameList`.
     pub fn to_json_value(&self, alloc: Global) -> Result<Value, Error>
         ensures tree { IfOk result (λ tree. view tree ≡ component_tree (plain_component_view self.now)) }
         ensures memory { OnlyOutOfMemory result }
@@ -195,10 +188,8 @@ impl UrlPatternComponent {
         Ok(Value::Object(members))
     }
 
-    /// The component that the JSON stands for: an object with `patternString`, `regexpString`, `matcher` and
-    /// `groupNameList`. Other keys are passed over. `None`: the JSON has another shape.
-    ///
-    /// The error is that memory ran out.
+    /// Reads a component from JSON: an object with `patternString`, `regexpString`, `matcher` and
+    /// `groupNameList`. Other keys are ignored. `None`: the JSON has another shape.
     pub fn from_json_value(alloc: Global, value: &Value) -> Result<Option<Self>, Error>
         ensures read { IfOk result (λ found. option_map plain_component_view found ≡ component_read (view value.now)) }
         ensures memory { OnlyOutOfMemory result }

@@ -1,4 +1,4 @@
-//! The steps of reading compiled patterns from JSON.
+//! The steps of reading plain patterns from JSON.
 
 ghost use Rattle.std.specs.Prelude.{◌≡◌, map, string_bytes};
 ghost use Rattle.std.specs.Str.{chars};
@@ -11,7 +11,7 @@ use serde_json::Value;
 use std::alloc::Global;
 use urlpattern_inputs::reading::{Unread, member};
 
-/// The character of a member that may be missing.
+/// The character of an optional member.
 pub(crate) fn optional_character_field(tree: &Value, name: &str) -> Result<Option<char>, Unread>
     ensures { ReturnsRead (λ found. found) result (optional_read character_read name.now (view tree.now)) }
 {
@@ -30,7 +30,7 @@ pub(crate) fn optional_character_field(tree: &Value, name: &str) -> Result<Optio
     }
 }
 
-/// The character of a text that has one.
+/// The character of a text that has exactly one.
 fn only(text: &str) -> Option<char>
     ensures { result ≡ only (chars text.now) }
 {
@@ -52,7 +52,7 @@ pub(crate) fn texts_field(alloc: Global, tree: &Value, name: &str) -> Result<Vec
     }
 }
 
-/// The texts of the items.
+/// The texts of an array, if each item is a string.
 fn texts_of(alloc: Global, items: &Vec<Value>) -> Result<Vec<String>, Unread>
     ensures { ReturnsRead (λ texts. map string_bytes texts.items) result (texts_of_items (items_view items.now.items)) }
 {

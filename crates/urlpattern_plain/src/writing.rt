@@ -1,4 +1,4 @@
-//! The steps of writing compiled patterns as JSON.
+//! The steps of writing plain patterns as JSON.
 
 ghost use Rattle.std.specs.Prelude.{◌≡◌, IfOk, map, string_bytes};
 ghost use Rattle.serde_json.specs.Data.{array, string};
@@ -8,7 +8,7 @@ ghost use Rattle.urlpattern_plain.specs.Json.{filter_tree};
 use serde_json::Value;
 use std::alloc::{AllocError, Global};
 
-/// A text of one character, or null.
+/// A string of one character, or null.
 pub(crate) fn filter_value(alloc: Global, filter: Option<char>) -> Result<Value, AllocError>
     ensures { IfOk result (λ tree. view tree ≡ filter_tree filter) }
 {
@@ -22,7 +22,7 @@ pub(crate) fn filter_value(alloc: Global, filter: Option<char>) -> Result<Value,
     }
 }
 
-/// An array of texts.
+/// An array of strings.
 pub(crate) fn texts_value(alloc: Global, texts: &Vec<String>) -> Result<Value, AllocError>
     ensures { IfOk result (λ tree. view tree ≡ array (items_of (map string (map string_bytes texts.now.items)))) }
 {

@@ -1,4 +1,4 @@
--- What browsers are answered.
+-- What the functions for browsers return.
 use Rattle.std.specs.Prelude.{◌≡◌, ℕ, List, Result, IfOk}
 use Rattle.urlpattern_pattern.specs.{Patterns.PatternView, Patterns.has_regexp_groups}
 use Rattle.urlpattern_compile.specs.{Compiled.IsPatternOfInit}
@@ -15,19 +15,20 @@ use Rattle.urlpattern_syntax.specs.Text.{text_of}
 use Rattle.urlpattern_syntax.specs.Errors.{OnlyOutOfMemory}
 use Rattle.urlpattern_syntax.specs.declared.error.Error.{Error}
 
--- the plain value of a component is this, unless memory ran out
+-- the result is the plain value of a component, unless memory ran out
 pub record IsPlainOf {E : Type 0} (text_made_of : E → List ℕ) (component : Component E) (result : Result UrlPatternComponent Error) : Type 0 where
   pub plain : IfOk result (λ value. plain.component_by text_of value ≡ plain_component text_made_of (component_view component))
   pub memory : OnlyOutOfMemory result
 
--- the plain value of a pattern: that of each component, and whether one has a regular expression of its own
+-- the plain value of a pattern: that of each component, and whether any has a custom regular
+-- expression
 abbrev pub plain_pattern : {E : Type 0} → (text_made_of : E → List ℕ) → PatternView E → plain.PlainPatternView
 plain_pattern text_made_of pattern = record {
   components = each (λ name. plain_component text_made_of (pattern name));
   has_regexp_groups = has_regexp_groups pattern;
 }
 
--- the plain value is that of a pattern to which the init is compiled
+-- the value is the plain value of a pattern to which the init is compiled
 abbrev pub IsPlainOfInit : {E : Type 0} → Engine E → UrlPatternInit → UrlPatternOptions → UrlPattern → Type 0
 IsPlainOfInit {E} engine init asked value =
     (compiled : PatternView E) × IsPatternOfInit engine init asked compiled

@@ -20,10 +20,11 @@ use urlpattern_init::UrlPatternMatchInput;
 use urlpattern_inputs::{Inputs, StringOrInit, UrlPatternInit};
 use urlpattern_syntax::Error;
 
-/// The init of a pattern: of a constructor string, with a base URL if there is one, or of components one by one.
+/// Returns the init of a pattern, from a constructor string with an optional base URL, or from a
+/// plain init.
 ///
-/// The error is that `url` refuses the base URL, that a constructor string is refused, that a base URL is given beside
-/// components, or that memory ran out.
+/// The error is that of a rejected base URL or a rejected constructor string, `BaseUrlWithInit` if
+/// a base URL is passed with an init, or `OutOfMemory`.
 ///
 /// <https://urlpattern.spec.whatwg.org/#url-pattern-create>
 pub fn process_construct_pattern_input(
@@ -43,7 +44,7 @@ pub fn process_construct_pattern_input(
     }
 }
 
-/// The init of components one by one, with their base URL.
+/// Converts a plain init, and parses its base URL.
 fn init_of(alloc: Global, init: UrlPatternInit) -> Result<init::UrlPatternInit, Error>
     ensures init { IfOk result (IsInitOf init) }
     ensures refused { IfErr result (MemoryOr (Reports (parsed_base (plain_base init)) (text_bytes (plain_base init)))) }
@@ -52,10 +53,10 @@ fn init_of(alloc: Global, init: UrlPatternInit) -> Result<init::UrlPatternInit, 
     Ok(init::UrlPatternInit::from_eight(init.into_eight(), base_url))
 }
 
-/// What a pattern is matched against, and the input again with the text of the base URL beside it. `None`: `url` refuses
-/// the text or a base URL.
+/// Returns what a pattern is matched against, and the input again with the text of the base URL.
+/// `None`: `url` rejects the text or a base URL.
 ///
-/// The error is that a base URL is given beside an init, or that memory ran out.
+/// The error is `BaseUrlWithInit` if a base URL is passed with an init, or `OutOfMemory`.
 ///
 /// <https://urlpattern.spec.whatwg.org/#url-pattern-match>
 pub fn process_match_input<'a>(
@@ -75,9 +76,8 @@ pub fn process_match_input<'a>(
     }
 }
 
-/// The URL of a text, and the text again with that of its base URL. `None`: `url` refuses one of them.
-///
-/// The error is that memory ran out.
+/// The URL of a text, and the text again with that of the base URL. `None`: `url` rejects the text
+/// or the base URL.
 fn match_text<'a>(
     alloc: Global,
     text: CowStr<'a>,
@@ -94,9 +94,7 @@ fn match_text<'a>(
     Ok(Some((UrlPatternMatchInput::Url(url), inputs)))
 }
 
-/// An init with its base URL, and the init again. `None`: `url` refuses the base URL.
-///
-/// The error is that memory ran out.
+/// An init with its base URL parsed, and the init again. `None`: `url` rejects the base URL.
 fn match_init<'a>(
     alloc: Global,
     init: UrlPatternInit,
@@ -116,8 +114,6 @@ fn match_init<'a>(
 }
 
 /// A copy of an init, with this base URL.
-///
-/// The error is that memory ran out.
 fn copied_init(
     alloc: Global,
     init: &UrlPatternInit,

@@ -1,4 +1,4 @@
-//! Calls for browsers: inits and inputs as they are given, and patterns as plain data.
+//! Functions for browsers: inits and inputs as they are passed, and patterns as plain data.
 #![tactic(auto)]
 
 mod inputs;

@@ -33,7 +33,7 @@ pub fn parse_pattern<R: RegExp>(
     plain_pattern(alloc, pattern)
 }
 
-/// Compiles a pattern from an init: `UrlPattern::parse`, with its promises.
+/// Compiles a pattern from an init, with the contract of `UrlPattern::parse`.
 ///
 /// The error is that of compiling the pattern.
 pub fn parse_pattern_as_lib<R: RegExp>(

@@ -13,11 +13,11 @@ use urlpattern_matcher::regexp::RegExp;
 use urlpattern_parser::parser::{Options, parse_pattern_string};
 use urlpattern_syntax::Error;
 
-/// Whether a protocol that is given as a pattern is special: its matcher accepts a special scheme.
+/// Whether a protocol's pattern is special: whether its matcher accepts a special scheme.
 ///
-/// If `keeps`, the whole component is compiled, and returned with its text.
+/// If `keeps`, compiles the whole component and returns it with its text.
 ///
-/// The error is that the pattern is refused, or that memory ran out.
+/// The error is that of a rejected pattern, or `OutOfMemory`.
 ///
 /// <https://urlpattern.spec.whatwg.org/#compute-protocol-matches-a-special-scheme-flag>
 pub(super) fn is_special_protocol<R: RegExp>(
@@ -45,8 +45,6 @@ pub(super) fn is_special_protocol<R: RegExp>(
 }
 
 /// Whether a matcher accepts a special scheme.
-///
-/// The error is that memory ran out.
 pub fn accepts_special_scheme<R: RegExp>(alloc: Global, matcher: &Matcher<R>) -> Result<bool, Error>
     ensures answer { IfOk result (λ accepted. IsTrue accepted ↔ AcceptsSpecialScheme R.answer (matcher_view matcher.now)) }
     ensures memory { OnlyOutOfMemory result }
@@ -61,7 +59,7 @@ pub fn accepts_special_scheme<R: RegExp>(alloc: Global, matcher: &Matcher<R>) ->
     )
 }
 
-/// The one text that a matcher accepts, if it is known to be one.
+/// The only text that a matcher accepts, if the matcher is a case-sensitive literal.
 fn only_text<R: RegExp>(matcher: &Matcher<R>) -> Option<&str>
     ensures { IfSome result (λ only. AcceptsOnly R.answer (matcher_view matcher.now) (chars only.now)) }
 {
@@ -74,7 +72,7 @@ fn only_text<R: RegExp>(matcher: &Matcher<R>) -> Option<&str>
     }
 }
 
-/// Whether a matcher accepts one of some texts.
+/// Whether a matcher accepts any of the texts.
 fn accepts_any<R: RegExp>(
     alloc: Global,
     matcher: &Matcher<R>,

@@ -1,4 +1,4 @@
-//! The processing of an init, in either mode, by one table.
+//! Processing of an init, as a pattern or as a URL, by one table of inheritance.
 ghost use Rattle.std.specs.Prelude.{◌≡◌, ◌&&◌, None, Ok, is_none, option_map, IfOk, IfErr, IsAscii};
 ghost use Rattle.std.specs.Str.{chars};
 ghost use Rattle.urlpattern_canonical.specs.Canonical.{Reports};
@@ -19,7 +19,7 @@ use urlpattern_canonical::canonicalize_and_process::{
 use urlpattern_components::{ComponentName, Eight};
 use urlpattern_syntax::Error;
 
-/// What an init must lack besides the component itself, so that it is inherited.
+/// The components that an init must lack, along with the component itself, to inherit it.
 fn must_lack(component: ComponentName) -> &'static [ComponentName]
     ensures { result.now ≡ must_lack component }
 {
@@ -72,7 +72,7 @@ fn is_inheritable(component: ComponentName, kind: &ProcessType) -> bool
     }
 }
 
-/// What a URL has for a component, empty where there is nothing.
+/// The text of a URL's component; empty if the URL lacks it.
 pub fn url_text(url: &Url, component: ComponentName) -> &str
     ensures { chars result.now ≡ spec.url_text component url.now }
 {
@@ -128,7 +128,7 @@ fn up_to_last_slash(path: &str) -> &str
     }
 }
 
-/// An init that is processed.
+/// An init being processed, and the mode.
 #[derive(Drop)]
 struct Processing<'a> {
     alloc: Global,
@@ -138,7 +138,7 @@ struct Processing<'a> {
 }
 
 impl Processing<'_> {
-    /// The values that the init results in, with this one for the protocol.
+    /// The processed values of the init, given that of the protocol.
     fn values(&self, protocol: Option<String>) -> Result<Eight<Option<String>>, Error>
         requires { value_in self.now None ComponentName.Protocol ≡ Ok (option_map text_of protocol) }
         ensures ok { IfOk result (λ values. values_in self.now ≡ Ok (values_of values)) }
@@ -152,7 +152,8 @@ impl Processing<'_> {
         Ok(values)
     }
 
-    /// The value of a component, under the protocol that the init results in. For the protocol itself there is none.
+    /// The processed value of a component, under the processed protocol; `None` for the protocol
+    /// itself.
     fn value_after(
         &self,
         component: ComponentName,
@@ -166,7 +167,7 @@ impl Processing<'_> {
         }
     }
 
-    /// The value of a component, under the protocol that the init results in.
+    /// The processed value of a component, under the processed protocol.
     fn value_under(
         &self,
         component: ComponentName,
@@ -181,7 +182,7 @@ impl Processing<'_> {
         }
     }
 
-    /// The value of a component, under the protocol that the init results in.
+    /// The processed value of a component, under the processed protocol, if there is one.
     fn value(
         &self,
         component: ComponentName,
@@ -210,7 +211,7 @@ impl Processing<'_> {
         }
     }
 
-    /// Whether a component that the init lacks is the base's.
+    /// Whether the init inherits a component that it lacks.
     fn inherits(&self, component: ComponentName) -> bool
         ensures { result ≡ (is_inheritable self.now.kind.now component && spec.lacks_all (given_values self.now) (must_lack component)) }
     {
@@ -227,7 +228,7 @@ impl Processing<'_> {
         }
     }
 
-    /// The value of a text of the init.
+    /// Processes a text of the init.
     fn processed(
         &self,
         component: ComponentName,
@@ -249,7 +250,8 @@ impl Processing<'_> {
         }
     }
 
-    /// The value of a pathname of the init. A relative one is put after the base's path.
+    /// Processes a pathname of the init. A relative pathname is appended to the base's path up to
+    /// its last slash.
     fn processed_pathname(&self, text: &str, protocol: Option<&str>) -> Result<String, Error>
         ensures { IsGivenPathnameAnswer self.now protocol.entry (chars text.now) result }
     {
@@ -268,9 +270,10 @@ impl Processing<'_> {
     }
 }
 
-/// What an init results in, in either mode: an init of its values, without a base URL.
+/// Processes an init, as a pattern or as a URL. Returns an init of the processed values, without a
+/// base URL.
 ///
-/// The error is the first refusal of `url`, or that memory ran out. A pattern meets no refusal.
+/// The error is the first rejection by `url`, or `OutOfMemory`. In a pattern nothing is rejected.
 ///
 /// <https://urlpattern.spec.whatwg.org/#process-a-urlpatterninit>
 pub fn process(
@@ -285,9 +288,9 @@ pub fn process(
     Ok(UrlPatternInit::from_eight(values, None))
 }
 
-/// The values that an init results in, in either mode.
+/// Processes the values of an init, as a pattern or as a URL.
 ///
-/// The error is the first refusal of `url`, or that memory ran out. A pattern meets no refusal.
+/// The error is the first rejection by `url`, or `OutOfMemory`. In a pattern nothing is rejected.
 ///
 /// <https://urlpattern.spec.whatwg.org/#process-a-urlpatterninit>
 pub fn process_values(
