@@ -11,12 +11,12 @@ use Rattle.urlpattern_syntax.specs.Text.{line_feed}
 
 -- ---- trees
 
--- the characters of the second are those of the first, folded
+-- the second character is the first, folded
 abbrev pub IsFoldedCharacter : Character → Character → Type 0
 IsFoldedCharacter character other = character_of other ≡ folded_character true (character_of character)
 
 abbrev mutual
-  -- the second tree is the first but that its characters are folded
+  -- the second tree is the first with its characters folded
   pub IsFolding : Items → Items → Type 0
   IsFolding Nothing Nothing = Unit {0}
   IsFolding (Item atom quantifier items) (Item other also others) = IsAtomFolding atom other × (quantifier ≡ also) × IsFolding items others
