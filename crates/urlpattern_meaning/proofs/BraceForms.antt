@@ -78,7 +78,7 @@ filled_form inner rest more before after placeholder widen f =
     (f.are_texts_after.0)
     (ap (λ x. Filled x placeholder after) (f.are_texts_before.1) ∙ ap (λ x. Filled (joined_values f.front) placeholder x) (f.are_texts_after.1))
 
--- a Close is no Regexp that a name would take
+-- a Close is not a Regexp that a name would take
 pub widened : (what : Matched) (behind : List TokenView) (closing : TokenView) (back : List TokenView) → TakesRegexp what (back ++ closing ∷ []) → TakesRegexp what (back ++ closing ∷ behind)
 widened matched.Segment behind closing [] h = h
 widened matched.Segment behind closing (token ∷ back) h = h

@@ -10,7 +10,7 @@ use Rattle.urlpattern_syntax.proofs.TokenExamples.{no}
 abbrev pub plain : List ℕ → Atom
 plain text = Literal (Plain (slice_index text 0))
 
--- an atom that is taken once, or as a quantifier says, with nothing after it
+-- an atom that matches once, or under a quantifier, with nothing after it
 abbrev pub once : Atom → Items
 once atom = Item atom Once Nothing
 
@@ -88,7 +88,7 @@ pub repeated_is_tree : IsTreeOf (codes "^(?:p((?:x)(?:sp(?:x))*)s)?$") repeated_
 repeated_is_tree =
     (refl, ((no, tt, (((no, tt, tt), tt, ((no, tt, (no, tt, ((no, tt, tt), tt, tt))), refl, tt)), tt, (no, tt, tt))), tt, tt))
 
--- an optional group that is not taken leaves its capture None
+-- an optional group that is skipped leaves its capture None
 pub repeated_none : Means repeated_tree [] (None ∷ [])
 repeated_none = ([], [], None ∷ [], [], refl, refl, inr (refl, refl), (refl, refl))
 
@@ -193,14 +193,14 @@ nested_means = (
   (refl, refl),
 )
 
--- a mark has a backslash, and a letter has none: `.` and `\d` are no characters of the dialect
+-- a mark has a backslash, and a letter has none: `.` and `\d` are not characters of the dialect
 pub dot_no_literal : ¬ IsAtom (plain (codes "."))
 dot_no_literal h = h refl
 
 pub letter_no_escape : ¬ IsAtom (Literal (Escaped (slice_index (codes "d") 0)))
 letter_no_escape h = no h
 
--- In a class a backslash and an opening bracket need a backslash: `[^\]` and `[^[]` are no classes
+-- In a class a backslash and an opening bracket need a backslash: `[^\]` and `[^[]` are not classes
 -- of the dialect.
 pub backslash_no_class : ¬ IsAtom (AnyBut (Plain (slice_index (codes "\\") 0)))
 backslash_no_class h = h refl

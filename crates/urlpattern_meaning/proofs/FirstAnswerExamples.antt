@@ -16,7 +16,7 @@ use Rattle.urlpattern_meaning.proofs.PartTrees.{IsNotCustom, tree_of}
 one_plain : (part : PartView) → IsNotCustom part → All IsNotCustom (part ∷ [])
 one_plain part h = All-cons IsNotCustom part [] h (All-nil IsNotCustom)
 
--- the pattern `:a:b` on `abc`: the first name takes as little as it can
+-- the pattern `:a:b` on `abc`: the first name matches as little as it can
 abbrev pub name : List ℕ → PartView
 name text = group SegmentWildcard [] text [] modifiers.None
 

@@ -33,7 +33,7 @@ module _ (marks s : List ℕ) (are : AreItems (put marks s Nothing)) where
   abbrev last : List ℕ → List Way
   last = ways (put marks s Nothing)
 
-  -- each way takes the text
+  -- each way matches the text
   last_takes : (text : List ℕ) → Every (λ way. length text ≡ length s + length way.rest) (last text)
   last_takes text =
       every-weaker (IsSound text (Means (put marks s Nothing))) _ (last text)
@@ -52,7 +52,7 @@ module _ (marks s : List ℕ) (are : AreItems (put marks s Nothing)) where
       every-weaker (λ m. length way.rest ≡ length s + length m.rest) _ (last way.rest)
       (λ m e. ne_eqb (length m.rest) 0 (λ none. differs (omega (arith, e, none)))) (last_takes way.rest)
 
-  -- where the text is all that is left, it is taken, and nothing more is captured
+  -- where the text is all that is left, it is matched, and nothing more is captured
   one_all : (way : Way) (xs : List Way) → way.rest ≡ s → first_of (map (joined_way way) (last way.rest) ++ xs) ≡ Some way.captures
   one_all way xs e = by (last way.rest) (ap (λ t. seen (last t)) (e ∙ sym (append-nil s)) ∙ put_ways marks s Nothing [])
     where

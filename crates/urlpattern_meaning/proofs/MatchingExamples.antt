@@ -34,7 +34,7 @@ accent_none E answer = none_fits answer (wildcard_matcher E accent accent) accen
     none [] e = cc e
     none (c ∷ middle) e = cc e
 
--- two texts that share a character do not overlap on a text of three
+-- a prefix and a suffix that share a character do not overlap on a text of three
 pub overlap_none : (E : Type 0) (answer : E → List ℕ → Option Captures) → Answers answer (wildcard_matcher E (codes "ab") (codes "ba")) (codes "aba") None
 overlap_none E answer = none_fits answer (wildcard_matcher E (codes "ab") (codes "ba")) (codes "aba") refl none
   where
@@ -43,11 +43,11 @@ overlap_none E answer = none_fits answer (wildcard_matcher E (codes "ab") (codes
     none (c ∷ []) e = cc e
     none (c ∷ d ∷ middle) e = cc e
 
--- on a text of four the two texts meet, with nothing between them
+-- a prefix and a suffix that share a character meet on a text of four, with nothing between them
 pub overlap_empty : (E : Type 0) (answer : E → List ℕ → Option Captures) → Answers answer (wildcard_matcher E (codes "ab") (codes "ba")) (codes "abba") (Some (Some [] ∷ []))
 overlap_empty E answer = ([], (codes "ab", codes "ba", refl, refl, refl), (tt, tt, refl))
 
--- a shorter prefix leaves a middle, the empty text, before the suffix
+-- a prefix that does not overlap the suffix leaves the empty text between them
 pub shorter_empty : (E : Type 0) (answer : E → List ℕ → Option Captures) → Answers answer (wildcard_matcher E (codes "a") (codes "ba")) (codes "aba") (Some (Some [] ∷ []))
 shorter_empty E answer = ([], (codes "a", codes "ba", refl, refl, refl), (tt, tt, refl))
 
@@ -73,7 +73,7 @@ segment_empty E answer captures (middle, cut, (not_empty, passes, is)) =
     let whole : [] ≡ middle = append_cancel_right [] middle [] (append_cancel_left (codes "/") _ _ e) in
     not_empty (sym whole)
 
--- the result for a text that has such a middle is not None
+-- the result of the segment matcher for `/a` is not None
 pub segment_answered : (E : Type 0) (answer : E → List ℕ → Option Captures) → ¬ Answers answer (segment_matcher E) (codes "/a") None
 segment_answered E answer none = none (Some (codes "a") ∷ []) (segment_some E answer)
 
@@ -117,7 +117,7 @@ other_first answer first c text other captures (middle, (d ∷ front, back, e, b
 pub folding_accent : (E : Type 0) (answer : E → List ℕ → Option Captures) → Answers answer (folding_wildcard E (0xC9 ∷ []) []) (0xE9 ∷ codes "a") None
 folding_accent E answer = other_first answer 0xC9 0xE9 (codes "a") (λ e. no (ap (λ c. c == 0xC9) e))
 
--- the Kelvin sign is no `k`
+-- the Kelvin sign is not a `k`
 pub folding_kelvin : (E : Type 0) (answer : E → List ℕ → Option Captures) → Answers answer (folding_wildcard E (codes "k") []) (0x212A ∷ codes "a") None
 folding_kelvin E answer = other_first answer (slice_index (codes "k") 0) 0x212A (codes "a") (λ e. no (ap (λ c. c == slice_index (codes "k") 0) e))
 

@@ -83,7 +83,7 @@ WildcardMeans options part text captures =
     × IsRepeated (λ copy. (piece : List ℕ) × (copy ≡ part.prefix ++ piece ++ part.suffix) × IsWildcardText options part.kind piece) n text
     × ((capture : Option (List ℕ)) × IsCapture part n text capture × (captures ≡ capture ∷ []))
 
--- a wildcard of either kind means such copies
+-- a wildcard of either kind means copies between prefix and suffix
 pub wildcard_copies : (options : OptionsView) (kind : PartType) (modifier : PartModifier) (value name prefix suffix text : List ℕ) (captures : Captures) → IsWildcard kind →
     PartMeans options (part_of kind modifier value name prefix suffix) text captures ↔ WildcardMeans options (part_of kind modifier value name prefix suffix) text captures
 wildcard_copies options SegmentWildcard modifier value name prefix suffix text captures h = (
@@ -196,7 +196,7 @@ one_between answer IsEngine options front back kind modifier value name prefix s
 part_single : (options : OptionsView) (part : PartView) (text : List ℕ) (captures : Captures) → PartMeans options part text captures → PartsMean options (part ∷ []) text captures
 part_single options part text captures means = (text, [], captures, [], sym (append-nil text), sym (append-nil captures), means, (refl, refl))
 
--- the literal
+-- a literal accepts the removed texts, with nothing between them
 matches_literal : {E : Type 0} (answer : E → List ℕ → Option Captures) (front back text : List ℕ) (captures : Captures) →
     Matches answer (record { prefix = []; suffix = []; inner = Literal (front ++ back); ignore_case = false }) text captures ↔ ((inner : List ℕ) × (text ≡ front ++ inner ++ back) × (inner ≡ []) × (captures ≡ []))
 matches_literal {E} answer front back text captures =

@@ -63,7 +63,7 @@ starred_part = group SegmentWildcard [] (codes "x") [] modifiers.ZeroOrMore
 pub starred_empty : PartsMean default_options (starred_part ∷ []) [] (Some [] ∷ [])
 starred_empty = alone_means (record { count = 0; allowed = tt; are_copies = refl; are_captures = (Some [], refl, refl) })
 
--- on a text of two characters: one copy
+-- the pattern `:x*` on a text of two characters: one copy
 pub starred_text : PartsMean default_options (starred_part ∷ []) (codes "ab") (Some (codes "ab") ∷ [])
 starred_text = alone_means (record {
   count = 1;

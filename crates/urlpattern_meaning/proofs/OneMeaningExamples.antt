@@ -57,7 +57,7 @@ optional_answer [] = Some []
 optional_answer (c ∷ []) = if c == slice_index (codes "a") 0 then Some [] else None
 optional_answer (c ∷ d ∷ text) = None
 
--- the part matches no other text
+-- the part `{a}?` matches only the empty text and `a`
 optional_count : (n : ℕ) (text : List ℕ) → n ≤ 1 → IsRepeated (λ stretch. stretch ≡ codes "a") n text → (text ≡ []) ⊎ (text ≡ codes "a")
 optional_count zero text few is = inl is
 optional_count (suc zero) text few (first, rest, cut, is, ended) = inr (rw (cut, ended, is))
@@ -85,17 +85,17 @@ pub optional_follows : Follows (codes "^(?:a)?$") optional_answer
 unfolding escaped part_regexp
 optional_follows = agrees_follows default_options optional_parts optional_custom optional_answer (λ text scalars. optional_agrees text)
 
--- the engine follows the middle of `{a}?b`
+-- the engine for `{a}?` follows the middle of `{a}?b`
 pub optional_middle : (E : Type 0) (engine : E) → FollowsMiddle (λ engine. optional_answer) default_options (fixed_text (codes "a") modifiers.Optional ∷ plain (codes "b") ∷ []) (RegExp (Ok engine))
 unfolding escaped part_regexp
 optional_middle E engine = (None, optional_parts, Some (plain (codes "b")), record { cut = refl; front_removed = no; back_removed = refl }, optional_follows)
 
--- an engine that matches nothing does not follow
+-- an engine that matches nothing does not follow `^(?:a)?$`
 pub silent : ¬ Follows (codes "^(?:a)?$") (λ text. None)
 unfolding escaped part_regexp
 silent follows = follows_agrees default_options optional_parts optional_custom (λ text. None) follows [] refl [] (optional_agrees [])
 
--- an error that is kept does not follow
+-- an error that is kept does not follow the middle of any parts
 pub kept_error : (E : Type 0) (answer : E → List ℕ → Option Captures) (parts : List PartView) (error : ErrorView) → ¬ FollowsMiddle answer default_options parts (RegExp (Err error))
 kept_error E answer parts error follows = follows
 

@@ -68,15 +68,15 @@ core_groups modifiers.OneOrMore marks prefix piece suffix e = copies_groups mark
 between_groups : (marks prefix : List ℕ) (core : Items) (suffix : List ℕ) → group_count core ≡ 0 → group_count (between marks prefix core suffix) ≡ 1
 between_groups marks prefix core suffix e = put_groups marks prefix _ ∙ ap (λ n. suc n + group_count (put marks suffix Nothing)) e ∙ ap (λ n. suc 0 + n) (put_groups marks suffix Nothing)
 
--- the groups of an atom that is not taken leave a single None
+-- the group of an atom that is skipped leaves a single None
 left_none : (groups : ℕ) (captures : Captures) → groups ≡ 1 → (captures ≡ replicate groups None) ↔ (captures ≡ None ∷ [])
 left_none groups captures e = let same : replicate groups None ≡ None ∷ [] = ap (λ n. replicate n None) e in (λ f. f ∙ same, λ f. f ∙ sym same)
 
--- an atom that is always taken, with one that never is
+-- an atom that cannot be skipped
 always : (A B C : Type 0) → B ↔ A → ¬ C → B ↔ (C ⊎ A)
 always A B C same never = (λ b. inr (same.0 b), λ either. elim either [ inl c ↦ absurd (never c) | inr a ↦ same.1 a ])
 
--- an atom that may be left out
+-- an atom that can be skipped
 sometimes : (A B C D : Type 0) → B ↔ A → D ↔ C → (B ⊎ D) ↔ (C ⊎ A)
 sometimes A B C D same same_none = (
   λ either. elim either [ inl b ↦ inr (same.0 b) | inr d ↦ inl (same_none.0 d) ],

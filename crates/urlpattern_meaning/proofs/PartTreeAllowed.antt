@@ -115,7 +115,7 @@ group_allowed true modifier marks prefix piece suffix are groupless = bare_allow
 group_allowed false modifier marks prefix piece suffix are groupless =
     put_allowed marks prefix _ are (affixed_allowed modifier marks prefix piece suffix are groupless, tt, put_allowed marks suffix Nothing are tt)
 
--- a group is taken once or may be left out
+-- the atom of a group is not repeated
 group_taken : (is_bare : Bool) (modifier : PartModifier) (groups : ℕ) → AllowsGroups (group_quantifier is_bare modifier) groups
 group_taken true modifiers.None groups = tt
 group_taken true modifiers.Optional groups = tt

@@ -129,7 +129,7 @@ part_before options FullWildcard modifier value name prefix suffix items h text 
 
 -- ---- a list of parts
 
--- the tree takes a text with captures exactly where the parts mean that text with these captures
+-- the tree matches a text with captures exactly where the parts mean that text with these captures
 pub tree_means : (options : OptionsView) (parts : List PartView) → All IsNotCustom parts → (text : List ℕ) (captures : Captures) → Means (tree_of options parts) text captures ↔ PartsMean options parts text captures
 tree_means options [] h text captures = (λ means. means, λ means. means)
 tree_means options (part ∷ parts) h text captures =

@@ -42,7 +42,7 @@ data Form (point : List ℕ) (tokens : List TokenView) (outcome : Outcome) : Typ
   enclosed : (opening : TokenView) (behind rest : List TokenView) (content : Content) → tokens ≡ opening ∷ behind → opening.kind ≡ Open → ¬ BeginsWithKind is_text rest → ContentForm behind rest content → Finish rest content outcome → Form point tokens outcome
   stopped : (token : TokenView) (more : List TokenView) → tokens ≡ token ∷ more → IsTrue (is_stop token.kind) → outcome ≡ Ends (Stops token) → Form point tokens outcome
 
--- the family with which such a form begins
+-- the family of the first token of a form
 abbrev form_family : {point : List ℕ} {tokens : List TokenView} {outcome : Outcome} → Form point tokens outcome → TokenType
 form_family (alone token rest e h t s) = Char
 form_family (prefixed token behind back rest placeholder modifier e k v p m s) = Char

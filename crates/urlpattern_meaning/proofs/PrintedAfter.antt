@@ -75,7 +75,7 @@ third false b c e f h = absurd (false≢true e)
 pub goes_not : (before next : PartView) → IsTrue (is_name_alone before) → IsTrue (is_unmodified before.modifier) → takes_next before (Some next) ≡ false → goes_on next ≡ false
 goes_not before next alone plain h = third (is_name_alone before) (is_unmodified before.modifier) (goes_on next) alone plain h
 
--- a part without prefix and suffix goes on by its value or its name
+-- a part without prefix and suffix goes on exactly where its value or its name does
 pub goes_by : (prefix suffix : List ℕ) (last : Bool) → prefix ≡ [] → suffix ≡ [] → (is_empty prefix && is_empty suffix && last) ≡ last
 goes_by [] [] last e f = refl
 goes_by [] (c ∷ suffix) last e f = absurd (cc f)

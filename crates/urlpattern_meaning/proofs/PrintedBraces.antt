@@ -50,7 +50,7 @@ modifier_ends modifiers.Optional rest free = mark_ends (codes "?") refl
 modifier_ends modifiers.ZeroOrMore rest free = mark_ends (codes "*") refl
 modifier_ends modifiers.OneOrMore rest free = mark_ends (codes "+") refl
 
--- a modifier is no Regexp
+-- a modifier is not a Regexp
 pub modifier_regexp : (total : ℕ) (modifier : PartModifier) (rest : List ℕ) (behind : List TokenView) → (IsTrue (is_unmodified modifier) → ¬ BeginsWithKind is_regexp behind) → ¬ BeginsWithKind is_regexp (modifier_tokens total modifier rest ++ behind)
 modifier_regexp total modifiers.None rest behind free = free refl
 modifier_regexp total modifiers.Optional rest behind free = no
@@ -104,7 +104,7 @@ text_ends [] rest e free = subst (λ t. ¬ BeginsWith is_name_part t) (sym (esca
 text_ends (c ∷ text) rest e free =
     subst (λ t. ¬ BeginsWith is_name_part t) (sym (escaped_first c text rest)) (one_ends c (escaped_pattern text ++ rest) (is_among pattern_marks c) e)
 
--- texts before a token that is no Regexp do not begin with a Regexp
+-- texts before a token that is not a Regexp do not begin with a Regexp
 pub texts_no_regexp : (tokens : List TokenView) (text : List ℕ) (last : TokenView) → AreTexts tokens text → ¬ IsTrue (is_regexp last.kind) → ¬ BeginsWithKind is_regexp (tokens ++ last ∷ [])
 texts_no_regexp [] text last are free = free
 texts_no_regexp (token ∷ tokens) text last are free = text_no_regexp token.kind (and_parts (is_text token.kind) (list_all (λ (t : TokenView). is_text t.kind) tokens) are.0).0

@@ -228,7 +228,7 @@ named_no_regexp (token ∷ first) behind name matched.Segment is b = no (subst (
 named_no_regexp (token ∷ first) behind name (matched.Custom body) is b = no (subst (λ k. IsTrue (is_regexp k)) (first_kind token first tokens.Name (tokens.Regexp ∷ []) is.0) b)
 named_no_regexp (token ∷ first) behind name matched.Anything is b = is
 
--- a placeholder that is no asterisk begins with no modifier
+-- a placeholder that is not an asterisk begins with no modifier
 pub placed_no_modifier : (first behind : List TokenView) (name : Option (List ℕ)) (what : Matched) → IsPlaceholderOf first name what → what ≢ matched.Anything → ¬ BeginsWithKind is_modifier (first ++ behind)
 placed_no_modifier first behind name matched.Anything is other b = other refl
 placed_no_modifier first behind None matched.Segment is other b = is

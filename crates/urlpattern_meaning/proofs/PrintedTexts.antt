@@ -70,7 +70,7 @@ abbrev pub text_pieces : List ℕ → List Piece
 text_pieces [] = []
 text_pieces (c ∷ text) = pieces.Text (c ∷ []) ∷ text_pieces text
 
--- a text begins no placeholder
+-- no placeholder begins with a text
 pub text_no_placeholder : (kind : TokenType) → IsTrue (is_text kind) → ¬ IsTrue (is_placeholder kind)
 text_no_placeholder Char h = no
 text_no_placeholder EscapedChar h = no

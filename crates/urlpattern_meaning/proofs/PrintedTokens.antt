@@ -27,7 +27,7 @@ among_all test (mark ∷ some) c all h =
 pub token_mark : (c : ℕ) → IsTrue (is_among marks c) → IsTrue (is_among pattern_marks c)
 token_mark c h = among_all (is_among pattern_marks) marks c refl h
 
--- a mark of patterns is no character of names
+-- a mark of patterns is not a character of names
 no_parts : IsTrue (list_all (λ c. not (is_name_part c)) pattern_marks)
 unfolding literals
 no_parts = refl

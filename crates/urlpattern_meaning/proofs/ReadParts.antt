@@ -161,7 +161,7 @@ same_or_other : (xs ys : List ℕ) (b : Bool) → bytes_eq xs ys ≡ b → (xs �
 same_or_other xs ys true e = inl ((bytes_eq-Decides xs ys).0 e)
 same_or_other xs ys false e = inr (λ same. false≢true (sym e ∙ (bytes_eq-Decides xs ys).1 same))
 
--- no segment is any text
+-- the full wildcard is not the segment wildcard
 full_no_segment : (options : OptionsView) → full_wildcard ≢ segment_wildcard options
 full_no_segment options = by_delimiter options.delimiter
   where
@@ -210,7 +210,7 @@ parts_fields options encoding number (Capture prefix name match suffix modifier 
     subst (AllHaveFields options) (sym are.3)
     (capture_fields options are.0 name match are.1 modifier h.0.matches, parts_fields options encoding (number_with number name) items are.2 h.1 are.6)
 
--- a group is no fixed text, whatever its kind
+-- a group is not a fixed text, whatever its kind
 group_named : (options : OptionsView) (regexp : List ℕ) (number : ℕ) (name : List ℕ) → IsName name ⊎ (name ≡ decimal number) → IsNamed number (kind_of options regexp) name
 group_named options regexp number name h =
     cond_both (bytes_eq regexp (segment_wildcard options)) SegmentWildcard _ (λ kind. IsNamed number kind name) (λ _. h)

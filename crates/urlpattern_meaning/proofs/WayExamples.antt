@@ -12,13 +12,13 @@ any_text = Captured (Item Dot ZeroOrMore Nothing)
 abbrev pub segment : Atom
 segment = Captured (Item (AnyBut (Plain (slice_index (codes "/") 0))) LazyOneOrMore Nothing)
 
--- Two wildcards in a row, `^(.*)(.*)$`: the first takes all that it can. Each other cut of `ab` is
--- a meaning too.
+-- Two wildcards in a row, `^(.*)(.*)$`: the first matches all that it can. Each other cut of `ab`
+-- is a meaning too.
 pub two_wildcards : first_way (Item any_text Once (once any_text)) (codes "ab") ≡ Some (Some (codes "ab") ∷ Some [] ∷ [])
 unfolding first_way_by
 two_wildcards = refl
 
--- A lazy name before a wildcard, `^([^/]+?)(.*)$`: the name takes as little as it can.
+-- A lazy name before a wildcard, `^([^/]+?)(.*)$`: the name matches as little as it can.
 pub lazy_name : first_way (Item segment Once (once any_text)) (codes "ab") ≡ Some (Some (codes "a") ∷ Some (codes "b") ∷ [])
 unfolding first_way_by
 lazy_name = refl
@@ -29,7 +29,7 @@ pub name_before_hyphen : first_way (Item segment Once (Item (plain (codes "-")) 
 unfolding first_way_by
 name_before_hyphen = refl
 
--- A lazy name before the hyphen that ends the text, `^([^/]+?)-$`, takes more than the least.
+-- A lazy name before the hyphen that ends the text, `^([^/]+?)-$`, matches more than the least.
 pub name_before_last_hyphen : first_way (Item segment Once (once (plain (codes "-")))) (codes "a-b-") ≡ Some (Some (codes "a-b") ∷ [])
 unfolding first_way_by
 name_before_last_hyphen = refl
@@ -70,13 +70,13 @@ pub nothing_repeated : first_way (Item (Grouped Nothing) ZeroOrMore Nothing) [] 
 unfolding first_way_by
 nothing_repeated = refl
 
--- Where case is ignored, `^([^x]+?)x$` takes a letter of either case, and the capture keeps its
+-- Where case is ignored, `^([^x]+?)x$` matches a letter of either case, and the capture keeps its
 -- own.
 pub either_case : first_way_by true (Item (Captured (Item (AnyBut (Plain 120)) LazyOneOrMore Nothing)) Once (once (Literal (Plain 120)))) (codes "AX") ≡ Some (Some (codes "A") ∷ [])
 unfolding first_way_by
 either_case = refl
 
--- A letter outside of ASCII is compared as it is: `^É$` does not take `é`.
+-- A letter outside of ASCII is compared as it is: `^É$` does not match `é`.
 pub outside_case : first_way_by true (once (Literal (Plain 0xC9))) (0xE9 ∷ []) ≡ None
 unfolding first_way_by
 outside_case = refl

@@ -23,7 +23,7 @@ has-behind next ways first later own others rest p q =
     (has-continued next (way_of first own (later ++ rest)) (way_of later others rest) (ways (first ++ (later ++ rest))) p q)
 
 module _ (atom : Choice) (IsA : List ℕ → Captures → Type 0) (complete : IsComplete atom IsA) where
-  -- a round that takes something, and more rounds
+  -- a round that matches something, and more rounds
   round_here : (greedy : Bool) (m : ℕ) (c : ℕ) (first later rest : List ℕ) → IsA (c ∷ first) []
       → Has (way_of later [] rest) (more_rounds greedy atom m (later ++ rest))
       → Has (way_of ((c ∷ first) ++ later) [] rest) (more_rounds greedy atom (suc m) (((c ∷ first) ++ later) ++ rest))
@@ -49,7 +49,7 @@ module _ (atom : Choice) (IsA : List ℕ → Captures → Type 0) (complete : Is
       let fits : length later ≤ m = omega (arith, ap length e, length-append first later) in
       rw e (round_here greedy m c first later rest p (more_rounds-complete greedy n later rest m fits q))
 
-  -- a loop whose first round takes something
+  -- a loop whose first round matches something
   loop_here : (greedy : Bool) (n : ℕ) (c : ℕ) (first later rest : List ℕ) → IsA (c ∷ first) [] → IsRepeated (λ stretch. IsA stretch []) n later
       → Has (way_of ((c ∷ first) ++ later) [] rest) (looped greedy atom (((c ∷ first) ++ later) ++ rest))
   loop_here greedy n c first later rest p q =

@@ -1,4 +1,4 @@
--- The ways of a tree in a text, and in the text with another after it: those that take nothing of
+-- The ways of a tree in a text, and in the text with another after it: those that match nothing of
 -- the other.
 use Rattle.std.proofs.Common.{◌≡◌, ℕ, zero, suc, ◌≤◌, ◌<◌, List, [], ◌∷◌, ◌++◌, map, length, Bool, true, false, cond, if◌then◌else◌, nat_lt, not, ◌==◌, refl, sym, ap, ◌∙◌, subst, length-append, inl, inr, ◌⊎◌, arith, lt-ltb, le-ltb, ⊎_elim}
 use Rattle.std.proofs.lemmas.Bool.{cases_Bool, cond-false, ltb-false, ltb-true}

@@ -79,7 +79,7 @@ both_put marks (c ∷ front) items others = ap (Item (Literal (character marks c
 abbrev pub takes_all : Way → Bool
 takes_all way = length way.rest == 0
 
--- the captures of the first of these ways that takes the whole text
+-- the captures of the first of these ways that matches the whole text
 abbrev pub first_of : List Way → Option Captures
 first_of xs = option_map (λ way. way.captures) (find takes_all xs)
 

@@ -1,4 +1,4 @@
--- The ways of a tree are meanings: the tree means the text that a way takes, with the way's
+-- The ways of a tree are meanings: the tree means the text that a way matches, with the way's
 -- captures.
 use Rattle.std.proofs.Common.{◌≡◌, ℕ, zero, suc, ◌+◌, List, [], ◌∷◌, ◌++◌, replicate, length, Option, None, Bool, true, false, cond, refl, sym, ap, ap₂, ◌∙◌, subst, append_assoc, length-append, eqb-true, inl, inr}
 use Rattle.urlpattern_meaning.specs.Dialect.{character_of, Quantifier, Once, Optional, ZeroOrMore, OneOrMore, LazyOneOrMore, Items, Nothing, Item, Atom, Literal, Dot, AnyBut, Captured, Grouped, group_count, atom_group_count, AllowsGroups, AreItems, IsAtom, IsTaken, Means, AtomMeans}
@@ -14,7 +14,7 @@ IsSound text IsA way = (text ≡ way.taken ++ way.rest) × IsA way.taken way.cap
 abbrev pub AreSound : Choice → (List ℕ → Captures → Type 0) → Type 0
 AreSound choice IsA = (text : List ℕ) → Every (IsSound text IsA) (choice text)
 
--- the text is what two ways take and the rest after both
+-- the text is the matches of two ways and the rest after both
 behind : (text : List ℕ) (way more : Way) → text ≡ way.taken ++ way.rest → way.rest ≡ more.taken ++ more.rest → text ≡ (way.taken ++ more.taken) ++ more.rest
 behind text way more p q = p ∙ ap (λ r. way.taken ++ r) q ∙ sym (append_assoc way.taken more.taken more.rest)
 

@@ -33,7 +33,7 @@ lack_singles c (other ∷ text) h =
     let more = lack_singles c text (and_right (not (other == c)) (lacks c text) h) in
     (suc more.0, (other ∷ [], text, refl, (other, refl, and_left (not (other == c)) (lacks c text) h), more.1))
 
--- at least one, if the text is not empty
+-- a text without `c` that is not empty is at least one character other than `c`
 some_singles : (c : ℕ) (text : List ℕ) → text ≢ [] → IsTrue (lacks c text) → (n : ℕ) × IsRepeated (IsOneBut c) (suc n) text
 some_singles c [] some h = absurd (some refl)
 some_singles c (other ∷ text) some h =

@@ -96,7 +96,7 @@ abbrev pub IsClassCharacter : Character → Type 0
 IsClassCharacter (Plain c) = ¬ IsTrue (is_among class_marks c)
 IsClassCharacter (Escaped c) = IsTrue (is_among (regexp_marks ++ codes "/") c)
 
--- an atom that may be taken more than once captures nothing
+-- an atom that may be repeated captures nothing
 abbrev pub AllowsGroups : Quantifier → ℕ → Type 0
 AllowsGroups Once groups = Unit {0}
 AllowsGroups Optional groups = Unit {0}
@@ -130,8 +130,8 @@ HasTree text = (tree : Items) × IsTreeOf text tree
 abbrev pub IsOneBut : ℕ → List ℕ → Type 0
 IsOneBut c text = (other : ℕ) × (text ≡ other ∷ []) × IsTrue (not (other == c))
 
--- The text is an atom of meaning `Atom`, with this number of groups, taken as the quantifier says.
--- An atom that is not taken leaves its groups None.
+-- The text matches an atom of meaning `Atom`, with this number of groups, under the quantifier. An
+-- atom that is skipped leaves its groups None.
 abbrev pub IsTaken : Quantifier → (groups : ℕ) → (List ℕ → Captures → Type 0) → List ℕ → Captures → Type 0
 IsTaken Once groups Atom text captures = Atom text captures
 IsTaken Optional groups Atom text captures = Atom text captures ⊎ ((text ≡ []) × (captures ≡ replicate groups None))

@@ -1,4 +1,4 @@
--- Which of the meanings of parts is returned: that of the first way.
+-- The meaning of parts that a matcher returns: that of the first way.
 use Rattle.std.specs.Prelude.{◌≡◌, ℕ, false, List, Option, Ok, Err, IsTrue}
 use Rattle.std.specs.Str.{all_scalars}
 use Rattle.urlpattern_meaning.specs.Dialect.{IsTreeOf, Items}
@@ -8,7 +8,7 @@ use Rattle.urlpattern_meaning.specs.Ways.{first_way}
 use Rattle.urlpattern_syntax.specs.{Options.OptionsView, Parts.PartView, RegexpText.regexp_text}
 
 -- The result is the captures of the first way in which the tree of the parts' regular expression
--- takes the whole text, or None where no way does.
+-- matches the whole text, or None where no way does.
 pub record IsFirstOf (options : OptionsView) (parts : List PartView) (text : List ℕ) (result : Option Captures) : Type 0 where
   pub tree : Items
   pub is_tree : IsTreeOf (regexp_text options parts) tree

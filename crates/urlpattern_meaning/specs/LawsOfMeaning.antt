@@ -34,7 +34,7 @@ CopiesAreOneCapture = (options : OptionsView) (part : PartView) (n : ℕ) (text 
     IsWildcard part.kind → Allows part.modifier (suc n) → AreCopies options part (suc n) text →
     (inner : List ℕ) × (text ≡ part.prefix ++ inner ++ part.suffix) × PartMeans options part text (Some inner ∷ [])
 
--- no copies have one capture too
+-- a wildcard with no copies has one capture too
 abbrev pub NoCopiesAreOneCapture : Type 0
 NoCopiesAreOneCapture = (options : OptionsView) (part : PartView) →
     IsWildcard part.kind → Allows part.modifier 0 → PartMeans options part [] (capture_of_no_copies part ∷ [])

@@ -1,5 +1,5 @@
--- Laws of tokens, pieces, readings and printed patterns. Where a statement takes an encoding, the
--- law says for which encodings it holds.
+-- Laws of tokens, pieces, readings and printed patterns. For a statement about an encoding, the law
+-- says for which encodings it holds.
 use Rattle.std.specs.Prelude.{◌≡◌, ◌≢◌, ◌⊎◌, ℕ, ◌<◌, List, ◌∷◌, ◌++◌, Err}
 use Rattle.urlpattern_meaning.specs.Laws.{Answered, AnswersAsked, AnswersOnce, AnswersOnceGivenMemory, HasOutcome, HasSomeOutcome, LacksAnswer, Outcome, listed}
 use Rattle.urlpattern_meaning.specs.Printing.{Keeps, encoded_texts, joined, printed}
@@ -54,7 +54,8 @@ UnderEachCallback {F} calls Sentence = (callback : F) → Sentence (encoding_by 
 
 -- ---- readings and rejections
 
--- a text has at most one such value, where the encoding has at most one result for each text
+-- at most one value has the property for a text, where the encoding has at most one result for each
+-- text
 abbrev pub HaveOneAtMost : {A : Type 0} → (Has : (text : List ℕ) → OptionsView → Encoding → A → Type 0) → Encoding → Type 0
 HaveOneAtMost {A} Has encoding = (text : List ℕ) (options : OptionsView) (value other : A) → AnswersOnce encoding →
     Has text options encoding value → Has text options encoding other → value ≡ other

@@ -9,8 +9,8 @@ use Rattle.urlpattern_syntax.specs.declared.parser.{PartModifier.PartModifier, P
 use Rattle.urlpattern_syntax.specs.RegexpText.{is_plain, regexp_text}
 use Rattle.urlpattern_syntax.specs.Text.{lacks, line_feed}
 
--- Between prefix and suffix: a text; one capture, with a character that it may not contain; or the
--- value of an engine, or the error of one that rejected its text.
+-- The matcher between prefix and suffix: a literal; one capture, with a character that it may not
+-- contain; or an engine's value, or the error with which the engine rejected its text.
 pub data InnerView (E : Type 0) : Type 0 where
   Literal : List ℕ → InnerView E
   SingleCapture : (filter : Option ℕ) → (allow_empty : Bool) → InnerView E
@@ -126,7 +126,7 @@ abbrev pub MayBeEmpty : (allow_empty : Bool) → List ℕ → Type 0
 MayBeEmpty true text = Unit {0}
 MayBeEmpty false text = text ≢ []
 
--- the text between prefix and suffix is accepted, with these captures
+-- the text between prefix and suffix is accepted by the inner matcher, with these captures
 abbrev pub Accepts : {E : Type 0} → (answer : E → List ℕ → Option Captures) → (ignore_case : Bool) → InnerView E → List ℕ → Captures → Type 0
 Accepts answer ignore_case (Literal literal) text captures = IsSame ignore_case text literal × (captures ≡ [])
 Accepts answer ignore_case (SingleCapture filter allow_empty) text captures =
@@ -141,7 +141,7 @@ HasMiddle matcher text middle =
     (front back : List ℕ) × (text ≡ front ++ middle ++ back)
     × IsSame matcher.ignore_case front matcher.prefix × IsSame matcher.ignore_case back matcher.suffix
 
--- the text between prefix and suffix is accepted, with these captures
+-- the text has prefix and suffix, and the text between them is accepted, with these captures
 abbrev pub Matches : {E : Type 0} → (answer : E → List ℕ → Option Captures) → MatcherView E → List ℕ → Captures → Type 0
 Matches answer matcher text captures =
     (middle : List ℕ) × HasMiddle matcher text middle × Accepts answer matcher.ignore_case matcher.inner middle captures

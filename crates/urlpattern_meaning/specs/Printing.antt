@@ -1,6 +1,6 @@
 -- The pattern text of a list of parts, after the URLPattern Standard, section "Converting part
 -- lists to pattern strings". It follows the standard's steps closely; the laws show that the text
--- is read as the parts again.
+-- of printable parts reads as the joined parts.
 use Rattle.std.specs.Prelude.{◌≡◌, ◌≢◌, ℕ, Bool, true, false, not, ◌&&◌, ◌||◌, List, [], ◌∷◌, ◌++◌, bytes_eq, codes, Option, Some, None, Result, Ok, IsTrue, if◌then◌else◌, ◌↔◌}
 use Rattle.std.specs.{Char.is_ascii_digit, List.flat_map}
 use Rattle.urlpattern_syntax.specs.{Errors.ErrorView, Options.OptionsView, Parts.PartView, Reading.Encoding}

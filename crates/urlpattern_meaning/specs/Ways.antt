@@ -1,11 +1,11 @@
 -- The ways in which a tree of the dialect matches at the beginning of a text, in the order in which
--- a backtracking engine finds them, and the captures of the first way that takes the whole text.
+-- a backtracking engine finds them, and the captures of the first way that matches the whole text.
 use Rattle.std.specs.Prelude.{◌≡◌, ℕ, zero, suc, Bool, true, false, not, ◌==◌, nat_lt, length, List, [], ◌∷◌, ◌++◌, map, flat_map, find, replicate, Option, Some, None, option_map, if◌then◌else◌}
 use Rattle.urlpattern_meaning.specs.Dialect.{Quantifier, Once, Optional, ZeroOrMore, OneOrMore, LazyOneOrMore, Items, Nothing, Item, Atom, Literal, Dot, AnyBut, Captured, Grouped, Character, Plain, Escaped, character_of, atom_group_count}
 use Rattle.urlpattern_meaning.specs.{Matching.folded, Matching.folded_captures, Matching.folded_character, Matching.is_same_character, PartMeaning.Captures}
 use Rattle.urlpattern_syntax.specs.Text.{line_feed}
 
--- The beginning of a text that is taken, the captures in it, and the rest of the text.
+-- The beginning of a text that a way matches, its captures, and the rest of the text.
 pub record Way : Type 0 where
   pub taken : List ℕ
   pub captures : Captures
@@ -17,7 +17,7 @@ Choice = List ℕ → List Way
 
 -- ---- one way after another
 
--- nothing is taken, and each of these groups captures nothing
+-- the empty text is matched, and each of these groups captures nothing
 abbrev pub idle : (groups : ℕ) → List ℕ → Way
 idle groups text = record { taken = []; captures = replicate groups None; rest = text }
 
@@ -42,7 +42,7 @@ one_that passes (c ∷ text) = if passes c then record { taken = c ∷ []; captu
 abbrev pub ordered : (greedy : Bool) → (going_on stopping : List Way) → List Way
 ordered greedy going_on stopping = if greedy then going_on ++ stopping else stopping ++ going_on
 
--- some of the text was taken
+-- some of the text was matched
 abbrev pub is_shorter : (rest text : List ℕ) → Bool
 is_shorter rest text = nat_lt (length rest) (length text)
 
@@ -52,7 +52,7 @@ more_rounds greedy atom zero text = idle 0 text ∷ []
 more_rounds greedy atom (suc n) text =
     ordered greedy (continued (λ rest. if is_shorter rest text then more_rounds greedy atom n rest else []) (atom text)) (idle 0 text ∷ [])
 
--- A round and, where it took something, more rounds: no more than the characters that are left,
+-- A round and, where it matched something, more rounds: no more than the characters that are left,
 -- since none is empty.
 abbrev pub looped : (greedy : Bool) → Choice → Choice
 looped greedy atom text =
@@ -68,7 +68,7 @@ quantified_ways ZeroOrMore groups atom text = looped true atom text ++ idle grou
 quantified_ways OneOrMore groups atom text = looped true atom text
 quantified_ways LazyOneOrMore groups atom text = looped false atom text
 
--- the text that was taken is the first capture
+-- the text that was matched is the first capture
 abbrev pub capturing : Way → Way
 capturing way = record way { captures = Some way.taken ∷ way.captures }
 
@@ -95,7 +95,7 @@ ways items = ways_by false items
 abbrev pub atom_ways : Atom → Choice
 atom_ways atom = atom_ways_by false atom
 
--- the captures of the first way that takes the whole text; None where no way does
+-- the captures of the first way that matches the whole text; None where no way does
 unfoldable pub first_way_by : (ignore_case : Bool) → Items → List ℕ → Option Captures
 first_way_by ignore_case tree text = option_map (λ way. way.captures) (find (λ way. length way.rest == 0) (ways_by ignore_case tree text))
 
@@ -124,7 +124,7 @@ abbrev mutual
   folded_atom (Captured items) = Captured (folded_items items)
   folded_atom (Grouped items) = Grouped (folded_items items)
 
--- Where case is ignored, a tree takes a text exactly where the folded tree takes the folded text;
--- the captures of its first way, folded, are those of the folded tree.
+-- Where case is ignored, a tree matches a text exactly where the folded tree matches the folded
+-- text; the captures of its first way, folded, are those of the folded tree.
 abbrev pub FirstWaysFold : Type 0
 FirstWaysFold = (tree : Items) (text : List ℕ) → option_map folded_captures (first_way_by true tree text) ≡ first_way (folded_items tree) (folded true text)

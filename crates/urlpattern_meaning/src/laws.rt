@@ -120,9 +120,9 @@ pub fn dialect_trees_are_one()
 {}
 
 /// The ways of a tree are exactly its meanings of the beginnings of a text. The first way that
-/// takes the whole text therefore captures what the tree means, is missing only where the tree does
-/// not mean the text, and has as many captures as the tree has groups. A function that returns the
-/// first way follows the text of the tree, so each text of the dialect can be followed.
+/// matches the whole text therefore captures what the tree means, is missing only where the tree
+/// does not mean the text, and has as many captures as the tree has groups. A function that returns
+/// the first way follows the text of the tree, so each text of the dialect can be followed.
 pub fn first_ways_are_meant()
     ensures ways { WaysAreMeanings }
     ensures some { OfEachTree (λ tree text captures. first_way tree text ≡ Some captures → Means tree text captures) }
