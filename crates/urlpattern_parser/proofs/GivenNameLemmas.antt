@@ -98,7 +98,7 @@ pub names_pending : (options : OptionsView) (encoding : Encoding) (old new : Par
 names_pending options encoding old new a =
     names_added options encoding old new (pending_items old.pending) a ∙ ap (λ x. group_names old.parts ++ x) (pending_unnamed old.pending) ∙ append-nil (group_names old.parts)
 
--- equal lists of names are known equally
+-- equal names, sets of names and next numbers are known alike
 pub knows_same : (names others : List (List ℕ)) (given same : GivenNames) (number next : ℕ) → others ≡ names → same ≡ given → next ≡ number → KnowsNames names given number → KnowsNames others same next
 knows_same names others given same number next e f g h =
     subst (λ x. KnowsNames x same next) (sym e) (subst (λ x. KnowsNames names x next) (sym f) (subst (KnowsNames names given) (sym g) h))

@@ -126,7 +126,7 @@ impl<F: Fn(&str) -> Result<String, Error>> PatternParser<'_, F> {
     }
 
     /// Returns the kind of a placeholder's part, and its value: the body of a custom regular
-    /// expression that is no wildcard.
+    /// expression that is not a wildcard.
     #[inline(always)]
     fn kind_and_value(&self, matched: Matched<'_>) -> Result<(PartType, String), AllocError>
         ensures kind { IfOk result (λ found. found.0 ≡ kind_of (parser_options self.now) (matched_regexp self.now matched.entry)) }
