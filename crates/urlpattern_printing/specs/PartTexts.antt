@@ -39,6 +39,6 @@ affixed_part regexp = affixed_regexp regexp.part.now.modifier (escaped_prefix re
 
 -- ---- in the pattern text
 
--- the text of a part that is no fixed text, between its neighbours
+-- the text of a part that is not a fixed text, between its neighbours
 abbrev pub group_part : PrintedPart → (braces : Bool) → List ℕ
 group_part printed braces = printed_group (options_view printed.options.now) (neighbour printed.previous) (part_view printed.part.now) braces

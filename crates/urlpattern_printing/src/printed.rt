@@ -103,7 +103,7 @@ impl PrintedPart<'_> {
         (InBraces { braces, inner }, self.part.modifier.as_str()).write_to(writer);
     }
 
-    /// Writes a part that is no fixed text, between braces or not.
+    /// Writes a part that is not a fixed text, between braces or not.
     fn write_group<W: Writer>(&self, writer: &mut W, braces: bool)
         requires { W.Fits writer.old (group_part self.now braces) }
         ensures { W.Writes writer.old (group_part self.now braces) writer.new }
