@@ -72,7 +72,7 @@ range_joined tokens from between place le more =
     ∙ take_sum (drop from tokens) (between - from) (place - between)
     ∙ ap (λ xs. slice_range tokens from between ++ take (place - between) xs) (drop-drop (between - from) from tokens ∙ ap (λ k. drop k tokens) m)
 
--- the depth is the depth counted on from a position between
+-- the depth is counted on from the depth at a position between
 pub depth_joined : (tokens : List TokenView) (from depth between place : ℕ) → from ≤ between → between ≤ place → depth_before tokens from depth place ≡ depth_before tokens between (depth_before tokens from depth between) place
 depth_joined tokens from depth between place le more =
     ap (fold (λ (reached : ℕ) (t : TokenView). depth_after t.kind reached) depth) (range_joined tokens from between place le more)

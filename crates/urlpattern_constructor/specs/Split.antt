@@ -70,7 +70,7 @@ abbrev pub follows_modified : List TokenView → ℕ → Bool
 follows_modified tokens zero = false
 follows_modified tokens (suc before) = passes_at (λ token. takes_modifier token.kind) tokens before
 
--- the sign that begins the search: a question mark as a character, or one that is no modifier
+-- the sign that begins the search: a question mark as a character, or one that is not a modifier
 abbrev pub is_search_sign : List TokenView → ℕ → Bool
 is_search_sign tokens position =
     passes_at (is_sign (codes "?")) tokens position

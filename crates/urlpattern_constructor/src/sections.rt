@@ -27,7 +27,7 @@ pub enum Section {
 pub struct Position {
     /// The index of the token to be read next.
     pub index: usize,
-    /// The number of groups that are open before that token.
+    /// The number of groups that are open before the token at `index`.
     pub depth: usize,
     /// The number of looks at a token so far.
     pub turns: usize,
