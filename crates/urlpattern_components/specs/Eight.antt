@@ -19,11 +19,11 @@ name_text Pathname = codes "pathname"
 name_text Search = codes "search"
 name_text Hash = codes "hash"
 
--- the component that this text names, or none where no component has this name
+-- the component with this name, or None where no component has this name
 abbrev pub NamesComponent : (text : List ℕ) → Option ComponentName → Type 0
 NamesComponent text found = MatchOption found ((component : ComponentName) → text ≢ name_text component) (λ component. text ≡ name_text component)
 
--- the value of one component
+-- the value of a component
 abbrev pub at : {A : Type 0} → Eight A → ComponentName → A
 at values Protocol = values.protocol
 at values Username = values.username
@@ -34,7 +34,7 @@ at values Pathname = values.pathname
 at values Search = values.search
 at values Hash = values.hash
 
--- the values of these components, each beside its name
+-- the values of these components, each with its name
 abbrev pub named_values : {A : Type 0} → Eight A → List ComponentName → List (ComponentName × A)
 named_values values names = map (λ name. (name, at values name)) names
 
@@ -46,11 +46,11 @@ each value = record { protocol = value Protocol; username = value Username; pass
 abbrev pub Texts : Type 0
 Texts = Eight (List ℕ)
 
--- the texts of the components, where they are there
+-- the texts of the components that are present
 abbrev pub Values : Type 0
 Values = Eight (Option (List ℕ))
 
--- a component may be answered by this error, and those before it by values
+-- a component may have this error, and each component before it a value
 abbrev pub IsFirstError : {A E : Type 0} → (Answers : ComponentName → Result A E → Type 0) → E → Type 0
 IsFirstError {A} Answers error =
     (before after : List ComponentName) × (name : ComponentName)

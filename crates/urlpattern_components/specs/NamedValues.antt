@@ -6,7 +6,7 @@ use Rattle.urlpattern_components.specs.declared.eight.ComponentName.{ComponentNa
 use Rattle.urlpattern_components.specs.declared.eight.named.NamedValues.{NamedValues}
 use Rattle.urlpattern_components.specs.Eight.{named_values}
 
--- a value that is borrowed, beside the name of its component
+-- a borrowed value, with the name of its component
 abbrev pub named_value : {A : Type 0} → ComponentName × Bor A → ComponentName × A
 named_value value = (value.0, value.1.now)
 

@@ -8,7 +8,7 @@ mod named;
 pub use named::NamedValues;
 use std::fmt;
 
-/// A reference to the field of a struct that is called as a component: `field_of!(values, name)`.
+/// Borrows the field of a struct that is named as a component: `field_of!(values, name)`.
 #[macro_export]
 macro_rules! field_of {
     ($values:expr, $name:expr) => {
@@ -25,8 +25,8 @@ macro_rules! field_of {
     };
 }
 
-/// A struct whose fields are called as the components and are moved out of another such struct, with further fields after
-/// them: `with_fields!(Struct, values, further)`.
+/// Moves the fields that are named as the components out of a struct into another, with further
+/// fields after them: `with_fields!(Struct, values, further)`.
 #[macro_export]
 macro_rules! with_fields {
     ($to:ident, $values:expr $(, $further:ident)*) => {
@@ -44,7 +44,8 @@ macro_rules! with_fields {
     };
 }
 
-/// A component of a URL, by the name that it has in the standard. Components are ordered as the standard lists them.
+/// A component of a URL, by its name in the standard. Components are ordered as the standard lists
+/// them.
 ///
 /// ```rust names
 /// for component in ComponentName::all() {
@@ -85,14 +86,14 @@ pub static COMPONENTS: [ComponentName; 8] = [
 ];
 
 impl ComponentName {
-    /// The components in the order of the standard.
+    /// Returns the components in the order of the standard.
     pub fn all() -> [Self; 8]
         ensures { result ≡ components }
     {
         COMPONENTS
     }
 
-    /// The name in lower case, which is that of the component's member in JSON.
+    /// Returns the name in lower case, which is also the name of the component's member in JSON.
     pub fn as_str(self) -> &'static str
         ensures { result.now ≡ name_text self }
     {
@@ -108,7 +109,8 @@ impl ComponentName {
         }
     }
 
-    /// The component of a name, as `as_str` returns it. `None`: no component has this name.
+    /// Returns the component of a name, as `as_str` returns it, or `None` where no component has
+    /// this name.
     pub fn from_name(name: &str) -> Option<Self>
         ensures { NamesComponent name.now result }
     {
@@ -161,14 +163,15 @@ pub struct Eight<T> {
 }
 
 impl<T> Eight<T> {
-    /// The value of a component.
+    /// Returns the value of a component.
     pub fn get(&self, name: ComponentName) -> &T
         ensures { result.now ≡ at self.now name }
     {
         field_of!(self, name)
     }
 
-    /// The values in the order of the standard, each beside the name of its component.
+    /// Returns an iterator over the values in the order of the standard, each with the name of its
+    /// component.
     pub fn iter(&self) -> NamedValues<'_, T>
         ensures { values_left result ≡ named_values self.now components }
     {
@@ -177,7 +180,7 @@ impl<T> Eight<T> {
 }
 
 impl Eight<ComponentName> {
-    /// Each component's own name.
+    /// Returns the name of each component.
     fn names() -> Self
         ensures { (name : ComponentName) → at result name ≡ name }
     {
@@ -195,7 +198,7 @@ impl Eight<ComponentName> {
 }
 
 impl<T: Drop> Eight<T> {
-    /// Makes each value anew of the old one, in the order of the standard.
+    /// Maps each value, in the order of the standard.
     pub fn map<U, F: Fn(T) -> U>(self, value: F) -> Eight<U>
         requires { F.IsAlwaysCallable value }
         ensures { (name : ComponentName) → F.post value (at self name) (at result name) }
@@ -212,7 +215,7 @@ impl<T: Drop> Eight<T> {
         }
     }
 
-    /// Makes each value anew of the old one, in the order of the standard. The first error ends it.
+    /// Maps each value, in the order of the standard, or returns the first error.
     pub fn try_map<U: Drop, E, F: Fn(T) -> Result<U, E>>(self, value: F) -> Result<Eight<U>, E>
         requires { F.IsAlwaysCallable value }
         ensures ok { IfOk result (λ values. (name : ComponentName) → F.post value (at self name) (Ok (at values name))) }
@@ -230,7 +233,7 @@ impl<T: Drop> Eight<T> {
         })
     }
 
-    /// Makes the value of each component, in the order of the standard. The first error ends it.
+    /// Makes the value of each component, in the order of the standard, or returns the first error.
     pub fn try_from_fn<E, F: Fn(ComponentName) -> Result<T, E>>(value: F) -> Result<Self, E>
         requires { F.IsAlwaysCallable value }
         ensures ok { IfOk result (λ values. (name : ComponentName) → F.post value name (Ok (at values name))) }

@@ -1,4 +1,5 @@
--- Lemmas on the places of a split: what a sign tells, what is seen after it, and that a section ends at one place.
+-- Lemmas on the positions of a split: signs, the tokens that are seen after one, and the single
+-- position where a section ends.
 use Rattle.std.proofs.Common.{◌≡◌, ℕ, zero, suc, ◌+◌, ◌-◌, ◌<◌, ◌≤◌, ◌⊎◌, Bool, true, false, not, ◌&&◌, ◌||◌, ◌==◌, Option, Some, None, List, [], ◌∷◌, ◌++◌, length, take, drop, refl, sym, ap, ◌∙◌, inl, inr, arith}
 use Rattle.std.proofs.lemmas.Bool.{and_parts, and_from, both_ways, cases_Bool, cases_eq, cases_lt, eqb-true, false≢true, or_cases, or_right}
 use Rattle.std.proofs.lemmas.List.{drop-drop}
@@ -71,13 +72,13 @@ range_joined tokens from between place le more =
     ∙ take_sum (drop from tokens) (between - from) (place - between)
     ∙ ap (λ xs. slice_range tokens from between ++ take (place - between) xs) (drop-drop (between - from) from tokens ∙ ap (λ k. drop k tokens) m)
 
--- the depth is counted on from a place between
+-- the depth is counted on from the depth at a position between
 pub depth_joined : (tokens : List TokenView) (from depth between place : ℕ) → from ≤ between → between ≤ place → depth_before tokens from depth place ≡ depth_before tokens between (depth_before tokens from depth between) place
 depth_joined tokens from depth between place le more =
     ap (fold (λ (reached : ℕ) (t : TokenView). depth_after t.kind reached) depth) (range_joined tokens from between place le more)
     ∙ fold-append (λ (reached : ℕ) (t : TokenView). depth_after t.kind reached) depth (slice_range tokens from between) (slice_range tokens between place)
 
--- after a sign the depth is that before it
+-- a sign leaves the depth as it is
 pub depth_after_sign : (mark : List ℕ) (tokens : List TokenView) (from depth place : ℕ) → from < place → IsTrue (passes_at (is_sign mark) tokens from) → depth_before tokens from depth place ≡ depth_before tokens (from + 1) depth place
 depth_after_sign mark tokens from depth place less h =
     let found = found_at (is_sign mark) tokens from h in
@@ -90,18 +91,18 @@ depth_after_sign mark tokens from depth place less h =
     ∙ ap (depth_after found.0.kind) (depth_here tokens from depth)
     ∙ character_depth found.0.kind depth character)
 
--- where one is seen whose depth is the same, the other is
+-- a token that is seen from one position is seen from another with equal depth
 pub seen_same : (tokens : List TokenView) (from depth other_from other_depth place : ℕ) → depth_before tokens from depth place ≡ depth_before tokens other_from other_depth place → is_seen tokens from depth place ≡ is_seen tokens other_from other_depth place
 seen_same tokens from depth other_from other_depth place e =
     ap (λ d. ends_at tokens place || (not (passes_at (λ t. is_open t.kind) tokens place) && d == 0)) e
 
--- ---- where a section ends
+-- ---- the end of a section
 
 -- a section ends where it may, or at End
 pub stops_cases : (section : Section) (tokens : List TokenView) (from depth place : ℕ) → EndsAt section tokens from depth place → IsTrue (may_end section tokens from depth place) ⊎ IsTrue (ends_at tokens place)
 stops_cases section tokens from depth place ends = or_cases (may_end section tokens from depth place) (ends_at tokens place) ends.stops
 
--- where it may end its place is seen and has one of its signs
+-- where a section may end, the token is seen and is one of the section's signs
 pub may_end_parts : (section : Section) (tokens : List TokenView) (from depth place : ℕ) → IsTrue (may_end section tokens from depth place) → IsTrue (is_seen tokens from depth place) × IsTrue (is_ending section (is_balanced tokens from depth place) tokens place)
 may_end_parts section tokens from depth place may = and_parts (is_seen tokens from depth place) (is_ending section (is_balanced tokens from depth place) tokens place) may
 
@@ -170,7 +171,7 @@ port_sign tokens from depth place ends =
     or_last false false true e h = refl
     or_last false false false e h = h
 
--- ---- the one place where a section ends
+-- ---- the single end of a section
 
 -- a section ends no later than where it may
 pub ends_by : (section : Section) (tokens : List TokenView) (from depth place other : ℕ) → EndsAt section tokens from depth place → from ≤ other → IsTrue (may_end section tokens from depth other) → place ≤ other
@@ -185,7 +186,7 @@ sign_is_seen mark section tokens from depth end ends sign =
       | inr is_end ↦ absurd (sign_not_end mark tokens end sign is_end)
     ]
 
--- one token stands for one character
+-- a token is at most one character
 sign_conflict : (tokens : List TokenView) (i : ℕ) → IsTrue (is_colon_sign tokens i) → IsTrue (is_at_sign tokens i) → ⊥
 sign_conflict tokens i colon at_sign =
     let one = found_at (is_sign (codes ":")) tokens i colon in
@@ -196,7 +197,8 @@ sign_conflict tokens i colon at_sign =
     let f : one.0.value ≡ codes "@" = (bytes_eq-Decides one.0.value (codes "@")).0 is_two in
     false≢true (ap (λ v. bytes_eq v (codes "@")) (sym e) ∙ ap (λ v. bytes_eq v (codes "@")) f)
 
--- what is seen from after a colon with which the username ends is seen from its beginning
+-- the depth after a colon with which the username ends is the depth from the beginning of the
+-- username
 userinfo_depth : (tokens : List TokenView) (from colon place : ℕ) → EndsAt Username tokens from 0 colon → IsTrue (is_colon_sign tokens colon) → colon < place → depth_before tokens from 0 place ≡ depth_before tokens (colon + 1) 0 place
 userinfo_depth tokens from colon place ends is_a_colon less =
     let level = depth_at_end Username tokens from 0 colon ends (sign_not_end (codes ":") tokens colon is_a_colon) in
@@ -218,7 +220,7 @@ at_sign_ends tokens place balanced sign = or_first (is_at_sign tokens place) (is
     or_first true b c d h = refl
     or_first false b c d h = absurd (false≢true h)
 
--- where it does not end at a colon it ends at that sign
+-- a username that does not end at a colon ends at the sign of the hostname
 pub username_alone : (tokens : List TokenView) (from until place : ℕ) → IsClosed tokens → EndsAt Authority tokens from 0 until → IsTrue (is_at_sign tokens until) → EndsAt Username tokens from 0 place → ¬ IsTrue (is_colon_sign tokens place) → place ≡ until
 username_alone tokens from until place closed authority at_sign username no_colon =
     let le = username_before tokens from until place authority at_sign username in
@@ -263,7 +265,7 @@ fold_below : (tokens : List TokenView) (lower upper : ℕ) → lower ≤ upper �
 fold_below [] lower upper le = le
 fold_below (token ∷ tokens) lower upper le = fold_below tokens (depth_after token.kind lower) (depth_after token.kind upper) (depth_below token.kind lower upper le)
 
--- where an authority ends at End, no slash is seen from its beginning, at whatever depth
+-- where an authority ends at End, no slash is seen from its beginning, at any depth
 pub no_slash_in_sight : (tokens : List TokenView) (from depth end other : ℕ) → IsClosed tokens → EndsAt Authority tokens from 0 end → IsTrue (ends_at tokens end) → from ≤ other → IsTrue (is_seen tokens from depth other) → IsTrue (is_slash_sign tokens other) → ⊥
 no_slash_in_sight tokens from depth end other closed ends is_end after seen slash =
     let last = closed.last end ends.within is_end in
@@ -291,7 +293,7 @@ colon_again tokens first second closed ends colon again =
       | inr is_end ↦ let last = closed.last second again.within is_end in let within = ends.within in omega arith
     ]
 
--- so is it from the depth that was reached there
+-- the first colon is found again from the depth that was reached there
 pub colon_found : (tokens : List TokenView) (first depth second : ℕ) → IsClosed tokens → EndsAt Protocol tokens 0 0 first → IsTrue (is_colon_sign tokens first)
     → depth ≡ depth_before tokens 0 0 first → EndsAt Protocol tokens 0 depth second → (second ≡ first) × EndsAt Protocol tokens 0 0 second
 colon_found tokens first depth second closed ends colon reached again =
@@ -309,7 +311,7 @@ pub none_of : {X : Type 0} → (o : Option X) → is_some o ≡ false → o ≡ 
 none_of None none = refl
 none_of (Some x) none = absurd (false≢true (sym none))
 
--- a split without a protocol has found none
+-- a text whose split has no protocol lacks one
 pub lacks_protocol : (IsSpecial : List ℕ → Bool → Type 0) (text : List ℕ) (tokens : List TokenView) (components : Values) → AreLenientTokens text tokens → IsSplit IsSpecial text tokens components → ((P : List ℕ → Type 0) → IsSomeAnd components.protocol P → ⊥) → LacksProtocol text
 lacks_protocol IsSpecial text tokens components are_tokens split none = elim split [
   | inl relative ↦ (tokens, relative.until, are_tokens, relative.no_colon, relative.is_end)

@@ -1,4 +1,4 @@
--- Lemmas on the token at a position: what a read of the code's tokens says of it.
+-- Lemmas on the token at a position, by a read of the code's tokens.
 use Rattle.std.proofs.Common.{◌≡◌, ℕ, zero, suc, ◌-◌, ◌<◌, Bool, true, false, Some, None, List, [], ◌∷◌, length, get_or, Bor, refl, sym, ap, ◌∙◌, arith, rules}
 use Rattle.std.proofs.lemmas.Option.{slice_get-get_or, slice_get-map, slice_get_past, slice_get_read}
 use Rattle.std.proofs.lemmas.Slice.Eq.{bytes_eq-Decides}
@@ -21,18 +21,18 @@ pub view_at : (tokens : List Token) (i : ℕ) (token : Token) → i < length tok
 view_at tokens i token within is =
     slice_get-map token_view tokens i ∙ ap (option_map token_view) (slice_get_read tokens (length tokens) i token refl within is)
 
--- the same, by a read with a value for want of a token
+-- the view of the token at an index, read with another token as the default
 pub view_read : (tokens : List Token) (i : ℕ) (other : Token) → i < length tokens → slice_get (views tokens) i ≡ Some (token_view (get_or tokens i other))
 view_read tokens i other within = slice_get-map token_view tokens i ∙ ap (option_map token_view) (slice_get-get_or tokens i other within)
 
--- what a read gives for want of a token
+-- the default of a read without a token
 abbrev pub no_token : Token
 no_token = record { kind = Open; index = 0; value = record { ref_ptr = (0, 0); now = [] } }
 
 pub at_view : (test : TokenView → Bool) (tokens : List TokenView) (i : ℕ) (token : TokenView) → slice_get tokens i ≡ Some token → passes_at test tokens i ≡ test token
 at_view test tokens i token is = rw is refl
 
--- what `get` finds
+-- the token that `get` finds
 pub at_found : (test : TokenView → Bool) (tokens : List Token) (i : ℕ) (found : Bor Token) → IsItemAt tokens i (Some found) → passes_at test (views tokens) i ≡ test (token_view found.now)
 at_found test tokens i found h = at_view test (views tokens) i (token_view found.now) (view_at tokens i found.now h.3.0 h.1)
 
@@ -49,7 +49,7 @@ same_bool true false f g = sym (f refl)
 same_bool false true f g = g refl
 same_bool false false f g = refl
 
--- one ASCII character is compared as its byte
+-- a single ASCII character is compared as its byte
 pub mark_bytes : (bytes : List ℕ) (mark : ℕ) → IsUtf8 bytes → mark < 128 → bytes_eq bytes (mark ∷ []) ≡ bytes_eq (chars bytes) (mark ∷ [])
 mark_bytes bytes mark utf8 ascii =
     let is_ascii : IsAscii (mark ∷ []) = search rules in

@@ -1,4 +1,4 @@
--- Where a username and a password end, among the tokens of a source.
+-- The ends of a username and a password, among the tokens of a source.
 use Rattle.std.proofs.Common.{◌≡◌, ℕ, ◌+◌, ◌<◌, false, true, codes, length, arith}
 use Rattle.std.proofs.lemmas.Bool.{both_ways}
 use Rattle.std.specs.Prelude.{IsTrue}

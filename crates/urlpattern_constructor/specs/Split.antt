@@ -1,4 +1,5 @@
--- The components of a constructor string, after the URLPattern Standard, section "Constructor string parsing".
+-- The components of a constructor string, after the URLPattern Standard, section "Constructor
+-- string parsing".
 use Rattle.std.specs.Prelude.{◌≡◌, ℕ, zero, suc, ◌+◌, ◌-◌, ◌<◌, ◌≤◌, ◌⊎◌, Bool, true, false, not, ◌&&◌, ◌||◌, ◌==◌, List, [], ◌++◌, length, codes, Option, Some, None, IsTrue, IsSomeAnd, slice_get, slice_range}
 use Rattle.std.specs.List.{count_by, fold, range_with_len}
 use Rattle.std.specs.{Option.option_map_or, Str.bytes_eq}
@@ -11,7 +12,7 @@ use Rattle.urlpattern_syntax.specs.Tokens.{AreLenientTokens, TokenView}
 
 -- ---- the token at a position
 
--- A position is the index of a token. The token there passes the test.
+-- The token at the position, an index of the list, passes the test.
 abbrev pub passes_at : (TokenView → Bool) → List TokenView → ℕ → Bool
 passes_at test tokens position = option_map_or test (slice_get tokens position) false
 
@@ -23,20 +24,20 @@ abbrev pub is_end : TokenType → Bool
 is_end TokenType.End = true
 is_end kind = false
 
--- the End token stands there
+-- the token at the position is End
 abbrev pub ends_at : List TokenView → ℕ → Bool
 ends_at tokens position = passes_at (λ token. is_end token.kind) tokens position
 
 -- ---- signs
 
--- a token of this kind stands for one character as it is
+-- a token of this kind is a literal character
 abbrev pub is_character : TokenType → Bool
 is_character TokenType.Char = true
 is_character TokenType.EscapedChar = true
 is_character TokenType.InvalidChar = true
 is_character kind = false
 
--- the token stands for this character
+-- the token is this character
 abbrev pub is_sign : (mark : List ℕ) → TokenView → Bool
 is_sign mark token = is_character token.kind && bytes_eq token.value mark
 
@@ -44,7 +45,7 @@ is_sign mark token = is_character token.kind && bytes_eq token.value mark
 abbrev pub is_colon_sign : List TokenView → ℕ → Bool
 is_colon_sign tokens position = passes_at (is_sign (codes ":")) tokens position
 
--- what stands between a password or a username and the hostname
+-- an at sign, between a password or a username and the hostname
 abbrev pub is_at_sign : List TokenView → ℕ → Bool
 is_at_sign tokens position = passes_at (is_sign (codes "@")) tokens position
 
@@ -52,7 +53,7 @@ is_at_sign tokens position = passes_at (is_sign (codes "@")) tokens position
 abbrev pub is_slash_sign : List TokenView → ℕ → Bool
 is_slash_sign tokens position = passes_at (is_sign (codes "/")) tokens position
 
--- what begins the hash
+-- a number sign, which begins the hash
 abbrev pub is_hash_sign : List TokenView → ℕ → Bool
 is_hash_sign tokens position = passes_at (is_sign (codes "#")) tokens position
 
@@ -64,12 +65,12 @@ takes_modifier TokenType.Close = true
 takes_modifier TokenType.Asterisk = true
 takes_modifier kind = false
 
--- the token before the position takes a question mark there as a modifier
+-- a question mark at the position would modify the token before it
 abbrev pub follows_modified : List TokenView → ℕ → Bool
 follows_modified tokens zero = false
 follows_modified tokens (suc before) = passes_at (λ token. takes_modifier token.kind) tokens before
 
--- what begins the search: a question mark as a character, or one that is no modifier
+-- the sign that begins the search: a question mark as a character, or one that is not a modifier
 abbrev pub is_search_sign : List TokenView → ℕ → Bool
 is_search_sign tokens position =
     passes_at (is_sign (codes "?")) tokens position
@@ -77,7 +78,7 @@ is_search_sign tokens position =
 
 -- ---- which tokens are seen
 
--- the depth of groups after a token: an open brace adds one, a closing one takes one off where there is one
+-- the depth of groups after a token: an opening brace adds one, a closing brace removes one, if any
 abbrev pub depth_after : TokenType → ℕ → ℕ
 depth_after TokenType.Open depth = depth + 1
 depth_after TokenType.Close depth = depth - 1
@@ -92,7 +93,7 @@ abbrev pub is_seen : List TokenView → (from depth position : ℕ) → Bool
 is_seen tokens from depth position =
     ends_at tokens position || (not (passes_at (λ token. is_open token.kind) tokens position) && depth_before tokens from depth position == 0)
 
--- how many tokens from one position up to another are seen and stand for this character
+-- the number of tokens from one position up to another that are seen and are this character
 abbrev pub count_seen : (mark : List ℕ) → List TokenView → (from depth position : ℕ) → ℕ
 count_seen mark tokens from depth position =
     count_by (λ other. is_seen tokens from depth other && passes_at (is_sign mark) tokens other) (range_with_len from (position - from))
@@ -104,7 +105,8 @@ is_balanced tokens from depth position =
 
 -- ---- where a section ends
 
--- the signs with which a section ends; `balanced` says that a colon there stands outside of square brackets
+-- the signs with which a section ends; `balanced` says that a colon there is outside of square
+-- brackets
 abbrev pub is_ending : Section → (balanced : Bool) → List TokenView → ℕ → Bool
 is_ending Protocol balanced tokens position = is_colon_sign tokens position
 is_ending Authority balanced tokens position =
@@ -123,7 +125,8 @@ abbrev pub may_end : Section → List TokenView → (from depth position : ℕ) 
 may_end section tokens from depth position =
     is_seen tokens from depth position && is_ending section (is_balanced tokens from depth position) tokens position
 
--- The section that begins at `from`, where the depth is `depth`, ends here: at the least position where it may, else at End.
+-- The section that begins at `from`, where the depth is `depth`, ends at the position: the least
+-- one where it may end, or else End.
 pub record EndsAt (section : Section) (tokens : List TokenView) (from depth position : ℕ) : Type 0 where
   pub after : from ≤ position
   pub within : position < length tokens
@@ -132,7 +135,7 @@ pub record EndsAt (section : Section) (tokens : List TokenView) (from depth posi
 
 -- ---- components
 
--- The text from the index of one token up to that of another.
+-- The text from the token at `from` up to the token at `until`.
 pub record IsTextBetween (text : List ℕ) (tokens : List TokenView) (from until : ℕ) (between : List ℕ) : Type 0 where
   pub front : List ℕ
   pub rest : List ℕ
@@ -140,38 +143,39 @@ pub record IsTextBetween (text : List ℕ) (tokens : List TokenView) (from until
   pub begins : IsSomeAnd (slice_get tokens from) (λ token. token.index ≡ byte_len front)
   pub ends : IsSomeAnd (slice_get tokens until) (λ token. token.index ≡ byte_len front + byte_len between)
 
--- the component is there, and is the text between the two tokens
+-- the component is present, and is the text between the two tokens
 abbrev pub IsComponentBetween : (text : List ℕ) → List TokenView → (from until : ℕ) → Option (List ℕ) → Type 0
 IsComponentBetween text tokens from until component = IsSomeAnd component (IsTextBetween text tokens from until)
 
--- the hash begins there and goes on to End
+-- the hash begins at `from` and extends to End
 abbrev pub HashFrom : (text : List ℕ) → List TokenView → (from : ℕ) → Values → Type 0
 HashFrom text tokens from components = (until : ℕ) × IsTrue (ends_at tokens until) × IsComponentBetween text tokens from until components.hash
 
--- a hash begins after the sign for it, and there is none at End
+-- a hash begins after its sign, and is missing at End
 abbrev pub HashAt : (text : List ℕ) → List TokenView → (position : ℕ) → Values → Type 0
 HashAt text tokens position components =
     (IsTrue (is_hash_sign tokens position) × HashFrom text tokens (position + 1) components)
     ⊎ (IsTrue (ends_at tokens position) × (components.hash ≡ None))
 
--- the search begins there, and ends at the sign of the hash or at End
+-- the search begins at `from`, and ends at the sign of the hash or at End
 abbrev pub SearchFrom : (text : List ℕ) → List TokenView → (from depth : ℕ) → Values → Type 0
 SearchFrom text tokens from depth components =
     (until : ℕ) × EndsAt Search tokens from depth until × IsComponentBetween text tokens from until components.search × HashAt text tokens until components
 
--- a search begins after the sign for it; where the hash begins without one, it is empty
+-- a search begins after its sign, is empty where the hash begins without one, and is missing at End
 abbrev pub SearchAt : (text : List ℕ) → List TokenView → (position : ℕ) → Values → Type 0
 SearchAt text tokens position components =
     (IsTrue (is_search_sign tokens position) × SearchFrom text tokens (position + 1) 0 components)
     ⊎ (IsTrue (is_hash_sign tokens position) × (components.search ≡ Some []) × HashFrom text tokens (position + 1) components)
     ⊎ (IsTrue (ends_at tokens position) × (components.search ≡ None) × (components.hash ≡ None))
 
--- the pathname begins there, and ends at the sign of the search or of the hash or at End
+-- the pathname begins at `from`, and ends at the sign of the search or of the hash or at End
 abbrev pub PathnameFrom : (text : List ℕ) → List TokenView → (from depth : ℕ) → Values → Type 0
 PathnameFrom text tokens from depth components =
     (until : ℕ) × EndsAt Pathname tokens from depth until × IsComponentBetween text tokens from until components.pathname × SearchAt text tokens until components
 
--- the pathname where a search or a hash begins without one: a slash if the protocol is special, else nothing
+-- the pathname where a search or a hash begins without one: a slash if the protocol is special,
+-- else empty
 abbrev pub implied_pathname : (special : Bool) → List ℕ
 implied_pathname true = codes "/"
 implied_pathname false = []
@@ -184,7 +188,7 @@ PathnameAt text tokens special position components =
     × SearchAt text tokens position components)
     ⊎ (IsTrue (ends_at tokens position) × (components.pathname ≡ None) × (components.search ≡ None) × (components.hash ≡ None))
 
--- the port follows a colon; without one it is empty
+-- the port follows a colon, and is empty without one
 abbrev pub PortAt : (text : List ℕ) → List TokenView → (special : Bool) → (position : ℕ) → Values → Type 0
 PortAt text tokens special position components =
     (IsTrue (is_colon_sign tokens position)
@@ -192,21 +196,23 @@ PortAt text tokens special position components =
     × PathnameAt text tokens special until components))
     ⊎ (¬ IsTrue (is_colon_sign tokens position) × (components.port ≡ Some []) × PathnameAt text tokens special position components)
 
--- the hostname begins there
+-- the hostname begins at `from`
 abbrev pub HostnameFrom : (text : List ℕ) → List TokenView → (special : Bool) → (from depth : ℕ) → Values → Type 0
 HostnameFrom text tokens special from depth components =
     (until : ℕ) × EndsAt Hostname tokens from depth until × IsComponentBetween text tokens from until components.hostname
     × PortAt text tokens special until components
 
--- the username ends at a colon or at the sign of the hostname, and the password lies between these two
+-- the username ends at a colon or at the sign of the hostname, and the password is between these
+-- two
 abbrev pub UserinfoFrom : (text : List ℕ) → List TokenView → (from until : ℕ) → Values → Type 0
 UserinfoFrom text tokens from until components =
     (position : ℕ) × EndsAt Username tokens from 0 position × IsComponentBetween text tokens from position components.username
     × (((position ≡ until) × (components.password ≡ None))
     ⊎ ((position < until) × IsComponentBetween text tokens (position + 1) until components.password))
 
--- The authority begins there: a username and a password if it ends at the sign for them, and the hostname. Else the
--- hostname begins where it does, at the depth that was reached at its end.
+-- The authority begins at `from`: a username and a password if it ends at the sign for them, and
+-- the hostname after that sign. Otherwise the hostname begins at `from`, at the depth that was
+-- reached at the end of the authority.
 abbrev pub AuthorityFrom : (text : List ℕ) → List TokenView → (special : Bool) → (from : ℕ) → Values → Type 0
 AuthorityFrom text tokens special from components =
     (until : ℕ) × EndsAt Authority tokens from 0 until
@@ -217,12 +223,13 @@ AuthorityFrom text tokens special from components =
 
 -- ---- the whole string
 
--- nothing stands before a pathname, a search or a hash
+-- no component before the pathname is present
 abbrev pub NoAuthority : Values → Type 0
 NoAuthority components = (components.protocol ≡ None) × (components.username ≡ None) × (components.password ≡ None)
     × (components.hostname ≡ None) × (components.port ≡ None)
 
--- no protocol: the first token decides where the hash, the search or else the pathname begins
+-- without a protocol, the first token decides whether the hash, the search or else the pathname
+-- begins
 pub record IsRelativeSplit (text : List ℕ) (tokens : List TokenView) (components : Values) : Type 0 where
   pub until : ℕ
   pub no_colon : EndsAt Protocol tokens 0 0 until
@@ -239,7 +246,8 @@ pub record IsRelativeSplit (text : List ℕ) (tokens : List TokenView) (componen
 abbrev pub has_slashes : List TokenView → ℕ → Bool
 has_slashes tokens position = is_slash_sign tokens (position + 1) && is_slash_sign tokens (position + 2)
 
--- After the protocol comes an authority if slashes follow or the protocol is special, else a pathname with an empty hostname.
+-- After the protocol comes an authority if slashes follow or the protocol is special, else a
+-- pathname with an empty hostname.
 pub record IsAbsoluteSplit (text : List ℕ) (tokens : List TokenView) (special : Bool) (colon : ℕ) (components : Values) : Type 0 where
   pub is_colon_there : IsTrue (is_colon_sign tokens colon)
   pub protocol_ends : EndsAt Protocol tokens 0 0 colon
@@ -250,8 +258,8 @@ pub record IsAbsoluteSplit (text : List ℕ) (tokens : List TokenView) (special 
       ⊎ (IsTrue (not (has_slashes tokens colon) && not special) × (components.username ≡ None) × (components.password ≡ None)
       × (components.hostname ≡ Some []) × (components.port ≡ Some []) × PathnameFrom text tokens (colon + 1) 0 components)
 
--- These are the components of the text, whose tokens these are. `IsSpecial` relates the text of a protocol to whether it
--- is special.
+-- The components of the text with these tokens. `IsSpecial` relates the text of a protocol to
+-- whether it is special.
 abbrev pub IsSplit : (IsSpecial : List ℕ → Bool → Type 0) → (text : List ℕ) → List TokenView → Values → Type 0
 IsSplit IsSpecial text tokens components =
     IsRelativeSplit text tokens components
@@ -263,7 +271,7 @@ abbrev pub LacksProtocol : (text : List ℕ) → Type 0
 LacksProtocol text =
     (tokens : List TokenView) × (until : ℕ) × AreLenientTokens text tokens × EndsAt Protocol tokens 0 0 until × IsTrue (ends_at tokens until)
 
--- the text has a protocol, and this holds of it
+-- the text has a protocol, of which `Is` holds
 abbrev pub HasProtocol : (text : List ℕ) → (Is : List ℕ → Type 0) → Type 0
 HasProtocol text Is =
     (tokens : List TokenView) × (colon : ℕ) × (protocol : List ℕ) × AreLenientTokens text tokens

@@ -1,4 +1,4 @@
-//! The components that are found in a constructor string.
+//! The components of a constructor string.
 ghost use Rattle.std.specs.Prelude.{◌≡◌, Some, ◌+◌, ◌*◌, ◌<◌, ◌≤◌, length, IsTrue, None};
 ghost use Rattle.std.specs.Str.{chars};
 ghost use Rattle.urlpattern_constructor.specs.declared.sections.Section.TheVariants.{Hostname, Pathname, Port, Search};
@@ -9,7 +9,7 @@ use crate::sections::{Position, Section};
 use crate::tokens::Source;
 use urlpattern_components::{ComponentName, Eight};
 
-/// The components that were found, and how many looks at a token that took.
+/// The components that were found, and the number of looks at a token.
 #[derive(Drop)]
 pub struct Split<'a> {
     pub values: Eight<Option<&'a str>>,
@@ -17,7 +17,7 @@ pub struct Split<'a> {
 }
 
 impl<'a> Split<'a> {
-    /// No component.
+    /// Returns a split without components.
     fn nothing(turns: usize) -> Split<'a>
         ensures nothing { NoSearch (split_values result) }
         ensures hash { (split_values result).hash ≡ None }
@@ -34,7 +34,7 @@ impl<'a> Split<'a> {
 }
 
 impl<'t, 'a> Source<'t, 'a> {
-    /// The components of a text with a protocol, which ends at a colon.
+    /// Splits a text with a protocol, which ends at the colon.
     pub fn absolute(&self, colon: Position, protocol: &'a str, special: bool) -> Split<'a>
         requires source { IsSource self.now }
         requires protocol { IsTextBetween (text_of_source self.now) (tokens_of self.now) 0 colon.index (chars protocol.now) }
@@ -62,7 +62,7 @@ impl<'t, 'a> Source<'t, 'a> {
         Split { values, turns }
     }
 
-    /// The components of a text in which no protocol was found, read up to its end.
+    /// Splits a text without a protocol, which was read up to its end.
     pub fn relative(&self, end: Position) -> Split<'a>
         requires source { IsSource self.now }
         requires ends { EndsAt Section.Protocol (tokens_of self.now) 0 0 end.index }
@@ -82,7 +82,7 @@ impl<'t, 'a> Source<'t, 'a> {
         self.pathname_from(Position { index: 0, ..end })
     }
 
-    /// The authority, which begins at a position, and what stands after it.
+    /// Reads the authority, which begins at a position, and the components after it.
     fn authority_from(&self, from: Position, special: bool) -> Split<'a>
         requires source { IsSource self.now }
         requires within { from.index < length self.now.tokens.now }
@@ -109,8 +109,8 @@ impl<'t, 'a> Source<'t, 'a> {
         Split { values, turns }
     }
 
-    /// The username and the password, which begin at a position, where the hostname follows the sign `until`, and what
-    /// stands after them.
+    /// Reads the username and the password, which begin at a position and end before the sign
+    /// `until`, and the components after that sign.
     fn userinfo_from(&self, from: Position, until: usize, special: bool) -> Split<'a>
         requires source { IsSource self.now }
         requires ends { EndsAt Section.Authority (tokens_of self.now) from.index 0 until }
@@ -138,7 +138,7 @@ impl<'t, 'a> Source<'t, 'a> {
         Split { values, turns }
     }
 
-    /// The hostname, which begins at a position, and what stands after it.
+    /// Reads the hostname, which begins at a position, and the components after it.
     fn hostname_from(&self, from: Position, special: bool) -> Split<'a>
         requires source { IsSource self.now }
         requires reads { CanRead self.now from }
@@ -152,7 +152,7 @@ impl<'t, 'a> Source<'t, 'a> {
         Split { values, turns }
     }
 
-    /// The port, if a colon stands at a position, and what stands after it.
+    /// Reads the port, if a colon is at the position, and the components after it.
     fn port_at(&self, end: Position, special: bool) -> Split<'a>
         requires source { IsSource self.now }
         requires reads { HasRead self.now end }
@@ -173,7 +173,8 @@ impl<'t, 'a> Source<'t, 'a> {
         Split { values, turns }
     }
 
-    /// What stands after the hostname and the port: the pathname, if it begins at a position, the search and the hash.
+    /// Reads the components after the hostname and the port: the pathname, if it begins at the
+    /// position, the search and the hash.
     fn pathname_at(&self, end: Position, special: bool) -> Split<'a>
         requires source { IsSource self.now }
         requires reads { HasRead self.now end }
@@ -194,7 +195,7 @@ impl<'t, 'a> Source<'t, 'a> {
         Split::nothing(end.turns)
     }
 
-    /// The pathname, which begins at a position, the search and the hash.
+    /// Reads the pathname, which begins at a position, the search and the hash.
     fn pathname_from(&self, from: Position) -> Split<'a>
         requires source { IsSource self.now }
         requires reads { CanRead self.now from }
@@ -208,7 +209,7 @@ impl<'t, 'a> Source<'t, 'a> {
         Split { values, turns }
     }
 
-    /// The search and the hash, if they begin after the token at a position.
+    /// Reads the search and the hash, if they begin after the token at the position.
     fn search_at(&self, end: Position) -> Split<'a>
         requires source { IsSource self.now }
         requires reads { HasRead self.now end }
@@ -228,7 +229,7 @@ impl<'t, 'a> Source<'t, 'a> {
         Split::nothing(end.turns)
     }
 
-    /// The search, which begins at a position, and the hash.
+    /// Reads the search, which begins at a position, and the hash.
     fn search_from(&self, from: Position) -> Split<'a>
         requires source { IsSource self.now }
         requires reads { CanRead self.now from }
@@ -242,7 +243,7 @@ impl<'t, 'a> Source<'t, 'a> {
         Split { values, turns }
     }
 
-    /// The hash, if it begins after the token at a position.
+    /// Reads the hash, if it begins after the token at the position.
     fn hash_at(&self, end: Position) -> Split<'a>
         requires source { IsSource self.now }
         requires reads { HasRead self.now end }
@@ -257,7 +258,7 @@ impl<'t, 'a> Source<'t, 'a> {
         Split::nothing(end.turns)
     }
 
-    /// The hash, which begins at a position.
+    /// Reads the hash, which begins at a position.
     fn hash_from(&self, from: Position) -> Split<'a>
         requires source { IsSource self.now }
         requires reads { CanRead self.now from }
@@ -272,7 +273,7 @@ impl<'t, 'a> Source<'t, 'a> {
     }
 }
 
-/// The pathname where a search or a hash begins without one.
+/// Returns the pathname where a search or a hash begins without one.
 fn implied_pathname(special: bool) -> &'static str
     ensures { chars result.now ≡ implied_pathname special }
 {

@@ -1,4 +1,4 @@
-//! A constructor string, the pattern of a whole URL, cut into the patterns of its components.
+//! Cuts a constructor string, the pattern of a whole URL, into the patterns of its components.
 //!
 //! <https://urlpattern.spec.whatwg.org/#constructor-string-parsing>
 #![tactic(auto)]

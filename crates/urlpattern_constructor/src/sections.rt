@@ -6,7 +6,7 @@ ghost use Rattle.urlpattern_constructor.specs.Splitting.{IsSource, is_hostname, 
 use crate::tokens::Source;
 use urlpattern_syntax::tokenizer::TokenType;
 
-/// A stretch of a constructor string, which ends at signs of its own.
+/// A section of a constructor string, which ends at its own signs.
 ///
 /// <https://urlpattern.spec.whatwg.org/#constructor-string-parser-state>
 #[derive(Clone, Copy, PartialEq, Eq)]
@@ -22,19 +22,19 @@ pub enum Section {
     Hash,
 }
 
-/// How far the tokens have been read.
+/// The progress in reading the tokens.
 #[derive(Clone, Copy)]
 pub struct Position {
     /// The index of the token to be read next.
     pub index: usize,
-    /// How many groups are open before it.
+    /// The number of groups that are open before the token at `index`.
     pub depth: usize,
-    /// How many looks at a token were taken.
+    /// The number of looks at a token so far.
     pub turns: usize,
 }
 
 impl Position {
-    /// The position so many tokens after this one, outside of all groups.
+    /// Returns the position `count` tokens after this one, outside of all groups.
     pub fn after(self, count: usize) -> Position
         requires { self.index + count < 2 ^ 64 }
         ensures index { result.index ≡ self.index + count }
@@ -50,8 +50,9 @@ impl Position {
 }
 
 impl<'t, 'a> Source<'t, 'a> {
-    /// The token with which a section ends that begins at a position: the first that is seen and is one of its signs, or
-    /// the end. Every token up to there is looked at once.
+    /// Returns the position of the token with which a section ends that begins at `from`: the first
+    /// that is seen and is one of the section's signs, or the end. Every token up to there is
+    /// looked at once.
     pub fn end_of(&self, section: Section, from: Position) -> Position
         requires source { IsSource self.now }
         requires within { from.index < length self.now.tokens.now }
@@ -82,8 +83,8 @@ impl<'t, 'a> Source<'t, 'a> {
         }
     }
 
-    /// Whether a section ends with the token at the index, where `balanced` says that a colon there is outside of
-    /// square brackets.
+    /// Whether a section ends with the token at the index, where `balanced` says that a colon there
+    /// is outside of square brackets.
     fn is_ending(&self, section: Section, balanced: bool, index: usize) -> bool
         ensures { result ≡ is_ending section balanced (tokens_of self.now) index }
     {
@@ -112,7 +113,8 @@ impl<'t, 'a> Source<'t, 'a> {
         }
     }
 
-    /// Counts the token at the index, if it is seen, stands for this bracket and counts in the section.
+    /// Returns the count with the token at the index, if it is seen, is this bracket and counts in
+    /// the section.
     fn count_bracket(
         &self,
         section: Section,
@@ -147,7 +149,7 @@ fn is_seen(kind: TokenType, depth: usize) -> bool
     !matches!(kind, TokenType::Open) && depth == 0
 }
 
-/// The depth of groups after a token.
+/// Returns the depth of groups after a token of the kind.
 fn depth_after(kind: TokenType, depth: usize) -> usize
     requires { depth + 1 < 2 ^ 64 }
     ensures { result ≡ depth_after kind depth }

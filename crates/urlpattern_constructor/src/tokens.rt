@@ -1,4 +1,4 @@
-//! A constructor string with its tokens, and the signs that they stand for.
+//! A constructor string with its tokens, and the signs among them.
 ghost use Rattle.std.specs.Prelude.{◌≡◌, ◌+◌, ◌^◌, ◌<◌, ◌≤◌, ◌∷◌, [], length};
 ghost use Rattle.std.specs.Str.{bytes_eq, chars};
 ghost use Rattle.urlpattern_constructor.specs.Split.{IsTextBetween, passes_at, follows_modified, has_slashes, is_character, is_search_sign, is_sign, takes_modifier};
@@ -14,7 +14,7 @@ pub struct Source<'t, 'a> {
 }
 
 impl<'t, 'a> Source<'t, 'a> {
-    /// Whether the token at the index stands for this ASCII character.
+    /// Whether the token at the index is this ASCII character.
     pub fn is_sign(&self, index: usize, mark: u8) -> bool
         requires { mark < 128 }
         ensures { result ≡ passes_at (is_sign (mark ∷ [])) (tokens_of self.now) index }
@@ -40,7 +40,7 @@ impl<'t, 'a> Source<'t, 'a> {
         }
     }
 
-    /// Whether the token before the index takes a question mark there as a modifier.
+    /// Whether a question mark at the index would modify the token before it.
     fn follows_modified(&self, index: usize) -> bool
         ensures { result ≡ follows_modified (tokens_of self.now) index }
     {
@@ -63,7 +63,7 @@ impl<'t, 'a> Source<'t, 'a> {
         self.is_sign(index + 1, b'/') && self.is_sign(index + 2, b'/')
     }
 
-    /// The text from the index of one token up to that of another.
+    /// Returns the text from the token at index `from` up to the token at index `until`.
     ///
     /// <https://urlpattern.spec.whatwg.org/#make-a-component-string>
     pub fn text_between(&self, from: usize, until: usize) -> &'a str
@@ -76,7 +76,7 @@ impl<'t, 'a> Source<'t, 'a> {
     }
 }
 
-/// Whether a token of the kind stands for one character as it is.
+/// Whether a token of the kind is a literal character.
 ///
 /// <https://urlpattern.spec.whatwg.org/#is-a-non-special-pattern-char>
 fn is_character(kind: TokenType) -> bool

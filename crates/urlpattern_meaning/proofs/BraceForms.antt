@@ -1,4 +1,4 @@
--- What is between braces, by its tokens, is one.
+-- The content of braces is determined by its tokens.
 use Rattle.std.proofs.Common.{◌≡◌, ℕ, Bool, List, [], ◌∷◌, ◌++◌, refl, sym, ap, ◌∙◌, subst, append_assoc}
 use Rattle.std.specs.Prelude.{IsTrue}
 use Rattle.std.specs.List.{list_all}
@@ -13,7 +13,7 @@ use Rattle.urlpattern_meaning.proofs.PlaceholderForms.{cons_one, no_text, begins
 abbrev pub all_texts : List TokenView → Bool
 all_texts tokens = list_all (λ (token : TokenView). is_text token.kind) tokens
 
--- one front and one rest
+-- the beginning and the rest are equal
 record OneCut (a b x y : List TokenView) : Type 0 where
   pub front : a ≡ b
   pub rest : x ≡ y
@@ -27,18 +27,18 @@ texts_one (a ∷ front) (b ∷ other) rest more h g none no' e =
     let c = texts_one front other rest more (and_parts (is_text a.kind) (all_texts front) h).1 (and_parts (is_text b.kind) (all_texts other) g).1 none no' one.others in
     record { front = ap (λ x. x ∷ front) one.first ∙ ap (λ x. b ∷ x) c.front; rest = c.rest }
 
--- ---- what is between braces
+-- ---- the content of braces
 
 pub data Content : Type 0 where
   Texts : List ℕ → Content
   Filled : List ℕ → Placeholder → List ℕ → Content
 
--- What is between braces and what follows it, by its tokens.
+-- The content of braces, and the tokens after it, as the tokens determine them.
 pub data ContentForm (tokens rest : List TokenView) (content : Content) : Type 0 where
   texts : (front : List TokenView) → tokens ≡ front ++ rest → IsTrue (all_texts front) → ¬ BeginsWithKind is_placeholder rest → content ≡ Texts (joined_values front) → ContentForm tokens rest content
   filled : (front behind back : List TokenView) (placeholder : Placeholder) → tokens ≡ front ++ behind → IsTrue (all_texts front) → PlaceholderForm behind (back ++ rest) placeholder → IsTrue (all_texts back) → content ≡ Filled (joined_values front) placeholder (joined_values back) → ContentForm tokens rest content
 
--- one rest and one content
+-- the rest and the content are equal
 pub record OneContent (x y : List TokenView) (c d : Content) : Type 0 where
   pub rest : x ≡ y
   pub content : c ≡ d
@@ -78,7 +78,7 @@ filled_form inner rest more before after placeholder widen f =
     (f.are_texts_after.0)
     (ap (λ x. Filled x placeholder after) (f.are_texts_before.1) ∙ ap (λ x. Filled (joined_values f.front) placeholder x) (f.are_texts_after.1))
 
--- a Close is no Regexp that a name would take
+-- a Close is not a Regexp that a name would take
 pub widened : (what : Matched) (behind : List TokenView) (closing : TokenView) (back : List TokenView) → TakesRegexp what (back ++ closing ∷ []) → TakesRegexp what (back ++ closing ∷ behind)
 widened matched.Segment behind closing [] h = h
 widened matched.Segment behind closing (token ∷ back) h = h

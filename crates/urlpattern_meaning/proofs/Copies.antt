@@ -1,4 +1,5 @@
--- Copies of a wildcard between prefix and suffix, told by what stands between the first prefix and the last suffix.
+-- Copies of a wildcard between prefix and suffix, by the text between the first prefix and the last
+-- suffix.
 use Rattle.std.proofs.Common.{◌≡◌, ℕ, zero, suc, List, [], ◌∷◌, ◌++◌, refl, sym, subst, ap, Bool, Some, Option, append_assoc, ◌∙◌, ◌↔◌, ◌⊎◌, inl, inr}
 use Rattle.std.proofs.lemmas.List.{append-nil}
 use Rattle.std.specs.Prelude.{◌&&◌}
@@ -10,7 +11,7 @@ use Rattle.urlpattern_syntax.specs.RegexpText.{IsWildcard, is_empty}
 use Rattle.urlpattern_syntax.specs.Text.{IsRepeated}
 use Rattle.urlpattern_meaning.proofs.MatchingLaws.{middle_cancel, part_of, wildcard_copies}
 
--- ---- stretches
+-- ---- repeated texts
 
 pub repeated_map : (A B : List ℕ → Type 0) → ((text : List ℕ) → A text → B text) → (n : ℕ) (text : List ℕ) → IsRepeated A n text → IsRepeated B n text
 repeated_map A B weaker zero text ended = ended
@@ -22,22 +23,22 @@ repeated_map A B weaker (suc n) text (first, rest, cut, is, more) = (first, rest
 abbrev pub IsBetween : (List ℕ → Type 0) → (prefix suffix text : List ℕ) → Type 0
 IsBetween IsPiece prefix suffix text = (piece : List ℕ) × (text ≡ prefix ++ piece ++ suffix) × IsPiece piece
 
--- what a further copy adds between the first prefix and the last suffix
+-- the text that a further copy adds between the first prefix and the last suffix
 abbrev pub IsFurther : (List ℕ → Type 0) → (prefix suffix text : List ℕ) → Type 0
 IsFurther IsPiece prefix suffix text = (piece : List ℕ) × (text ≡ suffix ++ prefix ++ piece) × IsPiece piece
 
--- what stands between the first prefix and the last suffix where n copies stand after the first
+-- the text between the first prefix and the last suffix of a copy and n more
 abbrev pub IsCore : (List ℕ → Type 0) → (prefix suffix : List ℕ) → ℕ → (text : List ℕ) → Type 0
 IsCore IsPiece prefix suffix n text = (first rest : List ℕ) × (text ≡ first ++ rest) × IsPiece first × IsRepeated (IsFurther IsPiece prefix suffix) n rest
 
--- one copy
+-- a single copy
 pub core_one : (IsPiece : List ℕ → Type 0) (prefix suffix text : List ℕ) → IsPiece text → IsCore IsPiece prefix suffix 0 text
 core_one IsPiece prefix suffix text is = (text, [], sym (append-nil text), is, refl)
 
 pub one_core : (IsPiece : List ℕ → Type 0) (prefix suffix text : List ℕ) → IsCore IsPiece prefix suffix 0 text → IsPiece text
 one_core IsPiece prefix suffix text (first, rest, cut, is, ended) = subst IsPiece (sym (cut ∙ ap (λ t. first ++ t) ended ∙ append-nil first)) is
 
--- the first copy and the others, as they stand and as they are told
+-- the first copy and the others, as one core between prefix and suffix
 first_in : (prefix first suffix core : List ℕ) → (prefix ++ first ++ suffix) ++ (prefix ++ core ++ suffix) ≡ prefix ++ (first ++ (suffix ++ (prefix ++ core))) ++ suffix
 first_in prefix first suffix core = simp append_assoc
 
@@ -105,7 +106,7 @@ counted IsPiece kind modifier value name prefix suffix text captures (suc n) all
     let same : inner ≡ found.0 = middle_cancel prefix inner found.0 suffix (sym e ∙ found.1) in
     inr (n, found.0, allowed, found.1, found.2, f ∙ ap (λ c. c ∷ []) (g ∙ ap Some same))
 
--- what a wildcard stands for is no copies, or at least one
+-- a wildcard matches no copies, or at least one
 pub wildcard_means : (options : OptionsView) (kind : PartType) (modifier : PartModifier) (value name prefix suffix text : List ℕ) (captures : Captures) → IsWildcard kind →
     PartMeans options (part_of kind modifier value name prefix suffix) text captures ↔ GroupMeans (IsWildcardText options kind) (is_empty prefix && is_empty suffix) modifier prefix suffix text captures
 wildcard_means options kind modifier value name prefix suffix text captures h =

@@ -1,4 +1,4 @@
--- Worked examples of trees of regular expressions, and of what they mean.
+-- Worked examples of trees of regular expressions, and of their meaning.
 use Rattle.std.proofs.Common.{◌≡◌, ℕ, List, [], ◌∷◌, ◌++◌, refl, Some, None, inl, inr}
 use Rattle.std.specs.Prelude.{codes, slice_index}
 use Rattle.urlpattern_meaning.proofs.DialectUnique.{only_tree}
@@ -6,15 +6,15 @@ use Rattle.urlpattern_meaning.specs.Dialect.{Items, Nothing, Item, Atom, Literal
 use Rattle.urlpattern_meaning.specs.PartMeaning.{Captures}
 use Rattle.urlpattern_syntax.proofs.TokenExamples.{no}
 
--- a character that stands by itself
+-- a character without a backslash
 abbrev pub plain : List ℕ → Atom
 plain text = Literal (Plain (slice_index text 0))
 
--- an atom that is taken once, or as a quantifier says, and nothing after it
+-- an atom that matches once, or under a quantifier, with nothing after it
 abbrev pub once : Atom → Items
 once atom = Item atom Once Nothing
 
--- characters that stand by themselves, one after the other, and what follows them
+-- characters without backslashes, one after the other, before items
 abbrev pub word_then : List ℕ → Items → Items
 word_then [] items = items
 word_then (c ∷ word) items = Item (Literal (Plain c)) Once (word_then word items)
@@ -36,7 +36,7 @@ users_tree = word_then (codes "/users") (once (Grouped (word_then (codes "/") se
 pub users_is_tree : IsTreeOf (codes "^/users(?:/([^/]+?))$") users_tree
 users_is_tree = (refl, (no, tt, (no, tt, (no, tt, (no, tt, (no, tt, (no, tt, ((no, tt, ((no, refl, tt), tt, tt)), tt, tt))))))))
 
--- what it captures from `/users/1`
+-- the tree captures `1` from `/users/1`
 pub users_means : Means users_tree (codes "/users/1") (Some (codes "1") ∷ [])
 users_means = word_means (codes "/users") (once (Grouped (word_then (codes "/") segment_tree))) (codes "/1") (Some (codes "1") ∷ []) after_users
   where
@@ -74,7 +74,7 @@ wild_tree =
 pub wild_is_tree : IsTreeOf (codes "^((?:.+?)*)(.*)$") wild_tree
 wild_is_tree = (refl, (((tt, refl, tt), refl, tt), tt, ((tt, refl, tt), tt, tt)))
 
--- the tree of `^(?:p((?:x)(?:sp(?:x))*)s)?$`: what is repeated captures nothing
+-- the tree of `^(?:p((?:x)(?:sp(?:x))*)s)?$`: a repeated group does not capture
 abbrev pub grouped_x : Atom
 grouped_x = Grouped (once (plain (codes "x")))
 
@@ -88,11 +88,11 @@ pub repeated_is_tree : IsTreeOf (codes "^(?:p((?:x)(?:sp(?:x))*)s)?$") repeated_
 repeated_is_tree =
     (refl, ((no, tt, (((no, tt, tt), tt, ((no, tt, (no, tt, ((no, tt, tt), tt, tt))), refl, tt)), tt, (no, tt, tt))), tt, tt))
 
--- taken no time, it leaves its group None
+-- an optional group that is skipped leaves its capture None
 pub repeated_none : Means repeated_tree [] (None ∷ [])
 repeated_none = ([], [], None ∷ [], [], refl, refl, inr (refl, refl), (refl, refl))
 
--- taken twice, it captures both copies and what stands between them
+-- two copies are captured as one text, with the text between them
 pub repeated_twice : Means repeated_tree (codes "pxspxs") (Some (codes "xspx") ∷ [])
 repeated_twice = (
   codes "pxspxs",
@@ -151,23 +151,23 @@ repeated_twice = (
       (codes "p", codes "x", [], [], refl, refl, (refl, refl), (codes "x", [], [], [], refl, refl, x_means, (refl, refl))),
     )
 
--- what captures is not taken more than once: `^(a)*$` is not the text of a tree that is allowed
+-- a capturing group is not repeated: `^(a)*$` is not the text of a tree that is allowed
 pub repeated_capture : ¬ AreItems (Item (Captured (once (plain (codes "a")))) ZeroOrMore Nothing)
 repeated_capture h = let e : 1 ≡ 0 = h.1 in cc e
 
--- the dot takes no line feed
+-- the dot does not match a line feed
 pub dot_no_feed : (captures : Captures) → ¬ AtomMeans Dot (codes "\n") captures
 dot_no_feed captures ((other, e, differs), is) =
     let same : slice_index (codes "\n") 0 ≡ other = cc e in
     no (rw (← same) at differs)
 
--- a class does not take its own character
+-- a class does not match its own character
 pub slash_no_slash : (captures : Captures) → ¬ AtomMeans (AnyBut (Plain (slice_index (codes "/") 0))) (codes "/") captures
 slash_no_slash captures ((other, e, differs), is) =
     let same : slice_index (codes "/") 0 ≡ other = cc e in
     no (rw (← same) at differs)
 
--- captures stand in the order of the opening brackets: `^((a)b)$` on `ab`
+-- captures are in the order of the opening brackets: `^((a)b)$` on `ab`
 pub nested_means : Means (once (Captured (Item (Captured (once (plain (codes "a")))) Once (once (plain (codes "b")))))) (codes "ab") (Some (codes "ab") ∷ Some (codes "a") ∷ [])
 nested_means = (
   codes "ab",
@@ -193,14 +193,15 @@ nested_means = (
   (refl, refl),
 )
 
--- a mark does not stand by itself, and a letter is not escaped: `.` and `\d` are no characters of the dialect
+-- a mark has a backslash, and a letter has none: `.` and `\d` are not characters of the dialect
 pub dot_no_literal : ¬ IsAtom (plain (codes "."))
 dot_no_literal h = h refl
 
 pub letter_no_escape : ¬ IsAtom (Literal (Escaped (slice_index (codes "d") 0)))
 letter_no_escape h = no h
 
--- In a class neither a backslash nor a bracket that opens stands by itself: `[^\]` and `[^[]` are no classes of the dialect.
+-- In a class a backslash and an opening bracket need a backslash: `[^\]` and `[^[]` are not classes
+-- of the dialect.
 pub backslash_no_class : ¬ IsAtom (AnyBut (Plain (slice_index (codes "\\") 0)))
 backslash_no_class h = h refl
 

@@ -1,4 +1,4 @@
--- The text of a tree before what follows it, without brackets of appending.
+-- The text of a tree before a rest, without brackets of appending.
 use Rattle.std.proofs.Common.{◌≡◌, ℕ, List, ◌++◌, refl, ap, ◌∙◌, append_assoc}
 use Rattle.std.specs.Prelude.{codes}
 use Rattle.urlpattern_meaning.specs.Dialect.{Items, Nothing, Item, Atom, Literal, Dot, AnyBut, Captured, Grouped, character_text, quantifier_text, items_text, atom_text}

@@ -1,4 +1,4 @@
--- A text has one tree at most.
+-- A text has at most one tree.
 use mathlib.Core.HLevel.{Σ_prop_path}
 use Rattle.std.proofs.Common.{◌≡◌, ℕ, List, ◌++◌, refl, sym, ap, ◌∙◌, subst}
 use Rattle.std.specs.Coded.{Coded-set, coded_bool, coded_list, coded_ℕ, ×_prop}
@@ -13,7 +13,7 @@ not_grouped : (items : Items) (rest left : List ℕ) → AreItems items → ¬ (
 not_grouped items rest left h e = spelled_free items (codes ")" ++ rest) h refl (subst (Leads (codes "]?*+")) (sym e) refl)
 
 mutual
-  -- The items and what follows them are read from their text in one way.
+  -- Items before a rest are read from their text in one way.
   items_one : (items other : Items) (rest left : List ℕ) → AreItems items → AreItems other → Ends rest → Ends left →
       spelled items rest ≡ spelled other left → (items ≡ other) × (rest ≡ left)
   items_one Nothing Nothing rest left h g ends stops e = (refl, e)
@@ -54,7 +54,7 @@ mutual
       absurd (not_grouped others left (spelled items (codes ")" ++ rest)) g (cc (sym e)))
   atom_one atom other rest left h g shut sealed e = absurd (eqb-false (kind atom) (kind other) refl (kinds_one atom other rest left h g e))
 
--- A text has one tree at most.
+-- A text has at most one tree.
 pub trees_are_one : (text : List ℕ) (tree other : Items) → IsTreeOf text tree → IsTreeOf text other → tree ≡ other
 trees_are_one text tree other h g =
     let end : List ℕ = codes "$" in
@@ -63,11 +63,11 @@ trees_are_one text tree other h g =
     let spellings = sym (items-spelled tree end) ∙ inner ∙ items-spelled other end in
     (items_one tree other end end h.1 g.1 refl refl spellings).0
 
--- So a tree of a text is its only one.
+-- A tree of a text is its only tree.
 pub only_tree : (text : List ℕ) (tree : Items) → IsTreeOf text tree → IsOnlyTreeOf text tree
 only_tree text tree h = record { is_tree = h; only = λ other g. trees_are_one text other tree g h }
 
--- ---- one proof that it has a tree
+-- ---- at most one proof that a tree is allowed
 
 allowed_once : (quantifier : Quantifier) (groups : ℕ) → IsProp (AllowsGroups quantifier groups)
 allowed_once Once groups = Prim.hlevel

@@ -1,4 +1,4 @@
--- A weaker encoding reads and refuses no less.
+-- A weaker encoding has at least the readings and rejections of a stronger one.
 use Rattle.std.proofs.Common.{ℕ, Result, Ok, Err, List, [], ◌∷◌, inl, inr}
 use Rattle.urlpattern_syntax.specs.Errors.{ErrorView}
 use Rattle.urlpattern_syntax.specs.Options.{OptionsView}
@@ -6,7 +6,7 @@ use Rattle.urlpattern_syntax.specs.Parts.{PartView}
 use Rattle.urlpattern_syntax.specs.Reading.{AreMet, AreParts, Capture, Demand, Encode, Encoding, Expect, Fails, FirstFails, Fixed, IsMet, Item, NewName, Reads, Refuses, demands, items_of}
 use Rattle.urlpattern_syntax.specs.Pieces.{Ending as endings}
 
--- whatever the one answers the other may
+-- the weak encoding may return all that the strong one may
 abbrev pub Weakens : Encoding → Encoding → Type 0
 Weakens strong weak = (text : List ℕ) (answer : Result (List ℕ) ErrorView) → strong text answer → weak text answer
 

@@ -1,4 +1,4 @@
--- A matcher that is made of parts answers the first way of their tree, and this is one answer.
+-- A matcher that is made from parts returns the first way of their tree, and this is one result.
 use Rattle.std.proofs.Common.{◌≡◌, ℕ, false, true, List, [], ◌∷◌, ◌++◌, refl, sym, subst, ap, Some, None, Option, Result, ◌∙◌, ◌↔◌}
 use Rattle.std.specs.Prelude.{⊤, All, IsTrue, Ok, Err, option_to_list}
 use Rattle.std.specs.Str.{all_scalars}
@@ -29,16 +29,16 @@ use Rattle.urlpattern_meaning.proofs.PartTreeMeans.{tree_means}
 use Rattle.urlpattern_meaning.proofs.PartTrees.{IsNotCustom, tree_of}
 use Rattle.urlpattern_meaning.proofs.Peeling.{middle_one}
 
--- ---- one answer
+-- ---- one result
 
--- there is one first answer
+-- at most one result is the first way
 pub first_one : (options : OptionsView) (parts : List PartView) (text : List ℕ) (result other : Option Captures) → IsFirstOf options parts text result → IsFirstOf options parts text other → result ≡ other
 first_one options parts text result other first last =
     first.is_first
     ∙ ap (λ (tree : Items). first_way tree text) (trees_are_one (regexp_text options parts) first.tree last.tree first.is_tree last.is_tree)
     ∙ sym last.is_first
 
--- and it is what the parts mean
+-- the result that is the first way is what the parts mean
 agrees_of : (options : OptionsView) (parts : List PartView) (tree : Items) (text : List ℕ) (result : Option Captures) → All IsNotCustom parts → IsTreeOf (regexp_text options parts) tree →
     result ≡ first_way tree text → Agrees options parts text result
 agrees_of options parts tree text None plain is e = λ captures means.
@@ -57,7 +57,7 @@ same_accepted answer ignore_case (Literal literal) text captures others fast is 
 same_accepted answer ignore_case (SingleCapture filter allow_empty) text captures others fast (filled, passes, e) (filled', passes', f) = e ∙ sym f
 same_accepted answer ignore_case (RegExp value) text captures others fast is also = absurd fast
 
--- one list of captures is matched
+-- at most one list of captures matches
 same_matched : {E : Type 0} (answer : E → List ℕ → Option Captures) (matcher : MatcherView E) (text : List ℕ) (captures others : Captures) → IsFast matcher.inner →
     Matches answer matcher text captures → Matches answer matcher text others → captures ≡ others
 same_matched answer matcher text captures others fast (inner, cut, accepts) (other, has, also) =
@@ -80,7 +80,7 @@ middle_plain parts front middle back peeled plain =
     let whole : All IsNotCustom (option_to_list front ++ middle ++ option_to_list back) = subst (λ ps. All IsNotCustom ps) peeled.cut plain in
     all_right (option_to_list front) middle (all_left (option_to_list front ++ middle) (option_to_list back) whole)
 
--- ---- a matcher that asks an engine
+-- ---- a matcher that calls an engine
 
 engine_by : {E : Type 0} (answer : E → List ℕ → Option Captures) (options : OptionsView) (parts : List PartView) (front : Option PartView) (middle : List PartView) (back : Option PartView) (matcher : MatcherView E) (engine : E) (text : List ℕ) (result : Option Captures) →
     All IsNotCustom parts → All IsNotCustom middle → ArePeeled parts front middle back → HasEnds options matcher (end_text front) (end_text back) → matcher.inner ≡ RegExp (Ok engine) → options.ignore_case ≡ false →
@@ -131,7 +131,7 @@ matcher_first {E} answer IsEngine options parts matcher text result made plain c
         (ends_of IsEngine options (end_text made.front) made.middle (end_text made.back) matcher (Ok engine) made.is_made e) e case
         (subst (λ m. AnswersFirst (regexp_text options m) (answer engine)) same firsts) scalars answers
 
--- ---- what is true of each value that is made
+-- ---- properties of each value that is made
 
 module _ {E : Type 0} (IsEngine : List ℕ → Result E ErrorView → Type 0) (options : OptionsView) where
   made_value : (regexp : List ℕ) (value other : Result E ErrorView) → IsEngine regexp other → RegExp value ≡ RegExp other → IsEngine regexp value
@@ -149,7 +149,8 @@ module _ {E : Type 0} (IsEngine : List ℕ → Result E ErrorView → Type 0) (o
   made_between front (part ∷ []) back matcher value made e = made_one part.kind part.modifier front part back matcher value made e
   made_between front (part ∷ next ∷ parts) back matcher value (other, is, made) e = made_value _ value other is (sym e ∙ ap (λ m. m.inner) made)
 
-  -- where an engine took its text, that is true of the matcher's value which is true of each value made of such a text
+  -- where an engine accepted its text, a property of each value made from such a text holds of the
+  -- matcher's value
   pub of_made : (Is : E → List PartView → Type 0) (Holds : E → Type 0) (parts : List PartView) (matcher : MatcherView E) →
       IsMadeOf IsEngine options parts matcher → All IsNotCustom parts → TookText Holds matcher.inner →
       ((engine : E) (middle : List PartView) → All IsNotCustom middle → IsEngine (regexp_text options middle) (Ok engine) → Holds engine → Is engine middle) → IsOfMiddle Is parts matcher.inner
@@ -168,7 +169,7 @@ module _ {E : Type 0} (IsEngine : List ℕ → Result E ErrorView → Type 0) (o
             (made_between (end_text made.front) made.middle (end_text made.back) matcher (Ok engine) made.is_made e) took,
       )
 
-  -- an engine that makes no error of such a text took it
+  -- an engine that has no error for a text accepted it
   pub took_all : (parts : List PartView) (matcher : MatcherView E) → IsMadeOf IsEngine options parts matcher → All IsNotCustom parts →
       ((middle : List PartView) (error : ErrorView) → All IsNotCustom middle → ¬ IsEngine (regexp_text options middle) (Err error)) → TookText (λ engine. ⊤) matcher.inner
   took_all parts matcher made plain takes = by_inner matcher.inner refl

@@ -1,4 +1,4 @@
--- Where case is ignored, a tree takes a text as the folded tree takes the folded text.
+-- Where case is ignored, a tree matches a text as the folded tree matches the folded text.
 use Rattle.std.proofs.Common.{◌≡◌, ℕ, zero, suc, ◌+◌, Bool, true, false, List, [], ◌∷◌, ◌++◌, map, length, find, replicate, Option, Some, None, option_map, cond, not, ◌==◌, refl, sym, ap, ap₂, ◌∙◌}
 use Rattle.std.specs.Prelude.{nat_lt}
 use Rattle.std.proofs.lemmas.List.{length-map, map-append}
@@ -11,12 +11,12 @@ use Rattle.urlpattern_syntax.specs.Text.{line_feed}
 
 -- ---- trees
 
--- the characters of the second are those of the first, folded
+-- the second character is the first, folded
 abbrev pub IsFoldedCharacter : Character → Character → Type 0
 IsFoldedCharacter character other = character_of other ≡ folded_character true (character_of character)
 
 abbrev mutual
-  -- the second tree is the first but that its characters are folded
+  -- the second tree is the first with its characters folded
   pub IsFolding : Items → Items → Type 0
   IsFolding Nothing Nothing = Unit {0}
   IsFolding (Item atom quantifier items) (Item other also others) = IsAtomFolding atom other × (quantifier ≡ also) × IsFolding items others
@@ -58,7 +58,7 @@ folded_way way = record { taken = lower way.taken; captures = folded_captures wa
 abbrev all_folded : List Way → List Way
 all_folded ways = map folded_way ways
 
--- the ways of the first choice, folded, are those in which the second takes the folded text
+-- the ways of the first choice, folded, are those in which the second matches the folded text
 abbrev Folds : Choice → Choice → Type 0
 Folds choice other = (text : List ℕ) → all_folded (choice text) ≡ other (lower text)
 

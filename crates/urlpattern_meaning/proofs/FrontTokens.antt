@@ -10,14 +10,14 @@ use Rattle.urlpattern_syntax.specs.declared.tokenizer.TokenType.TheVariants.{Ast
 use Rattle.urlpattern_syntax.specs.Text.{BeginsWith, is_among, is_name_start, is_name_part}
 use Rattle.urlpattern_syntax.specs.Tokens.{Body, Front, body_text, front_text, IsBody, IsFront, IsRegexpBody, IsRegexpFront, is_question_mark, Body as bodies, Front as fronts, FaultView, IncompleteEscapeCode, InvalidName, InvalidRegex, RegexpFault, StartsWithQuestionMark, NotAscii, EscapedNotAscii, GroupAtEnd, CapturingGroup, NotClosed, NoBody, reason, LacksRegexp, IsFaultAt, IsLexed, Spells, EndsThere, IsName, marks, is_ignored, SkipsBy}
 
--- ---- what stands after an opening bracket, read from the front
+-- ---- reading the text after an opening bracket from left to right
 
--- The bracket that closes it was found and this follows, or there is a fault.
+-- The closing bracket was found, with the text after it, or there is a fault.
 data Reached : Type 0 where
   Shut : List ℕ → Reached
   Fails : FaultView → Reached
 
--- What came before: a whole unit, a backslash, or an inner bracket that opens.
+-- The text before: a whole unit, a backslash, or an inner bracket that opens.
 data Mode : Type 0 where
   Reads Escapes Opens : Mode
 
@@ -25,7 +25,7 @@ close : Reached → (ℕ → Reached) → ℕ → Reached
 close shut inside zero = shut
 close shut inside (suc depth) = inside depth
 
--- the rest of a body after so many inner brackets that are open
+-- the text after a body, where `depth` inner brackets are open
 scan : List ℕ → Mode → ℕ → Reached
 scan [] Reads depth = Fails (InvalidRegex (reason NotClosed))
 scan [] Escapes depth = Fails IncompleteEscapeCode
@@ -50,7 +50,7 @@ begins_longer : (p : ℕ → Bool) (xs ys : List ℕ) → BeginsWith p xs → Be
 begins_longer p [] ys h = absurd (false≢true h)
 begins_longer p (x ∷ xs) ys h = h
 
--- a body is read over
+-- a scan passes over a body
 scan-body : (body : Body) → IsBody body → (rest : List ℕ) (depth : ℕ) → scan (body_text body ++ rest) Reads depth ≡ scan rest Reads depth
 unfolding scan close
 scan-body bodies.Nothing h rest depth = refl
@@ -79,9 +79,9 @@ scan-front (fronts.Inside body front) h rest depth =
     ∙ scan-opened (front_text front ++ rest) depth (begins_longer is_question_mark (front_text front) rest h.2)
     ∙ scan-front front h.1 rest (suc depth)
 
--- ---- a token or a fault at the front of a text, read from the front
+-- ---- reading a token or a fault at the beginning of a text
 
--- What a text begins with.
+-- The beginning of a text: a token, a fault, or neither.
 data Lexing : Type 0 where
   Token : TokenType → List ℕ → Lexing
   Fault : FaultView → Lexing
@@ -100,7 +100,7 @@ bracketed text =
     cond (begins is_question_mark text) (Fault (InvalidRegex (reason StartsWithQuestionMark)))
     (cond (begins (is_among (codes ")")) text) (Fault (InvalidRegex (reason NoBody))) (reported (scan text Reads 0)))
 
--- what follows the characters that pass the test
+-- the text after the characters that pass the test
 after : (ℕ → Bool) → List ℕ → List ℕ
 after p [] = []
 after p (c ∷ text) = cond (p c) (after p text) (c ∷ text)
@@ -126,7 +126,7 @@ lex : List ℕ → Lexing
 lex [] = None
 lex (c ∷ text) = cond (is_among marks c) (marked c text) (cond (is_ignored c) None (Token Char text))
 
--- ---- what the reading finds
+-- ---- the results of reading
 
 after-all : (p : ℕ → Bool) (front rest : List ℕ) → IsTrue (list_all p front) → ¬ BeginsWith p rest → after p (front ++ rest) ≡ rest
 unfolding after
@@ -146,7 +146,7 @@ unfolding begins
 begins-append p [] rest h e = e refl
 begins-append p (c ∷ front) rest h e = false_from_ne_true (p c) h
 
--- a body does not begin with a bracket that closes
+-- a body does not begin with a closing bracket
 body-unclosed : (body : Body) → IsBody body → ¬ BeginsWith (is_among (codes ")")) (body_text body)
 body-unclosed bodies.Nothing h b = false≢true b
 body-unclosed (bodies.Escaped c body) h b = false≢true b
@@ -218,7 +218,7 @@ over_ascii c big (mark ∷ many) h =
     let less = ltb-true mark 128 parts.0 in
     or_from (mark == c) _ (ne_eqb mark c (λ e. omega arith)) (over_ascii c big many parts.1)
 
--- what is skipped begins no token
+-- no token begins with a character that is skipped
 ignored_unmarked : (c : ℕ) → IsTrue (is_ignored c) → is_among marks c ≡ false
 ignored_unmarked c h =
     elim (or_cases (9 == c) _ h) [
@@ -281,7 +281,7 @@ lex-ignored (c ∷ text) h = cond-false (is_among marks c) _ _ (ignored_unmarked
 
 -- ---- one token or one fault
 
--- A text begins with one token at most.
+-- A text begins with at most one token.
 pub lexed_one : (text : List ℕ) (kind other : TokenType) (value word rest left : List ℕ) → IsLexed text kind value rest → IsLexed text other word left → (kind ≡ other) × (value ≡ word) × (rest ≡ left)
 lexed_one text kind other value word rest left h g =
     let e = sym (lex-token text kind value rest h) ∙ lex-token text other word left g in
@@ -294,11 +294,11 @@ lexed_one text kind other value word rest left h g =
       same_rest,
     )
 
--- It has one fault there at most.
+-- A text begins with at most one fault.
 pub fault_at_one : (text : List ℕ) (fault other : FaultView) → IsFaultAt text fault → IsFaultAt text other → fault ≡ other
 fault_at_one text fault other h g = cc (lex-fault text fault h, lex-fault text other g)
 
--- It never has both.
+-- A text never begins with both a token and a fault.
 pub lexed_or_fault : (text : List ℕ) (kind : TokenType) (value rest : List ℕ) (fault : FaultView) → IsLexed text kind value rest → IsFaultAt text fault → ⊥
 lexed_or_fault text kind value rest fault h g = cc (lex-token text kind value rest h, lex-fault text fault g)
 
@@ -319,7 +319,7 @@ pub no_fault : (fault : FaultView) → IsFaultAt [] fault → ⊥
 unfolding lex
 no_fault fault h = let e : None ≡ Fault fault = lex-fault [] fault h in cc e
 
--- what follows all that passes the test is one end of the text
+-- at most one rest is left after all characters that pass the test
 pub skips_one : (p : ℕ → Bool) (text rest left : List ℕ) → SkipsBy p text rest → SkipsBy p text left → ¬ BeginsWith p rest → ¬ BeginsWith p left → rest ≡ left
 skips_one p text rest left s t rest_stops left_stops =
     sym (ap (after p) s.1 ∙ after-all p s.0 rest s.2 rest_stops) ∙ ap (after p) t.1 ∙ after-all p t.0 left t.2 left_stops

@@ -1,4 +1,4 @@
--- Neighbouring plain fixed texts made one: what the parts have, the joined parts have too.
+-- Neighbouring plain fixed texts made one: properties of the parts that the joined parts have too.
 use Rattle.std.proofs.Common.{◌≡◌, ℕ, Bool, true, false, List, [], ◌∷◌, ◌++◌, refl, sym, ap, ◌∙◌, subst}
 use Rattle.std.specs.Prelude.{IsTrue, AllPairs, ◌&&◌, filter, map, not, if◌then◌else◌}
 use Rattle.std.specs.List.{list_all}
@@ -18,11 +18,11 @@ use Rattle.urlpattern_meaning.proofs.RoundTripWords.{AreApart}
 
 -- ---- the first part and the next, joined or not
 
--- a part before others, where the test tells whether it and the next are made one
+-- a part before others, made one with the next where `both` is set
 abbrev pub pair : Bool → PartView → PartView → List PartView → List PartView
 pair both part next parts = if both then with_value part (part.value ++ next.value) ∷ parts else part ∷ next ∷ parts
 
--- where they are made one, both are fixed texts
+-- where two parts are made one, both are fixed texts
 record BothFixed (both : Bool) (part next : PartView) : Type 0 where
   pub first : IsTrue both → part.kind ≡ FixedText
   pub second : IsTrue both → next.kind ≡ FixedText
@@ -141,7 +141,7 @@ joined_unskipped (part ∷ parts) h = unskipped_first part (joined parts) h.0 (j
 
 -- ---- neighbours
 
--- the part that is made of two stands apart where the second does
+-- a part made of two is apart from the next where the second part is
 apart_one : (part next : PartView) (parts : List PartView) → IsTrue (is_plain part) → IsTrue (is_plain next) → AreApart (next ∷ parts) → AreApart (with_value part (part.value ++ next.value) ∷ parts)
 apart_one part next [] plain plain_next h = tt
 apart_one part next (third ∷ parts) plain plain_next h = (ap (λ b. b && is_plain third) (plain ∙ sym plain_next) ∙ h.0, h.1)

@@ -1,4 +1,4 @@
--- For all parts there is a list of answers that keeps their texts.
+-- For all parts there is a list of results that keeps their texts.
 use Rattle.std.proofs.Common.{◌≡◌, ℕ, zero, suc, ◌<◌, List, [], ◌∷◌, length, sym, ap, ◌∙◌, subst, arith}
 use Rattle.std.specs.Prelude.{Contains, Result, Ok}
 use Rattle.urlpattern_syntax.specs.Errors.{ErrorView}
@@ -10,7 +10,7 @@ use Rattle.urlpattern_meaning.proofs.StandingItems.{EachText, each_contained}
 abbrev Answered : Type 0
 Answered = List ℕ × Result (List ℕ) ErrorView
 
--- each text with itself as its answer
+-- each text with itself as its result
 abbrev pub answered : List (List ℕ) → List (List ℕ × Result (List ℕ) ErrorView)
 answered [] = []
 answered (text ∷ texts) = (text, Ok text) ∷ answered texts

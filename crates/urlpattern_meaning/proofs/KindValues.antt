@@ -1,11 +1,12 @@
--- The values of the tokens of one kind, as the text spells them, and what placeholders of such tokens have.
+-- The values of the tokens of one kind, as the text spells them, and the properties of placeholders
+-- made of such tokens.
 use Rattle.std.proofs.Common.{◌≡◌, ◌≢◌, ℕ, List, [], ◌∷◌, ◌++◌, Option, sym, subst}
 use Rattle.urlpattern_syntax.specs.declared.tokenizer.TokenType.{TokenType}
 use Rattle.urlpattern_syntax.specs.declared.tokenizer.TokenType.TheVariants.{End}
 use Rattle.urlpattern_syntax.specs.Pieces.{ArePieces, Ending, IsPiece, IsPlaceholderOf, Matched, Piece, Piece as pieces}
 use Rattle.urlpattern_syntax.specs.Tokens.{AreTokens, IsCut, IsTokenOf, Spells, TokenView, end_of}
 
--- each token of this kind has such a value
+-- `Is` holds of the value of each token of this kind
 abbrev pub AllOfKind : TokenType → (List ℕ → Type 0) → List TokenView → Type 0
 AllOfKind kind Is [] = Unit {0}
 AllOfKind kind Is (token ∷ tokens) = (token.kind ≡ kind → Is token.value) × AllOfKind kind Is tokens
@@ -37,7 +38,7 @@ module _ (kind : TokenType) (Is : List ℕ → Type 0) where
 
 -- ---- the placeholders of pieces
 
--- this holds of the piece's placeholder, if it has one
+-- `Has` holds of the piece's placeholder, if it has one
 abbrev pub PieceHas : (Option (List ℕ) → Matched → Type 0) → Piece → Type 0
 PieceHas Has (pieces.Text text) = Unit {0}
 PieceHas Has (pieces.TextGroup text modifier) = Unit {0}
@@ -48,7 +49,7 @@ abbrev pub PiecesHave : (Option (List ℕ) → Matched → Type 0) → List Piec
 PiecesHave Has [] = Unit {0}
 PiecesHave Has (piece ∷ rest) = PieceHas Has piece × PiecesHave Has rest
 
--- what holds of each placeholder of such tokens
+-- a property of each placeholder of tokens with such values
 module _ (kind : TokenType) (Is : List ℕ → Type 0) (Has : Option (List ℕ) → Matched → Type 0)
     (given : (tokens : List TokenView) (name : Option (List ℕ)) (what : Matched) → AllOfKind kind Is tokens → IsPlaceholderOf tokens name what → Has name what) where
   piece_has : (point : List ℕ) (tokens rest : List TokenView) (piece : Piece) → AllOfKind kind Is tokens → IsPiece point tokens piece rest

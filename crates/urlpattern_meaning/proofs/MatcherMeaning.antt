@@ -1,4 +1,4 @@
--- A matcher that is made of parts answers what the parts mean.
+-- A matcher that is made from parts returns what the parts mean.
 use Rattle.std.proofs.Common.{◌≡◌, ℕ, List, [], ◌∷◌, ◌++◌, refl, sym, subst, ap, Bool, true, false, Some, None, Option, Result, ◌∙◌, ◌↔◌}
 use Rattle.std.proofs.lemmas.List.Elements.{All-cons, All-head, All-nil, All-tail}
 use Rattle.std.specs.Prelude.{◌≢◌, ◌&&◌, All, IsTrue, Ok, Err, option_to_list}
@@ -33,17 +33,17 @@ scalars_right : (text more : List ℕ) → IsTrue (all_scalars (text ++ more)) �
 scalars_right [] more h = h
 scalars_right (c ∷ text) more h = scalars_right text more (and_right _ (all_scalars (text ++ more)) h)
 
--- what stands between two texts
+-- the text between two others
 pub scalars_middle : (front text back : List ℕ) → IsTrue (all_scalars (front ++ text ++ back)) → IsTrue (all_scalars text)
 scalars_middle front text back h = scalars_right front text (scalars_left (front ++ text) back h)
 
--- ---- a matcher that asks an engine
+-- ---- a matcher that calls an engine
 
--- its prefix and suffix are the texts that are removed, compared as the options say
+-- prefix and suffix of the matcher are the texts that are removed, compared as the options say
 abbrev pub HasEnds : {E : Type 0} → OptionsView → MatcherView E → (front back : List ℕ) → Type 0
 HasEnds options matcher front back = (matcher.prefix ≡ front) × (matcher.suffix ≡ back) × (matcher.ignore_case ≡ options.ignore_case)
 
--- no matcher without an engine has one
+-- a matcher that needs no engine has no `RegExp`
 pub not_fast : {E : Type 0} (inner other : InnerView E) (value : Result E ErrorView) → inner ≡ other → IsFast other → inner ≡ RegExp value → ⊥
 not_fast inner other value e fast f = subst (λ i. IsFast i) (sym e ∙ f) fast
 
@@ -59,7 +59,8 @@ ends_of IsEngine options front [] back matcher value made e = absurd (not_fast m
 ends_of IsEngine options front (part ∷ []) back matcher value made e = ends_of_one IsEngine options part.kind part.modifier front part back matcher value made e
 ends_of IsEngine options front (part ∷ next ∷ parts) back matcher value made e = (ap (λ m. m.prefix) made.2, ap (λ m. m.suffix) made.2, ap (λ m. m.ignore_case) made.2)
 
--- an engine's captures, or None, are those of the parts where its own are those of the middle
+-- the result of a matcher is what the parts mean where the result of its engine is what the middle
+-- means
 engine_agrees : {E : Type 0} (answer : E → List ℕ → Option Captures) (options : OptionsView) (parts : List PartView) (front : Option PartView) (middle : List PartView) (back : Option PartView) (matcher : MatcherView E) (engine : E) (text : List ℕ) (result : Option Captures) →
     ArePeeled parts front middle back → HasEnds options matcher (end_text front) (end_text back) → matcher.inner ≡ RegExp (Ok engine) → options.ignore_case ≡ false →
     ((t : List ℕ) → IsTrue (all_scalars t) → Agrees options middle t (answer engine t)) → IsTrue (all_scalars text) → Answers answer matcher text result → Agrees options parts text result
@@ -82,14 +83,14 @@ engine_agrees answer options parts front middle back matcher engine text None pe
 
 -- ---- every matcher
 
--- one that needs no engine
+-- a matcher that needs no engine
 fast_agrees : {E : Type 0} (answer : E → List ℕ → Option Captures) (options : OptionsView) (parts : List PartView) (matcher : MatcherView E) (text : List ℕ) (result : Option Captures) →
     ((captures : Captures) → Matches answer matcher text captures ↔ PartsMean options parts text captures) → Answers answer matcher text result → Agrees options parts text result
 fast_agrees answer options parts matcher text None same never = λ captures means. never captures ((same captures).1 means)
 fast_agrees answer options parts matcher text (Some captures) same matches = (same captures).0 matches
 
--- A matcher answers what its parts mean, in texts of characters without line feed where case is kept, if what its engine
--- answers is what the parts between the ends mean.
+-- A matcher returns what its parts mean, for texts of characters without line feed where case is
+-- kept, if its engine returns what the parts between the ends mean.
 pub matcher_agrees : {E : Type 0} (answer : E → List ℕ → Option Captures) (IsEngine : List ℕ → Result E ErrorView → Type 0) (options : OptionsView) (parts : List PartView) (matcher : MatcherView E) (text : List ℕ) (result : Option Captures) →
     IsMadeOf IsEngine options parts matcher → options.ignore_case ≡ false → IsTrue (lacks line_feed text) → IsTrue (all_scalars text) → AgreesInMiddle answer options parts matcher.inner →
     Answers answer matcher text result → Agrees options parts text result
@@ -118,7 +119,8 @@ pub all_right : (parts others : List PartView) → All IsNotCustom (parts ++ oth
 all_right [] others h = h
 all_right (part ∷ parts) others h = all_right parts others (All-tail IsNotCustom part (parts ++ others) h)
 
--- an engine that follows the regular expression of the parts between the ends answers what they mean
+-- an engine that follows the regular expression of the parts between the ends returns what they
+-- mean
 pub follows_in_middle : {E : Type 0} (answer : E → List ℕ → Option Captures) (options : OptionsView) (parts : List PartView) (inner : InnerView E) → All IsNotCustom parts →
     FollowsMiddle answer options parts inner → AgreesInMiddle answer options parts inner
 follows_in_middle answer options parts (Literal literal) h follows = tt
@@ -128,8 +130,9 @@ follows_in_middle answer options parts (RegExp (Ok engine)) h (front, middle, ba
     let not_custom : All IsNotCustom (option_to_list front ++ middle ++ option_to_list back) = subst (λ ps. All IsNotCustom ps) peeled.cut h in
     (front, middle, back, peeled, follows_agrees options middle (all_right (option_to_list front) middle (all_left (option_to_list front ++ middle) (option_to_list back) not_custom)) (answer engine) follows)
 
--- A matcher answers what its parts mean, in texts of characters without line feed where case is kept and no part has a
--- regular expression of its own, if its engine follows the regular expression of the parts between the ends.
+-- A matcher returns what its parts mean, for texts of characters without line feed where case is
+-- kept and no part is custom, if its engine follows the regular expression of the parts between the
+-- ends.
 pub matcher_means : {E : Type 0} (answer : E → List ℕ → Option Captures) (IsEngine : List ℕ → Result E ErrorView → Type 0) (options : OptionsView) (parts : List PartView) (matcher : MatcherView E) (text : List ℕ) (result : Option Captures) →
     IsMadeOf IsEngine options parts matcher → All (λ part. part.kind ≢ Regexp) parts → options.ignore_case ≡ false → IsTrue (lacks line_feed text) → IsTrue (all_scalars text) →
     FollowsMiddle answer options parts matcher.inner → Answers answer matcher text result → Agrees options parts text result

@@ -1,4 +1,4 @@
--- A matcher that is made of parts has their shape, whatever makes the engines' values.
+-- A matcher that is made from parts has their shape, whatever makes the engines' values.
 use Rattle.std.proofs.Common.{ℕ, List, [], ◌∷◌, Result}
 use Rattle.urlpattern_meaning.specs.Laws.{HasShapeOf}
 use Rattle.urlpattern_meaning.specs.Matching.{IsMadeBetween, IsMadeOf, IsMadeOfOne, MatcherView}

@@ -1,4 +1,4 @@
--- Laws of matchers: the two that need no engine accept what the parts mean.
+-- Laws of matchers: the two that need no engine match as the parts do.
 use Rattle.std.proofs.Common.{◌≡◌, ℕ, List, [], ◌∷◌, ◌++◌, refl, sym, subst, ap, Bool, true, false, Some, None, Option, Result, append_assoc, ◌∙◌, ◌↔◌}
 use Rattle.std.proofs.lemmas.List.{append-nil, append_cancel_left, append_cancel_right}
 use Rattle.std.proofs.lemmas.List.Folds.{list_all-append}
@@ -34,7 +34,7 @@ lacks_left c text more h = and_left (lacks c text) (lacks c more) (sym (list_all
 lacks_right : (c : ℕ) (text more : List ℕ) → IsTrue (lacks c (text ++ more)) → IsTrue (lacks c more)
 lacks_right c text more h = and_right (lacks c text) (lacks c more) (sym (list_all-append (λ other. not (other == c)) text more) ∙ h)
 
--- what stands between two texts
+-- the text between two others
 lacks_middle : (c : ℕ) (front text back : List ℕ) → IsTrue (lacks c (front ++ text ++ back)) → IsTrue (lacks c text)
 lacks_middle c front text back h = lacks_right c front text (lacks_left c (front ++ text) back h)
 
@@ -47,7 +47,7 @@ same_kept : (ignore_case : Bool) (text other : List ℕ) → ignore_case ≡ fal
 same_kept false text other kept same = same
 same_kept true text other kept same = absurd (no (sym kept))
 
--- a middle stands between prefix and suffix as they are
+-- where case is kept, the text is prefix, middle and suffix themselves
 pub middle_kept : {E : Type 0} (matcher : MatcherView E) (text middle : List ℕ) → matcher.ignore_case ≡ false →
     HasMiddle matcher text middle ↔ (text ≡ matcher.prefix ++ middle ++ matcher.suffix)
 middle_kept matcher text middle kept = (
@@ -59,7 +59,7 @@ middle_kept matcher text middle kept = (
 
 -- ---- one wildcard
 
--- one copy of a wildcard between prefix and suffix
+-- a single copy of a wildcard between prefix and suffix
 abbrev pub IsOnePiece : OptionsView → PartView → List ℕ → Captures → Type 0
 IsOnePiece options part text captures =
     (piece : List ℕ) × (text ≡ part.prefix ++ piece ++ part.suffix) × IsWildcardText options part.kind piece × (captures ≡ Some piece ∷ [])
@@ -75,14 +75,15 @@ one_piece options part text captures (piece, e, is) (capture, (inner, f, g), h) 
     let same : inner ≡ piece = middle_cancel part.prefix inner piece part.suffix (sym f ∙ e) in
     (piece, e, is, h ∙ ap (λ c. c ∷ []) (g ∙ ap Some same))
 
--- Copies of a wildcard between prefix and suffix, as many as the modifier allows, and their capture.
+-- Copies of a wildcard between prefix and suffix, as many as the modifier allows, and their
+-- capture.
 abbrev pub WildcardMeans : OptionsView → PartView → List ℕ → Captures → Type 0
 WildcardMeans options part text captures =
     (n : ℕ) × Allows part.modifier n
     × IsRepeated (λ copy. (piece : List ℕ) × (copy ≡ part.prefix ++ piece ++ part.suffix) × IsWildcardText options part.kind piece) n text
     × ((capture : Option (List ℕ)) × IsCapture part n text capture × (captures ≡ capture ∷ []))
 
--- a wildcard of either kind means such copies
+-- a wildcard of either kind means copies between prefix and suffix
 pub wildcard_copies : (options : OptionsView) (kind : PartType) (modifier : PartModifier) (value name prefix suffix text : List ℕ) (captures : Captures) → IsWildcard kind →
     PartMeans options (part_of kind modifier value name prefix suffix) text captures ↔ WildcardMeans options (part_of kind modifier value name prefix suffix) text captures
 wildcard_copies options SegmentWildcard modifier value name prefix suffix text captures h = (
@@ -114,7 +115,7 @@ regrouped front prefix piece suffix back =
     sym (append_assoc (front ++ prefix ++ piece) suffix back)
     ∙ ap (λ t. t ++ back) (ap (λ t. t ++ suffix) (append_assoc front prefix piece) ∙ append_assoc front (prefix ++ piece) suffix)
 
--- a single capture accepts what its wildcard stands for
+-- a single capture accepts the texts of its wildcard
 matches_single : {E : Type 0} (answer : E → List ℕ → Option Captures) (options : OptionsView) (front back : List ℕ) (part : PartView) (filter : Option ℕ) (allow_empty : Bool) (text : List ℕ) (captures : Captures) →
     options.ignore_case ≡ false → IsTrue (lacks line_feed text) →
     ((piece : List ℕ) → IsTrue (lacks line_feed piece) → (MayBeEmpty allow_empty piece × PassesFilter options.ignore_case filter piece) ↔ IsWildcardText options part.kind piece) →
@@ -157,7 +158,7 @@ IsFast (Literal literal) = Unit {0}
 IsFast (SingleCapture filter allow_empty) = Unit {0}
 IsFast (RegExp engine) = ⊥
 
--- what a matcher accepts is a middle that these parts stand for, between the texts
+-- a matcher accepts the texts between `front` and `back` that have the meaning
 abbrev pub AcceptsBetween : {E : Type 0} → (answer : E → List ℕ → Option Captures) → (front back text : List ℕ) → Captures → (List ℕ → Captures → Type 0) → MatcherView E → Type 0
 AcceptsBetween answer front back text captures Mean matcher =
     IsFast matcher.inner → Matches answer matcher text captures ↔ ((inner : List ℕ) × (text ≡ front ++ inner ++ back) × Mean inner captures)
@@ -191,11 +192,11 @@ one_between answer IsEngine options front back SegmentWildcard modifiers.None va
 one_between answer IsEngine options front back kind modifier value name prefix suffix matcher text captures case no_feed made fast =
     absurd (subst (λ m. IsFast m.inner) made.2 fast)
 
--- a part by itself, and back
+-- a part by itself, as a list of parts
 part_single : (options : OptionsView) (part : PartView) (text : List ℕ) (captures : Captures) → PartMeans options part text captures → PartsMean options (part ∷ []) text captures
 part_single options part text captures means = (text, [], captures, [], sym (append-nil text), sym (append-nil captures), means, (refl, refl))
 
--- the literal
+-- a literal accepts the removed texts, with nothing between them
 matches_literal : {E : Type 0} (answer : E → List ℕ → Option Captures) (front back text : List ℕ) (captures : Captures) →
     Matches answer (record { prefix = []; suffix = []; inner = Literal (front ++ back); ignore_case = false }) text captures ↔ ((inner : List ℕ) × (text ≡ front ++ inner ++ back) × (inner ≡ []) × (captures ≡ []))
 matches_literal {E} answer front back text captures =
@@ -225,8 +226,8 @@ between answer IsEngine options front (part ∷ []) back matcher text captures c
 between answer IsEngine options front (part ∷ next ∷ parts) back matcher text captures case no_feed made fast =
     absurd (subst (λ m. IsFast m.inner) made.2 fast)
 
--- a matcher that needs no engine accepts what its parts stand for, and captures the same, in texts without line feed
--- where case is kept
+-- a matcher that needs no engine accepts the texts of its parts, with the same captures, for texts
+-- without line feed where case is kept
 pub fast_means : {E : Type 0} (answer : E → List ℕ → Option Captures) (IsEngine : List ℕ → Result E ErrorView → Type 0) (options : OptionsView) (parts : List PartView) (matcher : MatcherView E) (text : List ℕ) (captures : Captures) →
     IsMadeOf IsEngine options parts matcher → options.ignore_case ≡ false → IsTrue (lacks line_feed text) → IsFast matcher.inner →
     Matches answer matcher text captures ↔ PartsMean options parts text captures

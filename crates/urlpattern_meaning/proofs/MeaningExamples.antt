@@ -1,4 +1,4 @@
--- Worked examples of what parts mean.
+-- Worked examples of the meaning of parts.
 use Rattle.std.proofs.Common.{◌≡◌, ℕ, zero, suc, ◌≤◌, List, [], ◌∷◌, ◌++◌, refl, sym, arith, Some, None}
 use Rattle.std.proofs.lemmas.List.{append-nil, append_cancel_left, append_cancel_right}
 use Rattle.std.specs.Prelude.{codes}
@@ -30,7 +30,7 @@ joined_means = alone_means (record {
   are_captures = (Some (codes "1/ba/2"), (codes "1/ba/2", refl, refl), refl);
 })
 
--- what copies of the part capture, where there is one at least
+-- the captures of copies of the part, where there is at least one
 joined_capture : (n : ℕ) (captures : Captures) → 1 ≤ n → AreCaptures SegmentWildcard joined_part n (codes "a/1/ba/2/b") captures → captures ≡ Some (codes "1/ba/2") ∷ []
 joined_capture zero captures some captured = absurd (omega (arith, some))
 joined_capture (suc n) captures some (capture, (inner, e, f), g) =
@@ -41,7 +41,7 @@ joined_capture (suc n) captures some (capture, (inner, e, f), g) =
 pub joined_only : (captures : Captures) → PartsMean pathname_options (joined_part ∷ []) (codes "a/1/ba/2/b") captures → captures ≡ Some (codes "1/ba/2") ∷ []
 joined_only captures means = joined_capture (part_alone means).count captures (part_alone means).allowed (part_alone means).are_captures
 
--- the pattern `{*}?` on the empty text: no copy, or one that is empty
+-- the pattern `{*}?` on the empty text: no copy, or an empty one
 abbrev pub optional_part : PartView
 optional_part = group FullWildcard [] (codes "0") [] modifiers.Optional
 
@@ -63,7 +63,7 @@ starred_part = group SegmentWildcard [] (codes "x") [] modifiers.ZeroOrMore
 pub starred_empty : PartsMean default_options (starred_part ∷ []) [] (Some [] ∷ [])
 starred_empty = alone_means (record { count = 0; allowed = tt; are_copies = refl; are_captures = (Some [], refl, refl) })
 
--- on a text of two characters, as one copy
+-- the pattern `:x*` on a text of two characters: one copy
 pub starred_text : PartsMean default_options (starred_part ∷ []) (codes "ab") (Some (codes "ab") ∷ [])
 starred_text = alone_means (record {
   count = 1;

@@ -1,4 +1,5 @@
--- Laws of what parts mean: plain fixed texts at the ends are removed, neighbouring ones are one, and what copies capture.
+-- Laws of the meaning of parts: plain fixed texts at the ends are removed, neighbouring ones are
+-- one, and copies are one capture.
 use Rattle.std.proofs.Common.{◌≡◌, ℕ, zero, suc, List, [], ◌∷◌, ◌++◌, refl, sym, subst, ap, Bool, true, Some, None, Option, append_assoc, ◌∙◌, ◌↔◌, ◌⊎◌, inl, inr}
 use Rattle.std.proofs.lemmas.List.{append-nil}
 use Rattle.std.specs.Prelude.{IsTrue, ◌&&◌, if◌then◌else◌, option_to_list}
@@ -18,7 +19,7 @@ use Rattle.urlpattern_syntax.proofs.TokenExamples.{no}
 
 -- ---- lists of parts
 
--- what a list of parts and another mean together
+-- two lists of parts one after the other
 pub parts-append : (options : OptionsView) (parts others : List PartView) (text rest : List ℕ) (captures more : Captures) →
     PartsMean options parts text captures → PartsMean options others rest more → PartsMean options (parts ++ others) (text ++ rest) (captures ++ more)
 parts-append options [] others text rest captures more (e, f) means = rw (e, f) means
@@ -33,7 +34,7 @@ parts-append options (part ∷ parts) others text rest captures more (first, lef
   parts-append options parts others left rest behind more means others_mean,
 )
 
--- the stretches of two lists
+-- the texts of two lists
 pub record AreTwo (options : OptionsView) (parts others : List PartView) (text : List ℕ) (captures : Captures) : Type 0 where
   pub first : List ℕ
   pub rest : List ℕ
@@ -62,7 +63,7 @@ parts_cut (part ∷ parts) others (first, left, own, behind, e, f, mean, means) 
 
 -- ---- plain fixed texts
 
--- a text that is one copy
+-- a text that is a single copy
 pub one_copy : (Is : List ℕ → Type 0) (n : ℕ) (text : List ℕ) → IsRepeated Is n text → n ≡ 1 → Is text
 one_copy Is n text copies e = alone (rw e at copies)
   where
@@ -79,13 +80,13 @@ plain_by FixedText modifiers.None value name prefix suffix h = (
 )
 plain_by kind modifier value name prefix suffix h = absurd (no h)
 
--- a plain fixed text stands for itself and captures nothing
+-- a plain fixed text matches itself and captures nothing
 pub plain_means : {options : OptionsView} {text : List ℕ} {captures : Captures} (part : PartView) → IsTrue (is_plain part) → PartMeans options part text captures ↔ ((text ≡ part.value) × (captures ≡ []))
 plain_means part h = plain_by part.kind part.modifier part.value part.name part.prefix part.suffix h
 
 -- ---- peeling
 
--- what is removed stands for its text
+-- an end that is removed matches its text
 end_means : (options : OptionsView) (end : Option PartView) (IsThere : Type 0) (text : List ℕ) (captures : Captures) → IsRemoved end IsThere → PartsMean options (option_to_list end) text captures ↔ ((text ≡ end_text end) × (captures ≡ []))
 end_means options None IsThere text captures goes = (λ means. means, λ means. means)
 end_means options (Some part) IsThere text captures goes = (
@@ -93,8 +94,8 @@ end_means options (Some part) IsThere text captures goes = (
   λ is. (text, [], captures, [], sym (append-nil text), sym (append-nil captures), (plain_means part goes).1 is, (refl, refl)),
 )
 
--- parts from which plain fixed texts are removed stand for prefix, a middle that the rest stands for, and suffix, and for
--- nothing else
+-- parts from which plain fixed texts are removed match exactly prefix, a text that the remaining
+-- parts match, and suffix
 pub peeled_means : (options : OptionsView) (parts : List PartView) (front : Option PartView) (middle : List PartView) (back : Option PartView) (text : List ℕ) (captures : Captures) →
     ArePeeled parts front middle back →
     PartsMean options parts text captures ↔ ((inner : List ℕ) × (text ≡ end_text front ++ inner ++ end_text back) × PartsMean options middle inner captures)
@@ -197,7 +198,7 @@ copy_text options SegmentWildcard part text h (piece, e, is) = (piece, e)
 copy_text options FullWildcard part text h (piece, e, is) = (piece, e)
 copy_text options kind part text h copy = absurd h
 
--- so have copies
+-- copies of a wildcard have the first prefix and the last suffix
 copies_text : (options : OptionsView) (part : PartView) (n : ℕ) (text : List ℕ) → IsWildcard part.kind → AreCopies options part (suc n) text → (inner : List ℕ) × (text ≡ part.prefix ++ inner ++ part.suffix)
 copies_text options part zero text h (first, rest, cut, copy, ended) =
     let one = copy_text options part.kind part first h copy in
@@ -207,7 +208,7 @@ copies_text options part (suc n) text h (first, rest, cut, copy, copies) =
     let more = copies_text options part n rest h copies in
     (one.0 ++ part.suffix ++ (part.prefix ++ more.0), cut ∙ inner_text part.prefix part.suffix first rest one.0 more.0 one.1 more.1)
 
--- what a wildcard's copies may capture
+-- the captures of a wildcard's copies
 captures_by : (kind : PartType) (part : PartView) (n : ℕ) (text : List ℕ) (captures : Captures) → IsWildcard kind → AreCaptures kind part n text captures ↔ ((capture : Option (List ℕ)) × IsCapture part n text capture × (captures ≡ capture ∷ []))
 captures_by SegmentWildcard part n text captures h = (λ captured. captured, λ captured. captured)
 captures_by FullWildcard part n text captures h = (λ captured. captured, λ captured. captured)
@@ -228,7 +229,8 @@ copies_captured options part n text h allowed copies =
       },
     )
 
--- no copies are captured by None, or by the empty text for "zero or more" with neither prefix nor suffix
+-- no copies are captured by None, or by the empty text for "zero or more" with neither prefix nor
+-- suffix
 pub nothing_captured : (options : OptionsView) (part : PartView) → IsWildcard part.kind → Allows part.modifier 0 →
     PartMeans options part [] (capture_of_none part.modifier (is_empty part.prefix && is_empty part.suffix) ∷ [])
 nothing_captured options part h allowed = record {

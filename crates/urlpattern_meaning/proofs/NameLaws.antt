@@ -20,9 +20,9 @@ use Rattle.urlpattern_syntax.specs.RegexpText.{group_names}
 use Rattle.urlpattern_syntax.specs.Text.{begins_with, BeginsWith}
 use Rattle.urlpattern_syntax.specs.Tokens.{AreTokens, IsName, TokenView}
 
--- ---- the names that tokens and placeholders give
+-- ---- the names in tokens and placeholders
 
--- each Name has a name
+-- the value of each Name is a name
 abbrev pub NameTokens : List TokenView → Type 0
 NameTokens tokens = AllOfKind Name IsName tokens
 
@@ -46,7 +46,7 @@ placeholder_name tokens (Some name) matched.Segment h is = first_name tokens [] 
 placeholder_name tokens (Some name) (matched.Custom body) h is = first_name tokens (Regexp ∷ []) (body ∷ []) name h is.0 is.1
 placeholder_name tokens (Some name) matched.Anything h is = absurd is
 
--- each piece with a name gives one
+-- the name of each piece that has one is a name of a pattern
 abbrev pub NamePieces : List Piece → Type 0
 NamePieces list = PiecesHave (λ name what. GivesName name) list
 
@@ -72,7 +72,7 @@ names-joined (Fixed text modifiers.ZeroOrMore ∷ items) = names-joined items
 names-joined (Fixed text modifiers.OneOrMore ∷ items) = names-joined items
 names-joined (Capture prefix name match suffix modifier ∷ items) = ap (λ x. name ∷ x) (names-joined items)
 
--- What is to be shown of names, where so many placeholders before them have none.
+-- Properties of names, where `number` placeholders before them have none.
 record AreGood (number : ℕ) (names : List (List ℕ)) : Type 0 where
   pub some : All (λ name. name ≢ []) names
   pub counted : CountFrom number (numbers_among names)
@@ -119,7 +119,7 @@ good_items number (pieces.Group before placeholder after modifier ∷ list) h =
 
 -- ---- new names
 
--- none of the names stands among those before it
+-- none of the names is among those before it
 abbrev pub NewNames : (earlier : List (List ℕ)) → List Item → Type 0
 NewNames earlier [] = Unit {0}
 NewNames earlier (Fixed text modifier ∷ items) = NewNames earlier items
@@ -146,7 +146,7 @@ met_new encoding earlier (Capture prefix name match suffix modifier ∷ items) f
 abbrev pub Differ : List ℕ → List ℕ → Type 0
 Differ name other = name ≢ other
 
--- What is to be shown of names that are new after others.
+-- Properties of names that are new after others.
 record AreNewAfter (earlier names : List (List ℕ)) : Type 0 where
   pub behind : All (λ name. ¬ Contains earlier name) names
   pub distinct : AllPairs Differ names

@@ -1,4 +1,4 @@
--- Every text has an outcome, or it asks the encoding about a text to which that has no answer.
+-- Every text has an outcome, or the encoding is called with a text for which it has no result.
 use Rattle.std.proofs.Common.{◌≡◌, ◌≢◌, ℕ, suc, zero, ◌⊎◌, Bool, true, false, List, [], ◌∷◌, ◌++◌, refl, sym, ap, ◌∙◌, subst, inl, inr, arith}
 use Rattle.std.specs.Prelude.{Contains, Result, Ok, Err}
 use Rattle.std.specs.Set.{is_member}
@@ -21,9 +21,9 @@ use Rattle.urlpattern_syntax.specs.Pieces.{ArePieces, Ending, IsEnding, Piece, E
 use Rattle.urlpattern_syntax.specs.Reading.{AreMet, AreParts, Capture, Demand, Encode, Encoding, Expect, FirstFails, Fixed, IsMet, Item, NewName, capture_part, demands, demands_after, encode_fixed, items_of}
 use Rattle.urlpattern_syntax.specs.Tokens.{AreTokens, TokenView}
 
--- ---- what can be told
+-- ---- decisions
 
--- two kinds are one or not
+-- two kinds are equal or not
 kind_or_other : (kind other : TokenType) → (kind ≡ other) ⊎ (kind ≢ other)
 kind_or_other Open Open = inl refl
 kind_or_other Close Close = inl refl
@@ -60,21 +60,22 @@ more_answers first answers text false e (inr none) = inr not_there
         false≢true (sym e ∙ (bytes_eq-Decides first.0 text).1 (ap (λ (pair : Answered). pair.0) same))
     not_there (answer, (suc k, below, same)) = none (answer, (k, omega (arith, below), same))
 
--- a list of answers has one to a text or none
+-- a list of results has one for a text or not
 answered_or_not : (answers : List Answered) (text : List ℕ) → HasAnswer (listed answers) text ⊎ (¬ HasAnswer (listed answers) text)
 answered_or_not [] text = inr (λ h. absurd (omega (arith, h.1.1)))
 answered_or_not (first ∷ answers) text = more_answers first answers text (bytes_eq first.0 text) refl (answered_or_not answers text)
 
 -- ---- where demands end
 
--- All demands are met, or the first that is not fails with an error or has this text, of which `Is` holds.
+-- All demands are met, or the first that is not fails with an error or has this text, of which `Is`
+-- holds.
 data Verdict (encoding : Encoding) (Is : List ℕ → Type 0) (all : List Demand) : Type 0 where
   Met : AreMet encoding all → Verdict encoding Is all
   Failed : (error : ErrorView) → FirstFails encoding all error → Verdict encoding Is all
   Unanswered : (before behind : List Demand) (asked : List ℕ) → all ≡ before ++ Encode asked ∷ behind → AreMet encoding before → Is asked → Verdict encoding Is all
 
 module _ (encoding : Encoding) (Is : List ℕ → Type 0) where
-  -- each text that is asked for has an answer, or `Is` holds of it
+  -- each text that the encoding is called with has a result, or `Is` holds of it
   abbrev Reported : List Demand → Type 0
   Reported all = (before behind : List Demand) (asked : List ℕ) → all ≡ before ++ Encode asked ∷ behind → AreMet encoding before → HasAnswer encoding asked ⊎ Is asked
 
@@ -105,13 +106,13 @@ module _ (encoding : Encoding) (Is : List ℕ → Type 0) where
       first demand rest reported
       (λ met. verdict rest (λ before behind asked cut are_met. reported (demand ∷ before) behind asked (ap (λ x. demand ∷ x) cut) (met, are_met)))
 
--- ---- what is met
+-- ---- demands that are met
 
 met_after : (encoding : Encoding) (xs ys : List Demand) → AreMet encoding (xs ++ ys) → AreMet encoding ys
 met_after encoding [] ys h = h
 met_after encoding (x ∷ xs) ys h = met_after encoding xs ys h.1
 
--- before the end of the tokens each fixed text is asked for
+-- before the end of the tokens the encoding is called with each fixed text
 demands-stops : (earlier : List (List ℕ)) (text : List ℕ) (modifier : PartModifier) (items : List Item) (found : TokenView) → demands_after earlier (Fixed text modifier ∷ items) (endings.Stops found) ≡ encode_fixed text ++ demands_after earlier items (endings.Stops found)
 demands-stops earlier text modifiers.None [] found = refl
 demands-stops earlier text modifiers.None (x ∷ items) found = refl
@@ -119,7 +120,7 @@ demands-stops earlier text modifiers.Optional items found = refl
 demands-stops earlier text modifiers.ZeroOrMore items found = refl
 demands-stops earlier text modifiers.OneOrMore items found = refl
 
--- where all is met there are parts
+-- where all demands are met there are parts
 parts_exist : (options : OptionsView) (encoding : Encoding) (earlier : List (List ℕ)) (items : List Item) (found : TokenView) → AreMet encoding (demands_after earlier items (endings.Stops found)) → (parts : List PartView) × AreParts options encoding items parts
 parts_exist options encoding earlier [] found met = ([], refl)
 parts_exist options encoding earlier (Fixed [] modifier ∷ items) found met =
@@ -157,7 +158,7 @@ ending_tokens point tokens (piece ∷ pieces) ending h = ending_tokens point h.1
 -- ---- outcomes
 
 module _ (text : List ℕ) (options : OptionsView) (encoding : Encoding) (Is : List ℕ → Type 0) where
-  -- the text has an outcome, or it asks about one of which `Is` holds
+  -- the text has an outcome, or the encoding is called with a text of which `Is` holds
   abbrev Outcome : Type 0
   Outcome = HasSomeOutcome text options encoding ⊎ ((asked : List ℕ) × Asks text options encoding asked × Is asked)
 
@@ -185,14 +186,15 @@ module _ (text : List ℕ) (options : OptionsView) (encoding : Encoding) (Is : L
     | inr f ↦ inl (Err (views.Tokenizer f.0 f.1), inl (f.0, f.1, f.2, refl))
   ]
 
--- Where the encoding answers what it is asked about, the text has an outcome.
+-- Where the encoding has a result for each text that it is called with, the text has an outcome.
 pub outcome_answered : (text : List ℕ) (options : OptionsView) (encoding : Encoding) → AnswersAsked text options encoding → HasSomeOutcome text options encoding
 outcome_answered text options encoding answered = elim (outcome_reported text options encoding (λ _. ⊥) (λ asked asks. inl (answered asked asks))) [
   | inl outcome ↦ outcome
   | inr lacks ↦ absurd lacks.2
 ]
 
--- With a list of answers, the text has an outcome, or it asks about one that is not in the list.
+-- With a list of results, the text has an outcome, or the encoding is called with a text that is
+-- not in the list.
 pub outcome_listed : (text : List ℕ) (options : OptionsView) (answers : List (List ℕ × Result (List ℕ) ErrorView)) → HasSomeOutcome text options (listed answers) ⊎ LacksAnswer text options (listed answers)
 outcome_listed text options answers =
     outcome_reported text options (listed answers) (λ asked. ¬ HasAnswer (listed answers) asked) (λ asked asks. answered_or_not answers asked)

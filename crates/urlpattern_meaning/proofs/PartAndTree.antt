@@ -1,4 +1,4 @@
--- One part and its tree mean the same.
+-- A part and its tree mean the same.
 use Rattle.std.proofs.Common.{◌≡◌, ℕ, zero, suc, ◌+◌, ◌≤◌, List, [], ◌∷◌, refl, sym, subst, ap, arith, Bool, true, false, Some, None, ◌∙◌, ◌↔◌, ◌⊎◌, inl, inr}
 use Rattle.std.proofs.lemmas.List.{append-nil}
 use Rattle.std.specs.Prelude.{◌&&◌, IsTrue, replicate}
@@ -15,9 +15,9 @@ use Rattle.urlpattern_meaning.proofs.PartTrees.{affixed_core, affixed_quantifier
 use Rattle.urlpattern_meaning.proofs.TreeMeaning.{StandsFor, alone_means, between_means, copies_means, piece_means}
 use Rattle.urlpattern_syntax.proofs.TokenExamples.{no}
 
--- ---- what is captured between prefix and suffix
+-- ---- captures between prefix and suffix
 
--- one copy, where the modifier allows no more
+-- a single copy, where the modifier allows no more
 one_allowed : (IsPiece : List ℕ → Type 0) (prefix suffix : List ℕ) (n : ℕ) (text : List ℕ) → suc n ≤ 1 → IsCore IsPiece prefix suffix n text → IsPiece text
 one_allowed IsPiece prefix suffix zero text few is = one_core IsPiece prefix suffix text is
 one_allowed IsPiece prefix suffix (suc n) text few is = absurd (omega (arith, few))
@@ -68,15 +68,15 @@ core_groups modifiers.OneOrMore marks prefix piece suffix e = copies_groups mark
 between_groups : (marks prefix : List ℕ) (core : Items) (suffix : List ℕ) → group_count core ≡ 0 → group_count (between marks prefix core suffix) ≡ 1
 between_groups marks prefix core suffix e = put_groups marks prefix _ ∙ ap (λ n. suc n + group_count (put marks suffix Nothing)) e ∙ ap (λ n. suc 0 + n) (put_groups marks suffix Nothing)
 
--- none that is taken leaves one None
+-- the group of an atom that is skipped leaves a single None
 left_none : (groups : ℕ) (captures : Captures) → groups ≡ 1 → (captures ≡ replicate groups None) ↔ (captures ≡ None ∷ [])
 left_none groups captures e = let same : replicate groups None ≡ None ∷ [] = ap (λ n. replicate n None) e in (λ f. f ∙ same, λ f. f ∙ sym same)
 
--- what is always taken, beside what never is
+-- an atom that cannot be skipped
 always : (A B C : Type 0) → B ↔ A → ¬ C → B ↔ (C ⊎ A)
 always A B C same never = (λ b. inr (same.0 b), λ either. elim either [ inl c ↦ absurd (never c) | inr a ↦ same.1 a ])
 
--- what may be left out
+-- an atom that can be skipped
 sometimes : (A B C D : Type 0) → B ↔ A → D ↔ C → (B ⊎ D) ↔ (C ⊎ A)
 sometimes A B C D same same_none = (
   λ either. elim either [ inl b ↦ inr (same.0 b) | inr d ↦ inl (same_none.0 d) ],
@@ -113,7 +113,7 @@ pieces_core IsPiece n text (first, rest, e, is, more) = (first, rest, e, is, rep
 core_pieces : (IsPiece : List ℕ → Type 0) (n : ℕ) (text : List ℕ) → IsCore IsPiece [] [] n text → IsRepeated IsPiece (suc n) text
 core_pieces IsPiece n text (first, rest, e, is, more) = (first, rest, e, is, repeated_map (IsFurther IsPiece [] []) IsPiece (λ t found. subst IsPiece (sym found.1) found.2) n rest more)
 
--- one piece is captured whole
+-- a single piece is captured whole
 captured_means : (modifier : PartModifier) (piece : Items) (IsPiece : List ℕ → Type 0) → StandsFor piece IsPiece → ((n : ℕ) → Allows modifier (suc n) → suc n ≤ 1) → Allows modifier 1 → (text : List ℕ) (captures : Captures) →
     AtomMeans (Captured piece) text captures ↔ TakesCopies IsPiece modifier [] [] text captures
 captured_means modifier piece IsPiece stands few one text captures = (

@@ -1,4 +1,4 @@
--- The tree of parts is allowed: marks stand after a backslash, and what is repeated captures nothing.
+-- The tree of parts is allowed: marks have a backslash, and a repeated group does not capture.
 use Rattle.std.proofs.Common.{◌≡◌, ℕ, ◌+◌, List, [], ◌∷◌, ◌++◌, refl, sym, ap, Bool, true, false, Some, None, Option, ◌∙◌, arith}
 use Rattle.std.proofs.lemmas.List.Elements.{All-head, All-tail}
 use Rattle.std.proofs.lemmas.List.Folds.{list_any-append}
@@ -25,7 +25,7 @@ or_left : (a b : Bool) → IsTrue a → IsTrue (a || b)
 or_left true b h = refl
 or_left false b h = absurd (no h)
 
--- These marks may stand after a backslash, and no other character needs to.
+-- Each of the marks may have a backslash, and no other character needs one.
 pub record AreMarks (marks : List ℕ) : Type 0 where
   pub may : (c : ℕ) → IsTrue (is_among marks c) → IsTrue (is_among (regexp_marks ++ codes "/") c)
   pub must : (c : ℕ) → IsTrue (is_among regexp_marks c) → IsTrue (is_among marks c)
@@ -115,7 +115,7 @@ group_allowed true modifier marks prefix piece suffix are groupless = bare_allow
 group_allowed false modifier marks prefix piece suffix are groupless =
     put_allowed marks prefix _ are (affixed_allowed modifier marks prefix piece suffix are groupless, tt, put_allowed marks suffix Nothing are tt)
 
--- a group is taken once or may be left out
+-- the atom of a group is not repeated
 group_taken : (is_bare : Bool) (modifier : PartModifier) (groups : ℕ) → AllowsGroups (group_quantifier is_bare modifier) groups
 group_taken true modifiers.None groups = tt
 group_taken true modifiers.Optional groups = tt

@@ -53,13 +53,13 @@ some_texts marks value text captures (suc n) some are e = (n, of_texts marks val
 
 -- ---- a part before items
 
--- what a part, and items after it, mean
+-- the meaning of a part and items after it
 abbrev pub MeansBefore : OptionsView → PartView → Items → List ℕ → Captures → Type 0
 MeansBefore options part items text captures =
     (first rest : List ℕ) × (own others : Captures) × (text ≡ first ++ rest) × (captures ≡ own ++ others)
     × PartMeans options part first own × Means items rest others
 
--- an atom before items, where it means what the part means
+-- an atom before items, where the atom means what the part means
 atom_before : (options : OptionsView) (part : PartView) (atom : Atom) (quantifier : Quantifier) (items : Items) →
     ((text : List ℕ) (captures : Captures) → IsTaken quantifier (atom_group_count atom) (AtomMeans atom) text captures ↔ PartMeans options part text captures) →
     (text : List ℕ) (captures : Captures) → Means (Item atom quantifier items) text captures ↔ MeansBefore options part items text captures
@@ -129,7 +129,7 @@ part_before options FullWildcard modifier value name prefix suffix items h text 
 
 -- ---- a list of parts
 
--- the tree takes a text with captures exactly where the parts mean that text with these captures
+-- the tree matches a text with captures exactly where the parts mean that text with these captures
 pub tree_means : (options : OptionsView) (parts : List PartView) → All IsNotCustom parts → (text : List ℕ) (captures : Captures) → Means (tree_of options parts) text captures ↔ PartsMean options parts text captures
 tree_means options [] h text captures = (λ means. means, λ means. means)
 tree_means options (part ∷ parts) h text captures =

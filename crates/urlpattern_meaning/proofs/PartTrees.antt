@@ -1,4 +1,4 @@
--- The tree of the regular expression of a list of parts, which reads no text.
+-- The tree of the regular expression of a list of parts, made without reading a text.
 use Rattle.std.specs.Prelude.{◌≢◌, ℕ, Bool, true, false, ◌&&◌, List, [], ◌∷◌, Option, Some, None, if◌then◌else◌}
 use Rattle.urlpattern_meaning.specs.Dialect.{Atom, Literal, Dot, AnyBut, Captured, Grouped, Character, Plain, Escaped, Items, Nothing, Item, Quantifier, Quantifier as quantifiers}
 use Rattle.urlpattern_syntax.specs.declared.parser.PartModifier.{PartModifier}
@@ -24,9 +24,9 @@ put marks (c ∷ text) items = Item (Literal (character marks c)) quantifiers.On
 abbrev pub alone : Atom → Quantifier → Items
 alone atom quantifier = Item atom quantifier Nothing
 
--- ---- what a part's group matches
+-- ---- the text that a part's group matches
 
--- one character of a segment
+-- a single character of a segment
 abbrev pub segment_atom : (marks : List ℕ) → (delimiter : Option ℕ) → Atom
 segment_atom marks None = Dot
 segment_atom marks (Some c) = AnyBut (character marks c)
@@ -45,7 +45,7 @@ quantifier_of modifiers.Optional = quantifiers.Optional
 quantifier_of modifiers.ZeroOrMore = quantifiers.ZeroOrMore
 quantifier_of modifiers.OneOrMore = quantifiers.OneOrMore
 
--- what a group with neither prefix nor suffix captures, and how often it is taken
+-- the capture of a group with neither prefix nor suffix, and its quantifier
 abbrev pub bare_core : PartModifier → (piece : Items) → Items
 bare_core modifiers.ZeroOrMore piece = alone (Grouped piece) quantifiers.ZeroOrMore
 bare_core modifiers.OneOrMore piece = alone (Grouped piece) quantifiers.OneOrMore
@@ -55,16 +55,16 @@ abbrev pub bare_quantifier : PartModifier → Quantifier
 bare_quantifier modifiers.Optional = quantifiers.Optional
 bare_quantifier modifier = quantifiers.Once
 
--- what a further copy adds
+-- the text that a further copy adds
 abbrev pub further : (marks prefix : List ℕ) → (piece : Items) → (suffix : List ℕ) → Items
 further marks prefix piece suffix = put marks suffix (put marks prefix (alone (Grouped piece) quantifiers.Once))
 
--- one or more copies, without the first prefix and the last suffix
+-- at least one copy, without the first prefix and the last suffix
 abbrev pub copies : (marks prefix : List ℕ) → (piece : Items) → (suffix : List ℕ) → Items
 copies marks prefix piece suffix =
     Item (Grouped piece) quantifiers.Once (alone (Grouped (further marks prefix piece suffix)) quantifiers.ZeroOrMore)
 
--- what a group with a prefix or a suffix captures, and how often it is taken
+-- the capture of a group with a prefix or a suffix, and its quantifier
 abbrev pub affixed_core : PartModifier → (marks prefix : List ℕ) → (piece : Items) → (suffix : List ℕ) → Items
 affixed_core modifiers.ZeroOrMore marks prefix piece suffix = copies marks prefix piece suffix
 affixed_core modifiers.OneOrMore marks prefix piece suffix = copies marks prefix piece suffix

@@ -1,4 +1,4 @@
--- A list of tokens has one list of pieces, and they end in one way.
+-- A list of tokens has one list of pieces, with one ending.
 use Rattle.std.proofs.Common.{◌≡◌, ◌≢◌, ℕ, true, List, [], ◌∷◌, ◌++◌, Some, refl, sym, ap, ◌∙◌, subst, inl, inr, append_assoc}
 use Rattle.std.specs.Prelude.{IsTrue}
 use Rattle.std.proofs.lemmas.Bool.{false≢true}
@@ -12,7 +12,7 @@ use Rattle.urlpattern_meaning.proofs.BraceForms.{Content, Texts, Filled, Content
 
 -- ---- one step
 
--- what begins a list of tokens
+-- the beginning of a list of tokens: a piece and the tokens after it, or an ending
 data Outcome : Type 0 where
   Goes : Piece → List TokenView → Outcome
   Ends : Ending → Outcome
@@ -21,7 +21,7 @@ abbrev group_of : Content → PartModifier → Piece
 group_of (Texts text) modifier = pieces.TextGroup text modifier
 group_of (Filled before placeholder after) modifier = pieces.Group before placeholder after modifier
 
--- A brace that closes, or what stands in its place.
+-- A closing brace, or the token in its place.
 data Finish (tokens : List TokenView) (content : Content) (outcome : Outcome) : Type 0 where
   closes : (closing : TokenView) (behind rest : List TokenView) (modifier : PartModifier) → tokens ≡ closing ∷ behind → closing.kind ≡ Close → ModifierForm behind rest modifier → outcome ≡ Goes (group_of content modifier) rest → Finish tokens content outcome
   lacks : (found : TokenView) (more : List TokenView) → tokens ≡ found ∷ more → found.kind ≢ Close → outcome ≡ Ends (LacksClose found) → Finish tokens content outcome
@@ -34,7 +34,7 @@ finish_one tokens content x y (closes a behind rest m e k f s) (lacks b more e' 
 finish_one tokens content x y (lacks b more e' no' t) (closes a behind rest m e k f s) = absurd (no' (ap (λ (z : TokenView). z.kind) (sym (cons_one e e').first) ∙ k))
 finish_one tokens content x y (lacks a more e n s) (lacks b more' f m t) = s ∙ ap (λ z. Ends (LacksClose z)) (cons_one e f).first ∙ sym t
 
--- What begins a list of tokens, by its tokens.
+-- The beginning of a list of tokens, as the tokens determine it.
 data Form (point : List ℕ) (tokens : List TokenView) (outcome : Outcome) : Type 0 where
   alone : (token : TokenView) (rest : List TokenView) → tokens ≡ token ∷ rest → IsTrue (is_text token.kind) → TakesPrefix point token rest → outcome ≡ Goes (pieces.Text token.value) rest → Form point tokens outcome
   prefixed : (token : TokenView) (behind back rest : List TokenView) (placeholder : Placeholder) (modifier : PartModifier) → tokens ≡ token ∷ behind → token.kind ≡ Char → token.value ≡ point → PlaceholderForm behind back placeholder → ModifierForm back rest modifier → outcome ≡ Goes (pieces.Bare point placeholder modifier) rest → Form point tokens outcome
@@ -42,7 +42,7 @@ data Form (point : List ℕ) (tokens : List TokenView) (outcome : Outcome) : Typ
   enclosed : (opening : TokenView) (behind rest : List TokenView) (content : Content) → tokens ≡ opening ∷ behind → opening.kind ≡ Open → ¬ BeginsWithKind is_text rest → ContentForm behind rest content → Finish rest content outcome → Form point tokens outcome
   stopped : (token : TokenView) (more : List TokenView) → tokens ≡ token ∷ more → IsTrue (is_stop token.kind) → outcome ≡ Ends (Stops token) → Form point tokens outcome
 
--- the family with which such a form begins
+-- the family of the first token of a form
 abbrev form_family : {point : List ℕ} {tokens : List TokenView} {outcome : Outcome} → Form point tokens outcome → TokenType
 form_family (alone token rest e h t s) = Char
 form_family (prefixed token behind back rest placeholder modifier e k v p m s) = Char
@@ -140,7 +140,7 @@ ending_form point tokens (LacksClose found) h = elim (h.5.1) [
     with_content : (content : Content) → ContentForm (h.1 ++ found ∷ h.2) (found ∷ h.2) content → Form point tokens (Ends (LacksClose found))
     with_content content c = enclosed (h.0) (h.1 ++ found ∷ h.2) (found ∷ h.2) content (h.3) (h.4) (h.5.0) c (lacks found (h.2) refl (h.6) refl)
 
--- the pieces are one list, and so is their end
+-- tokens have at most one list of pieces, with one ending
 pub pieces_one : (point : List ℕ) (tokens : List TokenView) (pieces others : List Piece) (ending other : Ending) → ArePieces point tokens pieces ending → ArePieces point tokens others other → (pieces ≡ others) × (ending ≡ other)
 pieces_one point tokens [] [] ending other h g =
     let e = form_one point tokens (Ends ending) (Ends other) (ending_form point tokens ending h) (ending_form point tokens other g) in

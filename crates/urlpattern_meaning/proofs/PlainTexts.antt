@@ -17,7 +17,7 @@ use Rattle.urlpattern_syntax.specs.Text.{BeginsAt, byte_len, is_among}
 use Rattle.urlpattern_syntax.specs.Tokens.{AreTokens, IsCut, IsTokenOf, TokenView, end_of, is_ignored, marks}
 use Rattle.urlpattern_syntax.specs.declared.tokenizer.TokenType.TheVariants.{Char}
 
--- ASCII, and neither a mark nor what is skipped
+-- an ASCII character that is neither a mark nor skipped
 abbrev pub is_plain_character : ℕ → Bool
 is_plain_character c = ltb c 128 && (not (is_among marks c) && not (is_ignored c))
 
@@ -26,7 +26,7 @@ abbrev pub letters : ℕ → List ℕ → List TokenView
 letters index [] = []
 letters index (c ∷ text) = token Char index (c ∷ []) ∷ letters (index + 1) text
 
--- ---- their tokens
+-- ---- the tokens of plain texts
 
 one_byte : (c : ℕ) → c < 128 → byte_len (c ∷ []) ≡ 1
 unfolding byte_len
@@ -51,7 +51,7 @@ plain_cut Item whole is_item (c ∷ text) rest left index tokens plain place cut
       plain_cut Item whole is_item text rest left (index + 1) tokens parts.1 (next_place whole (text ++ rest) c index (ltb-true c 128 ascii.0) place) cut,
     )
 
--- ---- their pieces
+-- ---- the pieces of plain texts
 
 abbrev pub plain_pieces : List ℕ → List Piece
 plain_pieces [] = []
@@ -75,7 +75,7 @@ plain_pieces_are point (c ∷ text) index tokens pieces ending other are = (
 
 -- ---- the parts of a text that is read
 
--- they are those of the pieces that it has
+-- the parts of a text that is read are those of its pieces
 pub parts_of : {text : List ℕ} {options : OptionsView} {encoding : Encoding} {parts : List PartView} (tokens : List TokenView) (pieces : List Piece) (found : TokenView) →
     AreTokens text tokens → ArePieces options.prefix tokens pieces (Stops found) → Reads text options encoding parts → AreParts options encoding (items_of pieces) parts
 parts_of {text} {options} {encoding} {parts} tokens pieces found are_tokens are_pieces reads =
@@ -83,7 +83,7 @@ parts_of {text} {options} {encoding} {parts} tokens pieces found are_tokens are_
     (text_pieces_one text options.prefix reads.tokens tokens reads.pieces pieces (Stops reads.found) (Stops found) reads.are_tokens are_tokens reads.are_pieces are_pieces).0
     reads.are_parts
 
--- a whole text of such characters
+-- a whole text of plain characters
 pub plain_tokens : (text : List ℕ) → IsTrue (list_all is_plain_character text) → AreTokens text (letters 0 text ++ end_of text ∷ [])
 plain_tokens text plain =
     let nothing_left : IsCut (IsTokenOf text) (text ++ []) (letters 0 text ++ []) [] = plain_cut (IsTokenOf text) text (λ start rest one is. is) text [] [] 0 [] plain (rw append-nil (omega arith)) none in

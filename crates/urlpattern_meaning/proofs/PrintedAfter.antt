@@ -1,4 +1,4 @@
--- What stands after a printed part, and what is to be shown of it.
+-- The text after a printed part, and the properties that are proved of it.
 use Rattle.std.proofs.Common.{◌≡◌, ◌≢◌, ℕ, Bool, true, false, List, [], ◌∷◌, ◌++◌, Option, Some, None, refl, append_assoc}
 use Rattle.std.specs.Prelude.{IsTrue, ◌&&◌}
 use Rattle.std.proofs.lemmas.Bool.{false≢true}
@@ -14,14 +14,14 @@ use Rattle.urlpattern_meaning.specs.Printing.{first_part, goes_on, is_name_alone
 use Rattle.urlpattern_meaning.proofs.PrintedTokens.{Run, done}
 use Rattle.urlpattern_meaning.proofs.RoundTripWords.{AreItemsOf}
 
--- What follows a part, the next part first, leaves it what is its own.
+-- The text after a part, which begins with the next part, takes nothing from the part.
 pub record Behind (options : OptionsView) (before : PartView) (next : Option PartView) (text : List ℕ) (tokens : List TokenView) : Type 0 where
   pub no_modifier : is_fixed_text before.kind ≡ false → IsTrue (is_unmodified before.modifier) → ¬ BeginsWithKind is_modifier tokens
   pub no_placeholder : IsTrue (is_fixed_text before.kind) → before.value ≢ [] → last_of before.value ≡ options.prefix → ¬ BeginsWithKind is_placeholder tokens
   pub no_regexp : IsTrue (is_name_alone before) → IsTrue (is_unmodified before.modifier) → takes_next before next ≡ false → ¬ BeginsWithKind is_regexp tokens
   pub no_name_part : IsTrue (is_name_alone before) → IsTrue (is_unmodified before.modifier) → takes_next before next ≡ false → ¬ BeginsWith is_name_part text
 
--- the same, where perhaps no part stands before
+-- the text after a part, if there is one, takes nothing from the part
 abbrev pub AfterAny : OptionsView → (before next : Option PartView) → List ℕ → List TokenView → Type 0
 AfterAny options None next text tokens = Unit {0}
 AfterAny options (Some before) next text tokens = Behind options before next text tokens
@@ -30,7 +30,7 @@ pub after_any : (options : OptionsView) (before next : Option PartView) (text : 
 after_any options None next text tokens h = tt
 after_any options (Some before) next text tokens h = h before refl
 
--- What is to be shown of the parts after one, where so many groups before them have no name.
+-- The properties of the parts after one, where `number` groups before them have no name.
 pub record ReadsBack (options : OptionsView) (whole : List ℕ) (before : Option PartView) (number : ℕ) (parts : List PartView) : Type 0 where
   pub tokens : List TokenView
   pub pieces : List Piece
@@ -64,18 +64,18 @@ reads_end options whole before number = record {
 pub are_more : (point : List ℕ) (front more last : List TokenView) (piece : Piece) (rest : List Piece) (ending : Ending) → IsPiece point front piece (more ++ last) → ArePieces point (more ++ last) rest ending → ArePieces point ((front ++ more) ++ last) (piece ∷ rest) ending
 are_more point front more last piece rest ending is are = (front, more ++ last, append_assoc front more last, is, are)
 
--- ---- what a name does not take
+-- ---- texts that a name does not take
 
 third : (a b c : Bool) → a ≡ true → b ≡ true → (a && b && c) ≡ false → c ≡ false
 third true true c e f h = h
 third true false c e f h = absurd (false≢true f)
 third false b c e f h = absurd (false≢true e)
 
--- what a name alone before a part does not take does not go on with it
+-- the next part does not go on with a name alone before it, where the name does not take it
 pub goes_not : (before next : PartView) → IsTrue (is_name_alone before) → IsTrue (is_unmodified before.modifier) → takes_next before (Some next) ≡ false → goes_on next ≡ false
 goes_not before next alone plain h = third (is_name_alone before) (is_unmodified before.modifier) (goes_on next) alone plain h
 
--- a part without prefix and suffix goes on by its value or its name
+-- a part without prefix and suffix goes on exactly where its value or its name does
 pub goes_by : (prefix suffix : List ℕ) (last : Bool) → prefix ≡ [] → suffix ≡ [] → (is_empty prefix && is_empty suffix && last) ≡ last
 goes_by [] [] last e f = refl
 goes_by [] (c ∷ suffix) last e f = absurd (cc f)

@@ -44,18 +44,20 @@ filled_text : (text : List ℕ) → text ≢ [] → not (is_empty text) ≡ true
 filled_text [] h = absurd (h refl)
 filled_text (c ∷ text) h = refl
 
--- ---- what a group begins with
+-- ---- beginnings of groups
 
 -- after a group without modifier no asterisk is printed
 admits_none : (before : PartView) → is_fixed_text before.kind ≡ false → IsTrue (is_unmodified before.modifier) → admits_asterisk (Some before) ≡ false
 admits_none before group plain = ap (λ b. b || not (is_unmodified before.modifier)) group ∙ ap not plain
 
--- a fixed text that ends with the prefix code point would lose it to a group without braces and prefix
+-- a fixed text that ends with the prefix code point would lose it to a group without braces and
+-- prefix
 before_taken : (options : OptionsView) (before part : PartView) → part.prefix ≡ [] → IsTrue (is_fixed_text before.kind) → before.value ≢ [] → last_of before.value ≡ options.prefix → takes_before options (Some before) part ≡ true
 before_taken options before part e fixed filled f =
     and_from _ _ (and_from _ _ (and_from _ _ (ap is_empty e) fixed) (filled_text before.value filled)) ((bytes_eq-Decides (last_of before.value) options.prefix).1 f)
 
--- a group that does not go on with a name alone, without prefix and suffix, has a name of the pattern's own
+-- a group that does not go on with a name alone, without prefix and suffix, has a name that the
+-- pattern gives
 own_name : (part : PartView) → is_fixed_text part.kind ≡ false → part.prefix ≡ [] → part.suffix ≡ [] → goes_on part ≡ false → IsTrue (has_custom_name part)
 own_name part group e f h =
     not-false (has_custom_name part)

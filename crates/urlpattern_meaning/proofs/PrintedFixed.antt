@@ -89,11 +89,11 @@ module _ (options : OptionsView) (whole : List ℕ) (before : Option PartView) (
   abbrev total : ℕ
   total = byte_len whole
 
-  -- what is printed after the part
+  -- the text after the part
   abbrev rest : List ℕ
   rest = printed_after options (Some part) parts
 
-  -- a fixed text that is printed as this text, whose tokens and pieces stand before the others
+  -- a fixed text that is printed as this text, with its tokens and pieces before the others
   step_fixed : (text : List ℕ) (first : List TokenView) (own : List Piece) → IsTrue (is_fixed_text part.kind) → text ≡ printed_part options before part (first_part parts) → (more : ReadsBack options whole (Some part) number parts) →
       Run total [] (text ++ rest) (first ++ more.tokens) → ArePieces options.prefix ((first ++ more.tokens) ++ end_of whole ∷ []) (own ++ more.pieces) (endings.Stops (end_of whole)) →
       joined_items (items_from number (own ++ more.pieces)) ≡ Fixed part.value part.modifier ∷ joined_items (items_from number more.pieces) →

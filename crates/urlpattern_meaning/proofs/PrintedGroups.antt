@@ -1,4 +1,4 @@
--- A group as it is printed, with braces or without: its tokens, its piece, and the item that this is.
+-- A group as it is printed, with braces or without: its tokens, its piece, and its item.
 use Rattle.std.proofs.Common.{◌≡◌, ◌≢◌, ℕ, Bool, true, false, List, [], ◌∷◌, ◌++◌, Option, refl, sym, ap, ◌∙◌, subst, inl, inr, append_assoc}
 use Rattle.std.specs.Prelude.{IsTrue, bytes_eq, codes, not, ◌&&◌, ◌||◌, if◌then◌else◌}
 use Rattle.std.proofs.lemmas.Bool.{and_parts, false≢true, false_from_ne_true, not-false}
@@ -20,7 +20,7 @@ use Rattle.urlpattern_meaning.proofs.PrintedPlaceholders.{Placed, Shows, name_by
 use Rattle.urlpattern_meaning.proofs.PrintedTexts.{kind_by, text_are, text_first, text_no_modifier, text_no_placeholder, text_no_regexp, text_run, text_tokens}
 use Rattle.urlpattern_meaning.proofs.PrintedTokens.{Run, mark_ends, run_joined}
 
--- What is known of a group, where so many groups before it have no name.
+-- The properties of a group, where `number` groups before it have no name.
 pub record IsGroup (options : OptionsView) (number : ℕ) (part : PartView) : Type 0 where
   pub group : is_fixed_text part.kind ≡ false
   pub fields : HasFields options part.kind part
@@ -28,7 +28,7 @@ pub record IsGroup (options : OptionsView) (number : ℕ) (part : PartView) : Ty
   pub prefix : IsUnskipped part.prefix
   pub suffix : IsUnskipped part.suffix
 
--- What a group is printed as before the rest, and how that begins.
+-- The text of a group before the rest, and its beginning.
 pub record GroupPiece (options : OptionsView) (total number : ℕ) (before : Option PartView) (part : PartView) (braces : Bool) (rest : List ℕ) (behind : List TokenView) : Type 0 where
   pub tokens : List TokenView
   pub piece : Piece
@@ -43,7 +43,7 @@ pub record GroupPiece (options : OptionsView) (total number : ℕ) (before : Opt
   pub no_regexp : (part.prefix ≡ [] → braces ≡ false → IsTrue (has_custom_name part)) → ¬ BeginsWithKind is_regexp (tokens ++ behind)
   pub no_name_part : (part.prefix ≡ [] → braces ≡ false → IsTrue (has_custom_name part)) → ¬ BeginsWith is_name_part (printed_group options before part braces ++ rest)
 
--- an asterisk stands after no name
+-- no asterisk follows a name
 unnamed_asterisk : (custom other : Bool) → IsTrue custom → (not custom && other) ≡ false
 unnamed_asterisk true other h = refl
 unnamed_asterisk false other h = absurd (no h)
@@ -131,7 +131,7 @@ point_kind : (c : ℕ) (mark : Bool) → is_among pattern_marks c ≡ mark → �
 point_kind c true e h = absurd (h e)
 point_kind c false e h = refl
 
--- a prefix that needs no braces is none, or the prefix code point
+-- a prefix that needs no braces is empty, or the prefix code point
 prefix_point : (point prefix : List ℕ) → (not (is_empty prefix) && not (bytes_eq prefix point)) ≡ false → prefix ≢ [] → prefix ≡ point
 prefix_point point [] h filled = absurd (filled refl)
 prefix_point point (c ∷ prefix) h filled = (bytes_eq-Decides (c ∷ prefix) point).0 (not-false (bytes_eq (c ∷ prefix) point) h)
@@ -162,7 +162,7 @@ bare_text : (a b c d m rest : List ℕ) → d ≡ [] → a ++ (b ++ (c ++ (m ++ 
 bare_text a b c [] m rest e = simp append_assoc
 bare_text a b c (x ∷ d) m rest e = absurd (cc e)
 
--- a text with a name of the pattern's own begins with a colon
+-- the text of a group with a name that the pattern gives begins with a colon
 colon_ends : (custom : Bool) (name rest : List ℕ) → IsTrue custom → ¬ BeginsWith is_name_part ((if custom then codes ":" ++ name else []) ++ rest)
 colon_ends true name rest h = mark_ends (codes ":") refl
 colon_ends false name rest h = absurd (no h)
@@ -170,14 +170,14 @@ colon_ends false name rest h = absurd (no h)
 three_lists : (a b c d : List TokenView) → (a ++ b ++ c) ++ d ≡ a ++ (b ++ (c ++ d))
 three_lists a b c d = simp append_assoc
 
--- an asterisk without braces and without a prefix stands after what admits one
+-- an asterisk without braces and without a prefix follows a part that admits one
 no_asterisk : (custom admits : Bool) (prefix : List ℕ) → prefix ≡ [] → admits ≡ false → (not custom && (admits || false || not (is_empty prefix))) ≡ false
 no_asterisk true admits prefix e f = refl
 no_asterisk false true prefix e f = absurd (false≢true (sym f))
 no_asterisk false false [] e f = refl
 no_asterisk false false (c ∷ prefix) e f = absurd (cc e)
 
--- What follows a group without braces leaves it what is its own.
+-- The text after a group without braces takes nothing from the group.
 pub record LeavesGroup (part : PartView) (rest : List ℕ) (behind : List TokenView) : Type 0 where
   pub no_modifier : IsTrue (is_unmodified part.modifier) → ¬ BeginsWithKind is_modifier behind
   pub no_regexp : IsTrue (is_name_alone part) → IsTrue (is_unmodified part.modifier) → ¬ BeginsWithKind is_regexp behind

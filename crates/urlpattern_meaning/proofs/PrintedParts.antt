@@ -1,4 +1,5 @@
--- Printed parts are read one by one: the tokens, the pieces and the items of a printed list of parts.
+-- Printed parts are read one by one: the tokens, the pieces and the items of a printed list of
+-- parts.
 use Rattle.std.proofs.Common.{◌≡◌, ◌≢◌, ℕ, false, List, [], ◌∷◌, ◌++◌, Option, Some, None, refl, ap, subst}
 use Rattle.std.specs.Prelude.{IsTrue}
 use Rattle.std.proofs.lemmas.Bool.{and_from}
@@ -24,7 +25,7 @@ apart_rest : (part : PartView) (parts : List PartView) → AreApart (part ∷ pa
 apart_rest part [] h = tt
 apart_rest part (next ∷ parts) h = h.1
 
--- What is known of a part before others that are read back.
+-- The properties of a part before others that are read back.
 record IsBefore (options : OptionsView) (whole : List ℕ) (number : ℕ) (part : PartView) (parts : List PartView) : Type 0 where
   pub point : IsPrefixPoint options.prefix
   pub fields : HasFields options part.kind part
@@ -70,7 +71,7 @@ reads_back options whole before number (part ∷ parts) point fields named fille
       more = reads_back options whole (Some part) (following_number number part.kind part) parts point fields.1 named.1 filled.1 unskipped.1 (apart_rest part parts apart);
     })
 
--- parts that are apart print as a text whose tokens and pieces stand for the parts, one by one
+-- parts that are apart print as a text whose tokens and pieces spell the parts, one by one
 pub prints_its_parts : (options : OptionsView) (parts : List PartView) → IsPrefixPoint options.prefix → ArePatternParts options parts → HaveTexts parts → AreUnskipped parts → AreApart parts → PrintsItsParts options parts
 prints_its_parts options parts point are filled unskipped apart =
     let read = reads_back options (printed options parts) None 0 parts point are.fields are.names filled unskipped apart in

@@ -1,4 +1,5 @@
--- The name of a group and what it matches, as they are printed: their tokens, and the placeholder that these are.
+-- The name and the regular expression of a group, as they are printed: their tokens, and their
+-- placeholder.
 use Rattle.std.proofs.Common.{◌≡◌, ◌≢◌, ℕ, suc, Bool, true, false, List, [], ◌∷◌, ◌++◌, Option, Some, None, refl, sym, ap, ◌∙◌, subst, inl, inr, lit<}
 use Rattle.std.specs.Prelude.{IsTrue, bytes_eq, codes, decimal, not, ◌&&◌, slice_index, if◌then◌else◌}
 use Rattle.std.specs.Char.{is_ascii_digit}
@@ -39,7 +40,7 @@ full_other syntax (Some c) e = false≢true (sym (ap (λ t. bytes_eq t full_wild
 
 -- ---- the placeholder of a part
 
--- a name of the pattern's own
+-- a name that the pattern gives
 abbrev pub name_by : (custom : Bool) → List ℕ → Option (List ℕ)
 name_by custom name = if custom then Some name else None
 
@@ -53,7 +54,7 @@ abbrev pub placeholder_of : OptionsView → PartType → PartView → (asterisk 
 placeholder_of options kind part asterisk =
     record { name = name_by (has_custom_name part) part.name; matched = matched_by (has_custom_name part) asterisk options kind part.value }
 
--- ---- what it stands for
+-- ---- the part of a placeholder
 
 digited_or : (digited : Bool) → digited ≡ true → not digited ≡ true → ⊥
 digited_or true e f = no f
@@ -96,7 +97,7 @@ compared_full : (options : OptionsView) (asterisk : Bool) → compared options (
 compared_full options true = refl
 compared_full options false = refl
 
--- What a placeholder stands for is a part of this kind.
+-- A placeholder spells a part of this kind.
 pub record Shows (options : OptionsView) (number : ℕ) (kind : PartType) (part : PartView) (placeholder : Placeholder) : Type 0 where
   pub name : name_or placeholder.name number ≡ part.name
   pub number_after : next_number placeholder.name number ≡ following_number number kind part
@@ -125,9 +126,9 @@ shows_part options number kind part asterisk group fields named = record {
   is_value = shown_value options kind part (has_custom_name part) asterisk group fields;
 }
 
--- ---- its tokens
+-- ---- the tokens of a placeholder
 
--- The text up to what follows is the tokens of this placeholder.
+-- The text before the rest is the tokens of this placeholder.
 pub record Placed (total : ℕ) (text rest : List ℕ) (placeholder : Placeholder) : Type 0 where
   pub tokens : List TokenView
   pub run : Run total rest text tokens
@@ -165,7 +166,7 @@ placed_asterisk total rest = record {
   is_placeholder = refl;
 }
 
--- the text of a name and of what is matched, by whether the pattern gives the name
+-- the text of a name and of a regular expression, by whether the pattern gives the name
 abbrev name_text : (custom : Bool) → List ℕ → List ℕ
 name_text custom name = if custom then codes ":" ++ name else []
 
@@ -204,8 +205,8 @@ placed_by options total number kind part true false rest e none group h named en
     placed_named options total kind part rest group h (name_given number kind part.name group named e) (λ segment. ends (and_from _ _ segment refl))
 placed_by options total number kind part false asterisk rest e none group h named ends = placed_numbered options total kind part asterisk rest group h (both_ways (has_custom_name part) e)
 
--- the tokens of a part's name and of what it matches, where no asterisk stands after a name and the rest does not go
--- on with a name that stands alone
+-- the tokens of a part's name and of its regular expression, where no asterisk follows a name and
+-- the rest does not go on with a name alone
 pub placed_part : (options : OptionsView) (total number : ℕ) (kind : PartType) (part : PartView) (asterisk : Bool) (rest : List ℕ) → (IsTrue (has_custom_name part) → asterisk ≡ false) →
     is_fixed_text kind ≡ false → HasFields options kind part → IsNamed number kind part.name → (IsTrue (is_segment kind && has_custom_name part) → ¬ BeginsWith is_name_part rest) →
     Placed total (printed_name part ++ (printed_match options kind part asterisk ++ rest)) rest (placeholder_of options kind part asterisk)
@@ -213,7 +214,7 @@ placed_part options total number kind part asterisk rest none group h named ends
     subst (λ t. Placed total (printed_name part ++ (t ++ rest)) rest (placeholder_of options kind part asterisk)) (match_printed options kind part asterisk)
     (placed_by options total number kind part (has_custom_name part) asterisk rest refl none group h named ends)
 
--- ---- what it begins with, and what may follow
+-- ---- the beginning of a placeholder, and the tokens after it
 
 first_kind : (token : TokenView) (first : List TokenView) (kind : TokenType) (more : List TokenType) → kinds (token ∷ first) ≡ kind ∷ more → token.kind ≡ kind
 first_kind token first kind more e = cc e
@@ -227,7 +228,7 @@ named_no_regexp (token ∷ first) behind name matched.Segment is b = no (subst (
 named_no_regexp (token ∷ first) behind name (matched.Custom body) is b = no (subst (λ k. IsTrue (is_regexp k)) (first_kind token first tokens.Name (tokens.Regexp ∷ []) is.0) b)
 named_no_regexp (token ∷ first) behind name matched.Anything is b = is
 
--- one that is no asterisk does not begin with one
+-- a placeholder that is not an asterisk begins with no modifier
 pub placed_no_modifier : (first behind : List TokenView) (name : Option (List ℕ)) (what : Matched) → IsPlaceholderOf first name what → what ≢ matched.Anything → ¬ BeginsWithKind is_modifier (first ++ behind)
 placed_no_modifier first behind name matched.Anything is other b = other refl
 placed_no_modifier first behind None matched.Segment is other b = is
@@ -247,12 +248,12 @@ takes_by options SegmentWildcard value false asterisk behind group free = tt
 takes_by options FullWildcard value custom true behind group free = tt
 takes_by options FullWildcard value custom false behind group free = tt
 
--- a name that stands alone takes a Regexp, and nothing else does
+-- a name alone takes a Regexp, and no other placeholder does
 pub takes_regexp : (options : OptionsView) (kind : PartType) (part : PartView) (asterisk : Bool) (behind : List TokenView) → is_fixed_text kind ≡ false → (IsTrue (is_segment kind && has_custom_name part) → ¬ BeginsWithKind is_regexp behind) →
     TakesRegexp (placeholder_of options kind part asterisk).matched behind
 takes_regexp options kind part asterisk behind group free = takes_by options kind part.value (has_custom_name part) asterisk behind group free
 
--- without an asterisk it is not anything
+-- a placeholder without an asterisk is not `Anything`
 pub not_anything : (options : OptionsView) (kind : PartType) (part : PartView) (asterisk : Bool) → asterisk ≡ false → (placeholder_of options kind part asterisk).matched ≢ matched.Anything
 not_anything options kind part true h = absurd (false≢true (sym h))
 not_anything options kind part false h = by_kind kind (has_custom_name part)

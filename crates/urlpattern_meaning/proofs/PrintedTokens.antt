@@ -1,4 +1,4 @@
--- The tokens of printed patterns, in which nothing is skipped, and what a name character is not.
+-- The tokens of printed patterns, in which nothing is skipped, and the characters that no name has.
 use Rattle.std.proofs.Common.{ℕ, ◌-◌, ◌≤◌, Bool, true, false, List, [], ◌∷◌, ◌++◌, refl, subst, inl, inr, arith}
 use Rattle.std.specs.Prelude.{IsTrue, codes, not, ◌==◌}
 use Rattle.std.specs.List.{list_all}
@@ -13,7 +13,7 @@ use Rattle.urlpattern_meaning.specs.Printing.{pattern_marks}
 
 -- ---- characters
 
--- what holds of each of some characters holds of one among them
+-- a test that some characters pass holds of a character among them
 among_all : (test : ℕ → Bool) (some : List ℕ) (c : ℕ) → IsTrue (list_all test some) → IsTrue (is_among some c) → IsTrue (test c)
 among_all test [] c all h = absurd (no h)
 among_all test (mark ∷ some) c all h =
@@ -27,7 +27,7 @@ among_all test (mark ∷ some) c all h =
 pub token_mark : (c : ℕ) → IsTrue (is_among marks c) → IsTrue (is_among pattern_marks c)
 token_mark c h = among_all (is_among pattern_marks) marks c refl h
 
--- a mark of patterns is no character of names
+-- a mark of patterns is not a character of names
 no_parts : IsTrue (list_all (λ c. not (is_name_part c)) pattern_marks)
 unfolding literals
 no_parts = refl
@@ -39,7 +39,7 @@ not_true false h g = no g
 pub mark_no_part : (c : ℕ) → IsTrue (is_among pattern_marks c) → ¬ IsTrue (is_name_part c)
 mark_no_part c h = not_true (is_name_part c) (among_all (λ x. not (is_name_part x)) pattern_marks c no_parts h)
 
--- so a text that begins with such a mark does not go on with a name
+-- a text that begins with a mark of patterns does not go on with a name
 pub mark_ends : (text : List ℕ) → BeginsWith (is_among pattern_marks) text → ¬ BeginsWith is_name_part text
 mark_ends [] h = no
 mark_ends (c ∷ text) h = mark_no_part c h
@@ -80,7 +80,8 @@ regexp_lexed body rest is = record { spelling = codes "(" ++ body ++ codes ")"; 
 
 -- ---- tokens end to end
 
--- The text is cut into these tokens up to what is left, where nothing is skipped and the whole has so many bytes.
+-- The text up to `left` is these tokens, with nothing skipped, where the whole text has `total`
+-- bytes.
 pub data Run (total : ℕ) (left : List ℕ) : List ℕ → List TokenView → Type 0 where
   done : Run total left left []
   next : {text rest : List ℕ} {kind : TokenType} {value : List ℕ} {tokens : List TokenView} → IsLexed text kind value rest → Run total left rest tokens → Run total left text (token_at total text kind value ∷ tokens)
@@ -89,7 +90,7 @@ pub run_joined : {total : ℕ} {middle left text : List ℕ} {tokens more : List
 run_joined done behind = behind
 run_joined (next lexed before) behind = next lexed (run_joined before behind)
 
--- each token stands where its text begins
+-- each token is where its text begins
 run_cut : (whole left text : List ℕ) (tokens : List TokenView) → byte_len text ≤ byte_len whole → Run (byte_len whole) left text tokens → IsCut (IsTokenOf whole) text tokens left
 run_cut whole left text tokens within done = none
 run_cut whole left text tokens within (next {rest = rest} {kind = kind} {value = value} {tokens = more} lexed behind) =

@@ -39,7 +39,7 @@ pub slash : printed pathname_options (plain (codes "/") ∷ segment [] (codes "x
 unfolding printing
 slash = refl
 
--- a letter after a name would be the name's, between braces too
+-- a letter after a name would be part of it, between braces too
 pub suffixed : printed default_options (segment [] (codes "x") (codes "foo") ∷ []) ≡ codes "{:x\\foo}"
 unfolding printing
 suffixed = refl
@@ -48,12 +48,12 @@ pub followed : printed default_options (segment [] (codes "x") [] ∷ plain (cod
 unfolding printing
 followed = refl
 
--- braces round the name though a brace stands before it
+-- braces round the name though a brace is before it
 pub braced_slash : printed pathname_options (fixed_text (codes "/") modifiers.Optional ∷ segment [] (codes "x") [] ∷ []) ≡ codes "{/}?{:x}"
 unfolding printing
 braced_slash = refl
 
--- no braces round the prefix code point and a name, where a modifier stands after them
+-- no braces round the prefix code point and a name, where a modifier is after them
 pub prefixed : printed pathname_options (plain (codes "/a") ∷ group SegmentWildcard (codes "/") (codes "x") [] modifiers.Optional ∷ plain (codes "b") ∷ []) ≡ codes "/a/:x?b"
 unfolding printing
 prefixed = refl
@@ -83,7 +83,7 @@ pub wildcards : printed default_options (wildcard (codes "0") ∷ wildcard (code
 unfolding printing
 wildcards = refl
 
--- a custom regular expression stands as it is
+-- a custom regular expression is printed unchanged
 pub custom : printed default_options (record (group Regexp [] (codes "0") [] modifiers.None) { value = codes "a+" } ∷ []) ≡ codes "(a+)"
 unfolding printing
 custom = refl

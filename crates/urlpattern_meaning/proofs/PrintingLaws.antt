@@ -15,7 +15,7 @@ use Rattle.urlpattern_syntax.proofs.Escaped.{escaped-append}
 use Rattle.urlpattern_meaning.proofs.MeaningLaws.{with_value}
 use Rattle.urlpattern_syntax.proofs.TokenExamples.{no}
 
--- ---- what the neighbours of a part decide
+-- ---- tests of the neighbours of a part
 
 -- a part as it is printed by the tests of its neighbours
 abbrev pub shaped : OptionsView → PartView → (next_taken before_taken admits : Bool) → List ℕ
@@ -74,7 +74,7 @@ plain_printed options before part next h =
 
 -- ---- neighbours
 
--- parts before that decide the same
+-- parts before with equal tests print alike
 same_before : (options : OptionsView) (a b : Option PartView) (part : PartView) (next : Option PartView) →
     takes_before options a part ≡ takes_before options b part → admits_asterisk a ≡ admits_asterisk b → printed_part options a part next ≡ printed_part options b part next
 same_before options a b part next e f =
@@ -89,7 +89,7 @@ same_after options a b [] e f = refl
 same_after options a b (part ∷ parts) e f =
     ap (λ t. t ++ printed_after options (Some part) parts) (same_before options a b part (first_part parts) (e part) f)
 
--- parts after that decide the same
+-- parts after with equal tests print alike
 same_next : (options : OptionsView) (before : Option PartView) (part : PartView) (a b : Option PartView) →
     takes_next part a ≡ takes_next part b → printed_part options before part a ≡ printed_part options before part b
 same_next options before part a b e =
@@ -133,7 +133,7 @@ joined_first : (options : OptionsView) (before : Option PartView) (part : PartVi
 joined_first options before part [] filled = refl
 joined_first options before part (next ∷ parts) filled = joined_pair options before part next parts (is_plain part) (is_plain next) refl refl filled.0
 
--- no fixed text gets empty
+-- no fixed text becomes empty
 texts_pair : (part next : PartView) (parts : List PartView) (both : Bool) → (IsTrue (is_fixed_text part.kind) → part.value ≢ []) → HaveTexts (next ∷ parts) → (IsTrue both → next.value ≢ []) →
     HaveTexts (if both then with_value part (part.value ++ next.value) ∷ parts else part ∷ next ∷ parts)
 texts_pair part next parts true filled more next_filled = ((λ h. append-filled part.value next.value (next_filled refl)), more.1)

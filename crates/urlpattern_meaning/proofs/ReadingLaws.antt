@@ -1,4 +1,4 @@
--- A text has one outcome, which is a reading or a refusal.
+-- A text has one outcome, a reading or a rejection.
 use Rattle.std.proofs.Common.{◌≡◌, ℕ, List, [], ◌∷◌, sym, ap, ◌∙◌, subst, inl, inr}
 use Rattle.std.specs.Prelude.{Ok, Err}
 use Rattle.urlpattern_meaning.proofs.PiecesUnique.{pieces_one}
@@ -48,7 +48,7 @@ module _ (options : OptionsView) (encoding : Encoding) (once : AnswersOnce encod
   all_or_first (demand ∷ rest) error m (inl f) = met_or_fails demand error m.0 f
   all_or_first (demand ∷ rest) error m (inr f) = all_or_first rest error m.1 f.1
 
--- the pieces of a text are one list, and so is their end
+-- a text has at most one list of pieces, with one ending
 pub text_pieces_one : (text point : List ℕ) (tokens others : List TokenView) (pieces more : List Piece) (ending other : Ending) → AreTokens text tokens → AreTokens text others → ArePieces point tokens pieces ending → ArePieces point others more other → (pieces ≡ more) × (ending ≡ other)
 text_pieces_one text point tokens others pieces more ending other h g p q =
     pieces_one point others pieces more ending other (subst (λ x. ArePieces point x pieces ending) (tokens_one text tokens others h g) p) q

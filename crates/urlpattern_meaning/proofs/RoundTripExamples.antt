@@ -1,4 +1,5 @@
--- Worked examples of printed patterns that read back, and of what prints or reads otherwise where one premise is missing.
+-- Worked examples of printed patterns that read back, and of what prints or reads otherwise where
+-- one premise is missing.
 use Rattle.std.proofs.Common.{◌≡◌, ℕ, List, [], ◌∷◌, refl, subst, arith, inl, lit<, Some, None, Ok}
 use Rattle.std.specs.Fmt.{digits}
 use Rattle.std.specs.Prelude.{codes}
@@ -21,7 +22,7 @@ use Rattle.urlpattern_meaning.specs.RoundTrip.{IsPrintable}
 use Rattle.urlpattern_meaning.proofs.PrintingExamples.{plain, printing, segment, wildcard}
 use Rattle.urlpattern_meaning.proofs.ReadsBack.{kept_reads}
 
--- ---- what is within
+-- ---- printable parts
 
 -- the encoding that keeps each text keeps those of any parts
 keeps_texts : (texts : List (List ℕ)) → KeepsTexts keeping texts
@@ -45,7 +46,7 @@ slash_printable = record {
   unskipped = (refl, ((refl, refl), tt));
 }
 
--- they read back
+-- a slash and a name read back
 pub slash_text : printed pathname_options (plain (codes "/") ∷ segment [] (codes "x") [] ∷ []) ≡ codes "/{:x}"
 unfolding printing
 slash_text = refl
@@ -55,7 +56,7 @@ slash_read =
     let parts : List PartView = plain (codes "/") ∷ segment [] (codes "x") [] ∷ [] in
     subst (λ text. Reads text pathname_options keeping parts) slash_text (kept_reads pathname_options keeping parts slash_printable (keeps_parts parts))
 
--- ---- what is outside
+-- ---- parts that are not printable
 
 abbrev lone : Placeholder → Piece
 lone placeholder = Bare [] placeholder modifiers.None
@@ -67,7 +68,7 @@ names_cut : (point first second : List ℕ) (place end : ℕ)
 names_cut point first second place end =
     piece 1 (bare 0 1 (inl (refl, refl)) (refl, refl) refl no no) (piece 1 (bare 0 1 (inl (refl, refl)) (refl, refl) refl no no) (ends (_, refl, refl)))
 
--- an empty fixed text: nothing is printed, and nothing is read
+-- an empty fixed text: the printed text is empty, and reads as no parts
 pub empty_text : printed default_options (plain [] ∷ []) ≡ []
 unfolding printing
 empty_text = refl
@@ -75,7 +76,7 @@ empty_text = refl
 pub empty_read : Reads [] default_options keeping []
 empty_read = read_by [] (token tokens.End 0 []) empty (ends ([], refl, refl)) (refl, tt) refl
 
--- one after a name: what stands after it is taken by the name
+-- an empty fixed text after a name: the name takes the text after it
 pub between_text : printed default_options (segment [] (codes "x") [] ∷ plain [] ∷ plain (codes "b") ∷ []) ≡ codes ":xb"
 unfolding printing
 between_text = refl
@@ -93,7 +94,7 @@ between_cut = piece 1 (bare 0 1 (inl (refl, refl)) (refl, refl) refl no no) (end
 pub between_read : Reads (codes ":xb") default_options keeping (segment [] (codes "xb") [] ∷ [])
 between_read = read_by _ _ between_tokens between_cut (first_name, ((_, refl), ((_, refl), (refl, tt)))) ([], [], [], refl, refl, refl, refl)
 
--- a tab: it is skipped where it is read
+-- a tab: it is skipped when it is read
 pub tab_text : printed default_options (plain (codes "\t") ∷ []) ≡ codes "\t"
 unfolding printing
 tab_text = refl
@@ -122,7 +123,7 @@ letter_tokens =
 pub letter_read : Reads (codes ":xa:y") letter_options keeping (segment [] (codes "xa") [] ∷ segment [] (codes "y") [] ∷ [])
 letter_read = read_by _ _ letter_tokens (names_cut (codes "a") (codes "xa") (codes "y") 3 5) (first_name, ((_, refl), ((_, refl), (other_name (λ e. cc), ((_, refl), ((_, refl), (refl, tt))))))) ([], [], _, refl, refl, refl, ([], [], [], refl, refl, refl, refl))
 
--- one that is a mark: its backslash keeps it from the name after it
+-- a prefix code point that is a mark: its backslash separates it from the name after it
 pub mark_text : printed (standard_options None (codes "*")) (segment (codes "*") (codes "x") [] ∷ []) ≡ codes "\\*:x"
 unfolding printing
 mark_text = refl
@@ -204,22 +205,23 @@ pub full_read : Reads (codes "(.*)") default_options keeping (wildcard (codes "0
 unfolding escaped digits
 full_read = read_by _ _ full_tokens full_cut (first_name, ((_, refl), ((_, refl), (refl, tt)))) ([], [], [], refl, refl, refl, refl)
 
--- a value that is none of a group's
+-- a value that no full wildcard has
 pub value_text : printed default_options (record (wildcard (codes "0")) { value = codes "a" } ∷ []) ≡ codes "*"
 unfolding printing
 value_text = refl
 
--- a prefix that is none of a fixed text's
+-- a prefix that no fixed text has
 pub prefix_text : printed default_options (record (plain (codes "a")) { prefix = codes "b" } ∷ []) ≡ codes "a"
 unfolding printing
 prefix_text = refl
 
--- a delimiter that is not ASCII: the segment has no body that could stand in brackets
+-- a delimiter that is not ASCII: the regular expression of the segment may not be written in
+-- brackets
 pub delimiter_text : printed (standard_options (Some 0xE9) []) (segment [] (codes "0") [] ∷ []) ≡ codes "([^é]+?)"
 unfolding printing
 delimiter_text = refl
 
--- an encoding that answers another text
+-- an encoding that changes texts
 abbrev changing : Encoding
 changing text answer = answer ≡ Ok (codes "b")
 

@@ -13,9 +13,9 @@ use Rattle.urlpattern_meaning.specs.Laws.{HasLenientTokens, HasTokensOrFault}
 use Rattle.urlpattern_syntax.specs.Text.{byte_len, BeginsAt, BeginsWith, is_among, is_name_start, is_name_part}
 use Rattle.urlpattern_syntax.specs.Tokens.{FaultView, IncompleteEscapeCode, InvalidName, InvalidRegex, StartsWithQuestionMark, NotAscii, EscapedNotAscii, GroupAtEnd, CapturingGroup, NotClosed, NoBody, reason, IsFaultAt, is_question_mark, EndsThere, IsCut, IsInvalidCharOf, IsLexed, IsTokenOf, Skips, SkipsBy, Spells, TokenView, end_of, is_ignored, marks}
 
--- ---- what is skipped
+-- ---- characters that are skipped
 
--- what follows all the characters at the front of a text that pass the test
+-- the text after all the characters at the beginning that pass the test
 record Skipped (test : ℕ → Bool) (text : List ℕ) : Type 0 where
   pub rest : List ℕ
   pub skips : SkipsBy test text rest
@@ -33,9 +33,9 @@ skipped : (test : ℕ → Bool) (text : List ℕ) → Skipped test text
 skipped test [] = record { rest = []; skips = SkipsBy-none test []; stops = false≢true }
 skipped test (c ∷ text) = skipped_more test c text (test c) refl (skipped test text)
 
--- ---- a token or a fault at the front of a text
+-- ---- a token or a fault at the beginning of a text
 
--- A token at the front of the text, or the reason why there is none.
+-- The token at the beginning of the text, or the reason why there is none.
 data Lexing (text : List ℕ) : Type 0 where
   Lexed : (kind : TokenType) (value rest : List ℕ) → IsLexed text kind value rest → Lexing text
   Faulty : (fault : FaultView) → IsFaultAt text fault → Lexing text
@@ -61,7 +61,7 @@ name_lexing (c ∷ text) = by_start (is_name_start c) refl
 
 -- ---- the body of a custom regular expression
 
--- the body ends or has a fault, or it goes on with fewer characters
+-- the body ends or has a fault, or it continues with fewer characters
 data BodyStep (text rest : List ℕ) : Type 0 where
   Ends : Lexing (codes "(" ++ text) → BodyStep text rest
   GoesOn : (after : List ℕ) (depth : ℕ) → HasRead text after depth → length after < length rest → BodyStep text rest
@@ -146,9 +146,9 @@ regexp_lexing (c ∷ text) = by_question_mark (is_question_mark c) refl
     by_question_mark true e = Faulty (InvalidRegex (reason StartsWithQuestionMark)) (c ∷ text, StartsWithQuestionMark, refl, e, refl)
     by_question_mark false e = by_close (is_among (codes ")") c) refl e
 
--- ---- any front
+-- ---- the beginning of any text
 
--- a token of one character
+-- a token of a single character
 single : (kind : TokenType) (c : ℕ) (text : List ℕ) → ((spelling : List ℕ) → spelling ≡ c ∷ [] → Spells kind spelling spelling) → ((rest : List ℕ) → EndsThere kind rest) → Lexing (c ∷ text)
 single kind c text spells ends = Lexed kind (c ∷ []) text (character_lexed kind (c ∷ text) (c ∷ []) text c refl refl spells (ends text))
 
@@ -173,7 +173,7 @@ lexing c text counts = by_kind (is_among marks c) refl
     by_kind true e = marked_lexing c text e
     by_kind false e = single Char c text (Spells-char c e counts) (λ _. tt)
 
--- What stands in a text after what is skipped: nothing, a token or a fault.
+-- The text after skipped characters: nothing, a token or a fault.
 data Start (text : List ℕ) : Type 0 where
   AtEnd : Skips text [] → Start text
   AtToken : (start : List ℕ) (kind : TokenType) (value rest : List ℕ) → Skips text start → IsLexed start kind value rest → Start text
@@ -191,7 +191,7 @@ start_of text = let s = skipped is_ignored text in start_at text s.rest s.skips 
 
 -- ---- whole texts
 
--- what is skipped leaves no more bytes
+-- skipping leaves no more bytes
 Skips-fewer : (text rest : List ℕ) → Skips text rest → byte_len rest ≤ byte_len text
 Skips-fewer text rest s =
     let e = ap byte_len s.1 ∙ byte_len-append s.0 rest in

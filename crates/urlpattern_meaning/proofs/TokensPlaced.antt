@@ -1,4 +1,4 @@
--- Where tokens stand in a text, and that nothing of it is lost.
+-- The places of tokens in a text, of which nothing is lost.
 use Rattle.std.proofs.Common.{◌≡◌, ℕ, suc, ◌+◌, ◌≤◌, ◌<◌, List, [], ◌∷◌, ◌++◌, refl, sym, ap, ◌∙◌, subst, inl, inr, append_assoc, arith}
 use Rattle.std.proofs.lemmas.List.{append-nil}
 use Rattle.urlpattern_syntax.proofs.TextLemmas.{byte_len-append, length-le-byte_len}
@@ -10,7 +10,7 @@ use Rattle.urlpattern_syntax.specs.Text.{byte_len, BeginsAt}
 use Rattle.urlpattern_syntax.specs.Tokens.{AreLenientTokens, AreTokens, IsCut, IsTokenOf, Spells, TokenView, end_of}
 use Rattle.urlpattern_meaning.proofs.TokensUnique.{LenientItem, lenient_strict}
 
--- ---- where tokens stand, and that nothing is lost
+-- ---- places of tokens, and the whole text
 
 spelling_is : (kind : TokenType) (value text : List ℕ) → Spells kind value text → text ≡ spelling kind value
 spelling_is Open value text h = sym h.0
@@ -24,7 +24,7 @@ spelling_is Char value text h = sym h.0
 spelling_is End value text h = absurd h
 spelling_is InvalidChar value text h = absurd h
 
--- What an item of a cut tells of its token.
+-- The spelling and place of the token of an item of a cut.
 record IsPlaced (whole start : List ℕ) (token : TokenView) (rest : List ℕ) : Type 0 where
   cut : start ≡ spelling token.kind token.value ++ rest
   some : 0 < byte_len (spelling token.kind token.value)
@@ -73,7 +73,8 @@ module _ (whole : List ℕ) where
         cut_lays cut.1 front (token.index + byte_len (spelling token.kind token.value)) cut.4 (omega arith),
       )
 
--- The tokens' spellings and what is skipped between them are the whole text, and each token's index is its place.
+-- The tokens' spellings and the skipped characters between them are the whole text, and each
+-- token's index is its place.
 pub lenient_lay : (text : List ℕ) (tokens : List TokenView) → AreLenientTokens text tokens → Lays 0 tokens text
 lenient_lay text tokens h = subst (λ x. Lays 0 x text) (sym h.all) (cut_lays text text h.front 0 h.cut (omega arith))
 
@@ -82,7 +83,7 @@ tokens_lay text tokens h = lenient_lay text tokens (lenient_strict text tokens h
 
 -- ---- indexes rise
 
--- the first index is this at least, and each is greater than the one before
+-- the first index is at least `least`, and each is greater than the one before
 abbrev RisesFrom : ℕ → List TokenView → Type 0
 RisesFrom least [] = Unit {0}
 RisesFrom least (token ∷ tokens) = (least ≤ token.index) × RisesFrom (suc token.index) tokens

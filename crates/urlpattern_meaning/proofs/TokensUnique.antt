@@ -8,12 +8,12 @@ use Rattle.urlpattern_meaning.proofs.FrontTokens.{fault_at_one, fault_counts, le
 
 -- ---- one list of tokens or one first fault
 
--- An item of a cut is known by where it begins, and none begins with what is skipped.
+-- The beginning of an item of a cut determines it, and no item begins with a skipped character.
 record IsExact (Item : List ℕ → TokenView → List ℕ → Type 0) : Type 0 where
   one : (start : List ℕ) (token other : TokenView) (rest left : List ℕ) → Item start token rest → Item start other left → (token ≡ other) × (rest ≡ left)
   counts : (start : List ℕ) (token : TokenView) (rest : List ℕ) → Item start token rest → ¬ BeginsWith is_ignored start
 
--- Here a cut goes no further.
+-- No cut goes on from the rest.
 record Stops (Item : List ℕ → TokenView → List ℕ → Type 0) (left : List ℕ) : Type 0 where
   counts : ¬ BeginsWith is_ignored left
   none : (token : TokenView) (rest : List ℕ) → ¬ Item left token rest
@@ -62,7 +62,7 @@ tokens_one text tokens others h g =
     let e = cut_one (IsTokenOf text) (token_exact text) text h.front g.front [] [] h.cut g.cut (token_stops text) (token_stops text) in
     h.all ∙ ap (λ x. x ++ end_of text ∷ []) e.0 ∙ sym g.all
 
--- It has one first fault at most.
+-- A text has at most one first fault.
 pub fault_one : (text : List ℕ) (f g : FaultView) (i j : ℕ) → IsFault text f i → IsFault text g j → (f ≡ g) × (i ≡ j)
 fault_one text f g i j h k =
     let e = (cut_one (IsTokenOf text) (token_exact text) text h.front k.front h.left k.left h.cut k.cut (fault_stops text h.left f h.fault) (fault_stops text k.left g k.fault)).1 in (
@@ -70,7 +70,7 @@ fault_one text f g i j h k =
       place_one text k.left i j (subst (λ x. BeginsAt text x i) e h.place) k.place,
     )
 
--- It never has both.
+-- A text never has both tokens and a fault.
 pub tokens_or_fault : (text : List ℕ) (tokens : List TokenView) (f : FaultView) (i : ℕ) → AreTokens text tokens → IsFault text f i → ⊥
 tokens_or_fault text tokens f i h g =
     let e = (cut_one (IsTokenOf text) (token_exact text) text h.front g.front [] g.left h.cut g.cut (token_stops text) (fault_stops text g.left f g.fault)).1 in

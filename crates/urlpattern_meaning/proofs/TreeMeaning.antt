@@ -1,4 +1,5 @@
--- What the trees that parts are written by mean: texts, atoms that stand alone, captures between texts, and wildcards.
+-- The meaning of the trees that parts are written by: texts, atoms alone, captures between texts,
+-- and wildcards.
 use Rattle.std.proofs.Common.{◌≡◌, ℕ, List, [], ◌∷◌, ◌++◌, refl, sym, subst, ap, Bool, true, false, Some, append_assoc, ◌∙◌, ◌↔◌}
 use Rattle.std.proofs.lemmas.List.{append-nil}
 use Rattle.std.specs.Prelude.{if◌then◌else◌}
@@ -17,7 +18,7 @@ character_by false c = refl
 pub character_same : (marks : List ℕ) (c : ℕ) → character_of (character marks c) ≡ c
 character_same marks c = character_by (is_among marks c) c
 
--- a text before items takes itself, and captures nothing
+-- a text before items matches itself, and captures nothing
 pub put_means : (marks front : List ℕ) (items : Items) (text : List ℕ) (captures : Captures) →
     Means (put marks front items) text captures ↔ ((rest : List ℕ) × (text ≡ front ++ rest) × Means items rest captures)
 put_means marks [] items text captures = (λ means. (text, refl, means), λ is. subst (λ t. Means items t captures) (sym is.1) is.2)
@@ -39,7 +40,7 @@ text_means marks front text captures = (
   λ is. (put_means marks front Nothing text captures).1 ([], is.0 ∙ sym (append-nil front), (refl, is.1)),
 )
 
--- ---- an atom and nothing after it
+-- ---- an atom alone
 
 pub alone_means : (atom : Atom) (quantifier : Quantifier) (text : List ℕ) (captures : Captures) →
     Means (alone atom quantifier) text captures ↔ IsTaken quantifier (atom_group_count atom) (AtomMeans atom) text captures
@@ -87,13 +88,13 @@ between_means marks prefix core suffix text captures = (
           means,
         )
 
--- ---- what takes pieces
+-- ---- items that match pieces
 
--- Items take the pieces, and capture nothing.
+-- Items match the pieces, and capture nothing.
 pub record StandsFor (items : Items) (IsPiece : List ℕ → Type 0) : Type 0 where
   pub means : (text : List ℕ) (captures : Captures) → Means items text captures ↔ (IsPiece text × (captures ≡ []))
 
--- what takes pieces, between nothing
+-- items that match pieces, on a whole text
 pub piece_means : (piece : Items) (IsPiece : List ℕ → Type 0) → StandsFor piece IsPiece → (text : List ℕ) → Means piece text [] ↔ IsPiece text
 piece_means piece IsPiece stands text = (λ means. ((stands.means text []).0 means).0, λ is. (stands.means text []).1 (is, refl))
 

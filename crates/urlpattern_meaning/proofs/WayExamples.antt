@@ -12,27 +12,30 @@ any_text = Captured (Item Dot ZeroOrMore Nothing)
 abbrev pub segment : Atom
 segment = Captured (Item (AnyBut (Plain (slice_index (codes "/") 0))) LazyOneOrMore Nothing)
 
--- Two wildcards in a row, `^(.*)(.*)$`: the first takes all that it can. Each other cut of `ab` is a meaning too.
+-- Two wildcards in a row, `^(.*)(.*)$`: the first matches all that it can. Each other cut of `ab`
+-- is a meaning too.
 pub two_wildcards : first_way (Item any_text Once (once any_text)) (codes "ab") ≡ Some (Some (codes "ab") ∷ Some [] ∷ [])
 unfolding first_way_by
 two_wildcards = refl
 
--- A lazy name before a wildcard, `^([^/]+?)(.*)$`: the name takes as little as it can.
+-- A lazy name before a wildcard, `^([^/]+?)(.*)$`: the name matches as little as it can.
 pub lazy_name : first_way (Item segment Once (once any_text)) (codes "ab") ≡ Some (Some (codes "a") ∷ Some (codes "b") ∷ [])
 unfolding first_way_by
 lazy_name = refl
 
--- A lazy name before a fixed text, `^([^/]+?)-(.*)$`: it ends before the first hyphen, and not before the last.
+-- A lazy name before a fixed text, `^([^/]+?)-(.*)$`: the name ends before the first hyphen, not
+-- the last.
 pub name_before_hyphen : first_way (Item segment Once (Item (plain (codes "-")) Once (once any_text))) (codes "a-b-c") ≡ Some (Some (codes "a") ∷ Some (codes "b-c") ∷ [])
 unfolding first_way_by
 name_before_hyphen = refl
 
--- Before the hyphen that ends the text it takes more than the least: `^([^/]+?)-$`.
+-- A lazy name before the hyphen that ends the text, `^([^/]+?)-$`, matches more than the least.
 pub name_before_last_hyphen : first_way (Item segment Once (once (plain (codes "-")))) (codes "a-b-") ≡ Some (Some (codes "a-b") ∷ [])
 unfolding first_way_by
 name_before_last_hyphen = refl
 
--- An optional group, `^(.*)?$`, takes part even on the empty text. With a slash before it, `^(?:/(.*))?$`, it cannot.
+-- An optional group, `^(.*)?$`, takes part even on the empty text. With a slash before it,
+-- `^(?:/(.*))?$`, it cannot.
 pub optional_on_nothing : first_way (Item any_text Optional Nothing) [] ≡ Some (Some [] ∷ [])
 unfolding first_way_by
 optional_on_nothing = refl
@@ -46,7 +49,7 @@ pub repeated_name : first_way repeated_tree (codes "pxspxs") ≡ Some (Some (cod
 unfolding first_way_by
 repeated_name = refl
 
--- A repeated wildcard, `^((?:.*)*)$`, takes a text, the empty text and no line feed.
+-- A repeated wildcard, `^((?:.*)*)$`, matches a text, the empty text and no line feed.
 abbrev pub repeated_wildcard : Items
 repeated_wildcard = once (Captured (Item (Grouped (Item Dot ZeroOrMore Nothing)) ZeroOrMore Nothing))
 
@@ -67,12 +70,13 @@ pub nothing_repeated : first_way (Item (Grouped Nothing) ZeroOrMore Nothing) [] 
 unfolding first_way_by
 nothing_repeated = refl
 
--- Where case is ignored, `^([^x]+?)x$` takes a letter of either case, and the capture keeps its own.
+-- Where case is ignored, `^([^x]+?)x$` matches a letter of either case, and the capture keeps its
+-- own.
 pub either_case : first_way_by true (Item (Captured (Item (AnyBut (Plain 120)) LazyOneOrMore Nothing)) Once (once (Literal (Plain 120)))) (codes "AX") ≡ Some (Some (codes "A") ∷ [])
 unfolding first_way_by
 either_case = refl
 
--- A letter outside of ASCII is compared as it is: `^É$` does not take `é`.
+-- A letter outside of ASCII is compared as it is: `^É$` does not match `é`.
 pub outside_case : first_way_by true (once (Literal (Plain 0xC9))) (0xE9 ∷ []) ≡ None
 unfolding first_way_by
 outside_case = refl

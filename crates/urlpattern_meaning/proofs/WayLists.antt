@@ -1,4 +1,4 @@
--- Lists of ways: what all of them fulfil, and which are among them.
+-- Lists of ways: properties of all of them, and membership.
 use Rattle.std.proofs.Common.{◌≡◌, zero, suc, arith, sym, List, [], ◌∷◌, ◌++◌, map, Bool, true, false, cond, inl, inr, ◌⊎◌, ap, subst}
 use Rattle.std.specs.List.{Contains}
 use Rattle.urlpattern_meaning.specs.Ways.{Way, Choice, joined_way, continued, ordered}
@@ -33,7 +33,7 @@ every-continued P Q next [] p f = tt
 every-continued P Q next (way ∷ ways) p f =
     every-append Q (map (joined_way way) (next way.rest)) (continued next ways) (every-map Q (joined_way way) (next way.rest) (f way p.0)) (every-continued P Q next ways p.1 f)
 
--- ---- being among them
+-- ---- membership
 
 abbrev pub Has : {A : Type 0} → A → List A → Type 0
 Has x [] = ⊥
@@ -69,7 +69,7 @@ has-continued next way more (other ∷ ways) (inl e) g =
 has-continued next way more (other ∷ ways) (inr h) g =
     has-right _ (map (joined_way other) (next other.rest)) (continued next ways) (has-continued next way more ways h g)
 
--- the same in the word of lists
+-- membership, as the library defines it
 pub contains-has : {A : Type 0} (x : A) (xs : List A) → Has x xs → Contains xs x
 contains-has x [] h = absurd h
 contains-has x (y ∷ xs) (inl e) = (0, omega arith, sym e)

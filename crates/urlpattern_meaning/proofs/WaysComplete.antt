@@ -1,4 +1,4 @@
--- The meanings of a tree are ways of it, whatever text follows.
+-- The meanings of a tree are among its ways, whatever text follows.
 use Rattle.std.proofs.Common.{◌≡◌, ℕ, zero, suc, ◌≤◌, ◌<◌, List, [], ◌∷◌, ◌++◌, length, Bool, true, false, if◌then◌else◌, not, ◌==◌, refl, sym, ap, subst, append_assoc, length-append, inl, inr, arith, lt-ltb, le-ltb, eq-eqb}
 use Rattle.std.proofs.lemmas.Bool.{cond-true, cond-false}
 use Rattle.urlpattern_meaning.specs.Dialect.{character_of, Quantifier, Once, Optional, ZeroOrMore, OneOrMore, LazyOneOrMore, Items, Nothing, Item, Atom, Literal, Dot, AnyBut, Captured, Grouped, atom_group_count, AllowsGroups, AreItems, IsAtom, IsTaken, Means, AtomMeans}
@@ -10,11 +10,11 @@ use Rattle.urlpattern_meaning.proofs.WayLists.{Has, has-left, has-right, has-map
 abbrev pub way_of : List ℕ → Captures → List ℕ → Way
 way_of taken captures rest = record { taken = taken; captures = captures; rest = rest }
 
--- what `IsA` allows at the front of a text is among the ways of that text
+-- each beginning of a text that `IsA` allows is among the ways of that text
 abbrev pub IsComplete : Choice → (List ℕ → Captures → Type 0) → Type 0
 IsComplete choice IsA = (taken : List ℕ) (captures : Captures) (rest : List ℕ) → IsA taken captures → Has (way_of taken captures rest) (choice (taken ++ rest))
 
--- a meaning, and one of what follows
+-- a meaning, and one of the rest
 has-behind : (next : Choice) (ways : Choice) (first later : List ℕ) (own others : Captures) (rest : List ℕ)
     → Has (way_of first own (later ++ rest)) (ways (first ++ (later ++ rest))) → Has (way_of later others rest) (next (later ++ rest))
     → Has (way_of (first ++ later) (own ++ others) rest) (continued next (ways ((first ++ later) ++ rest)))
@@ -23,7 +23,7 @@ has-behind next ways first later own others rest p q =
     (has-continued next (way_of first own (later ++ rest)) (way_of later others rest) (ways (first ++ (later ++ rest))) p q)
 
 module _ (atom : Choice) (IsA : List ℕ → Captures → Type 0) (complete : IsComplete atom IsA) where
-  -- a round that takes something, and more rounds
+  -- a round that matches something, and more rounds
   round_here : (greedy : Bool) (m : ℕ) (c : ℕ) (first later rest : List ℕ) → IsA (c ∷ first) []
       → Has (way_of later [] rest) (more_rounds greedy atom m (later ++ rest))
       → Has (way_of ((c ∷ first) ++ later) [] rest) (more_rounds greedy atom (suc m) (((c ∷ first) ++ later) ++ rest))
@@ -49,7 +49,7 @@ module _ (atom : Choice) (IsA : List ℕ → Captures → Type 0) (complete : Is
       let fits : length later ≤ m = omega (arith, ap length e, length-append first later) in
       rw e (round_here greedy m c first later rest p (more_rounds-complete greedy n later rest m fits q))
 
-  -- a loop whose first round takes something
+  -- a loop whose first round matches something
   loop_here : (greedy : Bool) (n : ℕ) (c : ℕ) (first later rest : List ℕ) → IsA (c ∷ first) [] → IsRepeated (λ stretch. IsA stretch []) n later
       → Has (way_of ((c ∷ first) ++ later) [] rest) (looped greedy atom (((c ∷ first) ++ later) ++ rest))
   loop_here greedy n c first later rest p q =

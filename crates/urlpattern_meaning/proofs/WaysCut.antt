@@ -1,4 +1,5 @@
--- The ways of a tree in a text, and in the same text with another after it: those that take nothing of the other.
+-- The ways of a tree in a text, and in the text with another after it: those that match nothing of
+-- the other.
 use Rattle.std.proofs.Common.{◌≡◌, ℕ, zero, suc, ◌≤◌, ◌<◌, List, [], ◌∷◌, ◌++◌, map, length, Bool, true, false, cond, if◌then◌else◌, nat_lt, not, ◌==◌, refl, sym, ap, ◌∙◌, subst, length-append, inl, inr, ◌⊎◌, arith, lt-ltb, le-ltb, ⊎_elim}
 use Rattle.std.proofs.lemmas.Bool.{cases_Bool, cond-false, ltb-false, ltb-true}
 use Rattle.urlpattern_meaning.specs.Dialect.{character_of, Quantifier, Once, Optional, ZeroOrMore, OneOrMore, LazyOneOrMore, Items, Nothing, Item, Atom, Literal, Dot, AnyBut, Captured, Grouped, atom_group_count, AreItems, IsAtom, Means, AtomMeans}
@@ -8,7 +9,7 @@ use Rattle.urlpattern_meaning.specs.Ways.{Way, Choice, idle, joined_way, continu
 use Rattle.urlpattern_meaning.proofs.WayLists.{Every, every-weaker, every-cond, every-ordered, every-continued}
 use Rattle.urlpattern_meaning.proofs.WaysSound.{IsSound, ways-sound, atom-sound}
 
--- no way leaves more than there was
+-- no way leaves more than the text
 abbrev Falls : Choice → Type 0
 Falls choice = (text : List ℕ) → Every (λ way. length way.rest ≤ length text) (choice text)
 
@@ -26,11 +27,11 @@ sound-falls text IsA xs every =
     every-weaker (IsSound text IsA) _ xs (λ way p. omega (arith, ap length p.0, length-append way.taken way.rest)) every
 
 module _ (s : List ℕ) where
-  -- with the text after it
+  -- the way with `s` after its rest
   abbrev pub longer : Way → Way
   longer way = record way { rest = way.rest ++ s }
 
-  -- Of the ways in the longer text, those that leave it are the ways in the shorter, in the same order.
+  -- The ways in the longer text that leave `s` are the ways in the shorter text, in order.
   abbrev pub Cut : List Way → List Way → Type 0
   Cut [] short = short ≡ []
   Cut (way ∷ long) short =
@@ -115,7 +116,7 @@ module _ (s : List ℕ) where
       not_less e = ltb-false _ _ e
 
   module _ (greedy : Bool) (atom : Choice) (falls : Falls atom) (cut : IsCut atom atom) where
-    -- what follows a round
+    -- the ways after a round are cut as those of `long` and `none` are
     goes_on : (long short none : List ℕ → List Way) (inner : List ℕ) → IsCut none none
         → ((rest : List ℕ) → length rest < length inner → Cut (long (rest ++ s)) (short rest))
         → IsCut (λ rest. if is_shorter rest (inner ++ s) then long rest else none rest) (λ rest. if is_shorter rest inner then short rest else none rest)
@@ -131,7 +132,7 @@ module _ (s : List ℕ) where
     no_more [] next none = refl
     no_more (way ∷ xs) next none = rw (none way.rest) (no_more xs next none)
 
-    -- in the empty text no round follows, however many may
+    -- in the empty text no round follows, however many are allowed
     rounds-over : (n : ℕ) → more_rounds greedy atom n [] ≡ idle 0 [] ∷ []
     rounds-over zero = refl
     rounds-over (suc n) =

@@ -74,12 +74,12 @@ pub both_put : (marks front : List ℕ) (items others : Items) → put marks fro
 both_put marks [] items others = refl
 both_put marks (c ∷ front) items others = ap (Item (Literal (character marks c)) Once) (both_put marks front items others)
 
--- ---- what the first way shows of ways
+-- ---- the first way among others
 
 abbrev pub takes_all : Way → Bool
 takes_all way = length way.rest == 0
 
--- what the first of these ways captures that takes the whole text
+-- the captures of the first of these ways that matches the whole text
 abbrev pub first_of : List Way → Option Captures
 first_of xs = option_map (λ way. way.captures) (find takes_all xs)
 
@@ -107,7 +107,7 @@ first_seen xs ys e = of_seen xs ∙ ap (λ all. option_map (λ (s : Seen). s.0) 
 
 -- ---- a fixed text
 
--- a fixed text before items takes itself
+-- a fixed text before items matches itself
 pub put_ways : (marks front : List ℕ) (items : Items) (text : List ℕ) → seen (ways (put marks front items) (front ++ text)) ≡ seen (ways items text)
 put_ways marks [] items text = refl
 put_ways marks (c ∷ front) items text =

@@ -1,4 +1,5 @@
--- The ways of a tree are meanings of it: what a way takes is a text that the tree means, with the way's captures.
+-- The ways of a tree are meanings: the tree means the text that a way matches, with the way's
+-- captures.
 use Rattle.std.proofs.Common.{◌≡◌, ℕ, zero, suc, ◌+◌, List, [], ◌∷◌, ◌++◌, replicate, length, Option, None, Bool, true, false, cond, refl, sym, ap, ap₂, ◌∙◌, subst, append_assoc, length-append, eqb-true, inl, inr}
 use Rattle.urlpattern_meaning.specs.Dialect.{character_of, Quantifier, Once, Optional, ZeroOrMore, OneOrMore, LazyOneOrMore, Items, Nothing, Item, Atom, Literal, Dot, AnyBut, Captured, Grouped, group_count, atom_group_count, AllowsGroups, AreItems, IsAtom, IsTaken, Means, AtomMeans}
 use Rattle.urlpattern_meaning.specs.PartMeaning.{Captures}
@@ -6,18 +7,18 @@ use Rattle.urlpattern_syntax.specs.Text.{IsRepeated}
 use Rattle.urlpattern_meaning.specs.Ways.{Way, Choice, idle, one_that, is_shorter, more_rounds, looped, quantified_ways, capturing, ways, atom_ways}
 use Rattle.urlpattern_meaning.proofs.WayLists.{Every, every-append, every-map, every-weaker, every-cond, every-ordered, every-continued}
 
--- the way cuts the text in two, and the front with its captures is one that `IsA` allows
+-- the way cuts the text in two, and `IsA` allows the first part with its captures
 abbrev pub IsSound : List ℕ → (List ℕ → Captures → Type 0) → Way → Type 0
 IsSound text IsA way = (text ≡ way.taken ++ way.rest) × IsA way.taken way.captures
 
 abbrev pub AreSound : Choice → (List ℕ → Captures → Type 0) → Type 0
 AreSound choice IsA = (text : List ℕ) → Every (IsSound text IsA) (choice text)
 
--- two fronts, and what is left of the text after both
+-- the text is the matches of two ways and the rest after both
 behind : (text : List ℕ) (way more : Way) → text ≡ way.taken ++ way.rest → way.rest ≡ more.taken ++ more.rest → text ≡ (way.taken ++ more.taken) ++ more.rest
 behind text way more p q = p ∙ ap (λ r. way.taken ++ r) q ∙ sym (append_assoc way.taken more.taken more.rest)
 
--- any number of rounds, or one at least, without captures
+-- any number of rounds without captures
 abbrev AreRounds : (List ℕ → Captures → Type 0) → List ℕ → Captures → Type 0
 AreRounds IsA text captures = (n : ℕ) × IsRepeated (λ stretch. IsA stretch []) n text × (captures ≡ [])
 

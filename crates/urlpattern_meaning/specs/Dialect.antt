@@ -1,4 +1,5 @@
--- The dialect of regular expressions in which parts are written: trees, the texts that spell them, and what they mean.
+-- The dialect of regular expressions in which parts are written: trees, the texts that spell them,
+-- and their meaning.
 use Rattle.std.specs.Prelude.{◌≡◌, ◌↔◌, ℕ, suc, ◌+◌, ◌⊎◌, not, ◌==◌, List, [], ◌∷◌, ◌++◌, replicate, codes, Option, Some, None, IsTrue, MatchOption}
 use Rattle.std.specs.Str.{all_scalars}
 use Rattle.urlpattern_meaning.specs.PartMeaning.{Captures, PartsMean}
@@ -12,7 +13,7 @@ use Rattle.urlpattern_syntax.specs.Text.{is_among, line_feed, IsRepeated}
 pub data Character : Type 0 where
   Plain Escaped : ℕ → Character
 
--- How often an atom is taken. Lazy or not changes no meaning.
+-- The repetition of an atom. Greedy and lazy mean the same texts.
 pub data Quantifier : Type 0 where
   Once Optional ZeroOrMore OneOrMore LazyOneOrMore : Quantifier
 
@@ -22,7 +23,8 @@ mutual
     Nothing : Items
     Item : Atom → Quantifier → Items → Items
 
-  -- A character; any but a line feed; any but this; brackets that capture; brackets that do not.
+  -- A character; any but a line feed; any but one character; brackets that capture; brackets that
+  -- do not.
   pub data Atom : Type 0 where
     Literal : Character → Atom
     Dot : Atom
@@ -31,15 +33,17 @@ mutual
 
 -- ---- the texts of trees
 
--- the character that is written
+-- the character without its backslash
 abbrev pub character_of : Character → ℕ
 character_of (Plain c) = c
 character_of (Escaped c) = c
 
+-- a character as it is spelled
 abbrev pub character_text : Character → List ℕ
 character_text (Plain c) = c ∷ []
 character_text (Escaped c) = codes "\\" ++ c ∷ []
 
+-- a quantifier as it is spelled
 abbrev pub quantifier_text : Quantifier → List ℕ
 quantifier_text Once = []
 quantifier_text Optional = codes "?"
@@ -48,10 +52,12 @@ quantifier_text OneOrMore = codes "+"
 quantifier_text LazyOneOrMore = codes "+?"
 
 abbrev mutual
+  -- the items as they are spelled
   pub items_text : Items → List ℕ
   items_text Nothing = []
   items_text (Item atom quantifier items) = atom_text atom ++ quantifier_text quantifier ++ items_text items
 
+  -- an atom as it is spelled
   pub atom_text : Atom → List ℕ
   atom_text (Literal character) = character_text character
   atom_text Dot = codes "."
@@ -62,11 +68,12 @@ abbrev mutual
 -- ---- which trees are allowed
 
 abbrev mutual
-  -- how many brackets capture
+  -- the number of capturing brackets
   pub group_count : Items → ℕ
   group_count Nothing = 0
   group_count (Item atom quantifier items) = atom_group_count atom + group_count items
 
+  -- the number of capturing brackets of an atom
   pub atom_group_count : Atom → ℕ
   atom_group_count (Literal character) = 0
   atom_group_count Dot = 0
@@ -74,31 +81,34 @@ abbrev mutual
   atom_group_count (Captured items) = suc (group_count items)
   atom_group_count (Grouped items) = group_count items
 
--- a mark stands after a backslash, and a slash may; any other character stands by itself
+-- a mark needs a backslash, a slash may have one, and any other character has none
 abbrev pub IsCharacter : Character → Type 0
 IsCharacter (Plain c) = ¬ IsTrue (is_among regexp_marks c)
 IsCharacter (Escaped c) = IsTrue (is_among (regexp_marks ++ codes "/") c)
 
--- the characters that do not stand by themselves in a class
+-- the characters that need a backslash in a class
 abbrev pub class_marks : List ℕ
 class_marks = codes "[\\"
 
--- in a class a mark or a slash may stand after a backslash, and any character but `[` and the backslash by itself
+-- in a class a mark or a slash may have a backslash, and any character but `[` and the backslash
+-- may have none
 abbrev pub IsClassCharacter : Character → Type 0
 IsClassCharacter (Plain c) = ¬ IsTrue (is_among class_marks c)
 IsClassCharacter (Escaped c) = IsTrue (is_among (regexp_marks ++ codes "/") c)
 
--- what may be taken more than once captures nothing
+-- an atom that may be repeated captures nothing
 abbrev pub AllowsGroups : Quantifier → ℕ → Type 0
 AllowsGroups Once groups = Unit {0}
 AllowsGroups Optional groups = Unit {0}
 AllowsGroups quantifier groups = groups ≡ 0
 
 abbrev mutual
+  -- the characters and quantifiers of the items are allowed
   pub AreItems : Items → Type 0
   AreItems Nothing = Unit {0}
   AreItems (Item atom quantifier items) = IsAtom atom × AllowsGroups quantifier (atom_group_count atom) × AreItems items
 
+  -- the characters and the items of the atom are allowed
   pub IsAtom : Atom → Type 0
   IsAtom (Literal character) = IsCharacter character
   IsAtom Dot = Unit {0}
@@ -116,12 +126,12 @@ HasTree text = (tree : Items) × IsTreeOf text tree
 
 -- ---- what trees mean
 
--- one character, but not this
+-- a single character other than `c`
 abbrev pub IsOneBut : ℕ → List ℕ → Type 0
 IsOneBut c text = (other : ℕ) × (text ≡ other ∷ []) × IsTrue (not (other == c))
 
--- An atom with so many groups is taken as its quantifier says, where this is what it means. Taken no time, it leaves
--- its groups None.
+-- The text matches an atom of meaning `Atom`, with this number of groups, under the quantifier. An
+-- atom that is skipped leaves its groups None.
 abbrev pub IsTaken : Quantifier → (groups : ℕ) → (List ℕ → Captures → Type 0) → List ℕ → Captures → Type 0
 IsTaken Once groups Atom text captures = Atom text captures
 IsTaken Optional groups Atom text captures = Atom text captures ⊎ ((text ≡ []) × (captures ≡ replicate groups None))
@@ -130,13 +140,14 @@ IsTaken OneOrMore groups Atom text captures = (n : ℕ) × IsRepeated (λ stretc
 IsTaken LazyOneOrMore groups Atom text captures = (n : ℕ) × IsRepeated (λ stretch. Atom stretch []) (suc n) text × (captures ≡ [])
 
 abbrev mutual
-  -- the items take the whole text, and capture this in the order of the opening brackets
+  -- the items match the whole text, with these captures in the order of the opening brackets
   pub Means : Items → List ℕ → Captures → Type 0
   Means Nothing text captures = (text ≡ []) × (captures ≡ [])
   Means (Item atom quantifier items) text captures =
       (first rest : List ℕ) × (own others : Captures) × (text ≡ first ++ rest) × (captures ≡ own ++ others)
       × IsTaken quantifier (atom_group_count atom) (AtomMeans atom) first own × Means items rest others
 
+  -- the atom matches the whole text, with these captures
   pub AtomMeans : Atom → List ℕ → Captures → Type 0
   AtomMeans (Literal character) text captures = (text ≡ character_of character ∷ []) × (captures ≡ [])
   AtomMeans Dot text captures = IsOneBut line_feed text × (captures ≡ [])
@@ -146,18 +157,19 @@ abbrev mutual
 
 -- ---- engines
 
--- The text has this tree, and no other.
+-- The text has exactly one tree.
 pub record IsOnlyTreeOf (text : List ℕ) (tree : Items) : Type 0 where
   pub is_tree : IsTreeOf text tree
   pub only : (other : Items) → IsTreeOf text other → other ≡ tree
 
--- the text has one tree, which means each text with the captures that the parts have there, and no others
+-- the text has exactly one tree, which means each text with exactly the captures that the parts
+-- have there
 abbrev pub HasMeaningOf : (regexp : List ℕ) → OptionsView → List PartView → Type 0
 HasMeaningOf regexp options parts =
     (tree : Items) × IsOnlyTreeOf regexp tree × ((text : List ℕ) (captures : Captures) → Means tree text captures ↔ PartsMean options parts text captures)
 
--- What an engine answers to texts of characters is what the one tree of its own text means: captures that the tree has
--- there, or None where it has none.
+-- The results of an engine for texts of characters are what the one tree of its own text means:
+-- captures that the tree has there, or None where it has none.
 pub record Follows (regexp : List ℕ) (answer : List ℕ → Option Captures) : Type 0 where
   pub tree : Items
   pub is_tree : IsOnlyTreeOf regexp tree

@@ -1,4 +1,4 @@
--- Which of the meanings of parts is answered: that of the first way.
+-- The meaning of parts that a matcher returns: that of the first way.
 use Rattle.std.specs.Prelude.{◌≡◌, ℕ, false, List, Option, Ok, Err, IsTrue}
 use Rattle.std.specs.Str.{all_scalars}
 use Rattle.urlpattern_meaning.specs.Dialect.{IsTreeOf, Items}
@@ -7,29 +7,29 @@ use Rattle.urlpattern_meaning.specs.PartMeaning.{AreGenerated, Captures}
 use Rattle.urlpattern_meaning.specs.Ways.{first_way}
 use Rattle.urlpattern_syntax.specs.{Options.OptionsView, Parts.PartView, RegexpText.regexp_text}
 
--- The result is what the first way captures that the tree of the parts' regular expression takes the whole text in, or None
--- where it takes it in no way.
+-- The result is the captures of the first way in which the tree of the parts' regular expression
+-- matches the whole text, or None where no way does.
 pub record IsFirstOf (options : OptionsView) (parts : List PartView) (text : List ℕ) (result : Option Captures) : Type 0 where
   pub tree : Items
   pub is_tree : IsTreeOf (regexp_text options parts) tree
   pub is_first : result ≡ first_way tree text
 
--- what an engine answers to texts of characters is the first way of the tree of its own text
+-- for a text of characters, an engine returns the first way of the tree of its own text
 abbrev pub AnswersFirst : (regexp : List ℕ) → (answer : List ℕ → Option Captures) → Type 0
 AnswersFirst regexp answer = (tree : Items) (text : List ℕ) → IsTreeOf regexp tree → IsTrue (all_scalars text) → answer text ≡ first_way tree text
 
--- an engine's value that is asked answers so of the parts that are left to it
+-- an engine that is called returns the first way for the parts that are left to it
 abbrev pub AnswersFirstInMiddle : {E : Type 0} → (answer : E → List ℕ → Option Captures) → OptionsView → List PartView → InnerView E → Type 0
 AnswersFirstInMiddle answer options parts inner = IsOfMiddle (λ engine middle. AnswersFirst (regexp_text options middle) (answer engine)) parts inner
 
--- The matcher answers the first way of the tree of the parts, where none of them is custom and case is kept, if an engine that
--- is asked answers so of the parts that are left to it.
+-- The matcher returns the first way of the tree of the parts, where none of them is custom and case
+-- is kept, if an engine that is called returns the first way for the parts that are left to it.
 abbrev pub AnswersByFirstWay : {E : Type 0} → (answer : E → List ℕ → Option Captures) → OptionsView → List PartView → MatcherView E → Type 0
 AnswersByFirstWay answer options parts matcher =
     AreGenerated parts → options.ignore_case ≡ false → AnswersFirstInMiddle answer options parts matcher.inner →
     EachAnswerIs answer matcher (IsFirstOf options parts)
 
--- an engine that is needed took its text: no error is kept, and `Holds` is true of the value
+-- an engine that is needed accepted its text: no error is kept, and `Holds` is true of the value
 abbrev pub TookText : {E : Type 0} → (Holds : E → Type 0) → InnerView E → Type 0
 TookText Holds (RegExp (Ok engine)) = Holds engine
 TookText Holds (RegExp (Err error)) = ⊥

@@ -1,8 +1,8 @@
--- Regular expressions of parts without a custom one.
+-- Regular expressions of parts without custom ones.
 use Rattle.std.specs.Prelude.{◌≡◌, ℕ, List}
 use Rattle.urlpattern_meaning.specs.PartMeaning.{AreGenerated}
 use Rattle.urlpattern_syntax.specs.{Options.OptionsView, Parts.PartView, RegexpText.regexp_text}
 
--- the text is the regular expression of parts, none of them custom, under some options
+-- the text is, under some options, the regular expression of parts of which none is custom
 abbrev pub IsGenerated : List ℕ → Type 0
 IsGenerated regexp = (options : OptionsView) × (parts : List PartView) × AreGenerated parts × (regexp ≡ regexp_text options parts)

@@ -1,4 +1,4 @@
--- What the laws of the definitions speak of: where tokens stand, what encodings answer, and outcomes.
+-- Words of the laws: the places of tokens, the results of encodings, and outcomes.
 use Rattle.std.specs.Prelude.{◌≡◌, ◌≢◌, ℕ, suc, ◌+◌, ◌⊎◌, List, [], ◌∷◌, ◌++◌, codes, Contains, Result, Ok, Err, IsTrue, decimal, filter}
 use Rattle.std.specs.{Char.is_ascii_digit, List.list_all}
 use Rattle.urlpattern_meaning.specs.Matching.{IsMadeOf, MatcherView}
@@ -9,11 +9,11 @@ use Rattle.urlpattern_syntax.specs.Text.{begins_with, byte_len}
 use Rattle.urlpattern_syntax.specs.declared.tokenizer.TokenType.{TokenType}
 use Rattle.urlpattern_syntax.specs.Tokens.{AreLenientTokens, AreTokens, FaultView, IsFault, TokenView, is_ignored}
 
--- one value at most is such
+-- at most one value has the property
 abbrev pub AtMostOne : {A : Type 0} → (Is : A → Type 0) → Type 0
 AtMostOne {A} Is = (value other : A) → Is value → Is other → value ≡ other
 
--- ---- where tokens stand
+-- ---- the places of tokens
 
 -- the characters that make a token of this kind and value; End has none
 abbrev pub spelling : TokenType → List ℕ → List ℕ
@@ -23,13 +23,13 @@ spelling TokenType.Regexp value = codes "(" ++ value ++ codes ")"
 spelling TokenType.End value = []
 spelling kind value = value
 
--- the token's spelling stands in the text where its index says
+-- the token's spelling is in the text where its index says
 abbrev pub IsSpelledAt : (text : List ℕ) → TokenView → Type 0
 IsSpelledAt text token =
     (before after : List ℕ) × (text ≡ before ++ spelling token.kind token.value ++ after) × (token.index ≡ byte_len before)
 
--- The text, which begins at this byte, is the spellings of these tokens in order, each at its token's index, and nothing
--- but skipped characters stands before each of them.
+-- The text, which begins at this byte, is the spellings of these tokens in order, each at its
+-- token's index, with nothing but skipped characters before each.
 abbrev pub Lays : (place : ℕ) → List TokenView → (text : List ℕ) → Type 0
 Lays place [] text = text ≡ []
 Lays place (token ∷ tokens) text =
@@ -50,29 +50,30 @@ HasLenientTokens text = (tokens : List TokenView) × AreLenientTokens text token
 
 -- ---- encodings
 
--- texts with the answers that an encoding has to them
+-- texts with the results of an encoding
 abbrev pub Answered : Type 0
 Answered = List (List ℕ × Result (List ℕ) ErrorView)
 
--- the encoding that has these answers and no others
+-- the encoding that has these results and no others
 abbrev pub listed : Answered → Encoding
 listed answers text answer = Contains answers (text, answer)
 
--- the encoding has one answer at most to each text
+-- the encoding has at most one result for each text
 abbrev pub AnswersOnce : Encoding → Type 0
 AnswersOnce encoding = (text : List ℕ) → AtMostOne (encoding text)
 
--- the same, besides that memory may run out
+-- the encoding has at most one result for each text other than that memory ran out
 abbrev pub AnswersOnceGivenMemory : Encoding → Type 0
 AnswersOnceGivenMemory encoding =
     (text : List ℕ) (answer other : Result (List ℕ) ErrorView) → encoding text answer → encoding text other →
     answer ≢ Err ErrorView.OutOfMemory → other ≢ Err ErrorView.OutOfMemory → answer ≡ other
 
--- the encoding has an answer to the text
+-- the encoding has a result for the text
 abbrev pub HasAnswer : Encoding → (text : List ℕ) → Type 0
 HasAnswer encoding text = (answer : Result (List ℕ) ErrorView) × encoding text answer
 
--- The text asks the encoding about this one: that is among the demands of its pieces, and each demand before it is met.
+-- The encoding is called with the text `asked`, which is among the demands of the pieces of the
+-- text; each demand before it is met.
 pub record Asks (text : List ℕ) (options : OptionsView) (encoding : Encoding) (asked : List ℕ) : Type 0 where
   pub tokens : List TokenView
   pub pieces : List Piece
@@ -84,26 +85,26 @@ pub record Asks (text : List ℕ) (options : OptionsView) (encoding : Encoding) 
   pub asks : demands (items_of pieces) ending ≡ before ++ Encode asked ∷ later
   pub are_met : AreMet encoding before
 
--- the encoding answers each text that it is asked about
+-- the encoding has a result for each text that it is called with
 abbrev pub AnswersAsked : (text : List ℕ) → OptionsView → Encoding → Type 0
 AnswersAsked text options encoding = (asked : List ℕ) → Asks text options encoding asked → HasAnswer encoding asked
 
--- the encoding is asked about a text to which it has no answer
+-- the encoding is called with a text for which it has no result
 abbrev pub LacksAnswer : (text : List ℕ) → OptionsView → Encoding → Type 0
 LacksAnswer text options encoding = (asked : List ℕ) × Asks text options encoding asked × ¬ HasAnswer encoding asked
 
 -- ---- outcomes
 
--- what a text reads as, or the error that it is refused with
+-- the parts that a text reads as, or the error that it is rejected with
 abbrev pub Outcome : Type 0
 Outcome = Result (List PartView) ErrorView
 
--- the text reads as these parts, or is refused with this error
+-- the text reads as these parts, or is rejected with this error
 abbrev pub HasOutcome : (text : List ℕ) → OptionsView → Encoding → Outcome → Type 0
 HasOutcome text options encoding (Ok parts) = Reads text options encoding parts
 HasOutcome text options encoding (Err error) = Refuses text options encoding error
 
--- the text reads as some parts, or is refused with some error
+-- the text reads as some parts, or is rejected with some error
 abbrev pub HasSomeOutcome : (text : List ℕ) → OptionsView → Encoding → Type 0
 HasSomeOutcome text options encoding = (outcome : Outcome) × HasOutcome text options encoding outcome
 
@@ -120,6 +121,6 @@ CountFrom number (name ∷ names) = (name ≡ decimal number) × CountFrom (suc 
 
 -- ---- matchers
 
--- the matcher is made of the parts, whatever its engine makes or refuses
+-- the matcher is made from the parts, with any value or error for its engine
 abbrev pub HasShapeOf : {E : Type 0} → OptionsView → List PartView → MatcherView E → Type 0
 HasShapeOf options parts matcher = IsMadeOf (λ regexp engine. Unit {0}) options parts matcher

@@ -1,22 +1,22 @@
--- What parts mean: the texts that they stand for, with what their groups capture. Custom regular expressions have no
--- meaning here.
+-- What parts mean: the texts that they match, with the captures of their groups. Custom regular
+-- expressions have no meaning in these definitions.
 use Rattle.std.specs.Prelude.{◌≡◌, ◌≢◌, ◌↔◌, All, ℕ, zero, suc, ◌≤◌, Bool, true, ◌&&◌, List, [], ◌∷◌, ◌++◌, Option, Some, None, IsTrue, unwrap_or}
 use Rattle.urlpattern_syntax.specs.{Options.OptionsView, Parts.PartView, RegexpText.is_empty}
 use Rattle.urlpattern_syntax.specs.declared.parser.{PartModifier.PartModifier, PartType.PartType}
 use Rattle.urlpattern_syntax.specs.Text.{lacks, line_feed, IsRepeated}
 
--- What groups capture, in order: a text, or None where a group takes no part.
+-- The captures of groups, in order: a text, or None for a group that takes no part.
 abbrev pub Captures : Type 0
 Captures = List (Option (List ℕ))
 
 -- ---- copies of a part
 
--- a wildcard may stand for the text: a segment is not empty and has no delimiter, or else no line feed; a full wildcard
--- is any text without line feed
+-- a wildcard of this kind matches the text: a segment is not empty and has no delimiter (without
+-- one, no line feed); a full wildcard is any text without line feed
 abbrev pub IsWildcardText : OptionsView → PartType → List ℕ → Type 0
 IsWildcardText options PartType.SegmentWildcard text = (text ≢ []) × IsTrue (lacks (unwrap_or options.delimiter line_feed) text)
 IsWildcardText options PartType.FullWildcard text = IsTrue (lacks line_feed text)
--- no other kind is a wildcard
+-- only the two wildcards match
 IsWildcardText options kind text = ⊥
 
 -- a copy of a part of this kind: a fixed text, or a wildcard's text between prefix and suffix
@@ -30,7 +30,7 @@ AreCopies options part n text = IsRepeated (IsCopyOf options part.kind part) n t
 
 -- ---- one part
 
--- the modifier allows so many copies
+-- the modifier allows n copies
 abbrev pub Allows : PartModifier → ℕ → Type 0
 Allows PartModifier.None n = n ≡ 1
 Allows PartModifier.Optional n = n ≤ 1
@@ -42,6 +42,7 @@ abbrev pub capture_of_none : PartModifier → (is_bare : Bool) → Option (List 
 capture_of_none PartModifier.ZeroOrMore true = Some []
 capture_of_none modifier is_bare = None
 
+-- the capture of no copies of the part
 abbrev pub capture_of_no_copies : PartView → Option (List ℕ)
 capture_of_no_copies part = capture_of_none part.modifier (is_empty part.prefix && is_empty part.suffix)
 
@@ -50,13 +51,14 @@ abbrev pub IsCapture : PartView → ℕ → List ℕ → Option (List ℕ) → T
 IsCapture part zero text capture = capture ≡ capture_of_no_copies part
 IsCapture part (suc n) text capture = (inner : List ℕ) × (text ≡ part.prefix ++ inner ++ part.suffix) × (capture ≡ Some inner)
 
--- what n copies of a part of this kind capture: nothing for a fixed text, and one text for a wildcard
+-- the captures of n copies of a part of this kind: none for a fixed text, and one text for a
+-- wildcard
 abbrev pub AreCaptures : PartType → PartView → ℕ → List ℕ → Captures → Type 0
 AreCaptures PartType.FixedText part n text captures = captures ≡ []
 AreCaptures PartType.Regexp part n text captures = ⊥
 AreCaptures kind part n text captures = (capture : Option (List ℕ)) × IsCapture part n text capture × (captures ≡ capture ∷ [])
 
--- The part stands for the text, and captures this.
+-- The part matches the text, with these captures.
 pub record PartMeans (options : OptionsView) (part : PartView) (text : List ℕ) (captures : Captures) : Type 0 where
   pub count : ℕ
   pub allowed : Allows part.modifier count
@@ -65,14 +67,14 @@ pub record PartMeans (options : OptionsView) (part : PartView) (text : List ℕ)
 
 -- ---- a list of parts
 
--- the parts stand for the text, one stretch each, and capture this
+-- the parts match the text one after the other, with these captures
 abbrev pub PartsMean : OptionsView → List PartView → List ℕ → Captures → Type 0
 PartsMean options [] text captures = (text ≡ []) × (captures ≡ [])
 PartsMean options (part ∷ parts) text captures =
     (first rest : List ℕ) × (own others : Captures) × (text ≡ first ++ rest) × (captures ≡ own ++ others)
     × PartMeans options part first own × PartsMean options parts rest others
 
--- both mean the same texts with the same captures
+-- two lists of parts mean the same texts with the same captures
 abbrev pub MeanTheSame : OptionsView → (parts others : List PartView) → Type 0
 MeanTheSame options parts others =
     (text : List ℕ) (captures : Captures) → PartsMean options parts text captures ↔ PartsMean options others text captures

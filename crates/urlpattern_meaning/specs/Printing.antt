@@ -1,5 +1,6 @@
--- The pattern text of a list of parts, after the URLPattern Standard, section "Converting part lists to pattern
--- strings". It is close to the standard's steps, so what it is worth shows when the text is read again.
+-- The pattern text of a list of parts, after the URLPattern Standard, section "Converting part
+-- lists to pattern strings". It follows the standard's steps closely; the laws show that the text
+-- of printable parts reads as the joined parts.
 use Rattle.std.specs.Prelude.{◌≡◌, ◌≢◌, ℕ, Bool, true, false, not, ◌&&◌, ◌||◌, List, [], ◌∷◌, ◌++◌, bytes_eq, codes, Option, Some, None, Result, Ok, IsTrue, if◌then◌else◌, ◌↔◌}
 use Rattle.std.specs.{Char.is_ascii_digit, List.flat_map}
 use Rattle.urlpattern_syntax.specs.{Errors.ErrorView, Options.OptionsView, Parts.PartView, Reading.Encoding}
@@ -10,7 +11,7 @@ pub use Rattle.urlpattern_syntax.specs.PatternText.{escaped_pattern, pattern_mar
 
 -- ---- tests of parts
 
--- a name from the pattern, and no number
+-- a name that the pattern gives, not a number
 abbrev pub has_custom_name : PartView → Bool
 has_custom_name part = not (begins_with is_ascii_digit part.name)
 
@@ -18,7 +19,7 @@ abbrev pub is_segment : PartType → Bool
 is_segment PartType.SegmentWildcard = true
 is_segment kind = false
 
--- a name alone: the segment of a name that the pattern gives
+-- a name alone: a segment with a name that the pattern gives
 abbrev pub is_name_alone : PartView → Bool
 is_name_alone part = is_segment part.kind && has_custom_name part
 
@@ -32,29 +33,29 @@ abbrev pub first_part : List PartView → Option PartView
 first_part [] = None
 first_part (part ∷ parts) = Some part
 
--- ---- when a part stands between braces
+-- ---- when a part needs braces
 
--- it has a suffix
+-- the part has a suffix
 abbrev pub has_suffix : PartView → Bool
 has_suffix part = not (is_empty part.suffix)
 
--- it has a prefix that is not the prefix code point
+-- the part has a prefix other than the prefix code point
 abbrev pub has_other_prefix : OptionsView → PartView → Bool
 has_other_prefix options part = not (is_empty part.prefix) && not (bytes_eq part.prefix options.prefix)
 
--- what a part begins with when it is printed without braces would be taken by a name before it: a name character, or a
--- bracket
+-- the text of the next part, printed without braces, begins with a name character or a bracket,
+-- which a name before it would take
 abbrev pub goes_on : PartView → Bool
 goes_on next =
     is_empty next.prefix && is_empty next.suffix
     && (if is_fixed_text next.kind then begins_with is_name_part next.value else not (has_custom_name next))
 
--- it is a name alone, and would take what the next part begins with
+-- the part is a name alone, and would take the beginning of the next part
 abbrev pub takes_next : PartView → Option PartView → Bool
 takes_next part None = false
 takes_next part (Some next) = is_name_alone part && is_unmodified part.modifier && goes_on next
 
--- it has no prefix, and would take the last character of the fixed text before it as one
+-- the part has no prefix, and would take the last character of the fixed text before it as one
 abbrev pub takes_before : OptionsView → Option PartView → PartView → Bool
 takes_before options None part = false
 takes_before options (Some before) part =
@@ -66,7 +67,7 @@ needs_braces options before part next =
 
 -- ---- the text of a part
 
--- an asterisk after this part is not its modifier
+-- an asterisk after the part before is not the modifier of that part
 abbrev pub admits_asterisk : Option PartView → Bool
 admits_asterisk None = true
 admits_asterisk (Some before) = is_fixed_text before.kind || not (is_unmodified before.modifier)
@@ -75,25 +76,27 @@ admits_asterisk (Some before) = is_fixed_text before.kind || not (is_unmodified 
 abbrev pub is_asterisk : (before : Option PartView) → PartView → (braces : Bool) → Bool
 is_asterisk before part braces = not (has_custom_name part) && (admits_asterisk before || braces || not (is_empty part.prefix))
 
--- what a part of this kind matches, after its name
+-- the regular expression or asterisk of a part of this kind, which follows its name
 abbrev pub printed_match : OptionsView → PartType → PartView → (asterisk : Bool) → List ℕ
 printed_match options PartType.FixedText part asterisk = []
 printed_match options PartType.Regexp part asterisk = captured part.value
 printed_match options PartType.SegmentWildcard part asterisk = if has_custom_name part then [] else captured (segment_wildcard options)
 printed_match options PartType.FullWildcard part asterisk = if asterisk then codes "*" else captured full_wildcard
 
+-- the name after a colon, if the pattern gives the name
 abbrev pub printed_name : PartView → List ℕ
 printed_name part = if has_custom_name part then codes ":" ++ part.name else []
 
--- a backslash keeps the suffix from the name before it
+-- the suffix, which a backslash separates from a name before it
 abbrev pub printed_suffix : PartView → List ℕ
 printed_suffix part =
     (if is_name_alone part && begins_with is_name_part part.suffix then codes "\\" else []) ++ escaped_pattern part.suffix
 
--- between braces or not
+-- the text, between braces or not
 abbrev pub in_braces : Bool → List ℕ → List ℕ
 in_braces braces text = if braces then codes "{" ++ text ++ codes "}" else text
 
+-- a group with its modifier, between braces or not
 abbrev pub printed_group : OptionsView → (before : Option PartView) → PartView → (braces : Bool) → List ℕ
 printed_group options before part braces =
     in_braces braces (
@@ -101,7 +104,7 @@ printed_group options before part braces =
     ++ printed_match options part.kind part (is_asterisk before part braces) ++ printed_suffix part)
     ++ modifier_text part.modifier
 
--- a fixed text stands between braces where it has a modifier
+-- a fixed text, in braces where it has a modifier
 abbrev pub printed_fixed : PartView → List ℕ
 printed_fixed part = in_braces (not (is_unmodified part.modifier)) (escaped_pattern part.value) ++ modifier_text part.modifier
 
@@ -111,7 +114,7 @@ printed_part options before part next =
     if is_fixed_text part.kind then printed_fixed part
     else printed_group options before part (needs_braces options before part next)
 
--- the parts, where this one stands before them
+-- the parts after the part `before`
 abbrev pub printed_after : OptionsView → (before : Option PartView) → List PartView → List ℕ
 printed_after options before [] = []
 printed_after options before (part ∷ parts) = printed_part options before part (first_part parts) ++ printed_after options (Some part) parts
@@ -120,15 +123,15 @@ printed_after options before (part ∷ parts) = printed_part options before part
 abbrev pub printed : OptionsView → List PartView → List ℕ
 printed options parts = printed_after options None parts
 
--- ---- what the printed text is read as
+-- ---- the parts that the printed text is read as
 
--- a part before others; it and the next are one if both are plain fixed texts
+-- a part before others, made one with the next if both are plain fixed texts
 abbrev pub joined_with : PartView → List PartView → List PartView
 joined_with part [] = part ∷ []
 joined_with part (next ∷ parts) =
     if is_plain part && is_plain next then record part { value = part.value ++ next.value } ∷ parts else part ∷ next ∷ parts
 
--- neighbouring plain fixed texts made one
+-- the parts, with neighbouring plain fixed texts made one
 abbrev pub joined : List PartView → List PartView
 joined [] = []
 joined (part ∷ parts) = joined_with part (joined parts)
@@ -138,11 +141,11 @@ abbrev pub HaveTexts : List PartView → Type 0
 HaveTexts [] = Unit {0}
 HaveTexts (part ∷ parts) = (IsTrue (is_fixed_text part.kind) → part.value ≢ []) × HaveTexts parts
 
--- the texts of parts about which an encoding is asked
+-- the texts of parts that are encoded
 abbrev pub encoded_texts : List PartView → List (List ℕ)
 encoded_texts parts = flat_map (λ part. if is_fixed_text part.kind then part.value ∷ [] else part.prefix ∷ part.suffix ∷ []) parts
 
--- the encoding answers each text by itself and by nothing else
+-- the only result of the encoding for each text is the text itself
 abbrev pub KeepsTexts : Encoding → List (List ℕ) → Type 0
 KeepsTexts encoding [] = Unit {0}
 KeepsTexts encoding (text ∷ texts) =

@@ -1,4 +1,5 @@
--- Lists of parts whose printed pattern reads as these parts again: the premises of that theorem.
+-- Lists of parts whose printed pattern reads as the joined parts again: the premises of that
+-- theorem.
 use Rattle.std.specs.Prelude.{◌≡◌, ◌≢◌, ℕ, suc, ◌⊎◌, not, List, [], ◌∷◌, AllPairs, Contains, IsTrue, Ok, Err, decimal, if◌then◌else◌}
 use Rattle.std.specs.List.{list_all}
 use Rattle.urlpattern_syntax.specs.{Errors.ErrorView, Parts.PartView}
@@ -12,13 +13,13 @@ use Rattle.urlpattern_meaning.specs.Printing.{HaveTexts, encoded_texts, has_cust
 
 -- ---- options
 
--- a prefix code point: none, or one character that is neither a mark of patterns nor one of names
+-- a prefix code point: none, or one character that is neither a mark of patterns nor part of a name
 abbrev pub IsPrefixPoint : List ℕ → Type 0
 IsPrefixPoint [] = Unit {0}
 IsPrefixPoint (c ∷ []) = ¬ IsTrue (is_among pattern_marks c) × ¬ IsTrue (is_name_part c)
 IsPrefixPoint (c ∷ d ∷ text) = ⊥
 
--- it has the delimiter and the prefix code point of the other options
+-- two sets of options have the same delimiter and prefix code point
 abbrev pub HasPointsOf : (other options : OptionsView) → Type 0
 HasPointsOf other options = (options.delimiter ≡ other.delimiter) × (options.prefix ≡ other.prefix)
 
@@ -26,42 +27,45 @@ HasPointsOf other options = (options.delimiter ≡ other.delimiter) × (options.
 abbrev pub IsStandard : OptionsView → Type 0
 IsStandard options = HasPointsOf default_options options ⊎ (HasPointsOf hostname_options options ⊎ HasPointsOf pathname_options options)
 
--- ---- what parts that were read have
+-- ---- properties of parts that were read
 
--- a fixed text has nothing but its value, and a group has a value only where it is a custom regular expression, which is
--- then neither of the wildcards; the regular expression of a segment without a name may stand in brackets
+-- A fixed text has only its value; a group has a value only where it is a custom regular
+-- expression, which is neither of the wildcards; the regular expression of a segment without a name
+-- may be written in brackets.
 abbrev pub HasFields : OptionsView → PartType → PartView → Type 0
 HasFields options PartType.FixedText part = (part.prefix ≡ []) × (part.suffix ≡ [])
 HasFields options PartType.Regexp part = IsRegexpBody part.value × (part.value ≢ segment_wildcard options) × (part.value ≢ full_wildcard)
 HasFields options PartType.SegmentWildcard part = (part.value ≡ []) × (¬ IsTrue (has_custom_name part) → IsRegexpBody (segment_wildcard options))
 HasFields options PartType.FullWildcard part = part.value ≡ []
 
+-- each part has only the fields of its kind
 abbrev pub AllHaveFields : OptionsView → List PartView → Type 0
 AllHaveFields options [] = Unit {0}
 AllHaveFields options (part ∷ parts) = HasFields options part.kind part × AllHaveFields options parts
 
--- a fixed text has no name, and a group has one that a pattern gives, or else its number among the groups without one
+-- a fixed text has no name; a group has a name that a pattern gives, or else its number among the
+-- groups without one
 abbrev pub IsNamed : ℕ → PartType → List ℕ → Type 0
 IsNamed number PartType.FixedText name = name ≡ []
 IsNamed number kind name = IsName name ⊎ (name ≡ decimal number)
 
--- how many groups have no name of their own, this part too
+-- the number of groups without a name of their own, up to this part
 abbrev pub following_number : ℕ → PartType → PartView → ℕ
 following_number number PartType.FixedText part = number
 following_number number kind part = if has_custom_name part then number else suc number
 
--- the names of these parts, where so many groups without a name stand before them
+-- the names of these parts fit, where `number` groups without a name are before them
 abbrev pub AreNamed : ℕ → List PartView → Type 0
 AreNamed number [] = Unit {0}
 AreNamed number (part ∷ parts) = IsNamed number part.kind part.name × AreNamed (following_number number part.kind part) parts
 
--- The parts are such as a pattern text may be read as, by their kinds, values and names.
+-- Kinds, values and names of the parts are those of a pattern text.
 pub record ArePatternParts (options : OptionsView) (parts : List PartView) : Type 0 where
   pub fields : AllHaveFields options parts
   pub names : AreNamed 0 parts
   pub distinct : AllPairs (λ name other. name ≢ other) (group_names parts)
 
--- ---- what may stand in their texts
+-- ---- which texts of parts may be printed
 
 -- nothing is skipped in the text
 abbrev pub IsUnskipped : List ℕ → Type 0
@@ -72,37 +76,37 @@ abbrev pub HasUnskipped : PartType → PartView → Type 0
 HasUnskipped PartType.FixedText part = IsUnskipped part.value
 HasUnskipped kind part = IsUnskipped part.prefix × IsUnskipped part.suffix
 
--- what is skipped between tokens stands in no part's texts
+-- no text of a part has characters that are skipped between tokens
 abbrev pub AreUnskipped : List PartView → Type 0
 AreUnskipped [] = Unit {0}
 AreUnskipped (part ∷ parts) = HasUnskipped part.kind part × AreUnskipped parts
 
 -- ---- premises
 
--- What the parts need under these options, so that their printed pattern reads back.
+-- The premises under which the printed pattern of the parts reads back.
 pub record IsPrintable (options : OptionsView) (parts : List PartView) : Type 0 where
   pub point : IsPrefixPoint options.prefix
   pub pattern_parts : ArePatternParts options parts
   pub texts : HaveTexts parts
   pub unskipped : AreUnskipped parts
 
--- The text reads as the parts under standard options, and their texts are such as may be printed.
+-- The text reads as the parts under standard options, and the texts of the parts may be printed.
 pub record WereRead (text : List ℕ) (options : OptionsView) (encoding : Encoding) (parts : List PartView) : Type 0 where
   pub standard : IsStandard options
   pub reads : Reads text options encoding parts
   pub texts : HaveTexts parts
   pub unskipped : AreUnskipped parts
 
--- the encoding answers no text of the joined parts by another text; it may answer by an error, as a callback may that
--- finds no memory
+-- The encoding changes no text of the joined parts. It may have an error for one, as a callback
+-- that runs out of memory does.
 abbrev pub KeepsAnswered : Encoding → List PartView → Type 0
 KeepsAnswered encoding parts = (text other : List ℕ) → Contains (encoded_texts (joined parts)) text → encoding text (Ok other) → other ≡ text
 
--- the encoding may answer each text of the joined parts by itself
+-- the encoding may return each text of the joined parts unchanged
 abbrev pub MayKeep : Encoding → List PartView → Type 0
 MayKeep encoding parts = (text : List ℕ) → Contains (encoded_texts (joined parts)) text → encoding text (Ok text)
 
--- the encoding may answer one of these texts by this error
+-- the encoding may reject one of these texts with this error
 abbrev pub FailsText : Encoding → (texts : List (List ℕ)) → ErrorView → Type 0
 FailsText encoding texts error = (text : List ℕ) × Contains texts text × encoding text (Err error)
 
@@ -112,19 +116,19 @@ FailsText encoding texts error = (text : List ℕ) × Contains texts text × enc
 abbrev pub ReadsAsJoined : (text : List ℕ) → OptionsView → Encoding → List PartView → Type 0
 ReadsAsJoined text options encoding parts = Reads text options encoding (joined parts)
 
--- it reads as nothing else
+-- the text reads as no other parts
 abbrev pub ReadsOnlyAsJoined : (text : List ℕ) → OptionsView → Encoding → List PartView → Type 0
 ReadsOnlyAsJoined text options encoding parts = (others : List PartView) → Reads text options encoding others → others ≡ joined parts
 
--- it is not refused
+-- the text is not rejected
 abbrev pub IsNotRefused : (text : List ℕ) → OptionsView → Encoding → List PartView → Type 0
 IsNotRefused text options encoding parts = (error : ErrorView) → ¬ Refuses text options encoding error
 
--- what it reads as prints as this text
+-- printing what the text reads as returns the text
 abbrev pub PrintsTheSame : (text : List ℕ) → OptionsView → Encoding → List PartView → Type 0
 PrintsTheSame text options encoding parts = (others : List PartView) → Reads text options encoding others → printed options others ≡ text
 
--- All four.
+-- The text reads as the joined parts and as nothing else, is not rejected, and prints as itself.
 pub record ReadsBack (text : List ℕ) (options : OptionsView) (encoding : Encoding) (parts : List PartView) : Type 0 where
   pub reads : ReadsAsJoined text options encoding parts
   pub only : ReadsOnlyAsJoined text options encoding parts

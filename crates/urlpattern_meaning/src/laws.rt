@@ -20,8 +20,8 @@ ghost use Rattle.urlpattern_syntax.specs.declared.tokenizer.TokenType.TheVariant
 
 use urlpattern_syntax::Error;
 
-/// Parts from whose ends plain fixed texts are removed stand for the first of these texts, a middle that the other
-/// parts stand for, and the second, and for nothing else.
+/// Where plain fixed texts are removed from the ends of parts, the parts match exactly the texts
+/// made of the first fixed text, a text that the remaining parts match, and the second.
 pub fn plain_ends_are_removed()
     ensures { PlainEndsAreRemoved }
 {}
@@ -36,17 +36,17 @@ pub fn joining_keeps_printed_text()
     ensures { (options : OptionsView) (parts : List PartView) → HaveTexts parts → printed options (joined parts) ≡ printed options parts }
 {}
 
-/// Copies of a wildcard are captured as one text, which is all of them but the first prefix and the last suffix. No
-/// copies are captured by `None`, or by the empty text where "zero or more" has neither prefix nor suffix. There is no
-/// other capture.
+/// Copies of a wildcard are captured as one text: all of them but the first prefix and the last
+/// suffix. Without copies the capture is `None`, or the empty text for "zero or more" with neither
+/// prefix nor suffix. A wildcard captures nothing else.
 pub fn copies_are_one_capture()
     ensures copies { CopiesAreOneCapture }
     ensures none { NoCopiesAreOneCapture }
     ensures only { WildcardsCaptureNothingElse }
 {}
 
-/// A text has one list of strict tokens at most, or one first fault, and never both. Its lenient tokens are one list at
-/// most. That it has them says [`every_text_has_tokens`].
+/// A text has at most one list of strict tokens or one first fault, never both, and at most one
+/// list of lenient tokens. [`every_text_has_tokens`] says that it has them.
 pub fn tokens_are_one()
     ensures tokens { (text : List ℕ) → AtMostOne (AreTokens text) }
     ensures faults { FaultsAreOne }
@@ -60,9 +60,9 @@ pub fn every_text_has_tokens()
     ensures lenient { (text : List ℕ) → HasLenientTokens text }
 {}
 
-/// Nothing of a text is lost in its tokens but what is skipped between them and the marks of an escape, a name and a
-/// regular expression. Each token begins where its index says, after the token before it, and its value stands there in
-/// the text. End is the last token, and no other.
+/// The tokens of a text hold all of it but what is skipped between them and the marks of an escape,
+/// a name and a regular expression. Each token begins where its index says, after the token before
+/// it, and its value is there in the text. End is the last token, and no other.
 pub fn tokens_lose_nothing()
     ensures lay { (text : List ℕ) (tokens : List TokenView) → AreTokens text tokens → Lays 0 tokens text }
     ensures rise { IndicesRise }
@@ -72,37 +72,41 @@ pub fn tokens_lose_nothing()
     ensures only_end { OfEachToken (λ text token later. token.kind ≡ End → later ≡ []) }
 {}
 
-/// The tokens of a text have one list of pieces with the tokens that are left.
+/// The tokens of a text have exactly one list of pieces, with one ending.
 pub fn pieces_are_one()
     ensures one { PiecesAreOne }
     ensures exist { TokensHavePieces }
 {}
 
-/// A text has one outcome at most, which is a reading or a refusal, wherever the encoding has one answer at most to each
-/// text. That it has one says [`every_text_has_an_outcome`]. The encoding is any list of texts with their answers.
+/// A text has at most one outcome, a reading or a rejection, where the encoding has at most one
+/// result for each text. [`every_text_has_an_outcome`] says that it has one. The encoding is any
+/// list of texts with their results.
 pub fn readings_are_one()
     ensures readings { UnderEachList (HaveOneAtMost Reads) }
     ensures refusals { UnderEachList (HaveOneAtMost Refuses) }
     ensures not_both { UnderEachList ReadingsExcludeRefusals }
 {}
 
-/// The same of a callback's own answers, among which may be that memory ran out: of the outcomes that are not that, a text
-/// has one, wherever the callback has one other answer at most to each text.
+/// Under a callback a text has at most one outcome other than that memory ran out, where the
+/// callback may return at most one result other than that for each text. `F` is the callback's
+/// type.
 pub fn readings_by_callbacks_are_one<F: Fn(&str) -> Result<String, Error>>()
     ensures { UnderEachCallback F.Fn OutcomesAreOneGivenMemory }
 {}
 
-/// Under any options every text has an outcome, which is a reading or a refusal, or else it asks the encoding about a text
-/// to which that has no answer. So it has an outcome where the encoding answers whatever the text asks it about. The
-/// encoding is any list of texts with their answers or, in the last clause, any callback: `F` is the callback's type.
+/// Under any options every text has an outcome, a reading or a rejection, or else the encoding is
+/// called with a text for which it has no result. A text therefore has an outcome where the
+/// encoding has a result for each text that it is called with. The encoding is any list of texts
+/// with their results or, in the last clause, any callback: `F` is the callback's type.
 pub fn every_text_has_an_outcome<F: Fn(&str) -> Result<String, Error>>()
     ensures listed { UnderEachList OutcomesLackOnlyAnswers }
     ensures answered { UnderEachList AnsweredTextsHaveOutcomes }
     ensures called { UnderEachCallback F.Fn AnsweredTextsHaveOutcomes }
 {}
 
-/// In a reading the names of the groups are not empty, and no two are equal. Those that begin with a digit are `0`, `1`
-/// and so on in order. A name that the pattern gives begins with none, so they are the groups without a name.
+/// The names of the groups of a reading are not empty, and no two are equal. Those that begin with
+/// a digit are `0`, `1` and so on in order. A name that the pattern gives does not begin with a
+/// digit, so the numbers name the groups without a name.
 pub fn names_are_new()
     ensures nonempty { UnderEachList (OfEachReading (λ options parts. All (λ name. name ≢ []) (group_names parts))) }
     ensures distinct { UnderEachList (OfEachReading (λ options parts. AllPairs (λ name other. name ≢ other) (group_names parts))) }
@@ -110,14 +114,15 @@ pub fn names_are_new()
     ensures given { OfEachToken (λ text token later. token.kind ≡ Name → ¬ BeginsWith is_ascii_digit token.value) }
 {}
 
-/// A text has one tree of the dialect at most.
+/// A text has at most one tree of the dialect.
 pub fn dialect_trees_are_one()
     ensures { (text : List ℕ) → AtMostOne (IsTreeOf text) }
 {}
 
-/// The ways of a tree are exactly its meanings of the fronts of a text. So the first way that takes the whole text captures
-/// what the tree means, there is none only where the tree does not mean the text, and it has as many captures as the tree
-/// has groups. What answers it follows the text of the tree: each text of the dialect can be followed.
+/// The ways of a tree are exactly its meanings of the beginnings of a text. The first way that
+/// matches the whole text therefore captures what the tree means, is missing only where the tree
+/// does not mean the text, and has as many captures as the tree has groups. A function that returns
+/// the first way follows the text of the tree, so each text of the dialect can be followed.
 pub fn first_ways_are_meant()
     ensures ways { WaysAreMeanings }
     ensures some { OfEachTree (λ tree text captures. first_way tree text ≡ Some captures → Means tree text captures) }
@@ -126,16 +131,16 @@ pub fn first_ways_are_meant()
     ensures follows { (regexp : List ℕ) (tree : Items) → IsTreeOf regexp tree → Follows regexp (first_way tree) }
 {}
 
-/// Where case is ignored, the first way of a tree in a text is that of the folded tree in the folded text, but that its captures are
-/// of the text itself: there is one exactly where the other is, and folded their captures are the same. To fold is to replace each
-/// ASCII letter by its lower case.
+/// Where case is ignored, the first way of a tree in a text is that of the folded tree in the
+/// folded text, except that it captures from the text itself: either both exist, and their captures
+/// are equal once folded, or neither does. Folding replaces each ASCII letter by its lower case.
 pub fn first_ways_fold()
     ensures { FirstWaysFold }
 {}
 
-/// The regular expression of parts has one tree, and it means what the parts mean: each text, with the same captures.
-/// This holds under all options and for all names, prefixes, suffixes and values, where no part has a regular expression
-/// of its own.
+/// The regular expression of parts has exactly one tree, which means each text that the parts mean,
+/// with the same captures. No part is a custom regular expression; options, names, prefixes,
+/// suffixes and values are arbitrary.
 pub fn parts_and_regexp_mean_the_same()
     ensures tree { (options : OptionsView) (parts : List PartView) → AreGenerated parts → HasMeaningOf (regexp_text options parts) options parts }
     ensures means { TreesMeanTheParts }
@@ -147,19 +152,21 @@ pub fn captures_are_as_many_as_names()
     ensures { CapturesHaveNames }
 {}
 
-/// A matcher of parts answers what the parts mean: captures only where they have these, and `None` only where they have
-/// none. Case is kept, and the text is of characters without line feed. A matcher that needs no engine asks for no more.
-/// An engine's value either follows the regular expression of the parts that are left between the ends, where no part has
-/// one of its own, or answers what those parts mean. `E` is any type of engines' values.
+/// A matcher of parts returns what the parts mean: captures only where the parts have these, and
+/// `None` only where they have none. Case is kept, and the text is of characters without line feed.
+/// A matcher without an engine needs no more. An engine's value either follows the regular
+/// expression of the parts that are left between the ends, none of them custom, or returns what
+/// those parts mean. `E` is any type of engines' values.
 pub fn matchers_answer_what_parts_mean<E>()
     ensures follows { OfEachMatcher E AnswersByMeaning }
     ensures agrees { OfEachMatcher E AnswersWhereEnginesAgree }
 {}
 
-/// A matcher of parts answers the first way of the tree of their regular expression, and that is one answer, which is a
-/// meaning of the parts, or `None` where they have none. No part is custom, case is kept, and the text is of characters without
-/// line feed. An engine that is asked answers the first way of the tree of its own text; where none is asked, this holds of
-/// every matcher. `E` is any type of engines' values.
+/// A matcher of parts returns the first way of the tree of their regular expression. At most one
+/// result is the first way: a meaning of the parts, or `None` where they have none. No part is
+/// custom, case is kept, and the text is of characters without line feed. An engine that is called
+/// returns the first way of the tree of its own text; where none is called, this holds of every
+/// matcher. `E` is any type of engines' values.
 pub fn matchers_answer_the_first_way<E>()
     ensures first { OfEachMatcher E AnswersByFirstWay }
     ensures one { FirstWayIsOne }
@@ -172,15 +179,16 @@ pub fn joining_keeps_regexp()
     ensures names { (parts : List PartView) → group_names (joined parts) ≡ group_names parts }
 {}
 
-/// Parts that a text reads as are such as a pattern text may be read as: their kinds, values and names fit together.
-/// This holds under any options and any encoding.
+/// Parts that a text reads as are pattern parts: their kinds, values and names fit together. This
+/// holds under any options and any encoding.
 pub fn read_parts_are_pattern_parts()
     ensures { UnderEachList (OfEachReading ArePatternParts) }
 {}
 
-/// Printing and parsing are inverse. The printed pattern of the parts reads as the joined parts, and as nothing else, and
-/// it is not refused. Printing what it reads as gives the same text. The parts may be any that are printable, and the
-/// encoding any list of answers that keeps their texts; for all parts there is such a list.
+/// Printing and parsing are inverse. The printed pattern of the parts reads as the joined parts,
+/// and as nothing else, and is not rejected. Printing what it reads as returns the same text. The
+/// parts are any that are printable, and the encoding any list of results that keeps their texts;
+/// for all parts there is such a list.
 pub fn printed_patterns_read_back()
     ensures reads { OfPrintableParts ReadsAsJoined }
     ensures only { OfPrintableParts ReadsOnlyAsJoined }
@@ -189,17 +197,18 @@ pub fn printed_patterns_read_back()
     ensures kept { (parts : List PartView) → (answers : Answered) × Keeps (listed answers) parts }
 {}
 
-/// A printed pattern is refused only by an error that the encoding answers to one of the texts of the joined parts. Where
-/// the encoding answers none of them by another text, the pattern reads as the joined parts if it reads at all.
+/// A printed pattern is rejected only by an error that the encoding has for one of the texts of the
+/// joined parts. Where the encoding changes none of these texts, the pattern reads as the joined
+/// parts if it reads at all.
 pub fn printed_patterns_fail_by_the_encoding_alone()
     ensures only { UnderEachList PrintedReadsOnlyAsJoined }
     ensures refused { UnderEachList PrintedFailsByTheEncoding }
 {}
 
-/// The same of a callback's own answers. Under a callback that may answer each text of the joined parts by itself, the printed
-/// pattern may be read as the joined parts; under one that answers none of them by another text, it is read as nothing else;
-/// and it is refused only by an error that the callback may answer to one of them. Parts that were read under the callback
-/// are printable.
+/// A printed pattern may be read as the joined parts under a callback that may return each of their
+/// texts unchanged. Under a callback that changes none of them, the pattern is read as nothing
+/// else, and it is rejected only by an error that the callback may return for one of them. Parts
+/// that were read under the callback are printable.
 pub fn printed_patterns_read_back_by_callbacks<F: Fn(&str) -> Result<String, Error>>()
     ensures printable { UnderEachCallback F.Fn ReadPartsArePrintable }
     ensures reads { UnderEachCallback F.Fn PrintedMayReadAsJoined }
@@ -207,9 +216,10 @@ pub fn printed_patterns_read_back_by_callbacks<F: Fn(&str) -> Result<String, Err
     ensures refused { UnderEachCallback F.Fn PrintedFailsByTheEncoding }
 {}
 
-/// Parts that a text was read as under the default, hostname or pathname options, in either syntax, print as a pattern
-/// that reads back: as the joined parts, and as nothing else, and printing these gives the same text. The two encodings
-/// are any lists of answers: the first made the parts, and the second keeps their texts.
+/// Parts that a text was read as under the default, hostname or pathname options, in either syntax,
+/// print as a pattern that reads back: as the joined parts, and as nothing else, and printing these
+/// returns the same text. The two encodings are any lists of results: the first made the parts, and
+/// the second keeps their texts.
 pub fn parts_that_were_read_print_and_read_back()
     ensures reads { OfPartsThatWereRead ReadsAsJoined }
     ensures only { OfPartsThatWereRead ReadsOnlyAsJoined }

@@ -1,5 +1,5 @@
-//! What patterns mean: definitions of the texts that parts stand for, of the regular expressions that are generated of
-//! them, of matching and of printing, and the laws of all definitions.
+//! What patterns mean: the texts that parts match, the regular expressions generated from parts,
+//! matching and printing, with the laws of these definitions.
 #![tactic(auto)]
 
 pub mod laws;

@@ -1,4 +1,4 @@
--- Lemmas on a group that is read token by token, up to where its end has to be.
+-- Lemmas on a group that is read token by token, up to the place of its closing brace.
 use Rattle.std.proofs.Common.{◌≡◌, ◌≢◌, List, ℕ, false, ◌∷◌, ◌++◌, inl, inr, ap, ◌∙◌, sym, subst}
 use Rattle.urlpattern_syntax.specs.declared.parser.PartModifier.{PartModifier}
 use Rattle.urlpattern_parser.specs.declared.parser.pieces.Reader.{Reader}
@@ -15,7 +15,7 @@ abbrev pub BeginsWithFront : (opening : TokenView) → (before : List ℕ) → (
 BeginsWithFront opening before tokens rest =
     (behind : List TokenView) × (tokens ≡ opening ∷ behind) × BeginsWithTexts behind before rest
 
--- the tokens begin with this opening brace and a placeholder between texts, as they stand before the rest
+-- the tokens begin with this opening brace and a placeholder between texts, up to the rest
 pub record BeginsWithInner (opening : TokenView) (before : List ℕ) (placeholder : Placeholder) (after : List ℕ) (tokens rest : List TokenView) : Type 0 where
   pub inner : List TokenView
   pub behind : List TokenView

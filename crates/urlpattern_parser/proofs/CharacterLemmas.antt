@@ -20,8 +20,8 @@ use Rattle.urlpattern_parser.proofs.ReaderLemmas.{after_other, cut_shorter, give
 use Rattle.urlpattern_syntax.proofs.TokenExamples.{literals}
 use Rattle.urlpattern_syntax.proofs.TokenLemmas.{SkipsBy-none, Spells-char, character_lexed}
 
--- The text begins with characters that stand for themselves. The last of them stands before the rest, and none or all others
--- before that.
+-- The text begins with characters that stand for themselves. The last of these is before the rest,
+-- if there is one.
 pub record LeavesLast (text last rest : List ℕ) : Type 0 where
   pub characters : List ℕ
   pub cut : text ≡ characters ++ last
@@ -31,7 +31,7 @@ pub record LeavesLast (text last rest : List ℕ) : Type 0 where
 pub leaves_all : (text : List ℕ) → LeavesLast text text text
 leaves_all text = record { characters = []; cut = refl; stand = refl; one = inl (refl, refl) }
 
--- the rest begins with one more
+-- the next character stands for itself too
 pub leaves_next : (text last rest after : List ℕ) (c : ℕ) → LeavesLast text last rest → rest ≡ c ∷ after → stands_for_itself c ≡ true → LeavesLast text rest after
 leaves_next text last rest after c h e stands = by_one h.one
   where
@@ -58,7 +58,7 @@ characters_before text value last rest h e = record {
     by_one (inl g) = inl (same ∙ g.0)
     by_one (inr g) = inr (subst (BeginsWith stands_for_itself) (sym g.1) g.2)
 
--- ---- their tokens
+-- ---- tokens of characters
 
 not_mark : (c : ℕ) → stands_for_itself c ≡ true → is_among marks c ≡ false
 not_mark c h = search rules
@@ -140,7 +140,7 @@ character_tokens whole rest (c ∷ characters) next place h =
     one_more whole rest characters next c place h
     (character_tokens whole (characters ++ next) characters next (after_place whole rest characters next c place h) (after_before whole rest characters next c place h))
 
--- ---- the token that such a character begins
+-- ---- the token that begins with a character
 
 same_first : (m c : ℕ) (spelling rest more : List ℕ) → spelling ≡ m ∷ [] → spelling ++ rest ≡ c ∷ more → m ≡ c
 same_first m c spelling rest more e f = cc (sym (ap (λ x. x ++ rest) e) ∙ f)
@@ -171,9 +171,9 @@ text_after whole (c ∷ rest) next token (inl h) stands = absurd (cc h.0)
 text_after whole (c ∷ rest) next token (inr h) stands =
     spelled_text token.kind token.value h.1.lexed.spelling h.0 rest c h.1.lexed.spells (sym h.1.lexed.cut) stands
 
--- ---- they are taken
+-- ---- characters that are consumed
 
--- what is left is less then
+-- consuming characters leaves fewer tokens
 pub row_less : (old new : Reader) (middle : List ℕ) → length middle ≤ length old.cursor.rest.now → length new.cursor.rest.now + tokens_left new.token.kind ≤ length middle → old.token.kind ≢ End → reader_left new < reader_left old
 row_less old new middle le len other =
     let one = one_left old.token.kind other in
@@ -221,13 +221,13 @@ module _ (old new : Reader) (middle : List ℕ) (more : List ℕ) (whole : new.c
         );
   }
 
--- no character is taken with the first
+-- no character is consumed after the first
 pub row_alone : (old new : Reader) (more : List ℕ) → Takes old new (λ tokens rest. BeginsWithCharacters tokens (token_view old.token) more rest) → more ≡ [] → Takes old new (λ tokens rest. tokens ≡ token_view old.token ∷ rest)
 row_alone old new more t e =
     takes_weaker old new (λ tokens rest. BeginsWithCharacters tokens (token_view old.token) more rest) (λ tokens rest. tokens ≡ token_view old.token ∷ rest) t
     (λ tokens rest g h r. r.cut ∙ ap (λ row. token_view old.token ∷ row ++ rest) (r.none e))
 
--- some are
+-- characters are consumed after the first
 pub row_texts : (old new : Reader) (first more : List ℕ) → Takes old new (λ tokens rest. BeginsWithCharacters tokens (token_view old.token) more rest) → ¬ (more ≡ []) → first ≡ (token_view old.token).value → IsTrue (is_text old.token.kind) → Takes old new (λ tokens rest. BeginsWithRow tokens (first ++ more) rest)
 row_texts old new first more t some value text =
     takes_weaker old new (λ tokens rest. BeginsWithCharacters tokens (token_view old.token) more rest) (λ tokens rest. BeginsWithRow tokens (first ++ more) rest) t

@@ -22,7 +22,8 @@ capture_view options prefix name match suffix modifier kind value e f = λ i. re
   suffix = suffix;
 }
 
--- `mid` is the list when the pending text is added; the placeholder still takes the number that it had before
+-- `mid` is the list after the pending text is added; the placeholder has the number that it had
+-- before
 module _ (options : OptionsView) (encoding : Encoding) (old mid : PartListView) (added : AddsParts options encoding old (pending_items old.pending) mid) (same : mid.number ≡ old.number)
     (prefix : List ℕ) (placeholder : Placeholder) (suffix : List ℕ) (modifier : PartModifier) where
   abbrev name_at : ℕ → List ℕ
@@ -51,7 +52,7 @@ module _ (options : OptionsView) (encoding : Encoding) (old mid : PartListView) 
       FirstFails encoding (item_demands (group_names old.parts) (pending_items old.pending ++ group ∷ [])) error
   suffix_fails before error new h g = fails_group error (inr (is_new new, inr ((before, h), inl g)))
 
-  -- all are met, and the part stands after the others
+  -- all demands are met, and the part is after the others
   pub adds_group : (new : PartListView) (before after : List ℕ) → ¬ Contains (group_names mid.parts) (name_at mid.number) → encoding prefix (Ok before) → encoding suffix (Ok after) →
       new.parts ≡ mid.parts ++ capture_part options before (name_at mid.number) placeholder.matched after modifier ∷ [] → new.pending ≡ mid.pending →
       AddsParts options encoding old (pending_items old.pending ++ group ∷ []) new

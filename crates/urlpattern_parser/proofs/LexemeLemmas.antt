@@ -1,4 +1,4 @@
--- A token at the front of a text, under a policy.
+-- A token at the beginning of a text, under a policy.
 use Rattle.std.proofs.Common.{ℕ, List, Ok, Err}
 use Rattle.std.specs.Str.{chars}
 use Rattle.urlpattern_syntax.proofs.TokenLemmas.{IsCutUnder, IsLexedUnder}

@@ -1,4 +1,5 @@
--- Lemmas on reading a list of tokens piece by piece: what is read so far, one more piece, and the end.
+-- Lemmas on reading a list of tokens piece by piece: the pieces so far, one more piece, and the
+-- end.
 use Rattle.std.proofs.Common.{◌≡◌, ℕ, ◌+◌, ◌≤◌, List, [], ◌∷◌, ◌++◌, false, Option, Some, None, refl, sym, ap, ◌∙◌, subst, inl, append_assoc, arith}
 use Rattle.urlpattern_syntax.specs.declared.error.Error.{Error}
 use Rattle.urlpattern_syntax.specs.declared.parser.PartModifier.TheVariants as modifiers
@@ -32,9 +33,10 @@ number_most (kinds_of_piece.TextGroup text modifier) number = omega arith
 number_most (kinds_of_piece.Bare prefix placeholder modifier) number = next_number_most placeholder.name number
 number_most (kinds_of_piece.Group before placeholder after modifier) number = next_number_most placeholder.name number
 
--- ---- what is read so far
+-- ---- the pieces so far
 
--- The tokens up to the rest are pieces. They stand for the items, whose parts are read, and for the pending text.
+-- The tokens up to the rest are pieces, which have these items: those whose parts are read, and the
+-- pending text.
 pub record HasRead (options : OptionsView) (encoding : Encoding) (tokens rest : List TokenView) (list : PartListView) : Type 0 where
   pub pieces : List Piece
   pub items : List Item

@@ -1,4 +1,4 @@
--- Lemmas on tokens that are read one by one: places of a text, and what is left there.
+-- Lemmas on tokens that are read one by one: places of a text, and the tokens left there.
 use Rattle.std.proofs.Common.{◌≡◌, ◌≢◌, ℕ, ◌+◌, ◌<◌, ◌≤◌, ◌⊎◌, List, [], ◌∷◌, ◌++◌, length, Ok, Err, refl, sym, ap, ◌∙◌, subst, inl, inr, arith}
 use Rattle.std.specs.Prelude.{Result, OnOk, IfErr, IfOk}
 use Rattle.std.specs.Str.{chars, IsUtf8}
@@ -30,7 +30,7 @@ cut_shorter whole text left (token ∷ tokens) h =
     let more = cut_shorter whole h.1 left tokens h.4 in
     omega (arith, e, less, more)
 
--- a place leaves no more than the whole text
+-- the text after a place is no longer than the whole text
 pub place_within : (whole rest : List ℕ) → IsUtf8 whole → IsUtf8 rest → IsPlace (chars whole) (chars rest) → length rest ≤ length whole
 place_within whole rest u v p =
     let within = cut_shorter (chars whole) (chars whole) (chars rest) p.front p.cut in
@@ -42,7 +42,7 @@ place_within whole rest u v p =
 pub place_first : (whole rest : List ℕ) → Skips whole rest → ¬ BeginsWith is_ignored rest → IsPlace whole rest
 place_first whole rest skips begins = record { front = []; cut = skips; begins = begins }
 
--- the place after one token more
+-- the place after the next token
 pub place_next : (whole rest value behind next : List ℕ) (kind : TokenType) (index : ℕ) → IsPlace whole rest → IsLexed rest kind value behind → BeginsAt whole rest index → Skips behind next → ¬ BeginsWith is_ignored next → IsPlace whole next
 place_next whole rest value behind next kind index p lexed place skips begins =
     let token : TokenView = record { kind = kind; index = index; value = value } in
@@ -78,9 +78,9 @@ after_other whole rest next token tokens (inr h) other t = record {
 pub tokens_first : (text rest : List ℕ) (tokens : List TokenView) → Skips text rest → AreTokensAfter text rest tokens → AreTokens text tokens
 tokens_first text rest tokens skips t = record { front = t.front; cut = skip_cut (IsTokenOf text) text rest [] t.front skips t.cut; all = t.all }
 
--- ---- what is left
+-- ---- tokens that are left
 
--- the tokens that are left, from before the first of them
+-- the tokens that are left, read from the place before the first of them
 pub given_after : (reader : Reader) (before : List ℕ) (tokens : List TokenView) → IsTokenAfter (reader_text reader) before (token_view reader.token) (chars reader.cursor.rest.now) → HasTokensLeft reader tokens → AreTokensAfter (reader_text reader) before tokens
 given_after reader before tokens after g = subst (AreTokensAfter (reader_text reader) before) (sym g.first) (by_others g.others)
   where
@@ -90,7 +90,7 @@ given_after reader before tokens after g = subst (AreTokensAfter (reader_text re
         (after_end (reader_text reader) before (chars reader.cursor.rest.now) (token_view reader.token) after h.0)
     by_others (inr h) = after_other (reader_text reader) before (chars reader.cursor.rest.now) (token_view reader.token) g.more after h.0 h.1
 
--- where the rest has tokens, there are tokens left
+-- where the rest has tokens, tokens are left
 pub gives_some : (reader : Reader) (more : List TokenView) → Stands reader → AreTokensAfter (reader_text reader) (chars reader.cursor.rest.now) more → (tokens : List TokenView) × HasTokensLeft reader tokens
 gives_some reader more stands t = by_kind reader.token.kind refl
   where
@@ -129,7 +129,7 @@ pub tokens_left_most : (kind : TokenType) → tokens_left kind ≤ 1
 tokens_left_most End = omega arith
 tokens_left_most other = omega arith
 
--- what is after a token is less than what began with it
+-- the text after a token is shorter than the text that begins with the token
 pub left_within : (rest behind next : List ℕ) (kind : TokenType) → IsUtf8 rest → IsUtf8 behind → byte_len (chars behind) < byte_len (chars rest) → length next ≤ length behind → length next + tokens_left kind ≤ length rest
 left_within rest behind next kind u v less le =
     let e = byte_len-chars rest u in
@@ -137,7 +137,7 @@ left_within rest behind next kind u v less le =
     let most = tokens_left_most kind in
     omega (arith, e, f, most, less, le)
 
--- one token is taken
+-- a token is consumed
 module _ (old new : Reader) (whole : new.cursor.input.now ≡ old.cursor.input.now) (place : IsPlace (reader_text old) (chars new.cursor.rest.now)) (after : IsTokenAfter (reader_text old) (chars old.cursor.rest.now) (token_view new.token) (chars new.cursor.rest.now)) (len : length new.cursor.rest.now + tokens_left new.token.kind ≤ length old.cursor.rest.now) (stands : Stands old) (other : old.token.kind ≢ End) where
   same_text : reader_text new ≡ reader_text old
   same_text = ap chars whole
@@ -173,7 +173,7 @@ module _ (old new : Reader) (whole : new.cursor.input.now ≡ old.cursor.input.n
         );
   }
 
--- nothing is taken
+-- nothing is consumed
 pub takes_none : (reader : Reader) (Is : List TokenView → List TokenView → Type 0) → Stands reader → ((tokens : List TokenView) → HasTokensLeft reader tokens → Is tokens tokens) → Takes reader reader Is
 takes_none reader Is stands is = record {
   whole = refl;
@@ -205,7 +205,7 @@ takes_weaker a b P Q t weaker = record {
       (x.0, x.1, weaker x.0 rest x.1 g x.2);
 }
 
--- the text is the same, so its fault is
+-- equal texts have the same faults
 pub fault_same : {T : Type 0} (a b : List ℕ) (result : Result T Error) → chars a ≡ chars b → IfErr result (ReportsFault (chars a)) → IfErr result (ReportsFault (chars b))
 fault_same a b result e h = subst (λ text. IfErr result (ReportsFault text)) e h
 
@@ -213,7 +213,7 @@ pub ok_weaker : {T : Type 0} (result : Result T Error) (P Q : Type 0) → (P →
 ok_weaker (Ok x) P Q f h = f h
 ok_weaker (Err error) P Q f h = h
 
--- the text starts at its first token
+-- a reader at the first token of the text
 pub starts : (text : List ℕ) (reader : Reader) (rest : List ℕ) → reader_text reader ≡ text → IsPlace text (chars reader.cursor.rest.now) → Skips text rest → IsTokenAfter text rest (token_view reader.token) (chars reader.cursor.rest.now) → StartsText text reader
 starts text reader rest whole place skips after = record {
   whole = whole;
@@ -228,7 +228,7 @@ starts text reader rest whole place skips after = record {
       (given_after reader rest tokens (subst (λ x. IsTokenAfter x rest (token_view reader.token) (chars reader.cursor.rest.now)) (sym whole) after) g));
 }
 
--- what takes a piece leaves less
+-- consuming a piece leaves fewer tokens
 pub shorter_if : (result : Result Next Error) (new old : ℕ) → OnOk result (new < old) → IfOk result (IsShorter new old)
 shorter_if (Err error) new old h = tt
 shorter_if (Ok next) new old h = by_next next

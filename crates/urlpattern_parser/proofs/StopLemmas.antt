@@ -1,4 +1,4 @@
--- Lemmas on where the pieces of a text end, whatever tokens are left of it.
+-- Lemmas on the place where the pieces of a text end, for any tokens that are left.
 use Rattle.std.proofs.Common.{◌≡◌, ℕ, List, [], ◌∷◌, ◌++◌, refl, sym, ap, ◌∙◌, subst, append_assoc}
 use Rattle.std.specs.Prelude.{IsTrue}
 use Rattle.std.specs.List.{list_all}
@@ -20,11 +20,11 @@ pub record Reached (point text : List ℕ) (rest : List TokenView) : Type 0 wher
   pub cut : tokens ≡ front ++ rest
   pub goes_on : (more : List Piece) (ending : Ending) → ArePieces point rest more ending → (all : List Piece) × ArePieces point tokens all ending
 
--- so it is of whatever tokens are left
+-- for any tokens that are left, the tokens of the text before them are pieces
 abbrev pub ReachesBy : (point text : List ℕ) → Reader → Type 0
 ReachesBy point text reader = (rest : List TokenView) → HasTokensLeft reader rest → Reached point text rest
 
--- a row of texts before another one is pieces
+-- a row of texts before a text is pieces
 row_pieces : (point : List ℕ) (row behind : List TokenView) → IsTrue (list_all (λ (token : TokenView). is_text token.kind) row) → BeginsWithKind is_text behind →
     (more : List Piece) (ending : Ending) → ArePieces point behind more ending → (all : List Piece) × ArePieces point (row ++ behind) all ending
 row_pieces point [] behind texts next more ending h = (more, h)
@@ -38,7 +38,7 @@ module _ (point text : List ℕ) where
   nothing_reached reader s rest g = record { tokens = rest; front = []; are_tokens = s.all rest g; cut = refl; goes_on = λ more ending h. (more, h) }
 
   module _ (old new : Reader) (reached : ReachesBy point text old) where
-    -- one piece more
+    -- the next piece
     pub piece_reached : (piece : Piece) → Takes old new (λ tokens rest. BeginsWithPiece point tokens piece rest) → ReachesBy point text new
     piece_reached piece takes rest g =
         let t = takes.gives rest g in
@@ -51,7 +51,7 @@ module _ (point text : List ℕ) where
           goes_on = λ more ending h. r.goes_on (piece ∷ more) ending (t.2.0, rest, t.2.1, t.2.2, h);
         }
 
-    -- a row of characters more
+    -- the next row of characters
     pub row_reached : (characters : List ℕ) → Takes old new (λ tokens rest. BeginsWithRow tokens characters rest) → ReachesBy point text new
     row_reached characters takes rest g =
         let t = takes.gives rest g in

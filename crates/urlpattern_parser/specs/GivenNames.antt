@@ -8,6 +8,6 @@ use Rattle.urlpattern_parser.specs.declared.parser.given_names.GivenNames.{Given
 abbrev pub has_bytes : List ℕ → Bor (List ℕ) → Bool
 has_bytes bytes text = bytes_eq text.now bytes
 
--- whether the name of these bytes is there
+-- the name of these bytes is in the set
 abbrev pub has_name : GivenNames → List ℕ → Bool
 has_name names bytes = list_any (has_bytes bytes) names.few.items || contains_by (λ text. slice_cmp nat_cmp bytes text.now) names.others

@@ -1,4 +1,4 @@
--- A token at the front of a text.
+-- A token at the beginning of a text.
 use Rattle.std.specs.Prelude.{ℕ, ◌⊎◌, List, MatchResult, Result}
 use Rattle.urlpattern_syntax.specs.declared.error.{TokenizerError.TokenizerError}
 use Rattle.urlpattern_parser.specs.declared.tokenizer.lexemes.Lexeme.{Lexeme}
@@ -6,13 +6,14 @@ use Rattle.urlpattern_syntax.specs.declared.tokenizer.TokenizePolicy.{TokenizePo
 use Rattle.urlpattern_syntax.specs.Tokens.{IsFaultAt, IsInvalidChar, IsLexed, fault_view}
 use Rattle.urlpattern_syntax.specs.Text.{chars}
 
--- a token at the front of a text, or why there is none
+-- the token at the beginning of a text, or the reason why there is none
 abbrev pub Lexes : List ℕ → Result Lexeme TokenizerError → Type 0
 Lexes text result = MatchResult result
     (λ lexeme. IsLexed text lexeme.kind (chars lexeme.value.now) (chars lexeme.rest.now))
     (λ fault. IsFaultAt text (fault_view fault))
 
--- the same under the policy: under the lenient one a character in a fault's place is a token
+-- the token or the fault under a policy: the lenient one accepts a character in a fault's place as
+-- a token
 abbrev pub LexesUnder : TokenizePolicy → List ℕ → Result Lexeme TokenizerError → Type 0
 LexesUnder TokenizePolicy.Strict text result = Lexes text result
 LexesUnder TokenizePolicy.Lenient text result = MatchResult result

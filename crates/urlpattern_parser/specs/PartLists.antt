@@ -1,4 +1,5 @@
--- What the parser reads, and what it adds to its list of parts, under its own options and by its own callback.
+-- The parts that the parser reads and adds to its list, under its own options and by its own
+-- callback.
 use Rattle.std.specs.Prelude.{◌≡◌, ℕ, List, [], ◌∷◌, ◌++◌, Contains, Option}
 use Rattle.std.specs.Borrow.{Bor}
 use Rattle.urlpattern_parser.specs.declared.parser.part_list.PartList.{PartList}
@@ -20,17 +21,19 @@ use Rattle.urlpattern_syntax.specs.Text.{chars, option_text}
 
 -- ---- the parser
 
+-- the options of the parser
 abbrev pub parser_options : {F : Type 0} → PatternParser F → OptionsView
 parser_options parser = options_view parser.options.now
 
+-- the results of the parser's callback
 abbrev pub parser_encoding : {F : Type 0} → Calls F → PatternParser F → Encoding
 parser_encoding calls parser = encoding_by calls parser.encoding_callback
 
--- the text means these parts to the parser
+-- the parser reads the text as these parts
 abbrev pub ParserReads : {F : Type 0} → Calls F → PatternParser F → List ℕ → List Part → Type 0
 ParserReads calls parser text parts = Reads text (parser_options parser) (parser_encoding calls parser) (parts_view parts)
 
--- the parser refuses the text with this error
+-- the parser rejects the text with this error
 abbrev pub ParserRefuses : {F : Type 0} → Calls F → PatternParser F → List ℕ → ErrorView → Type 0
 ParserRefuses calls parser text error = Refuses text (parser_options parser) (parser_encoding calls parser) error
 
@@ -40,6 +43,7 @@ matched_regexp parser matched = compared (parser_options parser) (matched_view m
 
 -- ---- the names of a list
 
+-- the names of the groups of the list
 abbrev pub list_names : PartList → List (List ℕ)
 list_names list = group_names (part_list_view list).parts
 
@@ -51,15 +55,16 @@ Knows list names = KnowsNames names list.given_names list.next_numeric_name
 abbrev pub KnowsItsNames : PartList → Type 0
 KnowsItsNames list = Knows list (list_names list)
 
--- the name of the list's next placeholder: this one, or else its number among those that have none
+-- the name of the list's next placeholder: the given name, or else its number among those without
+-- one
 abbrev pub next_name : PartList → Option (Bor (List ℕ)) → List ℕ
 next_name list name = name_or (option_text name) list.next_numeric_name
 
--- the error reports that the name of the list's next placeholder is in it already
+-- the error reports that the name of the list's next placeholder is in the list already
 abbrev pub IsDuplicate : PartList → Option (Bor (List ℕ)) → ErrorView → Type 0
 IsDuplicate list name error = Contains (list_names list) (next_name list name) × (error ≡ ErrorView.DuplicateName (next_name list name))
 
--- ---- what a list takes
+-- ---- additions to a list
 
 -- the list's pending text, as an item if there is one
 abbrev pub pending_item : PartList → List Item
@@ -74,11 +79,12 @@ abbrev pub then_group : PartList → (before : List ℕ) → Placeholder → (af
 then_group list before placeholder after modifier =
     pending_item list ++ group_item (chars before) placeholder (chars after) modifier list.next_numeric_name ∷ []
 
--- what a piece stands for after the list
+-- the item of a piece after the list
 abbrev pub next_item : PartList → Piece → Item
 next_item list piece = item list.next_numeric_name (piece_view piece)
 
--- the demands at the last token: the encoding of the list's pending text, and that the token is the end
+-- the demands at the last token: the encoding of the list's pending text, and that the token is the
+-- end
 abbrev pub end_demands : PartList → Token → List Demand
 end_demands list token = encode_fixed (part_list_view list).pending ++ Expect End (token_view token) ∷ []
 

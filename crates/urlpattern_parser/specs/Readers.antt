@@ -1,4 +1,5 @@
--- The reader of a pattern's pieces: which tokens it takes, which are left, and what its pieces and the list of parts show.
+-- The reader of a pattern's pieces: the tokens that it consumes, the tokens that are left, and the
+-- values of its pieces and of the list of parts.
 use Rattle.std.specs.Prelude.{◌≡◌, ◌≢◌, ◌<◌, ◌≤◌, ◌+◌, ℕ, ◌⊎◌, List, [], ◌∷◌, ◌++◌, length, decimal, Contains, IsTrue, ◌^◌, ◌↔◌}
 use Rattle.std.specs.Str.{chars, IsUtf8}
 use Rattle.std.specs.Borrow.{Bor}
@@ -24,11 +25,11 @@ use Rattle.urlpattern_syntax.specs.Tokens.{AreTokens, ReportsFault, TokenView, t
 abbrev pub reader_text : Reader → List ℕ
 reader_text reader = cursor_text reader.cursor
 
--- more than the tokens that are left, End apart
+-- a bound on the number of tokens that are left, without End
 abbrev pub reader_left : Reader → ℕ
 reader_left reader = length reader.cursor.rest.now + tokens_left reader.token.kind
 
--- these tokens are left: the first, and those of the rest of the text
+-- the tokens that are left: the first, and those of the rest of the text
 pub record HasTokensLeft (reader : Reader) (tokens : List TokenView) : Type 0 where
   pub more : List TokenView
   pub first : tokens ≡ token_view reader.token ∷ more
@@ -36,13 +37,13 @@ pub record HasTokensLeft (reader : Reader) (tokens : List TokenView) : Type 0 wh
   pub others : ((reader.token.kind ≡ End) × (more ≡ []))
       ⊎ ((reader.token.kind ≢ End) × AreTokensAfter (reader_text reader) (cursor_rest reader.cursor) more)
 
--- the reader is at a place of its text, and the token before that is spelled as its kind is
+-- the reader is at a place of its text, and the token before this place is spelled as its kind is
 pub record Stands (reader : Reader) : Type 0 where
   pub place : IsPlace (reader_text reader) (cursor_rest reader.cursor)
   pub mark : IsModifierSpelled (token_view reader.token)
   pub name : IsNameSpelled (token_view reader.token)
 
--- what is left after the taking (`rest`) is so related to what was left before it (`tokens`)
+-- consuming tokens relates those that are left (`rest`) to those that were left before (`tokens`)
 pub record Takes (old new : Reader) (Is : (tokens rest : List TokenView) → Type 0) : Type 0 where
   pub whole : new.cursor.input.now ≡ old.cursor.input.now
   pub stands : Stands new
@@ -55,14 +56,17 @@ pub record StartsText (text : List ℕ) (reader : Reader) : Type 0 where
   pub stands : Stands reader
   pub all : (tokens : List TokenView) → HasTokensLeft reader tokens → AreTokens text tokens
 
+-- what a placeholder matches, as a value of the specification
 abbrev pub matched_view : MatchedValue → Matched
 matched_view MatchedValue.Segment = Matched.Segment
 matched_view (MatchedValue.Custom body) = Matched.Custom (chars body.now)
 matched_view MatchedValue.Anything = Matched.Anything
 
+-- a placeholder, as a value of the specification
 abbrev pub placeholder_view : PlaceholderValue → Placeholder
 placeholder_view value = record { name = option_text value.name; matched = matched_view value.matched }
 
+-- a piece, as a value of the specification
 abbrev pub piece_view : PieceValue → Piece
 piece_view (PieceValue.Text text) = Piece.Text (chars text.now)
 piece_view (PieceValue.Bare prefix placeholder modifier) = Piece.Bare (chars prefix.now) (placeholder_view placeholder) modifier
@@ -75,48 +79,52 @@ abbrev pub group_item : (before : List ℕ) → PlaceholderValue → (after : Li
 group_item before value after modifier number =
     Capture before (name_or (option_text value.name) number) (matched_view value.matched) after modifier
 
+-- the name of the piece, if it has one, is one that a pattern gives
 abbrev pub IsNextNamed : Next → Type 0
 IsNextNamed (Next.Piece piece) = IsPieceNamed (piece_view piece)
 IsNextNamed other = Unit {0}
 
--- the next piece of tokens, or how they end
+-- the next piece of the tokens, or their ending
 abbrev pub IsNext : (point : List ℕ) → (tokens : List TokenView) → Next → (rest : List TokenView) → Type 0
 IsNext point tokens (Next.Piece piece) rest = BeginsWithPiece point tokens (piece_view piece) rest
 IsNext point tokens (Next.Characters first more) rest = BeginsWithRow tokens (chars first.now ++ chars more.now) rest
 IsNext point tokens Next.Stops rest = HasEndingAt tokens Ending.Stops rest
 IsNext point tokens Next.LacksClose rest = HasEndingAt tokens Ending.LacksClose rest
 
--- the same of these tokens after any that are the prefix
+-- the next piece or ending of these tokens, after tokens that are the prefix
 abbrev pub IsNextAfter : (prefix : List ℕ) → (tokens : List TokenView) → Next → (rest : List TokenView) → Type 0
 IsNextAfter prefix tokens next rest =
     (point : List ℕ) (before : List TokenView) → IsPrefixOf point before prefix → IsNext point (before ++ tokens) next rest
 
--- a placeholder is taken
+-- a placeholder is consumed
 abbrev pub TakesPlaceholder : (old new : Reader) → PlaceholderValue → Type 0
 TakesPlaceholder old new value = Takes old new (λ tokens rest. BeginsWithPlaceholder tokens (placeholder_view value) rest)
 
--- the first token, a character, is taken and then more of them, whose values these are
+-- the first token, a character, is consumed with more characters, of these values
 abbrev pub TakesRow : (old new : Reader) → (more : Bor (List ℕ)) → Type 0
 TakesRow old new more = Takes old new (λ tokens rest. BeginsWithCharacters tokens (token_view old.token) (chars more.now) rest)
 
--- the end of a group and its modifier are taken
+-- the closing brace of a group and its modifier are consumed
 abbrev pub TakesClose : (old new : Reader) → PartModifier → Type 0
 TakesClose old new modifier = Takes old new (λ tokens rest. BeginsWithClose tokens modifier rest)
 
--- what is taken leaves less
+-- fewer tokens are left after a piece or characters are consumed
 abbrev pub IsShorter : (new old : ℕ) → Next → Type 0
 IsShorter new old (Next.Piece piece) = new < old
 IsShorter new old (Next.Characters first more) = new < old
 IsShorter new old other = Unit {0}
 
+-- the list of parts, as a value of the specification
 abbrev pub part_list_view : PartList → PartListView
 part_list_view list = record { parts = parts_view list.parts.items; pending = text_of list.pending_fixed_value; number = list.next_numeric_name }
 
--- these are the names so far: those that the pattern gives are kept, and the others are numbers below this one
+-- the names so far: the set keeps those that the pattern gives, and the others are numbers below
+-- `number`
 pub record KnowsNames (names : List (List ℕ)) (given : GivenNames) (number : ℕ) : Type 0 where
   pub named : (name : List ℕ) → IsUtf8 name → IsGiven (chars name) → Contains names (chars name) ↔ IsTrue (has_name given name)
   pub numbered : (other : ℕ) → number ≤ other → other < 2 ^ 64 → ¬ Contains names (decimal other)
 
--- memory ran out, or the error is the first fault of the text, or it is one of these and the rest has tokens
+-- memory ran out, or the error is the first fault of the text, or the rest has tokens and `Is`
+-- holds of the error
 abbrev pub FaultOr : Reader → (ErrorView → Type 0) → Error → Type 0
 FaultOr reader Is error = ReportsFault (reader_text reader) error ⊎ (((tokens : List TokenView) × HasTokensLeft reader tokens) × MemoryOr Is error)

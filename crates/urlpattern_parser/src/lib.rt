@@ -1,4 +1,4 @@
-//! Reads the text of one component's pattern: cuts it into tokens, and makes its parts of them.
+//! Parses the pattern text of one component: cuts it into tokens, and makes parts of the tokens.
 #![tactic(auto)]
 
 pub mod parser;

@@ -1,4 +1,4 @@
-//! The parts of a pattern text, read from its tokens.
+//! The parts of a pattern text, parsed from its tokens.
 //!
 //! <https://urlpattern.spec.whatwg.org/#parts-and-part-lists>
 ghost use Rattle.std.specs.Prelude.{◌≤◌, ◌≡◌, Result, IfOk, IfErr, OnOk};
@@ -27,7 +27,7 @@ pub use urlpattern_syntax::parser::{
 };
 use urlpattern_syntax::writing::is_written;
 
-/// What stays the same while a pattern text is read.
+/// The parameters that stay fixed while a pattern text is parsed.
 ///
 /// <https://urlpattern.spec.whatwg.org/#pattern-parser>
 #[derive(Drop)]
@@ -37,11 +37,11 @@ struct PatternParser<'o, F> {
     encoding_callback: F,
 }
 
-/// The parts of a pattern text.
+/// Parses a pattern text into its parts.
 ///
-/// Each fixed text, prefix and suffix goes through the callback, which may be asked in any order. The error is the first
-/// fault of the text, with its place in bytes; else the first demand of its pieces that is not met, which may be the
-/// callback's own error; or that memory ran out.
+/// Each fixed text, prefix and suffix is passed to the callback, which may be called in any order.
+/// The error is the first fault of the text, with its place in bytes; else the first demand of its
+/// pieces that is not met, which may be the callback's own error; or that memory ran out.
 ///
 /// <https://urlpattern.spec.whatwg.org/#parse-a-pattern-string>
 pub fn parse_pattern_string<F: Fn(&str) -> Result<String, Error> + Drop>(
@@ -64,7 +64,7 @@ pub fn parse_pattern_string<F: Fn(&str) -> Result<String, Error> + Drop>(
 }
 
 impl<F: Fn(&str) -> Result<String, Error>> PatternParser<'_, F> {
-    /// The parts of a text, of which no token is taken.
+    /// Parses the parts of a text of which no token is consumed.
     fn part_list(&self, reader: &mut Reader<'_>) -> Result<Vec<Part>, Error>
         requires callable { F.IsAlwaysCallable self.now.encoding_callback }
         requires starts { StartsText (reader_text reader.old) reader.old }
@@ -97,7 +97,7 @@ impl<F: Fn(&str) -> Result<String, Error>> PatternParser<'_, F> {
         }
     }
 
-    /// Adds what is pending before the token with which no piece begins, which has to be the end.
+    /// Adds the pending text at the token with which no piece begins, which has to be `End`.
     fn finish(&self, list: &mut PartList<'_>, reader: &Reader<'_>) -> Result<(), Error>
         requires callable { F.IsAlwaysCallable self.now.encoding_callback }
         requires stands { Stands reader.now }
@@ -115,7 +115,7 @@ impl<F: Fn(&str) -> Result<String, Error>> PatternParser<'_, F> {
         Ok(())
     }
 
-    /// What the callback answers for a text.
+    /// Returns the callback's result for a text.
     #[inline(always)]
     fn ask(&self, text: &str) -> Result<String, Error>
         requires { F.IsAlwaysCallable self.now.encoding_callback }
@@ -125,7 +125,8 @@ impl<F: Fn(&str) -> Result<String, Error>> PatternParser<'_, F> {
         (self.encoding_callback)(text)
     }
 
-    /// The kind of a placeholder's part, and its value: the body of a custom regular expression that is no wildcard.
+    /// Returns the kind of a placeholder's part, and its value: the body of a custom regular
+    /// expression that is not a wildcard.
     #[inline(always)]
     fn kind_and_value(&self, matched: Matched<'_>) -> Result<(PartType, String), AllocError>
         ensures kind { IfOk result (λ found. found.0 ≡ kind_of (parser_options self.now) (matched_regexp self.now matched.entry)) }
@@ -138,7 +139,7 @@ impl<F: Fn(&str) -> Result<String, Error>> PatternParser<'_, F> {
         }
     }
 
-    /// The kind and the value of a part that stands for what this regular expression matches.
+    /// Returns the kind and the value of a part with this regular expression.
     fn kind_by_regexp(&self, regexp: &str) -> Result<(PartType, String), AllocError>
         ensures kind { IfOk result (λ found. found.0 ≡ kind_of (parser_options self.now) (chars regexp.now)) }
         ensures value { IfOk result (λ found. text_of found.1 ≡ value_of found.0 (chars regexp.now)) }
@@ -153,7 +154,8 @@ impl<F: Fn(&str) -> Result<String, Error>> PatternParser<'_, F> {
     }
 }
 
-/// The first fault of the text that is read, if it has one, or else this error. Out of memory stays as it is.
+/// Returns the first fault of the text that is parsed, if it has one, and otherwise this error.
+/// `OutOfMemory` stays as it is.
 fn first_fault(reader: &Reader<'_>, error: Error) -> Error
     requires { Stands reader.now }
     ensures { FaultOr reader.now (λ view. view ≡ error_view error) result }
@@ -167,7 +169,8 @@ fn first_fault(reader: &Reader<'_>, error: Error) -> Error
     }
 }
 
-/// The error where a token of this kind has to stand and another does, or that memory ran out.
+/// Returns the error that a token of this kind was expected in place of `found`, or that memory ran
+/// out.
 fn expected_token(alloc: Global, kind: TokenType, found: Token<'_>) -> Error
     ensures { MemoryOr (λ error. error ≡ ErrorView.ExpectedToken kind found.entry.kind (chars found.entry.value.now)) result }
 {

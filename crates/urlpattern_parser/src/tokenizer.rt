@@ -18,8 +18,8 @@ pub use urlpattern_syntax::tokenizer::{
 
 /// Cuts a text into tokens, the last of them `End`.
 ///
-/// The error is that memory ran out or, under the strict policy, the first fault of the text with its place in bytes.
-/// Under the lenient policy no text is refused.
+/// The error is that memory ran out or, under the strict policy, the first fault of the text with
+/// its place in bytes. The lenient policy accepts every text.
 ///
 /// <https://urlpattern.spec.whatwg.org/#tokenize>
 pub fn tokenize<'a>(

@@ -16,7 +16,7 @@ is_group part = not (is_fixed_text part.kind)
 abbrev pub names_of : List Part → List (List ℕ)
 names_of parts = group_names (map part_view parts)
 
--- ---- as many as the groups
+-- ---- one name for each group
 
 counted_with : (b : Bool) (part : Part) (views : List PartView) (parts : List Part) → length (map (λ (view : PartView). view.name) views) ≡ length parts
     → length (map (λ (view : PartView). view.name) (cond b (part_view part ∷ views) views)) ≡ length (cond b (part ∷ parts) parts)
@@ -27,7 +27,7 @@ pub names-counted : (parts : List Part) → length (names_of parts) ≡ length (
 names-counted [] = refl
 names-counted (part ∷ parts) = counted_with (is_group part) part (filter (λ (view : PartView). not (is_fixed_text view.kind)) (map part_view parts)) (filter is_group parts) (names-counted parts)
 
--- ---- of one part, and of parts end to end
+-- ---- a part, and lists of parts end to end
 
 pub names-group : (part : Part) → is_group part ≡ true → names_of (part ∷ []) ≡ text_of part.name ∷ []
 names-group part e = rw e
@@ -48,7 +48,7 @@ pub names-more : (list : List Part) (i : ℕ) (part : Part) → i < length list 
 names-more list i part below here =
     ap (λ xs. names_of xs) (take_more list i part below ∙ ap (λ x. take i list ++ x ∷ []) (sym here)) ∙ names-append (take i list) (part ∷ [])
 
--- a group has a name that those before it do not count
+-- the names before a group are fewer than all names
 pub names-left : (list : List Part) (i : ℕ) (part : Part) → i < length list → part ≡ get_or list i part → is_group part ≡ true → length (names_of (take i list)) < length (names_of list)
 names-left list i part below here group =
     let rest = names_of (drop (suc i) list) in

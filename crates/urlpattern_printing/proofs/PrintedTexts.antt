@@ -35,7 +35,7 @@ pub filled-append : (text : List ℕ) (c : ℕ) → is_empty (text ++ c ∷ []) 
 filled-append [] c = refl
 filled-append (d ∷ text) c = refl
 
--- the characters of a text that ends with the bytes of this one
+-- the characters of a text whose bytes end with those of `c`
 pub chars_before_char : (whole front : List ℕ) (c : ℕ) → IsUtf8 whole → IsScalar c → whole ≡ front ++ encode_utf8 c → chars whole ≡ chars front ++ c ∷ []
 chars_before_char whole front c u s e =
     let cut : take (length front) whole ≡ front = ap (λ xs. take (length front) xs) e ∙ take-append_seam front (encode_utf8 c) in
@@ -43,7 +43,7 @@ chars_before_char whole front c u s e =
     let v = subst P cut (IsUtf8-take whole (length front) u (IsCharBoundary-at_seam whole front (encode_utf8 c) e (IsUtf8-encode c s))) in
     ap chars e ∙ chars-append front (encode_utf8 c) v ∙ ap (λ xs. chars front ++ xs) (chars-encode c s)
 
--- whether a text that ends with this character ends with this prefix code point
+-- a text that ends with this character ends with the prefix code point exactly where both are equal
 pub ends_with : {answer : Bool} (text front : List ℕ) (c : ℕ) (prefix : List ℕ) → text ≡ front ++ c ∷ [] → answer ≡ bytes_eq (c ∷ []) prefix → answer ≡ not (is_empty text) && bytes_eq (last_of text) prefix
 ends_with text front c prefix e h =
     rw (e, filled-append front c, last_of-append front c) h
@@ -58,20 +58,20 @@ alone (b ∷ rest) u =
     let some : length (b ∷ rest) ≡ 0 → ⊥ = λ e. omega (arith, e) in
     nothing_alone (chars (b ∷ rest)) (chars-some (b ∷ rest) u some) ∙ sym (grind arith)
 
--- whether this character, with which the text begins, is all of it
+-- the first character of the text is all of it exactly where no bytes are left
 pub is_alone : (c : ℕ) (bytes rest : List ℕ) → IsUtf8 bytes → bytes ≡ encode_utf8 c ++ rest → bytes_eq (c ∷ []) (chars bytes) ≡ (length rest == 0)
 is_alone c bytes rest u e =
     let same : eqb c c ≡ true = eq-eqb c c refl in
     ap (λ text. bytes_eq (c ∷ []) text) (chars_past_char bytes rest c u e) ∙ ap (λ b. b && bytes_eq [] (chars rest)) same ∙ alone rest (IsUtf8-past_char bytes rest c u e)
 
--- the text begins with no such character
+-- the text does not begin with this character
 pub begins_else : (c : ℕ) (text : List ℕ) → false ≡ option_eq eqb (slice_get text 0) (Some c) → bytes_eq (c ∷ []) text ≡ false
 begins_else c [] e = refl
 begins_else c (d ∷ text) e =
     let one = same_from_decides (eqb c d) (eqb d c) (Decides-eqb c d) ((λ h. sym (eqb-true d c h)), (λ same. eq-eqb d c (sym same))) in
     ap (λ b. b && bytes_eq [] text) (one ∙ sym e)
 
--- the character that was found is this one
+-- the character that was found is `c`
 pub found_as : (found : Option ℕ) (c : ℕ) → true ≡ option_eq eqb found (Some c) → found ≡ Some c
 found_as None c e = absurd (cc e)
 found_as (Some d) c e = ap (λ x. Some x) (eqb-true d c (sym e))
@@ -90,14 +90,14 @@ bytes_eq-text one other =
 
 -- ---- neighbours
 
--- the first of the parts after
+-- the first of the parts after a part
 pub first_neighbour : (first : Option (Bor Part)) (parts : List Part) → option_copied first ≡ slice_get parts 0 → neighbour first ≡ first_part (map part_view parts)
 first_neighbour None [] e = refl
 first_neighbour None (part ∷ parts) e = absurd (cc e)
 first_neighbour (Some first) [] e = absurd (cc e)
 first_neighbour (Some first) (part ∷ parts) e = ap (λ found. option_map part_view found) e
 
--- what is written after a part's own text, where the list is cut after that part
+-- the text after a part's own text, where the list is cut after that part
 pub printed-cut : (options : OptionsView) (previous : Option PartView) (part : Part) (after rest : List Part) (next : Option (Bor Part)) (front : List ℕ) {whole : List ℕ}
     → option_copied next ≡ slice_get after 0 → rest ≡ part ∷ after → front ++ printed_after options previous (map part_view rest) ≡ whole
     → front ++ (printed_part options previous (part_view part) (neighbour next) ++ printed_after options (Some (part_view part)) (map part_view after)) ≡ whole
@@ -113,7 +113,7 @@ printed-more options previous part after rest next front is_next cut is_whole =
     append_assoc front (printed_part options previous (part_view part) (neighbour next)) (printed_after options (Some (part_view part)) (map part_view after))
     ∙ printed-cut options previous part after rest next front is_next cut is_whole
 
--- ---- the texts of parts, by those of their pieces
+-- ---- the texts of parts, by the texts of their pieces
 
 -- a piece that was escaped by its bytes
 pub escaped-by : {text bytes own : List ℕ} → text ≡ escaped_pattern (chars bytes) → bytes ≡ own → text ≡ escaped_pattern (chars own)
@@ -137,7 +137,7 @@ group-as options before part asterisk braces prefix modifier a p m =
     ∙ ap (λ x. group_of options part (is_asterisk before part braces) braces x modifier) p
     ∙ ap (λ x. group_of options part (is_asterisk before part braces) braces (escaped_pattern part.prefix) x) m
 
--- ---- a part between its neighbours, by what it is
+-- ---- a part between its neighbours, by its kind
 
 pub printed_part-fixed : (options : OptionsView) (before : Option PartView) (part : PartView) (next : Option PartView) → part.kind ≡ FixedText → printed_part options before part next ≡ printed_fixed part
 unfolding printed_part
@@ -163,6 +163,6 @@ suffix-nothing true [] none = refl
 suffix-nothing false [] none = refl
 suffix-nothing alone (c ∷ suffix) none = absurd (false≢true none)
 
--- nor for the suffix of a part that has none
+-- nothing is written for the suffix of a part without one
 pub no_suffix : (part : PartView) → is_empty part.suffix ≡ true → printed_suffix part ≡ []
 no_suffix part none = suffix-nothing (is_name_alone part) part.suffix none

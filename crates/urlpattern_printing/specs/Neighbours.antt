@@ -1,4 +1,4 @@
--- The part before or after another in a list: what a clause sees of it.
+-- The part before or after another in a list, as a clause sees it.
 use denote.Ref.{Bor}
 use Rattle.std.specs.Prelude.{◌&&◌, Bool, bytes_eq, ℕ, List, not, Option, option_map}
 use Rattle.urlpattern_meaning.specs.Printing.{last_of}
@@ -6,7 +6,7 @@ use Rattle.urlpattern_syntax.specs.{Options.OptionsView, RegexpText.is_empty}
 use Rattle.urlpattern_syntax.specs.declared.parser.Part.{Part}
 use Rattle.urlpattern_syntax.specs.Parts.{PartView, part_view}
 
--- the part there, if there is one
+-- the part, if there is one
 abbrev pub neighbour : Option (Bor Part) → Option PartView
 neighbour part = option_map (λ there. part_view there.now) part
 

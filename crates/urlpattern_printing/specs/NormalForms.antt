@@ -1,4 +1,4 @@
--- The pattern text of a list of parts, and its normal form: the parts that this text reads as.
+-- The pattern text of a list of parts, and its normal form: the parts that the text reads as.
 use Rattle.std.specs.Prelude.{◌≡◌, ℕ, List}
 use Rattle.std.specs.declared.alloc.Global.{Global}
 use Rattle.std.specs.declared.vec.Vec.{Vec}
@@ -11,13 +11,13 @@ use Rattle.urlpattern_syntax.specs.declared.parser.Part.{Part}
 use Rattle.urlpattern_syntax.specs.Parts.{PartView, parts_view}
 use Rattle.urlpattern_syntax.specs.Reading.{Encoding, Reads, Refuses}
 
--- if the parts are printable, the text reads as them again, under any encoding that keeps their texts
+-- if the parts are printable, the text reads back under any encoding that keeps their texts
 abbrev pub ReadsBackIfKept : (text : List ℕ) → OptionsView → List PartView → Type 0
 ReadsBackIfKept text options parts =
     (answers : Answered) → IsPrintable options parts → Keeps (listed answers) parts → ReadsBack text options (listed answers) parts
 
--- if the parts are printable and each of their texts is answered by itself or by an error, these are the parts with
--- neighbouring plain fixed texts joined
+-- if the parts are printable and the encoding changes none of their texts, `normal` is the parts
+-- with neighbouring plain fixed texts joined
 abbrev pub IsJoinedIfKept : OptionsView → Encoding → List PartView → Vec Part Global → Type 0
 IsJoinedIfKept options encoding parts normal =
     IsPrintable options parts → KeepsAnswered encoding parts → parts_view normal.items ≡ joined parts
@@ -26,10 +26,10 @@ IsJoinedIfKept options encoding parts normal =
 abbrev pub FailsIfPrintable : OptionsView → Encoding → List PartView → Error → Type 0
 FailsIfPrintable options encoding parts error = IsPrintable options parts → MemoryOr (FailsText encoding (encoded_texts (joined parts))) error
 
--- the pattern text of the parts reads as these
+-- the pattern text of the parts reads as `normal`
 abbrev pub IsReadFrom : OptionsView → Encoding → List PartView → Vec Part Global → Type 0
 IsReadFrom options encoding parts normal = Reads (printed options parts) options encoding (parts_view normal.items)
 
--- the error is one with which the pattern text of the parts is refused, or that memory ran out
+-- the pattern text of the parts is rejected with this error, or memory ran out
 abbrev pub RefusesPrinted : OptionsView → Encoding → List PartView → Error → Type 0
 RefusesPrinted options encoding parts error = MemoryOr (Refuses (printed options parts) options encoding) error

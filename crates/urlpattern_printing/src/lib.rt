@@ -1,4 +1,5 @@
-//! What is written of a list of parts: its pattern text, and its regular expression with the names of its groups.
+//! Writes a list of parts: its pattern text, and its regular expression with the names of its
+//! groups.
 #![tactic(auto)]
 
 mod names;

@@ -10,12 +10,10 @@ use std::alloc::{AllocError, Global};
 use urlpattern_syntax::Error;
 use urlpattern_syntax::parser::{Options, Part, PartType};
 
-/// The regular expression of a list of parts, and the names of its groups in their order.
+/// Returns the regular expression of a list of parts, and the names of its groups in order.
 ///
-/// Where no part has a regular expression of its own, the text means exactly what the parts mean, with the same captures,
-/// and these are as many as the names.
-///
-/// The error is that memory ran out.
+/// Where no part is a custom regular expression, the text means exactly what the parts mean, with
+/// the same captures, as many as the names.
 ///
 /// <https://urlpattern.spec.whatwg.org/#generate-a-regular-expression-and-name-list>
 pub fn generate_regular_expression_and_name_list(
@@ -34,7 +32,7 @@ pub fn generate_regular_expression_and_name_list(
     Ok((text, names))
 }
 
-/// The names of the groups of a list of parts, in their order.
+/// Returns the names of the groups of a list of parts, in order.
 pub fn generate_name_list(alloc: Global, part_list: &[Part]) -> Result<Vec<String>, AllocError>
     ensures { IfOk result (λ found. map (λ name. text_of name) found.items ≡ group_names (parts_view part_list.now)) }
 {
@@ -48,7 +46,7 @@ pub fn generate_name_list(alloc: Global, part_list: &[Part]) -> Result<Vec<Strin
     Ok(names)
 }
 
-/// Whether the part is a group, which is one that is no fixed text.
+/// Whether the part is a group, that is, no fixed text.
 fn is_group(part: &Part) -> bool
     ensures { result ≡ not (is_fixed_text part.now.kind) }
 {

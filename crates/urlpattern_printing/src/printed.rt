@@ -22,12 +22,10 @@ use urlpattern_syntax::parser::{
 use urlpattern_syntax::tokenizer::is_name_part;
 use urlpattern_syntax::writing::{Writable, Writer, written};
 
-/// The pattern text of a list of parts.
+/// Returns the pattern text of a list of parts.
 ///
-/// The text of parts that are printable reads as these parts again, neighbouring plain fixed texts joined, and as nothing
-/// else, under any encoding that keeps their texts.
-///
-/// The error is that memory ran out.
+/// The text of printable parts reads as the same parts, with neighbouring plain fixed texts joined,
+/// and as nothing else, under any encoding that keeps their texts.
 ///
 /// <https://urlpattern.spec.whatwg.org/#generate-a-pattern-string>
 pub fn generate_pattern_string(
@@ -105,7 +103,7 @@ impl PrintedPart<'_> {
         (InBraces { braces, inner }, self.part.modifier.as_str()).write_to(writer);
     }
 
-    /// Writes a part that is no fixed text, between braces or not.
+    /// Writes a part that is not a fixed text, between braces or not.
     fn write_group<W: Writer>(&self, writer: &mut W, braces: bool)
         requires { W.Fits writer.old (group_part self.now braces) }
         ensures { W.Writes writer.old (group_part self.now braces) writer.new }
@@ -157,7 +155,7 @@ impl Writable for Prefix<'_> {
     }
 }
 
-/// A colon and the name of a part, if the pattern gave it one.
+/// A colon and the name of a part, if the pattern gives the name.
 #[derive(Clone, Copy)]
 struct Name<'a>(&'a Part);
 
@@ -172,7 +170,7 @@ impl Writable for Name<'_> {
     }
 }
 
-/// What a part matches, which a name alone does not say.
+/// The regular expression or asterisk of a part, unless the name alone says it.
 #[derive(Clone, Copy)]
 struct Matched<'a> {
     options: &'a Options,
@@ -195,7 +193,7 @@ impl Writable for Matched<'_> {
     }
 }
 
-/// The suffix of a part. A backslash keeps it from the name before it, which would go on with it.
+/// The suffix of a part, with a backslash if the name before would go on with the suffix.
 #[derive(Clone, Copy)]
 struct Suffix<'a>(&'a Part);
 
@@ -215,7 +213,7 @@ impl Writable for Suffix<'_> {
     }
 }
 
-/// Whether the part has to stand between braces.
+/// Whether the part needs braces.
 fn needs_grouping(
     options: &Options,
     previous: Option<&Part>,
@@ -227,7 +225,7 @@ fn needs_grouping(
     needs_grouping_before(options, part, next) || takes_before(options, previous, part)
 }
 
-/// Whether the part has to stand between braces before this next part, whatever stands before it.
+/// Whether the part needs braces before this next part, whatever is before the part.
 fn needs_grouping_before(options: &Options, part: &Part, next: Option<&Part>) -> bool
     ensures { result ≡ (has_suffix (part_view part.now) || has_other_prefix (options_view options.now) (part_view part.now) || takes_next (part_view part.now) (neighbour next.entry)) }
 {
@@ -248,7 +246,7 @@ fn has_other_prefix(options: &Options, part: &Part) -> bool
     !part.prefix.is_empty() && part.prefix != options.prefix_code_point
 }
 
-/// Whether the part is a name alone that would take what the next part begins with.
+/// Whether the part is a name alone that would take the beginning of the next part.
 fn takes_next(part: &Part, next: Option<&Part>) -> bool
     ensures { result ≡ takes_next (part_view part.now) (neighbour next.entry) }
 {
@@ -258,7 +256,8 @@ fn takes_next(part: &Part, next: Option<&Part>) -> bool
     }
 }
 
-/// Whether a name before the part would go on with what the part begins with, or take it as its regular expression.
+/// Whether a name before the part would go on with the beginning of the part, or take it as its
+/// regular expression.
 fn goes_on(part: &Part) -> bool
     ensures { result ≡ goes_on (part_view part.now) }
 {
@@ -316,21 +315,21 @@ fn admits_asterisk(previous: Option<&Part>) -> bool
     }
 }
 
-/// Whether the part is a name alone that would take what its suffix begins with.
+/// Whether the part is a name alone that would go on with the beginning of its suffix.
 fn goes_on_with_suffix(part: &Part) -> bool
     ensures { result ≡ (is_name_alone (part_view part.now) && begins_with is_name_part (text_of part.now.suffix)) }
 {
     is_name_alone(part) && begins_with_name_part(&part.suffix)
 }
 
-/// Whether the part is the segment of a name that the pattern gave.
+/// Whether the part is a segment with a name that the pattern gives.
 fn is_name_alone(part: &Part) -> bool
     ensures { result ≡ is_name_alone (part_view part.now) }
 {
     part.kind == PartType::SegmentWildcard && has_custom_name(part)
 }
 
-/// Whether the pattern gave the part its name, which is no number then.
+/// Whether the pattern gives the part its name, which is then no number.
 fn has_custom_name(part: &Part) -> bool
     ensures { result ≡ has_custom_name (part_view part.now) }
 {
@@ -340,7 +339,7 @@ fn has_custom_name(part: &Part) -> bool
     }
 }
 
-/// Whether a name would go on with what the text begins with.
+/// Whether a name would go on with the beginning of the text.
 fn begins_with_name_part(text: &str) -> bool
     ensures { result ≡ begins_with is_name_part (chars text.now) }
 {

@@ -16,9 +16,7 @@ use urlpattern_syntax::parser::{
 };
 use urlpattern_syntax::writing::{Writable, Writer, written};
 
-/// The regular expression of a list of parts.
-///
-/// The error is that memory ran out.
+/// Returns the regular expression of a list of parts.
 pub fn generate_regular_expression(
     alloc: Global,
     part_list: &[Part],
@@ -93,21 +91,21 @@ impl Writable for PartRegexp<'_> {
 }
 
 impl<'a> PartRegexp<'a> {
-    /// The value of a fixed text.
+    /// Returns the escaped value of a fixed text.
     fn value(&self) -> Escaped<'a>
         ensures { escaped_text result ≡ escaped_value self.now }
     {
         Escaped::regexp(&self.part.value, self.options)
     }
 
-    /// The prefix of a group.
+    /// Returns the escaped prefix of a group.
     fn prefix(&self) -> Escaped<'a>
         ensures { escaped_text result ≡ escaped_prefix self.now }
     {
         Escaped::regexp(&self.part.prefix, self.options)
     }
 
-    /// The suffix of a group.
+    /// Returns the escaped suffix of a group.
     fn suffix(&self) -> Escaped<'a>
         ensures { escaped_text result ≡ escaped_suffix self.now }
     {
@@ -155,7 +153,7 @@ impl<'a> PartRegexp<'a> {
     }
 }
 
-/// What one copy of a part matches, without its prefix and its suffix.
+/// The regular expression of one copy of a part, without its prefix and its suffix.
 #[derive(Clone, Copy)]
 struct Matched<'a>(PartRegexp<'a>);
 
@@ -172,7 +170,7 @@ impl Writable for Matched<'_> {
     }
 }
 
-/// One copy of a group between its prefix and its suffix.
+/// A single copy of a group between its prefix and its suffix.
 #[derive(Clone, Copy)]
 struct Single<'a>(PartRegexp<'a>);
 
@@ -185,7 +183,8 @@ impl Writable for Single<'_> {
     }
 }
 
-/// One or more copies of a group between its prefix and its suffix, which also stand between the copies.
+/// At least one copy of a group between its prefix and its suffix, which are also between the
+/// copies.
 #[derive(Clone, Copy)]
 struct Repeated<'a>(PartRegexp<'a>);
 

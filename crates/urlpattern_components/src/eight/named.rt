@@ -3,7 +3,8 @@
 use super::{COMPONENTS, ComponentName, Eight};
 use std::slice;
 
-/// The values of an `Eight` in the order of the standard, each beside the name of its component.
+/// An iterator over the values of an `Eight` in the order of the standard, each with the name of
+/// its component.
 #[derive(Drop)]
 pub struct NamedValues<'a, T> {
     values: &'a Eight<T>,
@@ -15,7 +16,7 @@ impl<'a, T> NamedValues<'a, T> {
     ghost use Rattle.urlpattern_components.specs.Eight.{components, named_values};
     ghost use Rattle.urlpattern_components.specs.NamedValues.{values_left};
 
-    /// All values.
+    /// Returns an iterator over all values.
     pub(super) fn new(values: &'a Eight<T>) -> Self
         ensures { values_left result ≡ named_values values.now components }
     {

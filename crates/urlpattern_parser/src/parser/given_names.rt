@@ -6,10 +6,10 @@ use arrayvec::ArrayVec;
 use std::alloc::{AllocError, Global};
 use std::collections::BTreeSet;
 
-/// How many names are kept without memory.
+/// The number of names that are kept without allocating.
 const FEW: usize = 8;
 
-/// Names, slices of the pattern's text: the first few side by side, all others in a set.
+/// Names, as slices of the pattern's text: the first few in an array, all others in a set.
 #[derive(Drop)]
 pub(super) struct GivenNames<'a> {
     few: ArrayVec<&'a str, FEW>,
@@ -17,7 +17,7 @@ pub(super) struct GivenNames<'a> {
 }
 
 impl<'a> GivenNames<'a> {
-    /// No name. It does not allocate.
+    /// Returns an empty set of names, without allocating.
     pub(super) fn new(alloc: Global) -> Self
         ensures { (name : List ℕ) → has_name result name ≡ false }
     {
@@ -27,7 +27,7 @@ impl<'a> GivenNames<'a> {
         }
     }
 
-    /// Whether the name is there.
+    /// Whether the set contains the name.
     pub(super) fn contain(&self, name: &str) -> bool
         ensures { result ≡ has_name self.now name.now }
     {
@@ -35,8 +35,6 @@ impl<'a> GivenNames<'a> {
     }
 
     /// Adds a name.
-    ///
-    /// The error is that memory ran out.
     pub(super) fn add(&mut self, name: &'a str) -> Result<(), AllocError>
         ensures { OnOk result ((other : List ℕ) → has_name self.new other ≡ (has_bytes other name.entry || has_name self.old other)) }
     {

@@ -1,4 +1,5 @@
-//! What is read of a pattern text so far: its parts, and the text and the names that are kept besides.
+//! The parts of a pattern text that are parsed so far, with its pending text and the names that it
+//! gives.
 //!
 //! <https://urlpattern.spec.whatwg.org/#parts-and-part-lists>
 ghost use Rattle.std.specs.Prelude.{◌<◌, ◌≡◌, ◌∷◌, ◌++◌, [], Contains, IfOk, IfErr, OnOk, decimal, string_bytes};
@@ -16,7 +17,7 @@ use super::{Part, PartModifier, PatternParser};
 use std::alloc::{AllocError, Global};
 use urlpattern_syntax::error::{Error, ParserError};
 
-/// What is read of a pattern text so far.
+/// The parts of a pattern text that are parsed so far.
 #[derive(Drop)]
 pub(super) struct PartList<'a> {
     pub(super) parts: Vec<Part>,
@@ -26,7 +27,7 @@ pub(super) struct PartList<'a> {
 }
 
 impl<'a> PartList<'a> {
-    /// No part, and nothing pending.
+    /// Returns a list without parts or pending text.
     pub(super) fn new(alloc: Global) -> Self
         ensures empty { part_list_view result ≡ record { parts = []; pending = []; number = 0 } }
         ensures knows { KnowsItsNames result }
@@ -69,7 +70,7 @@ impl<'a> PartList<'a> {
         }
     }
 
-    /// Puts a text after the pending text.
+    /// Appends a text to the pending text.
     pub(super) fn add_plain(&mut self, text: &str) -> Result<(), AllocError>
         ensures parts { self.new.parts ≡ self.old.parts }
         ensures pending { OnOk result (text_of self.new.pending_fixed_value ≡ text_of self.old.pending_fixed_value ++ chars text.now) }
@@ -80,7 +81,7 @@ impl<'a> PartList<'a> {
         Ok(())
     }
 
-    /// Adds a text with a modifier, and the pending text before it.
+    /// Adds the pending text, then a text with a modifier.
     fn add_fixed<F: Fn(&str) -> Result<String, Error>>(
         &mut self,
         parser: &PatternParser<'_, F>,
@@ -101,7 +102,7 @@ impl<'a> PartList<'a> {
         Ok(())
     }
 
-    /// Adds a placeholder with the texts around it, and the pending text before them.
+    /// Adds the pending text, then a placeholder with the texts around it.
     fn add_group<F: Fn(&str) -> Result<String, Error>>(
         &mut self,
         parser: &PatternParser<'_, F>,
@@ -136,9 +137,10 @@ impl<'a> PartList<'a> {
         Ok(())
     }
 
-    /// The name, or else the number of a placeholder among those without a name, which is no name so far.
+    /// Returns the name or, without one, the number of the placeholder among those without a name.
+    /// No earlier group has this name.
     ///
-    /// The error is that the name stands before, or that memory ran out.
+    /// The error is that the name is used before, or that memory ran out.
     ///
     /// <https://urlpattern.spec.whatwg.org/#is-a-duplicate-name>
     fn new_name(&mut self, alloc: Global, name: Option<&'a str>) -> Result<String, Error>
@@ -196,7 +198,7 @@ impl<'a> PartList<'a> {
     }
 }
 
-/// The name of a placeholder that has none: a number, most often 0.
+/// Returns the name of a placeholder without one: a number, most often 0.
 fn numeric_name(alloc: Global, number: usize) -> Result<String, AllocError>
     ensures { IfOk result (λ name. string_bytes name ≡ decimal number) }
 {
@@ -206,7 +208,7 @@ fn numeric_name(alloc: Global, number: usize) -> Result<String, AllocError>
     number.to_string(alloc)
 }
 
-/// Adds a part. At first there is room for one alone, as many as most texts have.
+/// Adds a part, with room for a single part at first, since most texts have one.
 fn push(parts: &mut Vec<Part>, part: Part) -> Result<(), AllocError>
     ensures { OnOk result (parts.new.items ≡ parts.old.items ++ part ∷ []) }
 {

@@ -1,4 +1,4 @@
-//! The pieces of a pattern, read from its tokens one by one.
+//! The pieces of a pattern, parsed from its tokens one by one.
 //!
 //! <https://urlpattern.spec.whatwg.org/#parse-a-pattern-string>
 ghost use Rattle.std.specs.Prelude.{◌≡◌, ◌≢◌, ◌∷◌, ◌++◌, ◌<◌, ◌≤◌, ℕ, List, IsTrue, IfErr, IfNone, IfOk, IfSome, OnOk, length};
@@ -15,14 +15,14 @@ use std::alloc::Global;
 use urlpattern_syntax::error::Error;
 use urlpattern_syntax::parser::PartModifier;
 
-/// What a placeholder stands for.
+/// The text that a placeholder matches.
 #[derive(Clone, Copy)]
 pub(super) enum Matched<'a> {
     /// A segment.
     Segment,
-    /// What a custom regular expression matches: its body.
+    /// A match of the custom regular expression with this body.
     Custom(&'a str),
-    /// Anything.
+    /// Any text.
     Anything,
 }
 
@@ -36,9 +36,9 @@ pub(super) struct Placeholder<'a> {
 /// A piece of a pattern.
 #[derive(Drop)]
 pub(super) enum Piece<'a> {
-    /// One character.
+    /// A character.
     Text(&'a str),
-    /// A placeholder without braces, with the prefix code point before it or nothing.
+    /// A placeholder without braces, after the prefix code point or nothing.
     Bare(&'a str, Placeholder<'a>, PartModifier),
     /// Texts in braces.
     TextGroup(String, PartModifier),
@@ -46,20 +46,21 @@ pub(super) enum Piece<'a> {
     Group(String, Placeholder<'a>, String, PartModifier),
 }
 
-/// What the tokens that are left begin with.
+/// The beginning of the tokens that are left.
 #[derive(Drop)]
 pub(super) enum Next<'a> {
-    /// A piece, which is taken.
+    /// A piece, which is consumed.
     Piece(Piece<'a>),
-    /// A character and the characters after it, which are taken. Each of them is a piece, and another one follows.
+    /// A character and the characters after it, which are consumed. Each character is a piece, and
+    /// a text follows.
     Characters(&'a str, &'a str),
-    /// A token with which no piece begins. It is not taken.
+    /// A token with which no piece begins, which is not consumed.
     Stops,
-    /// A group without its end. The token in place of that is not taken.
+    /// A group without its closing brace. The token in place of the brace is not consumed.
     LacksClose,
 }
 
-/// The tokens of a pattern that no piece has taken: the first of them, and where the others begin.
+/// The tokens of a pattern that no piece has consumed: the first token, and the place of the rest.
 #[derive(Clone, Copy)]
 pub(super) struct Reader<'a> {
     alloc: Global,
@@ -68,7 +69,7 @@ pub(super) struct Reader<'a> {
 }
 
 impl<'a> Reader<'a> {
-    /// The tokens of a text.
+    /// Returns a reader at the first token of a text.
     ///
     /// The error is the first fault of the text.
     pub(super) fn new(alloc: Global, input: &'a str) -> Result<Self, Error>
@@ -85,14 +86,14 @@ impl<'a> Reader<'a> {
         })
     }
 
-    /// The first token that no piece has taken.
+    /// Returns the first token that no piece has consumed.
     pub(super) fn token(&self) -> Token<'a>
         ensures { result ≡ self.now.token }
     {
         self.token
     }
 
-    /// Reads the other tokens, to the end of the text. It does not allocate.
+    /// Reads the other tokens, to the end of the text, without allocating.
     ///
     /// The error is the first fault of the text.
     pub(super) fn read_to_end(&self) -> Result<(), Error>
@@ -103,7 +104,7 @@ impl<'a> Reader<'a> {
         self.cursor.read_to_end()
     }
 
-    /// Takes the next piece, if the tokens begin with one. What they begin with is written to `next`.
+    /// Consumes the next piece, if the tokens begin with one, and writes their beginning to `next`.
     ///
     /// The error is the first fault of the text, or that memory ran out.
     pub(super) fn next_piece(
@@ -136,7 +137,7 @@ impl<'a> Reader<'a> {
         }
     }
 
-    /// Takes the first token.
+    /// Consumes the first token.
     fn take(&mut self) -> Result<Token<'a>, Error>
         requires stands { Stands self.old }
         requires more { self.old.token.kind ≢ kinds.End }
@@ -151,7 +152,8 @@ impl<'a> Reader<'a> {
         Ok(token)
     }
 
-    /// Takes a character, and the placeholder after it if the character is its prefix, or else the characters after it.
+    /// Consumes a character, and the placeholder after it if the character is its prefix, or else
+    /// the characters after it.
     fn character(&mut self, prefix_code_point: &str, next: &mut Next<'a>) -> Result<(), Error>
         requires stands { Stands self.old }
         requires character { self.old.token.kind ≡ kinds.Char }
@@ -172,7 +174,8 @@ impl<'a> Reader<'a> {
         Ok(())
     }
 
-    /// Takes a character, and the characters after it up to the last of them. Their values.
+    /// Consumes a character, and the characters after it except for the last, and returns their
+    /// values.
     fn characters(&mut self) -> Result<(&'a str, &'a str), Error>
         requires stands { Stands self.old }
         requires character { self.old.token.kind ≡ kinds.Char }
@@ -188,7 +191,7 @@ impl<'a> Reader<'a> {
         Ok((first, more))
     }
 
-    /// Takes a placeholder without braces and its modifier, after this prefix.
+    /// Consumes a placeholder without braces and its modifier, after this prefix.
     fn bare(&mut self, prefix: &'a str, next: &mut Next<'a>) -> Result<(), Error>
         requires stands { Stands self.old }
         requires placeholder { IsTrue (is_placeholder self.old.token.kind) }
@@ -203,7 +206,7 @@ impl<'a> Reader<'a> {
         Ok(())
     }
 
-    /// Takes a group from its opening brace on, up to where its end has to be.
+    /// Consumes a group from its opening brace, up to the place of its closing brace.
     fn group(&mut self) -> Result<Next<'a>, Error>
         requires stands { Stands self.old }
         requires opening { self.old.token.kind ≡ kinds.Open }
@@ -228,7 +231,7 @@ impl<'a> Reader<'a> {
         }
     }
 
-    /// Takes the texts that the tokens begin with. Their values, end to end.
+    /// Consumes the texts that the tokens begin with, and returns their values, end to end.
     fn texts(&mut self) -> Result<String, Error>
         requires { Stands self.old }
         ensures texts { IfOk result (λ text. Takes self.old self.new (λ tokens rest. BeginsWithTexts tokens (text_of text) rest)) }
@@ -242,7 +245,7 @@ impl<'a> Reader<'a> {
         Ok(text)
     }
 
-    /// Takes a placeholder.
+    /// Consumes a placeholder.
     ///
     /// <https://urlpattern.spec.whatwg.org/#try-to-consume-a-regexp-or-wildcard-token>
     fn placeholder(&mut self) -> Result<Placeholder<'a>, Error>
@@ -279,7 +282,7 @@ impl<'a> Reader<'a> {
         }
     }
 
-    /// Takes the end of a group and its modifier, if the tokens begin with that end.
+    /// Consumes the closing brace of a group and its modifier, if the tokens begin with that brace.
     fn close(&mut self) -> Result<Option<PartModifier>, Error>
         requires { Stands self.old }
         ensures closes { IfOk result (λ found. IfSome found (TakesClose self.old self.new)) }
@@ -294,7 +297,7 @@ impl<'a> Reader<'a> {
         Ok(Some(self.modifier()?))
     }
 
-    /// Takes the modifier that the tokens begin with, if there is one.
+    /// Consumes the modifier that the tokens begin with, if there is one.
     ///
     /// <https://urlpattern.spec.whatwg.org/#try-to-consume-a-modifier-token>
     #[inline(always)]

@@ -1,4 +1,4 @@
-//! Where the pieces of a pattern text end.
+//! The place where the pieces of a pattern text end.
 ghost use Rattle.std.specs.Prelude.{IfErr, IfOk};
 ghost use Rattle.std.specs.Str.{chars};
 ghost use Rattle.urlpattern_syntax.specs.Stops.{IsStopOf};
@@ -9,17 +9,18 @@ use crate::tokenizer::Token;
 use std::alloc::Global;
 use urlpattern_syntax::error::Error;
 
-/// Where the pieces of a pattern text end.
+/// The place where the pieces of a pattern text end.
 #[derive(Debug, Clone, Copy)]
 pub struct Stop<'a> {
-    /// The first token that no piece takes: the one found, or the brace of a group that lacks its end.
+    /// The first token that is in no piece: `found`, or the opening brace of a group without
+    /// closing brace.
     pub first: Token<'a>,
-    /// The token before which the pieces end, which is `End` where they are the whole text.
+    /// The token before which the pieces end: `End` where they are the whole text.
     pub found: Token<'a>,
 }
 
 impl<'a> Stop<'a> {
-    /// Where the pieces of a text end, if this is the prefix code point.
+    /// Finds where the pieces of a text end, under this prefix code point.
     ///
     /// The error is the first fault of the text, or that memory ran out.
     pub fn of(alloc: Global, input: &'a str, prefix_code_point: &str) -> Result<Self, Error>

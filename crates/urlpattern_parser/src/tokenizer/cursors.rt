@@ -21,7 +21,7 @@ pub(crate) struct Cursor<'a> {
 }
 
 impl<'a> Cursor<'a> {
-    /// The place before the first token of a text.
+    /// Returns the place before the first token of a text.
     pub(crate) fn new(input: &'a str) -> Self
         ensures whole { result.input.now ≡ input.now }
         ensures skips { Skips (chars input.now) (chars result.rest.now) }
@@ -34,9 +34,10 @@ impl<'a> Cursor<'a> {
         }
     }
 
-    /// The token after this place, which then is the place after it. After the last token it is `End`, again and again.
+    /// Returns the token after this place, and moves after it. After the last token every call
+    /// returns `End`.
     ///
-    /// The error is the first fault of the text. It leaves the place as it was.
+    /// The error is the first fault of the text. On an error the place stays as it was.
     pub(crate) fn next(&mut self) -> Result<Token<'a>, Error>
         requires { IsPlace (cursor_text self.old) (cursor_rest self.old) }
         ensures whole { self.new.input.now ≡ self.old.input.now }
@@ -67,9 +68,10 @@ impl<'a> Cursor<'a> {
         }
     }
 
-    /// Takes the characters after this place that stand for themselves, up to the last of them, which is left.
+    /// Consumes the characters after this place that stand for themselves, except for the last,
+    /// which is left.
     ///
-    /// Each of them is a token. The text is empty where fewer than two of them stand there.
+    /// Each of the characters is a token. The text is empty where fewer than two of them follow.
     pub(crate) fn characters(&mut self) -> &'a str
         requires { IsPlace (cursor_text self.old) (cursor_rest self.old) }
         ensures whole { self.new.input.now ≡ self.old.input.now }
@@ -91,7 +93,7 @@ impl<'a> Cursor<'a> {
         characters
     }
 
-    /// Reads all tokens after this place. It does not allocate.
+    /// Reads all tokens after this place, without allocating.
     ///
     /// The error is the first fault of the text.
     pub(crate) fn read_to_end(&self) -> Result<(), Error>
@@ -109,7 +111,7 @@ impl<'a> Cursor<'a> {
     }
 }
 
-/// The byte of a text at which this rest of it begins.
+/// Returns the byte at which this rest of a text begins.
 fn place_of(input: &str, rest: &str) -> usize
     requires { IsPlace (chars input.now) (chars rest.now) }
     ensures { BeginsAt (chars input.now) (chars rest.now) result }

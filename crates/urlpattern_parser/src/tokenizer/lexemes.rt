@@ -1,4 +1,4 @@
-//! The taking of one token at the front of a text, and of what is skipped before it.
+//! Reads one token at the beginning of a text, and skips the characters between tokens.
 //!
 //! <https://urlpattern.spec.whatwg.org/#tokenize>
 ghost use Rattle.std.specs.Prelude.{◌≡◌, ◌<◌, ◌≤◌, ◌∷◌, ◌++◌, ℕ, Bool, [], length, codes, IfOk, IfErr};
@@ -11,7 +11,7 @@ use super::{TokenType, TokenizePolicy, is_name_part, is_name_start};
 use urlpattern_syntax::error::{RegexFault, TokenizerError};
 use urlpattern_syntax::text::{before, split_first};
 
-/// The front of a text, as a token, and what follows it.
+/// A token at the beginning of a text, and the text after it.
 #[derive(Clone, Copy)]
 pub(super) struct Lexeme<'a> {
     pub(super) kind: TokenType,
@@ -19,8 +19,8 @@ pub(super) struct Lexeme<'a> {
     pub(super) rest: &'a str,
 }
 
-/// The token at the front of a text that is not empty and begins with no character that is skipped. Under the lenient
-/// policy a character with which no token begins is one itself.
+/// Reads the token at the beginning of a text that is not empty and begins with no skipped
+/// character. Under the lenient policy a character with which no token begins is a token itself.
 pub(super) fn next_token<'a>(
     text: &'a str,
     policy: &TokenizePolicy,
@@ -35,7 +35,7 @@ pub(super) fn next_token<'a>(
     }
 }
 
-/// The first character of a text, with which no token begins.
+/// Returns the first character of a text with which no token begins.
 fn invalid_char(text: &str) -> Lexeme<'_>
     requires characters { ¬ (chars text.now ≡ []) }
     requires fault { (fault : FaultView) × IsFaultAt (chars text.now) fault }
@@ -49,7 +49,8 @@ fn invalid_char(text: &str) -> Lexeme<'_>
     }
 }
 
-/// The token at the front of a text that is not empty and begins with no character that is skipped.
+/// Reads the token at the beginning of a text that is not empty and begins with no skipped
+/// character.
 pub(super) fn next_lexeme(text: &str) -> Result<Lexeme<'_>, TokenizerError>
     requires characters { ¬ (chars text.now ≡ []) }
     requires counts { ¬ BeginsWith is_ignored (chars text.now) }
@@ -75,7 +76,7 @@ pub(super) fn next_lexeme(text: &str) -> Result<Lexeme<'_>, TokenizerError>
     })
 }
 
-/// The character after a backslash.
+/// Reads the character after a backslash.
 fn escaped_char(text: &str) -> Result<Lexeme<'_>, TokenizerError>
     ensures { Lexes (codes "\\" ++ chars text.now) result }
 {
@@ -89,7 +90,7 @@ fn escaped_char(text: &str) -> Result<Lexeme<'_>, TokenizerError>
     }
 }
 
-/// The name after a colon, with all the name characters that there are.
+/// Reads the name after a colon, with all its characters.
 fn name(text: &str) -> Result<Lexeme<'_>, TokenizerError>
     ensures { Lexes (codes ":" ++ chars text.now) result }
 {
@@ -106,7 +107,7 @@ fn name(text: &str) -> Result<Lexeme<'_>, TokenizerError>
     }
 }
 
-/// The body after an open bracket, up to the bracket that closes it.
+/// Reads the body after an opening bracket, up to its closing bracket.
 fn regexp(text: &str) -> Result<Lexeme<'_>, TokenizerError>
     ensures { Lexes (codes "(" ++ chars text.now) result }
 {
@@ -117,7 +118,7 @@ fn regexp(text: &str) -> Result<Lexeme<'_>, TokenizerError>
     }
 }
 
-/// A body that is neither empty nor begins with a question mark, up to the bracket that closes it.
+/// Reads a body that is neither empty nor begins with a question mark, up to its closing bracket.
 fn regexp_body(text: &str) -> Result<Lexeme<'_>, TokenizerError>
     requires { ¬ BeginsWith (is_among (codes "?)")) (chars text.now) }
     ensures { Lexes (codes "(" ++ chars text.now) result }
@@ -150,7 +151,8 @@ fn regexp_body(text: &str) -> Result<Lexeme<'_>, TokenizerError>
     Err(TokenizerError::InvalidRegex(RegexFault::MissingClose))
 }
 
-/// What follows the character that a backslash takes in the body of a regular expression.
+/// Returns the text after the character that a backslash escapes in the body of a regular
+/// expression.
 fn escaped_ascii(text: &str) -> Result<&str, TokenizerError>
     ensures cut { IfOk result (λ rest. (c : ℕ) × (chars text.now ≡ c ∷ chars rest.now) × (c < 128)) }
     ensures len { IfOk result (λ rest. length rest.now < length text.now) }
@@ -163,7 +165,7 @@ fn escaped_ascii(text: &str) -> Result<&str, TokenizerError>
     }
 }
 
-/// What follows the `?` that stands after an inner bracket of a regular expression.
+/// Returns the text after the `?` that follows an inner bracket of a regular expression.
 fn nested_group(text: &str) -> Result<&str, TokenizerError>
     ensures cut { IfOk result (λ rest. chars text.now ≡ codes "?" ++ chars rest.now) }
     ensures len { IfOk result (λ rest. length rest.now < length text.now) }
@@ -207,7 +209,7 @@ impl CharKind for NamePart {
     }
 }
 
-/// The text after the characters of the kind that it begins with.
+/// Returns the text after the characters of the kind at its beginning.
 fn skip<K: CharKind>(text: &str) -> &str
     ensures skips { SkipsBy K.test (chars text.now) (chars result.now) }
     ensures all { ¬ BeginsWith K.test (chars result.now) }
@@ -223,7 +225,7 @@ fn skip<K: CharKind>(text: &str) -> &str
     rest
 }
 
-/// The text after the characters that it begins with and that are skipped between tokens.
+/// Returns the text after the characters at its beginning that are skipped between tokens.
 pub(super) fn skip_ignored(text: &str) -> &str
     ensures skips { Skips (chars text.now) (chars result.now) }
     ensures all { ¬ BeginsWith is_ignored (chars result.now) }

@@ -23,7 +23,7 @@ returns-then-not-is_sign-clause-hostname c =
     let there : c.after.result.index ≡ c.args.until + 1 = omega (arith, alone.same, c.after.ensures.index) in
     rw (there, c.after.ensures.depth) at c.hostname_from-turns.ensures.split
 
--- ---- a colon: the password lies after it
+-- ---- a colon: the password follows it
 
 pub end_of-password_end-requires-clause-within : goal.end_of-password_end-requires-clause-within
 end_of-password_end-requires-clause-within c =
