@@ -56,10 +56,12 @@ IsRefusedUnder text base = IsRefusedByUrl (read_under base text) (longer_bytes t
 abbrev pub IsRefusedText : (text : List ℕ) → (base : Option (List ℕ)) → Type 0
 IsRefusedText text base = IsRefusedUnder text (base_view base)
 
--- The URL found is that of the text under the base URL. `None`: a text is rejected.
+-- The URL found is that of the text under the base URL. `None`: a text is rejected or may be too
+-- long.
 abbrev pub FindsUrlUnder : (text : List ℕ) → BaseView → Option Url → Type 0
 FindsUrlUnder text base found = MatchOption found (IsRefusedUnder text base) (IsUrlUnder text base)
 
--- The URL found is that of the text under the base URL of a text. `None`: a text is rejected.
+-- The URL found is that of the text under the base URL of a text. `None`: a text is rejected or may
+-- be too long.
 abbrev pub FindsUrl : (text : List ℕ) → (base : Option (List ℕ)) → Option Url → Type 0
 FindsUrl text base found = FindsUrlUnder text (base_view base) found

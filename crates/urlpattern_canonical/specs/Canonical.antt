@@ -58,7 +58,7 @@ abbrev pub port_of : (scheme value : List ℕ) → Parsed (List ℕ)
 port_of scheme value =
     after (dummy_of_scheme scheme) (λ url. refused_as InvalidPort (quirks.set_port url value)) (λ url. text_between url BeforePort AfterPort)
 
--- The path of a URL on which the path is set.
+-- The path of a URL after it was set to the value.
 abbrev pub path_of : Parsed Parts → List ℕ → Parsed (List ℕ)
 path_of url value = after url (λ old. Ok (set_path old value)) (λ new. new.path)
 

@@ -23,7 +23,7 @@ use Rattle.urlpattern_compile.specs.Compiled.{IsComponentCompiled, IsPatternOfIn
 abbrev pub IsOfTexts : ErrorView → Type 0
 IsOfTexts error = (error ≢ views.OutOfMemory) × (error ≢ views.Url Overflow)
 
--- The encoding without out of memory and too long texts.
+-- The encoding without two errors: out of memory, and a text too long for `url`.
 abbrev pub of_texts : Encoding → Encoding
 of_texts encoding text answer = encoding text answer × ((error : ErrorView) → answer ≡ Err error → IsOfTexts error)
 

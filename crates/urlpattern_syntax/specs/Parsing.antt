@@ -19,7 +19,7 @@ views tokens = map token_view tokens
 abbrev pub IsModifierSpelled : TokenView → Type 0
 IsModifierSpelled token = token.kind ≡ OtherModifier → (token.value ≡ codes "+") ⊎ (token.value ≡ codes "?")
 
--- A name from a pattern, which begins with a name character. A number does not.
+-- A name from a pattern: its first character may begin a name, which a digit may not.
 abbrev pub IsGiven : List ℕ → Type 0
 IsGiven name = BeginsWith is_name_start name
 

@@ -211,8 +211,8 @@ abbrev pub encoding_of : (List ℕ → Result (String Global) Error → Type 0) 
 encoding_of returns text answer =
     (returned : Result (String Global) Error) × returns (encode_utf8_all text) returned × (answer ≡ answer_view returned)
 
--- The possible results of callbacks of the type `F`: `F.Fn`, of the bound `F: Fn(&str) ->
--- Result<String, Error>`.
+-- The possible results of callbacks of the type `F`: `F.Fn`, of the bound
+-- `F: Fn(&str) -> Result<String, Error>`.
 abbrev pub Calls : Type 0 → Type 1
 Calls F = Shared F (Bor (List ℕ) × Unit {0}) (Result (String Global) Error)
 

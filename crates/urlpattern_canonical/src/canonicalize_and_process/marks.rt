@@ -13,7 +13,7 @@ pub fn begins_with_slash(text: &str) -> bool
     matches!(text.as_bytes(), [b'/', ..])
 }
 
-/// Returns the text without this initial character, which is ASCII and not NUL, if it has it.
+/// Returns the text without an initial `mark`, an ASCII character other than NUL.
 pub fn without_first(text: &str, mark: u8) -> &str
     requires { (0 < mark) × (mark < 128) }
     ensures value { chars result.now ≡ without_first mark (chars text.now) }
