@@ -26,7 +26,7 @@ pub use urlpattern_syntax::escape::escape_pattern_string;
 
 /// Makes values canonical.
 ///
-/// The URL on which most values are set can be parsed once, and is then copied for each value.
+/// The URL on which most values are set may be parsed once and is then copied for each of them.
 ///
 /// ```rust canonicalizer
 /// let canonicalizer = Canonicalizer::shared(rt.alloc())?;
