@@ -11,12 +11,12 @@ use Rattle.urlpattern_syntax.specs.declared.error.Error.{Error}
 use Rattle.urlpattern_syntax.specs.declared.error.Error.TheVariants as errors
 use Rattle.urlpattern_syntax.specs.Errors.{MemoryOr}
 
--- what is found under a base URL that is read is found under that of its text
+-- A URL found under a parsed base URL is found under the text of the base URL.
 pub found_under : (result : Result (Option Url) Error) (text : List ℕ) (kept : BaseView) (base : Option (List ℕ)) → kept ≡ base_view base →
     IfOk result (FindsUrlUnder text kept) → IfOk result (FindsUrlUnder text (base_view base))
 found_under result text kept base same found = subst (λ (view : BaseView). IfOk result (FindsUrlUnder text view)) same found
 
--- where the base URL is refused, so is the text
+-- A text is rejected if its base URL is.
 pub refused_base : (text : List ℕ) (base : Option (List ℕ)) (error : Error) (reason : ParseError) → error ≡ errors.Url reason →
     MemoryOr (Reports (parsed_base base) (text_bytes base)) error → IsRefusedText text base
 refused_base text base error reason is refused =

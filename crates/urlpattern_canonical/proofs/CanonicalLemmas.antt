@@ -22,7 +22,7 @@ use Rattle.urlpattern_syntax.specs.declared.error.ParserError.TheVariants as par
 use Rattle.urlpattern_syntax.specs.Errors.{ErrorView, error_view, ErrorView as views, MemoryOr}
 use Rattle.urlpattern_syntax.specs.Text.{begins_with, option_text, text_of}
 
--- ---- refusals
+-- ---- rejections
 
 reported_short : (bytes : ℕ) → bytes < long_text → reported_error Overflow bytes ≡ views.OutOfMemory
 reported_short bytes short = ap (λ is_short. if is_short then views.OutOfMemory else views.Url Overflow) (lt-ltb bytes long_text short)
@@ -33,7 +33,7 @@ reported_long bytes long = ap (λ is_short. if is_short then views.OutOfMemory e
 overflow_is_no_want_of_memory : Overflow ≢ OutOfMemory
 overflow_is_no_want_of_memory same = cc
 
--- an overflow means that memory ran out, or an error of any question about so many bytes
+-- An overflow is out of memory, or an error of any value of this length.
 overflow_reports : {T : Type 0} (whole : Parsed T) (bytes : ℕ) (error : Error) → error_view error ≡ reported_error Overflow bytes → MemoryOr (Reports whole bytes) error
 overflow_reports whole bytes error is =
     let Holds : ErrorView → Type 0 = λ view. Reports whole bytes view in
@@ -42,7 +42,7 @@ overflow_reports whole bytes error is =
       | inr long ↦ inr (subst Holds (sym (is ∙ reported_long bytes long)) (overflow_is_no_want_of_memory, inr (refl, long)))
     ]
 
--- a refusal that is neither is the question's own
+-- An error other than an overflow and out of memory is that of the value.
 refused_by : {T : Type 0} (asked : Parsed T) (reason : ParseError) → reason ≢ OutOfMemory → reason ≢ Overflow
     → (asked ≡ Err reason) ⊎ IsOutOfRoom reason → asked ≡ Err reason
 refused_by asked reason is_other is_no_overflow gives =
@@ -56,7 +56,7 @@ url_reports : {T : Type 0} (whole : Parsed T) (reason : ParseError) (bytes : ℕ
 url_reports whole reason bytes error is_other refused is =
     let Holds : ErrorView → Type 0 = λ view. Reports whole bytes view in inr (subst Holds (sym is) (is_other, inl refused))
 
--- a refusal of a step is one of the whole question
+-- An error of a step is an error of the whole.
 reports : {T U : Type 0} (asked : Parsed T) (whole : Parsed U) (reason : ParseError) (bytes : ℕ) (error : Error)
     → (asked ≡ Err reason → whole ≡ Err reason) → (asked ≡ Err reason) ⊎ IsOutOfRoom reason → error_view error ≡ reported_error reason bytes
     → MemoryOr (Reports whole bytes) error
@@ -65,7 +65,7 @@ reports asked whole Overflow bytes error step gives is = overflow_reports whole 
 reports asked whole reason bytes error step gives is =
     url_reports whole reason bytes error (λ same. cc) (step (refused_by asked reason (λ same. cc) (λ same. cc) gives)) is
 
--- the same where each refusal is reported as another
+-- An error of a step that is reported as `reason` is an error of the whole.
 reports_as : {T U : Type 0} (asked : Parsed T) (whole : Parsed U) (reason other : ParseError) (bytes : ℕ) (error : Error)
     → reason ≢ OutOfMemory → (refused_as reason asked ≡ Err reason → whole ≡ Err reason) → (asked ≡ Err other) ⊎ IsOutOfRoom other
     → error_view error ≡ reported_as reason other bytes → MemoryOr (Reports whole bytes) error
@@ -75,7 +75,7 @@ reports_as asked whole reason other bytes error proper step gives is =
     url_reports whole reason bytes error proper
     (step (ap (refused_as reason) (refused_by asked other (λ same. cc) (λ same. cc) gives))) is
 
--- what is told of an answer that is seen by `view`
+-- A value returned is that of `url`, seen through `view`.
 pub reported-ok : {T U : Type 0} (view : T → U) (answer : Parsed T) (asked : Parsed U) (bytes : ℕ) (result : Result T Error) (value : T)
     → GivesBy view answer asked → IsReported answer bytes result → result ≡ Ok value → asked ≡ Ok (view value)
 reported-ok view (Ok found) asked bytes result value gives reported was = gives ∙ ap (λ x. Ok (view x)) (let same : found ≡ value = cc in same)
@@ -101,7 +101,7 @@ refused_as-err view (Ok found) asked whole reason bytes result error proper give
 refused_as-err view (Err other) asked whole reason bytes result error proper gives reported was step =
     reports_as asked whole reason other bytes error proper step gives (rw was at reported)
 
--- what a step tells, the whole tells
+-- An error that a step reports is one that the whole reports.
 reports-through_view : {T U : Type 0} (asked : Parsed T) (whole : Parsed U) (bytes : ℕ) (error : ErrorView)
     → ((reason : ParseError) → asked ≡ Err reason → whole ≡ Err reason) → Reports asked bytes error → Reports whole bytes error
 reports-through_view asked whole bytes (views.Url reason) step reported =
@@ -113,7 +113,7 @@ pub reports-through : {T U : Type 0} (asked : Parsed T) (whole : Parsed U) (byte
 reports-through asked whole bytes error step reported =
     elim reported [ inl memory ↦ inl memory | inr refused ↦ inr (reports-through_view asked whole bytes (error_view error) step refused) ]
 
--- texts of more bytes
+-- An error for texts of a length is an error for longer texts.
 reports-more_view : {T : Type 0} (asked : Parsed T) (few many : ℕ) (error : ErrorView) → few ≤ many → Reports asked few error → Reports asked many error
 reports-more_view asked few many (views.Url reason) more reported =
     (reported.0, elim reported.1 [ inl refused ↦ inl refused | inr long ↦ inr (long.0, omega (arith, long.1)) ])
@@ -129,14 +129,14 @@ pub answers-more : (asked : Parsed (List ℕ)) (few many : ℕ) (result : Result
 answers-more asked few many (Ok text) more answer = answer
 answers-more asked few many (Err error) more answer = reports-more asked few many error more answer
 
--- what is told of a URL that is parsed
+-- The result of parsing a URL.
 pub reported_parse : (answer : Parsed Parts) (asked : Parsed Parts) (bytes : ℕ) (result : Result Parts Error) → Gives answer asked
     → IsReported answer bytes result → IfOk result (λ url. asked ≡ Ok url) × IfErr result (MemoryOr (Reports asked bytes))
 reported_parse answer asked bytes (Ok url) gives reported = (reported-ok (λ x. x) answer asked bytes (Ok url) url gives reported refl, tt)
 reported_parse answer asked bytes (Err error) gives reported =
     (tt, reported-err (λ x. x) answer asked asked bytes (Err error) error gives reported refl (λ reason e. e))
 
--- a refusal that is told is one of `url`
+-- An error of a URL is a rejection by `url`.
 pub refused_by_url : {T : Type 0} (asked : Parsed T) (bytes : ℕ) (error : Error) (reason : ParseError) → error ≡ errors.Url reason
     → MemoryOr (Reports asked bytes) error → IsRefusedByUrl asked bytes
 refused_by_url asked bytes error reason is reported =
@@ -148,7 +148,7 @@ refused_by_url asked bytes error reason is reported =
       ]
     ]
 
--- ---- the steps of a question
+-- ---- the steps of a canonical value
 
 pub after-ok : (url : Parsed Parts) (set : Parts → Parsed Parts) (get : Parts → List ℕ) (old new : Parts) → url ≡ Ok old → set old ≡ Ok new
     → after url set get ≡ Ok (get new)
@@ -177,7 +177,7 @@ canonical-chars : (ask : List ℕ → Parsed (List ℕ)) (value : List ℕ) → 
     → canonical ask (chars value) ≡ and_then (ask value) (λ answer. Ok (chars answer))
 canonical-chars ask value u some = canonical_of ask value (chars value) (encodes-chars value u) some
 
--- the empty text
+-- The empty text is its own canonical value.
 pub canonical-empty : (ask : List ℕ → Parsed (List ℕ)) (value : List ℕ) (string : String Global) → length value ≡ 0 → string_bytes string ≡ []
     → canonical ask (chars value) ≡ Ok (text_of string)
 canonical-empty ask value string none empty =
@@ -204,7 +204,7 @@ pub opaque_is_parsed : (url : Parts) × (parse_url None (codes "data:dummy,test"
 unfolding url_on_literals
 opaque_is_parsed = (_, refl)
 
--- so a refusal to parse one means that memory ran out
+-- Parsing a short URL that is valid fails only for lack of memory.
 pub only_memory : (asked : Parsed Parts) (url : Parts) (bytes : ℕ) (error : Error) → asked ≡ Ok url → bytes < long_text → MemoryOr (Reports asked bytes) error
     → error_view error ≡ views.OutOfMemory
 only_memory asked url bytes error is_url few reported =
@@ -239,7 +239,7 @@ is_empty-true bytes tested is_tested e = grind arith
 pub is_empty-false : (bytes : List ℕ) (tested : Bool) → tested ≡ (length bytes == 0) → tested ≡ false → ¬ (length bytes ≡ 0)
 is_empty-false bytes tested is_tested e none = absurd (grind arith)
 
--- ---- what a reference in an Option points to, or the empty text
+-- ---- the text of an optional reference, or the empty text
 
 pub unwrapped-copied : (found : Option (Bor (List ℕ))) (text default : Bor (List ℕ)) (answer : Option (List ℕ)) → option_copied found ≡ answer
     → default.now ≡ [] → text ≡ unwrap_or found default → text.now ≡ unwrap_or answer []
@@ -272,7 +272,7 @@ pub begins_with-chars : (mark : ℕ) (bytes : List ℕ) → 0 < mark → mark < 
     → begins_with (λ c. c == mark) (chars bytes) ≡ (slice_index bytes 0 == mark)
 begins_with-chars mark bytes some ascii u = first_byte mark (chars bytes) bytes some ascii (encodes-chars bytes u)
 
--- ---- the two ways of a path
+-- ---- paths with and without an initial slash
 
 pub pathname_of-slash : (value : List ℕ) → (slice_index value 0 == slash) ≡ true → pathname_of value ≡ path_of dummy_url value
 pathname_of-slash value slash =
@@ -302,7 +302,7 @@ pub chars_dummy : chars (codes "dummy") ≡ codes "dummy"
 unfolding chars
 chars_dummy = refl
 
--- the characters of what is there, or of the empty text
+-- The characters of an optional text, or of the empty text.
 pub unwrap_or-text : (found : Option (Bor (List ℕ))) → unwrap_or (option_text found) [] ≡ chars (unwrap_or (option_copied found) [])
 unwrap_or-text None = sym chars-nil
 unwrap_or-text (Some value) = refl

@@ -15,18 +15,18 @@ use Rattle.std.specs.Str.{chars, IsAscii, IsUtf8}
 use Rattle.urlpattern_canonical.specs.Canonical.{is_ipv6_character, without_first, without_last}
 use Rattle.urlpattern_syntax.specs.Text.{begins_with}
 
--- the front of a list, as a slice
+-- The first elements of a list, as a slice.
 pub slice_range-front : (xs : List ℕ) (n : ℕ) → slice_range xs 0 n ≡ take n xs
 slice_range-front xs n = ap (λ k. take k xs) (let same : n - 0 ≡ n = omega arith in same)
 
--- a text of ASCII, by a test
+-- A text is ASCII if it passes the test.
 pub ascii_text : (text : List ℕ) → list_all (λ c. ltb c 128) text ≡ true → IsAscii text
 ascii_text [] e = IsAscii-nil
 ascii_text (c ∷ text) e =
     let parts = and_parts (ltb c 128) (list_all (λ b. ltb b 128) text) e in
     IsAscii-cons c text (ltb-true c 128 parts.0) (ascii_text text parts.1)
 
--- ---- a mark at the end
+-- ---- a final mark
 
 without_last-append : (mark : ℕ) (front : List ℕ) → without_last mark (front ++ mark ∷ []) ≡ front
 without_last-append mark [] = grind arith
@@ -43,7 +43,7 @@ without_last-other mark (c ∷ []) other =
 without_last-other mark (c ∷ next ∷ text) other =
     ap (λ rest. c ∷ rest) (without_last-other mark (next ∷ text) (λ front e. other (c ∷ front) (ap (λ rest. c ∷ rest) e)))
 
--- the bytes before the last one
+-- The bytes before the last one.
 split_last : (bytes : List ℕ) → 1 ≤ length bytes → bytes ≡ take (length bytes - 1) bytes ++ get_or bytes (length bytes - 1) 0 ∷ []
 split_last bytes some = grind (arith, common_steps)
 
@@ -77,7 +77,7 @@ without_last-none mark bytes ascii u other =
     in
     other (omega arith) last))
 
--- ---- a mark at the front
+-- ---- an initial mark
 
 split_first : (bytes : List ℕ) → 1 ≤ length bytes → bytes ≡ get_or bytes 0 0 ∷ drop 1 bytes
 split_first [] some = absurd (omega arith)
@@ -98,7 +98,7 @@ pub without_first-other : (mark : ℕ) (text : List ℕ) → begins_with (λ c. 
 without_first-other mark [] other = refl
 without_first-other mark (c ∷ text) other = ap (λ same. if same then text else c ∷ text) (sym other)
 
--- ---- a text that is another, of ASCII
+-- ---- a text that equals a text of ASCII
 
 same_test : {P Q : Type 0} (a b : Bool) → Decides a P → Decides b Q → (P → Q) → (Q → P) → a ≡ b
 same_test true true d e there back = refl
@@ -112,7 +112,7 @@ bytes_eq-chars bytes word u ascii =
     let back : chars bytes ≡ word → bytes ≡ word = λ e. sym (encodes-chars bytes u) ∙ ap encode_utf8_all e ∙ encodes-IsAscii word ascii in
     same_test (bytes_eq (chars bytes) word) (bytes_eq bytes word) (bytes_eq-Decides (chars bytes) word) (bytes_eq-Decides bytes word) back there
 
--- a text that is not this one
+-- A text that differs from the word.
 pub bytes_eq-other : (bytes word : List ℕ) → ¬ (bytes ≡ word) → bytes_eq bytes word ≡ false
 bytes_eq-other bytes word other = refuted (bytes_eq bytes word) (bytes_eq-Decides bytes word) other
   where

@@ -9,7 +9,7 @@ use Rattle.url.proofs.OnLiterals.{url_on_literals}
 use Rattle.urlpattern_canonical.proofs.MarkLemmas.{ascii_text, bytes_eq-chars, bytes_eq-other}
 use Rattle.urlpattern_canonical.specs.Canonical.{canonical_protocol, default_port, is_hierarchical_under, is_special, port_among, scheme_among, special_schemes}
 
--- each of these schemes is ASCII
+-- All schemes of the list are ASCII.
 abbrev AllAscii : List (List ℕ × Option (List ℕ)) → Type 0
 AllAscii [] = Unit {0}
 AllAscii (scheme ∷ schemes) = IsAscii scheme.0 × AllAscii schemes
@@ -24,7 +24,7 @@ ascii-schemes =
     let file = ascii_text (codes "file") refl in
     (http, (https, (ws, (wss, (ftp, (file, tt))))))
 
--- a scheme is told by its bytes
+-- A scheme is recognized by its bytes.
 among-chars : (schemes : List (List ℕ × Option (List ℕ))) → AllAscii schemes → (text : List ℕ) → IsUtf8 text
     → scheme_among schemes (chars text) ≡ scheme_among schemes text
 among-chars [] ascii text u = refl
@@ -73,14 +73,14 @@ port-none scheme not_http not_https not_ws not_wss not_ftp =
     ∙ if_false _ _ _ (bytes_eq-other scheme (codes "ftp") not_ftp)
     ∙ same_either _ _
 
--- a protocol that is not empty makes a path hierarchical where it is special
+-- A protocol that is not empty makes paths hierarchical if it is special.
 pub hierarchical-special : (protocol : List ℕ) → ¬ (protocol ≡ []) → is_special protocol ≡ is_hierarchical_under (Some protocol)
 hierarchical-special [] some = absurd (some refl)
 hierarchical-special (c ∷ protocol) some = refl
 
 -- ---- canonical values
 
--- `url` keeps each of these schemes
+-- `url` keeps each scheme of the list.
 abbrev AllKept : List (List ℕ × Option (List ℕ)) → Type 0
 AllKept [] = Unit {0}
 AllKept (scheme ∷ schemes) = (canonical_protocol scheme.0 ≡ Ok scheme.0) × AllKept schemes
@@ -98,6 +98,6 @@ among-kept (scheme ∷ schemes) kept text =
       | false ↦ λ e is. among-kept schemes kept.1 text is
     ] refl
 
--- a special scheme is its own canonical value
+-- A special scheme is its own canonical value.
 pub special-kept : (scheme : List ℕ) → is_special scheme ≡ true → canonical_protocol scheme ≡ Ok scheme
 special-kept = among-kept special_schemes kept-schemes

@@ -1,4 +1,4 @@
--- Lemmas on calls that ask `url` about a value: the value is set on a URL and read back.
+-- Lemmas on canonical values: a value is set on a URL and read back.
 use Rattle.std.proofs.Common.{◌≡◌, ◌≢◌, ℕ, false, true, ◌==◌, List, [], length, max, Ok, Err, String, string_bytes, subst, refl, sym, ap, ◌∙◌}
 use Rattle.std.proofs.lemmas.Str.{encodes-chars}
 use Rattle.std.specs.Prelude.{Bool, encode_utf8_all, unwrap_or, IsErrAnd, Option, Result}
@@ -16,28 +16,28 @@ use Rattle.urlpattern_syntax.specs.declared.error.Error.{Error}
 use Rattle.urlpattern_syntax.specs.Errors.{MemoryOr}
 use Rattle.urlpattern_syntax.specs.Text.{option_text, text_of}
 
--- ---- any question
+-- ---- any result of `url`
 
--- the empty text needs none
+-- The empty text is its own canonical value.
 pub empty_answered : (ask : List ℕ → Parsed (List ℕ)) (value : List ℕ) {tested : Bool} (string : String Global) → tested ≡ (length value == 0)
     → tested ≡ true → string_bytes string ≡ [] → canonical ask (chars value) ≡ Ok (text_of string)
 empty_answered ask value {tested} string is_tested none empty =
     canonical-empty ask value string (is_empty-true value tested is_tested none) empty
 
--- the answer
+-- The canonical value of a text that is not empty.
 pub answered : (ask : List ℕ → Parsed (List ℕ)) (value : List ℕ) {tested : Bool} (answer : List ℕ) (string : String Global) → IsUtf8 value
     → tested ≡ (length value == 0) → tested ≡ false → ask value ≡ Ok answer → string_bytes string ≡ answer
     → canonical ask (chars value) ≡ Ok (text_of string)
 answered ask value {tested} answer string u is_tested some asked is_answer =
     canonical-ok ask value answer string u (is_empty-false value tested is_tested some) asked is_answer
 
--- an error that is handed on
+-- An error that is passed on.
 handed_on : (asked : Parsed (List ℕ)) (bytes : ℕ) (result : Result (String Global) Error) (error : Error) → IsErrAnd result (λ e. e ≡ error)
     → MemoryOr (Reports asked bytes) error → IsAnswer asked bytes result
 handed_on asked bytes (Ok text) error was reported = absurd was
 handed_on asked bytes (Err e) error was reported = subst (MemoryOr (Reports asked bytes)) (sym was) reported
 
--- the refusal of a step
+-- An error of a step is the error of the call.
 pub refused : {T : Type 0} (ask : List ℕ → Parsed (List ℕ)) (asked : Parsed T) (value : List ℕ) {tested : Bool} (bytes : ℕ)
     (result : Result (String Global) Error) (error : Error) → IsUtf8 value → tested ≡ (length value == 0) → tested ≡ false
     → ((reason : ParseError) → asked ≡ Err reason → ask value ≡ Err reason) → MemoryOr (Reports asked bytes) error
@@ -68,7 +68,7 @@ module _ {T : Type 0} (url : Parsed Parts) (set : List ℕ → Parts → Parsed 
       (reported-err (λ _. new) answer (set value old) (canonical ask (chars value)) (length value) reported error gives is_reported failed
       (λ reason no. canonical-err ask value reason u (is_empty-false value tested is_tested some) (after-err url (set value) get old reason is_old no)))
 
--- the question where each refusal is told as this one
+-- The canonical value with `reason` for each error of setting it.
 abbrev pub ask_as : ParseError → Parsed Parts → (List ℕ → Parts → Parsed Parts) → (Parts → List ℕ) → List ℕ → Parsed (List ℕ)
 ask_as reason url set get text = after url (λ start. refused_as reason (set text start)) get
 
@@ -92,7 +92,7 @@ module _ {T : Type 0} (reason : ParseError) (url : Parsed Parts) (set : List ℕ
       (λ no. canonical-err (ask_as reason url set get) value reason u (is_empty-false value tested is_tested some)
       (after-err url (λ start. refused_as reason (set value start)) get old reason is_old no)))
 
--- ---- the scheme that a port is set under, and the longest of the texts that are asked about
+-- ---- the scheme under which a port is set, and the longer of port and protocol
 
 module _ (protocol : Option (Bor (List ℕ))) (given default : Bor (List ℕ)) where
   pub port-scheme : (scheme : List ℕ) → default.now ≡ [] → given ≡ unwrap_or protocol default → chars scheme ≡ scheme_for_port (chars given.now)
@@ -108,7 +108,7 @@ module _ (protocol : Option (Bor (List ℕ))) (given default : Bor (List ℕ)) w
   port-bytes value bytes empty is_given is_bytes =
       is_bytes ∙ ap (λ t. max (length value) (length t)) (unwrapped-copied protocol given default _ refl empty is_given)
 
-  -- what is answered about the port under that scheme, for so many bytes
+  -- The result for the port under the scheme is the result under the protocol.
   pub port-answer : (scheme value : List ℕ) (bytes : ℕ) (result : Result (String Global) Error) → default.now ≡ [] → given ≡ unwrap_or protocol default
       → chars scheme ≡ scheme_for_port (chars given.now) → IsUtf8 scheme → bytes ≡ max (length value) (length given.now)
       → IsAnswer (canonical (port_of scheme) (chars value)) bytes result

@@ -1,6 +1,6 @@
--- Canonical values: what `url` answers to a question about a value, after the URLPattern Standard, section
--- "Canonicalization", with the values of an init, section "Processing". A text is a list of characters; `url` is asked
--- and answers in bytes.
+-- Canonical values as results of `url`, after the URLPattern Standard, section "Canonicalization",
+-- and the values of an init, section "Processing". A text is a list of characters; the functions of
+-- `url` are on bytes.
 use Rattle.std.specs.Prelude.{◌≡◌, ◌≢◌, ℕ, ◌^◌, ◌≤◌, ◌⊎◌, Bool, true, false, ◌||◌, ◌==◌, ltb, List, [], ◌∷◌, ◌++◌, drop, map, nat_eq, codes, encode_utf8_all, slice_index, bytes_eq, Option, Some, None, unwrap_or, option_copied, length, max, Result, Ok, Err, IsErrAnd, MatchResult, String, if◌then◌else◌}
 use Rattle.std.specs.Borrow.{Bor}
 use Rattle.std.specs.Char.{is_ascii_hexdigit, to_ascii_lowercase}
@@ -21,52 +21,54 @@ use Rattle.urlpattern_syntax.specs.declared.error.Error.{Error}
 use Rattle.urlpattern_syntax.specs.Errors.{ErrorView, MemoryOr, error_view}
 use Rattle.urlpattern_syntax.specs.Text.{begins_with, chars, is_among, option_text, text_of}
 
--- ---- what `url` is asked: each question is about the bytes of a value that is not empty
+-- ---- results of `url`, for the bytes of a value that is not empty
 
--- the URL on which values are set
+-- The URL on which values are set.
 abbrev pub dummy_url : Parsed Parts
 dummy_url = parse_url None (codes "http://dummy.test")
 
--- the URL on which opaque paths are set
+-- The URL on which opaque paths are set.
 abbrev pub opaque_url : Parsed Parts
 opaque_url = parse_url None (codes "data:dummy,test")
 
--- the URL of a scheme
+-- The URL of a scheme.
 abbrev pub dummy_of_scheme : List ℕ → Parsed Parts
 dummy_of_scheme scheme = parse_url None (scheme ++ codes "://dummy.test")
 
--- what a URL has once it is set
+-- A component of a URL, after a value was set on the URL.
 abbrev pub after : Parsed Parts → (Parts → Parsed Parts) → (Parts → List ℕ) → Parsed (List ℕ)
 after url set get = and_then url (λ old. and_then (set old) (λ new. Ok (get new)))
 
--- the same, where each refusal is reported as this one
+-- The result with `reason` as its error.
 abbrev pub refused_as : {T : Type 0} → ParseError → Parsed T → Parsed T
 refused_as reason (Ok x) = Ok x
 refused_as reason (Err other) = Err reason
 
--- the scheme of a URL that begins with the value
+-- The scheme of a URL that begins with the value.
 abbrev pub protocol_of : List ℕ → Parsed (List ℕ)
 protocol_of value = and_then (dummy_of_scheme value) (λ url. Ok url.scheme)
 
--- the `hostname` of the URL Standard's API, which takes no port
+-- The `hostname` of the URL Standard's API, which has no port.
 abbrev pub hostname_of : List ℕ → Parsed (List ℕ)
 hostname_of value =
     after dummy_url (λ url. refused_as InvalidDomainCharacter (quirks.set_host url value false)) (λ url. host_text (host_or_empty url))
 
--- the `port` of the URL Standard's API
+-- The `port` of the URL Standard's API.
 abbrev pub port_of : (scheme value : List ℕ) → Parsed (List ℕ)
 port_of scheme value =
     after (dummy_of_scheme scheme) (λ url. refused_as InvalidPort (quirks.set_port url value)) (λ url. text_between url BeforePort AfterPort)
 
--- the path of a URL with another path
+-- The path of a URL after it was set to the value.
 abbrev pub path_of : Parsed Parts → List ℕ → Parsed (List ℕ)
 path_of url value = after url (λ old. Ok (set_path old value)) (λ new. new.path)
 
--- the path without `/-` at its front, which the Rust crate removes by these two characters; the standard removes any two
+-- The path without an initial `/-`. The Rust crate tests for the two characters; the standard
+-- removes any two.
 abbrev pub without_guard : List ℕ → List ℕ
 without_guard path = if starts_with nat_eq path (codes "/-") then drop 2 path else path
 
--- `/-` is put before a value that begins with no slash, and taken off the path again if it is still there
+-- The path for a value: `/-` is put before a value without an initial slash, and removed from the
+-- path if still there.
 abbrev pub pathname_of : List ℕ → Parsed (List ℕ)
 pathname_of value =
     if slice_index value 0 == slash then path_of dummy_url value
@@ -74,130 +76,146 @@ pathname_of value =
 
 -- ---- canonical values
 
--- the answer to a question about a text, of which the empty one needs none
+-- The result of `ask` for the bytes of the text. The empty text is its own result.
 abbrev pub canonical : (List ℕ → Parsed (List ℕ)) → List ℕ → Parsed (List ℕ)
 canonical ask [] = Ok []
 canonical ask (c ∷ text) = and_then (ask (encode_utf8_all (c ∷ text))) (λ answer. Ok (chars answer))
 
+-- The canonical protocol.
 abbrev pub canonical_protocol : List ℕ → Parsed (List ℕ)
 canonical_protocol text = canonical protocol_of text
 
+-- The canonical user name.
 abbrev pub canonical_username : List ℕ → Parsed (List ℕ)
 canonical_username text = canonical (λ value. after dummy_url (λ url. set_username url value) (λ url. url.username)) text
 
+-- The canonical password.
 abbrev pub canonical_password : List ℕ → Parsed (List ℕ)
 canonical_password text = canonical (λ value. after dummy_url (λ url. set_password url (Some value)) (λ url. url.password)) text
 
+-- The canonical hostname.
 abbrev pub canonical_hostname : List ℕ → Parsed (List ℕ)
 canonical_hostname text = canonical hostname_of text
 
--- a character of an IPv6 address in brackets
+-- Whether the character may occur in an IPv6 address in brackets.
 abbrev pub is_ipv6_character : ℕ → Bool
 is_ipv6_character c = is_ascii_hexdigit c || is_among (codes "[]:") c
 
+-- The canonical form of an IPv6 address in brackets: in lower case.
 abbrev pub canonical_ipv6_hostname : List ℕ → Parsed (List ℕ)
 canonical_ipv6_hostname text = if list_all is_ipv6_character text then Ok (map to_ascii_lowercase text) else Err InvalidIpv6Address
 
--- the scheme that a port is read under: `dummy` where there is no protocol, or an empty one
+-- The scheme under which a port is parsed: `dummy` without a protocol, or with an empty one.
 abbrev pub scheme_for_port : List ℕ → List ℕ
 scheme_for_port [] = codes "dummy"
 scheme_for_port (c ∷ protocol) = c ∷ protocol
 
+-- The canonical port under a protocol.
 abbrev pub canonical_port : Option (List ℕ) → List ℕ → Parsed (List ℕ)
 canonical_port protocol text = canonical (port_of (encode_utf8_all (scheme_for_port (unwrap_or protocol [])))) text
 
+-- The canonical path of segments.
 abbrev pub canonical_pathname : List ℕ → Parsed (List ℕ)
 canonical_pathname text = canonical pathname_of text
 
+-- The canonical opaque path.
 abbrev pub canonical_opaque_pathname : List ℕ → Parsed (List ℕ)
 canonical_opaque_pathname text = canonical (path_of opaque_url) text
 
+-- The canonical query, without the question mark.
 abbrev pub canonical_search : List ℕ → Parsed (List ℕ)
 canonical_search text = canonical (λ value. after dummy_url (λ url. Ok (set_query url (Some value))) (λ url. unwrap_or url.query [])) text
 
+-- The canonical fragment, without the number sign.
 abbrev pub canonical_hash : List ℕ → Parsed (List ℕ)
 canonical_hash text = canonical (λ value. after dummy_url (λ url. Ok (set_fragment url (Some value))) (λ url. unwrap_or url.fragment [])) text
 
--- ---- refusals
+-- ---- rejections
 
--- Texts of this many bytes may be too long for `url`, whose limit of 4 GB is on a whole URL. No shorter text is refused as
--- too long.
+-- A text of this many bytes may be too long for `url`, which limits a whole URL to 4 GB. No shorter
+-- text is.
 abbrev pub long_text : ℕ
 long_text = 2 ^ 24
 
--- The error that a refusal of a question about texts of this many bytes is reported as. Where no text is long, an overflow is
--- reported as out of memory too.
+-- The error for an error of `url` on texts of at most `bytes` bytes. An overflow is out of memory
+-- if no text is long.
 abbrev pub reported_error : ParseError → (bytes : ℕ) → ErrorView
 reported_error OutOfMemory bytes = ErrorView.OutOfMemory
 reported_error Overflow bytes = if ltb bytes long_text then ErrorView.OutOfMemory else ErrorView.Url Overflow
 reported_error reason bytes = ErrorView.Url reason
 
--- The result is the answer of `url`, with its refusal as it is reported.
+-- The result is that of `url`, with its error converted.
 abbrev pub IsReported : {T : Type 0} → (answer : Result T ParseError) → (bytes : ℕ) → Result T Error → Type 0
 IsReported answer bytes result =
     MatchResult answer (λ value. result ≡ Ok value) (λ reason. IsErrAnd result (λ error. error_view error ≡ reported_error reason bytes))
 
--- `url` refuses the question, or the longest text of it may be too long
+-- `url` rejects the value, or its longest text may be too long.
 abbrev pub IsRefusedByUrl : {T : Type 0} → Parsed T → (bytes : ℕ) → Type 0
 IsRefusedByUrl asked bytes = ((reason : ParseError) × (asked ≡ Err reason)) ⊎ (long_text ≤ bytes)
 
--- The error is the refusal of a question about texts of this many bytes at most. That memory ran out is never reported as an error
--- of a URL.
+-- The error is that of `url` for texts of at most `bytes` bytes. Out of memory is never an error of
+-- a URL.
 abbrev pub Reports : {T : Type 0} → Parsed T → (bytes : ℕ) → ErrorView → Type 0
 Reports asked bytes (ErrorView.Url reason) = (reason ≢ OutOfMemory) × ((asked ≡ Err reason) ⊎ ((reason ≡ Overflow) × (long_text ≤ bytes)))
 Reports asked bytes error = ⊥
 
--- A call answers a question about so many bytes: with the text, with the refusal, or that memory ran out.
+-- The call returns the text of `url`, the error of `url` for texts of at most `bytes` bytes, or out
+-- of memory.
 abbrev pub IsAnswer : Parsed (List ℕ) → (bytes : ℕ) → Result (String Global) Error → Type 0
 IsAnswer asked bytes result = MatchResult result (λ text. asked ≡ Ok (text_of text)) (MemoryOr (Reports asked bytes))
 
--- how many bytes a port has, or its protocol where that has more
+-- The length of a port or of its protocol, whichever is longer, in bytes.
 abbrev pub port_bytes : (port : List ℕ) → (protocol : Option (Bor (List ℕ))) → ℕ
 port_bytes port protocol = max (length port) (length (unwrap_or (option_copied protocol) []))
 
 -- ---- values of an init
 
--- the text without its last character where that is this mark
+-- The text without its last character, if that is the mark.
 abbrev pub without_last : ℕ → List ℕ → List ℕ
 without_last mark [] = []
 without_last mark (c ∷ []) = if c == mark then [] else c ∷ []
 without_last mark (c ∷ next ∷ text) = c ∷ without_last mark (next ∷ text)
 
--- the text without its first character where that is this mark
+-- The text without its first character, if that is the mark.
 abbrev pub without_first : ℕ → List ℕ → List ℕ
 without_first mark [] = []
 without_first mark (c ∷ text) = if c == mark then text else c ∷ text
 
--- `b'{'`
+-- `b'{'`.
 abbrev pub left_brace : ℕ
 left_brace = slice_index (codes "{") 0
 
--- of so many bytes, those about which `url` is asked: none for a pattern
+-- The number of bytes that are passed to `url`: none for a pattern.
 abbrev pub bytes_asked : ProcessType → ℕ → ℕ
 bytes_asked ProcessType.Pattern bytes = 0
 bytes_asked ProcessType.Url bytes = bytes
 
--- a value stays as it is for a pattern, and is made canonical for a URL
+-- The value of an init: unchanged for a pattern, canonical for a URL.
 abbrev pub processed : ProcessType → (List ℕ → Parsed (List ℕ)) → List ℕ → Parsed (List ℕ)
 processed ProcessType.Pattern make_canonical text = Ok text
 processed ProcessType.Url make_canonical text = make_canonical text
 
+-- The protocol of an init, without a final colon.
 abbrev pub processed_protocol : ProcessType → List ℕ → Parsed (List ℕ)
 processed_protocol mode text = processed mode canonical_protocol (without_last colon text)
 
+-- The user name of an init.
 abbrev pub processed_username : ProcessType → List ℕ → Parsed (List ℕ)
 processed_username mode text = processed mode canonical_username text
 
+-- The password of an init.
 abbrev pub processed_password : ProcessType → List ℕ → Parsed (List ℕ)
 processed_password mode text = processed mode canonical_password text
 
+-- The hostname of an init.
 abbrev pub processed_hostname : ProcessType → List ℕ → Parsed (List ℕ)
 processed_hostname mode text = processed mode canonical_hostname text
 
+-- The port of an init, under a protocol.
 abbrev pub processed_port : ProcessType → (protocol : Option (List ℕ)) → List ℕ → Parsed (List ℕ)
 processed_port mode protocol text = processed mode (canonical_port protocol) text
 
--- the special schemes, and their default ports
+-- The special schemes, with their default ports.
 abbrev pub special_schemes : List (List ℕ × Option (List ℕ))
 special_schemes =
     (codes "http", Some (codes "80"))
@@ -208,53 +226,59 @@ special_schemes =
     ∷ (codes "file", None)
     ∷ []
 
--- the text is one of these schemes
+-- Whether the text is among the schemes.
 abbrev pub scheme_among : List (List ℕ × Option (List ℕ)) → List ℕ → Bool
 scheme_among [] text = false
 scheme_among (scheme ∷ schemes) text = bytes_eq text scheme.0 || scheme_among schemes text
 
--- the default port of the text among these schemes
+-- The default port of the text among the schemes.
 abbrev pub port_among : List (List ℕ × Option (List ℕ)) → List ℕ → Option (List ℕ)
 port_among [] text = None
 port_among (scheme ∷ schemes) text = if bytes_eq text scheme.0 then scheme.1 else port_among schemes text
 
+-- Whether the text is a special scheme.
 abbrev pub is_special : List ℕ → Bool
 is_special text = scheme_among special_schemes text
 
+-- The default port of a special scheme.
 abbrev pub default_port : List ℕ → Option (List ℕ)
 default_port text = port_among special_schemes text
 
--- a protocol that is there, and is empty or special, makes a path hierarchical
+-- Whether any path under the protocol is hierarchical: the protocol is empty or special.
 abbrev pub is_hierarchical_under : Option (List ℕ) → Bool
 is_hierarchical_under None = false
 is_hierarchical_under (Some []) = true
 is_hierarchical_under (Some (c ∷ protocol)) = is_special (c ∷ protocol)
 
--- a path is hierarchical by its protocol, or where it begins with a slash; any other is opaque
+-- Whether a path is hierarchical: by its protocol, or by an initial slash. Any other path is
+-- opaque.
 abbrev pub is_hierarchical : (protocol : Option (List ℕ)) → (pathname : List ℕ) → Bool
 is_hierarchical protocol pathname = is_hierarchical_under protocol || begins_with (λ c. c == slash) pathname
 
+-- The pathname of an init, under a protocol.
 abbrev pub processed_pathname : ProcessType → (protocol : Option (List ℕ)) → List ℕ → Parsed (List ℕ)
 processed_pathname mode protocol text =
     processed mode (λ path. if is_hierarchical protocol path then canonical_pathname path else canonical_opaque_pathname path) text
 
--- A call answers with the port of an init under a protocol, with the refusal, or that memory ran out.
+-- The call returns the port of an init under a protocol, the error of `url`, or out of memory.
 abbrev pub IsPortAnswer : ProcessType → (port : List ℕ) → (protocol : Option (Bor (List ℕ))) → Result (String Global) Error → Type 0
 IsPortAnswer mode port protocol result =
     IsAnswer (processed_port mode (option_text protocol) (chars port)) (bytes_asked mode (port_bytes port protocol)) result
 
--- A call answers with the pathname of an init under a protocol, with the refusal, or that memory ran out.
+-- The call returns the pathname of an init under a protocol, the error of `url`, or out of memory.
 abbrev pub IsPathnameAnswer : ProcessType → (pathname : List ℕ) → (protocol : Option (Bor (List ℕ))) → Result (String Global) Error → Type 0
 IsPathnameAnswer mode pathname protocol result =
     IsAnswer (processed_pathname mode (option_text protocol) (chars pathname)) (bytes_asked mode (length pathname)) result
 
+-- The search of an init, without an initial question mark.
 abbrev pub processed_search : ProcessType → List ℕ → Parsed (List ℕ)
 processed_search mode text = processed mode canonical_search (without_first question_mark text)
 
+-- The hash of an init, without an initial number sign.
 abbrev pub processed_hash : ProcessType → List ℕ → Parsed (List ℕ)
 processed_hash mode text = processed mode canonical_hash (without_first number_sign text)
 
--- a text of the base URL stands for itself: in a pattern its marks are escaped
+-- A text of the base URL as a value of an init: escaped for a pattern.
 abbrev pub processed_base : ProcessType → List ℕ → List ℕ
 processed_base ProcessType.Pattern text = escaped_pattern text
 processed_base ProcessType.Url text = text

@@ -11,18 +11,18 @@ use std::alloc::Global;
 use url::{ParseResult, Url};
 use urlpattern_syntax::Error;
 
-/// A base URL that is read, or none.
+/// A parsed base URL, or none.
 #[derive(Drop)]
 pub struct BaseUrl {
     url: Option<Url>,
-    /// How many bytes its text has.
+    /// The length of the base URL's text, in bytes.
     bytes: usize,
 }
 
 impl BaseUrl {
-    /// Reads the text of a base URL, if there is one.
+    /// Parses the text of a base URL, if there is one.
     ///
-    /// The error is the refusal of `url`, or that memory ran out.
+    /// Fails with `Error::Url` if `url` rejects the text.
     pub fn parse(alloc: Global, text: Option<&str>) -> Result<Self, Error>
         ensures read { IfOk result (λ base. kept_base base ≡ base_view (option_copied text.entry)) }
         ensures refused { IfErr result (MemoryOr (Reports (parsed_base (option_copied text.entry)) (text_bytes (option_copied text.entry)))) }
@@ -35,9 +35,7 @@ impl BaseUrl {
         Ok(Self { url, bytes })
     }
 
-    /// The URL of a text under the base URL. `None`: `url` refuses it.
-    ///
-    /// The error is that memory ran out.
+    /// Returns the URL of a text under the base URL, or `None` if `url` rejects the text.
     pub fn find(&self, alloc: Global, text: &str) -> Result<Option<Url>, Error>
         ensures found { IfOk result (FindsUrlUnder text.now (kept_base self.now)) }
         ensures memory { OnlyOutOfMemory result }
@@ -49,9 +47,9 @@ impl BaseUrl {
         }
     }
 
-    /// The URL of a text under the base URL, where neither has more than so many bytes.
+    /// Returns the URL of a text under the base URL. Neither text is longer than `bytes` bytes.
     ///
-    /// The error is the refusal of `url`, or that memory ran out.
+    /// Fails with `Error::Url` if `url` rejects the text.
     fn read(&self, alloc: Global, text: &str, bytes: usize) -> Result<Url, Error>
         ensures ok { IfOk result (IsUrlUnder text.now (kept_base self.now)) }
         ensures err { IfErr result (MemoryOr (Reports (read_under (kept_base self.now) text.now) bytes)) }
@@ -59,7 +57,7 @@ impl BaseUrl {
         reported(self.joined(alloc, text), bytes)
     }
 
-    /// What `url` makes of a text under the base URL.
+    /// Returns the result of `url` for a text under the base URL.
     fn joined(&self, alloc: Global, text: &str) -> ParseResult<Url>
         ensures { Gives result (read_under (kept_base self.now) text.now) }
     {
@@ -70,9 +68,8 @@ impl BaseUrl {
     }
 }
 
-/// The URL of a text, under a base URL if there is one. `None`: `url` refuses one of them.
-///
-/// The error is that memory ran out.
+/// Returns the URL of a text, under a base URL if there is one, or `None` if `url` rejects either
+/// text.
 pub fn find_url(alloc: Global, text: &str, base: Option<&str>) -> Result<Option<Url>, Error>
     ensures found { IfOk result (FindsUrl text.now (option_copied base.entry)) }
     ensures memory { OnlyOutOfMemory result }
@@ -84,9 +81,9 @@ pub fn find_url(alloc: Global, text: &str, base: Option<&str>) -> Result<Option<
     }
 }
 
-/// The URL of a text, if there is one.
+/// Parses the text of a URL, if there is one.
 ///
-/// The error is the refusal of `url`, or that memory ran out.
+/// Fails with `Error::Url` if `url` rejects the text.
 pub fn parse_base(alloc: Global, text: Option<&str>) -> Result<Option<Url>, Error>
     ensures ok { IfOk result (λ base. parsed_base (option_copied text.entry) ≡ Ok base) }
     ensures err { IfErr result (MemoryOr (Reports (parsed_base (option_copied text.entry)) (text_bytes (option_copied text.entry)))) }
@@ -97,9 +94,9 @@ pub fn parse_base(alloc: Global, text: Option<&str>) -> Result<Option<Url>, Erro
     }
 }
 
-/// The URL of a text.
+/// Parses the text of a URL.
 ///
-/// The error is the refusal of `url`, or that memory ran out.
+/// Fails with `Error::Url` if `url` rejects the text.
 fn parse_url(alloc: Global, text: &str) -> Result<Url, Error>
     ensures ok { IfOk result (λ url. parse_url None text.now ≡ Ok url) }
     ensures err { IfErr result (MemoryOr (Reports (parse_url None text.now) (length text.now))) }

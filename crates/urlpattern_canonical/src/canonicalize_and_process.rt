@@ -40,18 +40,18 @@ pub struct Canonicalizer {
     ghost parsed: { ForSome dummy (λ url. dummy_url ≡ Ok url) },
 }
 
-/// How a value of an init is meant.
+/// What a value of an init is for.
 #[derive(Debug, PartialEq, Eq, Drop)]
 pub enum ProcessType {
-    /// As a pattern.
+    /// A pattern of a component.
     Pattern,
-    /// As a component of a URL.
+    /// A component of a URL.
     Url,
 }
 
-/// The canonical protocol: the scheme of a URL.
+/// Returns the canonical protocol: the scheme of a URL.
 ///
-/// The error is the refusal of `url`, or that memory ran out.
+/// Fails with `Error::Url` if `url` rejects the value.
 ///
 /// <https://urlpattern.spec.whatwg.org/#canonicalize-a-protocol>
 pub fn canonicalize_protocol(alloc: Global, value: &str) -> Result<String, Error>
@@ -60,9 +60,9 @@ pub fn canonicalize_protocol(alloc: Global, value: &str) -> Result<String, Error
     Canonicalizer::new(alloc).protocol(value)
 }
 
-/// The canonical user name.
+/// Returns the canonical user name.
 ///
-/// The error is the refusal of `url`, or that memory ran out.
+/// Fails with `Error::Url` if `url` rejects the value.
 ///
 /// <https://urlpattern.spec.whatwg.org/#canonicalize-a-username>
 pub fn canonicalize_username(alloc: Global, value: &str) -> Result<String, Error>
@@ -71,9 +71,9 @@ pub fn canonicalize_username(alloc: Global, value: &str) -> Result<String, Error
     Canonicalizer::new(alloc).username(value)
 }
 
-/// The canonical password.
+/// Returns the canonical password.
 ///
-/// The error is the refusal of `url`, or that memory ran out.
+/// Fails with `Error::Url` if `url` rejects the value.
 ///
 /// <https://urlpattern.spec.whatwg.org/#canonicalize-a-password>
 pub fn canonicalize_password(alloc: Global, value: &str) -> Result<String, Error>
@@ -82,9 +82,9 @@ pub fn canonicalize_password(alloc: Global, value: &str) -> Result<String, Error
     Canonicalizer::new(alloc).password(value)
 }
 
-/// The canonical hostname.
+/// Returns the canonical hostname.
 ///
-/// The error is the refusal of `url`, or that memory ran out.
+/// Fails with `Error::Url` if `url` rejects the value.
 ///
 /// <https://urlpattern.spec.whatwg.org/#canonicalize-a-hostname>
 pub fn canonicalize_hostname(alloc: Global, value: &str) -> Result<String, Error>
@@ -93,9 +93,9 @@ pub fn canonicalize_hostname(alloc: Global, value: &str) -> Result<String, Error
     Canonicalizer::new(alloc).hostname(value)
 }
 
-/// The canonical port under a protocol, empty if it is the protocol's default.
+/// Returns the canonical port under a protocol, empty for the default port of the protocol.
 ///
-/// The error is the refusal of `url`, or that memory ran out.
+/// Fails with `Error::Url` if `url` rejects the value.
 ///
 /// <https://urlpattern.spec.whatwg.org/#canonicalize-a-port>
 pub fn canonicalize_port(
@@ -108,9 +108,9 @@ pub fn canonicalize_port(
     Canonicalizer::new(alloc).port(value, protocol)
 }
 
-/// The canonical path of segments.
+/// Returns the canonical path of segments.
 ///
-/// The error is the refusal of `url`, or that memory ran out.
+/// Fails with `Error::Url` if `url` rejects the value.
 ///
 /// <https://urlpattern.spec.whatwg.org/#canonicalize-a-pathname>
 pub fn canonicalize_pathname(alloc: Global, value: &str) -> Result<String, Error>
@@ -119,9 +119,9 @@ pub fn canonicalize_pathname(alloc: Global, value: &str) -> Result<String, Error
     Canonicalizer::new(alloc).pathname(value)
 }
 
-/// The canonical opaque path.
+/// Returns the canonical opaque path.
 ///
-/// The error is the refusal of `url`, or that memory ran out.
+/// Fails with `Error::Url` if `url` rejects the value.
 ///
 /// <https://urlpattern.spec.whatwg.org/#canonicalize-an-opaque-pathname>
 pub fn canonicalize_an_opaque_pathname(alloc: Global, value: &str) -> Result<String, Error>
@@ -130,9 +130,9 @@ pub fn canonicalize_an_opaque_pathname(alloc: Global, value: &str) -> Result<Str
     Canonicalizer::new(alloc).opaque_pathname(value)
 }
 
-/// The canonical query.
+/// Returns the canonical query.
 ///
-/// The error is the refusal of `url`, or that memory ran out.
+/// Fails with `Error::Url` if `url` rejects the value.
 ///
 /// <https://urlpattern.spec.whatwg.org/#canonicalize-a-search>
 pub fn canonicalize_search(alloc: Global, value: &str) -> Result<String, Error>
@@ -141,9 +141,9 @@ pub fn canonicalize_search(alloc: Global, value: &str) -> Result<String, Error>
     Canonicalizer::new(alloc).search(value)
 }
 
-/// The canonical fragment.
+/// Returns the canonical fragment.
 ///
-/// The error is the refusal of `url`, or that memory ran out.
+/// Fails with `Error::Url` if `url` rejects the value.
 ///
 /// <https://urlpattern.spec.whatwg.org/#canonicalize-a-hash>
 pub fn canonicalize_hash(alloc: Global, value: &str) -> Result<String, Error>
@@ -152,9 +152,9 @@ pub fn canonicalize_hash(alloc: Global, value: &str) -> Result<String, Error>
     Canonicalizer::new(alloc).hash(value)
 }
 
-/// The protocol of an init, without a colon at its end.
+/// Returns the protocol of an init, without a final colon.
 ///
-/// The error is the refusal of `url` for a URL, or that memory ran out.
+/// Fails with `Error::Url` if `url` rejects a value for a URL.
 ///
 /// <https://urlpattern.spec.whatwg.org/#process-protocol-for-init>
 pub fn process_protocol_init(
@@ -167,9 +167,9 @@ pub fn process_protocol_init(
     Canonicalizer::new(alloc).process_protocol(value, kind)
 }
 
-/// The user name of an init.
+/// Returns the user name of an init.
 ///
-/// The error is the refusal of `url` for a URL, or that memory ran out.
+/// Fails with `Error::Url` if `url` rejects a value for a URL.
 ///
 /// <https://urlpattern.spec.whatwg.org/#process-username-for-init>
 pub fn process_username_init(
@@ -182,9 +182,9 @@ pub fn process_username_init(
     Canonicalizer::new(alloc).process_username(value, kind)
 }
 
-/// The password of an init.
+/// Returns the password of an init.
 ///
-/// The error is the refusal of `url` for a URL, or that memory ran out.
+/// Fails with `Error::Url` if `url` rejects a value for a URL.
 ///
 /// <https://urlpattern.spec.whatwg.org/#process-password-for-init>
 pub fn process_password_init(
@@ -197,9 +197,9 @@ pub fn process_password_init(
     Canonicalizer::new(alloc).process_password(value, kind)
 }
 
-/// The hostname of an init.
+/// Returns the hostname of an init.
 ///
-/// The error is the refusal of `url` for a URL, or that memory ran out.
+/// Fails with `Error::Url` if `url` rejects a value for a URL.
 ///
 /// <https://urlpattern.spec.whatwg.org/#process-hostname-for-init>
 pub fn process_hostname_init(
@@ -212,9 +212,9 @@ pub fn process_hostname_init(
     Canonicalizer::new(alloc).process_hostname(value, kind)
 }
 
-/// The port of an init, under a protocol.
+/// Returns the port of an init, under a protocol.
 ///
-/// The error is the refusal of `url` for a URL, or that memory ran out.
+/// Fails with `Error::Url` if `url` rejects a value for a URL.
 ///
 /// <https://urlpattern.spec.whatwg.org/#process-port-for-init>
 pub fn process_port_init(
@@ -228,9 +228,9 @@ pub fn process_port_init(
     Canonicalizer::new(alloc).process_port(value, protocol, kind)
 }
 
-/// The pathname of an init, under a protocol.
+/// Returns the pathname of an init, under a protocol.
 ///
-/// The error is the refusal of `url` for a URL, or that memory ran out.
+/// Fails with `Error::Url` if `url` rejects a value for a URL.
 ///
 /// <https://urlpattern.spec.whatwg.org/#process-pathname-for-init>
 pub fn process_pathname_init(
@@ -244,9 +244,9 @@ pub fn process_pathname_init(
     Canonicalizer::new(alloc).process_pathname(value, protocol, kind)
 }
 
-/// The search of an init, without a question mark at its front.
+/// Returns the search of an init, without an initial question mark.
 ///
-/// The error is the refusal of `url` for a URL, or that memory ran out.
+/// Fails with `Error::Url` if `url` rejects a value for a URL.
 ///
 /// <https://urlpattern.spec.whatwg.org/#process-search-for-init>
 pub fn process_search_init(alloc: Global, value: &str, kind: &ProcessType) -> Result<String, Error>
@@ -255,9 +255,9 @@ pub fn process_search_init(alloc: Global, value: &str, kind: &ProcessType) -> Re
     Canonicalizer::new(alloc).process_search(value, kind)
 }
 
-/// The hash of an init, without a number sign at its front.
+/// Returns the hash of an init, without an initial number sign.
 ///
-/// The error is the refusal of `url` for a URL, or that memory ran out.
+/// Fails with `Error::Url` if `url` rejects a value for a URL.
 ///
 /// <https://urlpattern.spec.whatwg.org/#process-hash-for-init>
 pub fn process_hash_init(alloc: Global, value: &str, kind: &ProcessType) -> Result<String, Error>
@@ -266,11 +266,9 @@ pub fn process_hash_init(alloc: Global, value: &str, kind: &ProcessType) -> Resu
     Canonicalizer::new(alloc).process_hash(value, kind)
 }
 
-/// A text of a base URL as the text of an init: for a pattern it is escaped.
+/// Returns a text of a base URL as a value of an init: escaped for a pattern, as it is for a URL.
 ///
 /// <https://urlpattern.spec.whatwg.org/#process-a-base-url-string>
-///
-/// The error is that memory ran out.
 pub fn process_base_url(alloc: Global, input: &str, kind: &ProcessType) -> Result<String, Error>
     ensures ok { IfOk result (λ text. text_of text ≡ processed_base kind.now (chars input.now)) }
     ensures memory { OnlyOutOfMemory result }

@@ -1,5 +1,5 @@
-//! Canonical values of the components of a URL, as `url` answers them, the values of an init, and the
-//! URLs of texts.
+//! Canonical values of the components of a URL, which `url` computes; the values of an init; and
+//! the URLs of texts.
 #![tactic(auto)]
 
 mod base_url;

@@ -1,4 +1,5 @@
--- What the groups of parts are to capture is one list, and what they captured, given again.
+-- The captures that groups are to have are unique. Captures of a match that are given for the
+-- groups are the captures to have.
 use Rattle.std.proofs.Common.{◌≡◌, ℕ, Bool, true, false, List, [], ◌∷◌, ap, arith, inl, inr, refl, sym, subst, ◌∙◌, Option, Some, None, map}
 use Rattle.std.proofs.lemmas.List.Elements.{All-head, All-tail}
 use Rattle.std.specs.Prelude.{filter, not, if◌then◌else◌}
@@ -16,7 +17,7 @@ use Rattle.urlpattern_syntax.specs.Options.{OptionsView}
 use Rattle.urlpattern_syntax.specs.Parts.{PartView}
 use Rattle.urlpattern_syntax.specs.RegexpText.{group_names, is_fixed_text}
 
--- ---- one list
+-- ---- captures are unique
 
 asked_once : (canonical : List ℕ → Parsed (List ℕ)) (given : Option (List ℕ)) (part : PartView) (capture other : Option (List ℕ)) →
     IsAskedBy canonical given part capture → IsAskedBy canonical given part other → capture ≡ other
@@ -36,14 +37,14 @@ first_once manner FullWildcard part [] others is also e = absurd is
 first_once manner FullWildcard part (capture ∷ captures) [] is also e = absurd also
 first_once manner FullWildcard part (capture ∷ captures) (other ∷ others) is also e = λ i. asked_once manner.canonical (manner.given part.name) part capture other is also i ∷ e i
 
--- the groups of parts are to capture one list of texts
+-- The captures that the groups of parts are to have are unique.
 pub asked_one : (manner : WritingManner) (parts : List PartView) (captures others : Captures) → AreAsked manner parts captures → AreAsked manner parts others → captures ≡ others
 asked_one manner [] captures others are also = are ∙ sym also
 asked_one manner (part ∷ parts) captures others are also =
     first_once manner part.kind part captures others are.0 also.0
     (asked_one manner parts (captures_after part.kind captures) (captures_after part.kind others) are.1 also.1)
 
--- ---- what was captured, given again
+-- ---- the captures of a match, given again
 
 none_again : (modifier : PartModifier) (part : PartView) → Allows modifier 0 → None ≡ capture_of_no_copies part → None ≡ capture_by_modifier modifier part
 none_again modifiers.None part allowed e = absurd (omega (arith, allowed))
@@ -57,7 +58,7 @@ capture_again canonical options part None (inl (allowed, e)) is = none_again par
 capture_again canonical options part None (inr never) is = absurd never
 capture_again canonical options part (Some text) may is = (text, is, refl)
 
--- What is known of the first part and of those after it.
+-- The first part and the parts after it are to have the captures found.
 record AreAgain (manner : WritingManner) (kind : PartType) (part : PartView) (names : List (List ℕ)) (found : Captures) : Type 0 where
   first : OfFirst (IsAsked manner) kind part found
   given : map manner.given names ≡ captures_after kind found
@@ -74,7 +75,7 @@ head_of given capture others captures e = cc e
 tail_of : (given capture : Option (List ℕ)) (others captures : Captures) → given ∷ others ≡ capture ∷ captures → others ≡ captures
 tail_of given capture others captures e = cc e
 
--- the same where the part is a group
+-- If the first part is a group, the group and the parts after it are to have the captures found.
 first_again : (manner : WritingManner) (options : OptionsView) (kind : PartType) (part : PartView) (names : List (List ℕ)) (found : Captures) →
     map manner.given (if not (is_fixed_text kind) then part.name ∷ names else names) ≡ found → OfFirst (MayCapture options) kind part found → AreCanonical manner.canonical found →
     AreAgain manner kind part names found
@@ -98,12 +99,12 @@ first_again manner options FullWildcard part names (capture ∷ captures) e may 
   canonical = All-tail (IsCanonicalCapture manner.canonical) capture captures are;
 }
 
--- the names of a part, if it is a group, and of those after it
+-- The names of a part, if it is a group, and of the parts after it.
 names_first : (group : Bool) (part : PartView) (parts : List PartView) → map (λ (p : PartView). p.name) (if group then part ∷ parts else parts) ≡ (if group then part.name ∷ map (λ (p : PartView). p.name) parts else map (λ (p : PartView). p.name) parts)
 names_first true part parts = refl
 names_first false part parts = refl
 
--- what groups may capture is what they are to capture, where it is given for them
+-- Captures that groups may have are those that they are to have, if they are given for the groups.
 pub given_again : (manner : WritingManner) (options : OptionsView) (parts : List PartView) (found : Captures) → map manner.given (group_names parts) ≡ found →
     MayCaptureAll options parts found → AreCanonical manner.canonical found → AreAsked manner parts found
 given_again manner options [] found e may are = may

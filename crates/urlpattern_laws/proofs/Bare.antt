@@ -1,9 +1,9 @@
--- Patterns whose groups have all one number.
+-- Patterns in which each group has the same number.
 use Rattle.std.proofs.Common.{◌≡◌, ℕ, zero, suc, ◌-◌, Bool, true, false, List, [], ◌∷◌, map, Option, Some, None, refl, ap, ◌∙◌}
 use Rattle.regex_hir.specs.Meaning.{cat_all, alt_all, optional, copies, up_to, at_least, repeat}
 use Rattle.regex_hir.specs.Re.{Re, empty, literal, byte_in, char_in, look, cat, alt, group, plus}
 
--- the pattern with 0 as the number of each group, which no match depends on
+-- The pattern with 0 as the number of each group. No match depends on the numbers.
 abbrev pub bare : Re → Re
 bare empty = empty
 bare (literal bytes) = literal bytes

@@ -1,4 +1,5 @@
--- The ways of a choice in a text, and in the same text with another after it: those that take nothing of the other.
+-- The ways of a choice in a text, and in the same text before another one: the ways that leave the
+-- other text whole.
 use Rattle.std.proofs.Common.{◌≡◌, ℕ, zero, suc, ◌≤◌, ◌<◌, List, [], ◌∷◌, ◌++◌, map, length, Bool, true, false, cond, if◌then◌else◌, nat_lt, refl, sym, ap, ◌∙◌, subst, length-append, inl, inr, arith, lt-ltb, le-ltb, ⊎_elim}
 use Rattle.std.proofs.lemmas.Bool.{cases_Bool, cond-false, ltb-false, ltb-true}
 use Rattle.urlpattern_meaning.proofs.WayLists.{Every, every-weaker, every-cond, every-ordered, every-continued}
@@ -6,7 +7,7 @@ use Rattle.urlpattern_meaning.proofs.WaysCut.{Cut, longer}
 use Rattle.urlpattern_meaning.specs.Dialect.{Quantifier, Once, Optional, ZeroOrMore, OneOrMore, LazyOneOrMore}
 use Rattle.urlpattern_meaning.specs.Ways.{Way, Choice, idle, joined_way, continued, one_that, ordered, is_shorter, more_rounds, looped, quantified_ways}
 
--- no way leaves more than there was
+-- No way leaves more than the text.
 abbrev pub Falls : Choice → Type 0
 Falls choice = (text : List ℕ) → Every (λ way. length way.rest ≤ length text) (choice text)
 
@@ -34,7 +35,7 @@ module _ (s : List ℕ) where
   cut-map f g rests same (way ∷ xs) us (inr (other, others, e, h, p)) =
       inr (g other, map g others, ap (map g) e, ap f h ∙ same other, cut-map f g rests same xs others p)
 
-  -- ways that leave less are not among the others
+  -- Ways that leave less than `s` are not among the ways that leave `s` whole.
   cut-none : (xs : List Way) → Every (λ way. length way.rest < length s) xs → Cut s xs []
   cut-none [] every = refl
   cut-none (way ∷ xs) every = inl (every.0, cut-none xs every.1)
@@ -98,7 +99,7 @@ module _ (s : List ℕ) where
       not_less e = ltb-false _ _ e
 
   module _ (greedy : Bool) (atom : Choice) (falls : Falls atom) (cut : IsCut atom atom) where
-    -- what follows a round
+    -- The ways after a round.
     goes_on : (long short none : List ℕ → List Way) (inner : List ℕ) → IsCut none none
         → ((rest : List ℕ) → length rest < length inner → Cut s (long (rest ++ s)) (short rest))
         → IsCut (λ rest. if is_shorter rest (inner ++ s) then long rest else none rest) (λ rest. if is_shorter rest inner then short rest else none rest)
@@ -114,7 +115,7 @@ module _ (s : List ℕ) where
     no_more [] next none = refl
     no_more (way ∷ xs) next none = rw (none way.rest) (no_more xs next none)
 
-    -- in the empty text no round follows, however many may
+    -- In the empty text no round follows.
     rounds-over : (n : ℕ) → more_rounds greedy atom n [] ≡ idle 0 [] ∷ []
     rounds-over zero = refl
     rounds-over (suc n) =

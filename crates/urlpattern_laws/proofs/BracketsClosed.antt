@@ -1,4 +1,4 @@
--- Classes in brackets are read the same where a closing parenthesis and more follow the text.
+-- Classes in brackets are read alike before a closing parenthesis and more text.
 use Rattle.std.proofs.Common.{◌≡◌, ◌≢◌, ℕ, zero, suc, ◌+◌, Bool, true, false, not, ◌&&◌, ◌||◌, ◌==◌, List, [], ◌∷◌, ◌++◌, map, length, drop, Option, Some, None, is_some, if◌then◌else◌, nat_eq, option_map, refl, sym, ap, arith, true≢false, codes, ⊎_elim, ne_eqb}
 use Rattle.std.proofs.lemmas.Bool.{and_parts, and_right, cases_Bool}
 use Rattle.std.proofs.lemmas.Bool.Decides.{nat_tests}
@@ -34,7 +34,7 @@ module _ (tail : Text) where
   or_right_false true b h = absurd (true≢false h)
   or_right_false false b h = h
 
-  -- the word has no parenthesis that closes
+  -- The word has no closing parenthesis.
   abbrev pub LacksClose : List ℕ → Type 0
   LacksClose w = list_any (λ c. c == 41) w ≡ false
 
@@ -55,7 +55,7 @@ module _ (tail : Text) where
       rw other refl
   spells_other (d ∷ w) (c ∷ name) more h = rw (spells_other w name more (or_right_false (d == 41) (list_any (λ c. c == 41) w) h)) (and_right (c == d) false refl)
 
-  -- no class is named so
+  -- No class has a name with a closing parenthesis.
   no_name : (name more : Text) → ascii_class (name ++ 41 ∷ more) ≡ None
   unfolding ascii_class
   no_name name more =
@@ -78,9 +78,9 @@ module _ (tail : Text) where
         other "xdigit" refl,
       ) refl
 
-  -- ---- classes by name
+  -- ---- named classes
 
-  -- the word before a colon is the same, or has the parenthesis
+  -- The word before a colon is the same, or, if the text has no colon, contains the parenthesis.
   abbrev IsSplitAlike : Option (Text × Text) → (other : Option (Text × Text)) → Type 0
   IsSplitAlike (Some found) other = (other ≡ Some (found.0, closed tail found.1)) × Calm found.1
   IsSplitAlike None None = Unit {0}
@@ -105,12 +105,12 @@ module _ (tail : Text) where
       (λ (e : (nat_eq 58 c && true) ≡ false). rw e (split_on c (split_once (codes ":") t) (split_once (codes ":") (closed tail t)) (split_closed t (calm_rest c t h))))
       (cases_Bool (nat_eq 58 c && true))
 
-  -- both are read, and the same, or neither is
+  -- If a class is read, it is read alike. If none is read, none is read before the parenthesis.
   abbrev IsNamedAlike : Option (Set × Bool × Text) → (other : Option (Set × Bool × Text)) → Type 0
   IsNamedAlike (Some found) other = (other ≡ Some (found.0, found.1, closed tail found.2)) × Calm found.2
   IsNamedAlike None other = other ≡ None
 
-  -- after the name and its colon
+  -- The class of a name, from the `]` after its colon on.
   abbrev ends_name : (negated : Bool) → Text × Text → Option (Set × Bool × Text)
   ends_name negated found = is_at "]" found.1 >> (ascii_class found.0 >>= λ set. Some (set, negated, drop 1 found.1))
 
@@ -170,7 +170,7 @@ module _ (tail : Text) where
     member_closed (c ∷ t) h =
         alike_if tail (c ∈ "\\") _ _ _ _ (escape_closed tail config t (calm_rest c t h)) (alike_some tail (character c false) _ _ (refl, calm_rest c t h))
 
-    -- white space and one `#` after a hyphen
+    -- White space and a `#` after a hyphen.
     blank_closed : (w : String) (t : Text) → is_at w t ≡ true → Calm t → Leaves tail (take_run false is_whitespace (drop 1 t)).1 (take_run false is_whitespace (drop 1 (closed tail t))).1
     blank_closed w t e h =
         let rest = drop_closed tail w t e h in
@@ -186,7 +186,7 @@ module _ (tail : Text) where
         (λ (f : not v ≡ false). rw (after_hyphen, f, blank.0, at_closed tail "#" left refl, calm_at left blank.1) (refl, blank.1))
         (cases_Bool (not v))
 
-    -- a second character follows the hyphen
+    -- Whether a second character follows the hyphen.
     abbrev makes_range : Text → Bool
     makes_range t = is_at "-" t && not (is_at "]-" (after_hyphen config t))
 
@@ -264,7 +264,7 @@ module _ (tail : Text) where
     abbrev sides : ℕ → Nested Set → Text → (Bool → Bool → Bool) → Option (Nested Set × Text)
     sides n left t apply = unite [] (set_items config n t) >>= λ (right, rest). operations config n (operation config apply left right) rest
 
-    -- what follows an operator
+    -- The class after an operator.
     after_operator : (n m : ℕ) (left : Nested Set) (t : Text) → ((t : Text) → Calm t → ReadAlike tail (set_items config n t) (set_items config m (closed tail t)))
         → ((left : Nested Set) (t : Text) → Calm t → ReadAlike tail (operations config n left t) (operations config m left (closed tail t)))
         → Calm t → is_at "]" t ≡ false → ReadAlike tail (operator t >>= sides n left (drop 2 t)) (operator (closed tail t) >>= sides m left (drop 2 (closed tail t)))

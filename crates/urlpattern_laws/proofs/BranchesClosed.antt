@@ -1,5 +1,5 @@
--- Groups and branches are read the same, but for the numbers and names of groups, where a closing parenthesis and more follow
--- the text.
+-- Groups and branches are read alike before a closing parenthesis and more text, except for the
+-- numbers and names of groups.
 use Rattle.std.proofs.Common.{◌≡◌, ℕ, zero, suc, ◌+◌, ◌+◌, ◌^◌, Bool, true, false, not, ◌||◌, ◌==◌, nat_lt, nat_eq, List, [], ◌∷◌, ◌++◌, map, length, drop, reverse, Option, Some, None, if◌then◌else◌, refl, sym, ap, ap₂, ◌∙◌, arith, true≢false, codes, encode_utf8_all, IfSome, ⊎_elim}
 use Rattle.std.proofs.lemmas.Bool.{and_parts, cases_Bool}
 use Rattle.std.proofs.lemmas.List.{length_push}
@@ -20,15 +20,15 @@ use Rattle.urlpattern_laws.proofs.EscapesClosed.{at_closed, drop_closed, next_cl
 use Rattle.urlpattern_laws.proofs.BracketsClosed.{full, starts_closed}
 use Rattle.urlpattern_laws.proofs.ItemsClosed.{true_of_not, SameTree, TreeAlike, repetitions_closed, atom_closed}
 
--- so many groups are open before the text by itself, and so many before it inside of a group
+-- `alone` groups are open before the text by itself, and `there` groups before the text in a group.
 module _ (tail : Text) (alone there : ℕ) where
   -- ---- places
 
-  -- the place, with other names and with the parenthesis after its text
+  -- The place with other names, and with the parenthesis after its text.
   abbrev pub beside : Place → Names → Place
   beside p names = record p { names = names; text = closed tail p.text }
 
-  -- no comment begins in the text, and both have opened as many groups
+  -- The text has no comment, and as many groups were opened in both places.
   abbrev pub Held : Text → (names others : Names) → Type 0
   Held t names others = Calm t × (length others + alone ≡ length names + there)
 
@@ -37,7 +37,7 @@ module _ (tail : Text) (alone there : ℕ) where
   IsAlike Same (Some found) None = Unit {0}
   IsAlike Same (Some found) (Some other) = Same found.0 other.0 × (other.1 ≡ beside found.1 other.1.names) × Held found.1.text found.1.names other.1.names
 
-  -- if both are read, they are the same in this sense, and what is left is followed by the same
+  -- If both are read, the results are the same by `Same`, and the rests are alike.
   pub record Alike {A : Type 0} (Same : A → A → Type 0) (found other : Option (A × Place)) : Type 0 where
     pub holds : IsAlike Same found other
 
@@ -67,7 +67,7 @@ module _ (tail : Text) (alone there : ℕ) where
   test_alike Same true x y h = h refl
   test_alike Same false x y h = none_alike Same _
 
-  -- tests that only one of the two has
+  -- A test of only one of the two results.
   own_test : {A : Type 0} (Same : A → A → Type 0) (b : Bool) (x y : Option (A × Place)) → (b ≡ true → Alike Same x y) → Alike Same (b >> x) y
   own_test Same true x y h = h refl
   own_test Same false x y h = none_alike Same _
@@ -87,7 +87,7 @@ module _ (tail : Text) (alone there : ℕ) where
       (alike_test tail (not (list_any (λ d. d == c) seen)) _ _
       (alike_value tail (if c ∈ "-" then Some flags else set_flag flags c (not (list_any (λ d. d ∈ "-") seen))) _ _ (λ changed. flags_closed changed (seen ++ c ∷ []) t (calm_rest c t h))))
 
-  -- flags end at a character
+  -- A character follows the flags.
   abbrev LeavesSome : Option (Flags × Text) → Type 0
   LeavesSome found = IfSome found (λ result. is_empty result.1 ≡ false)
 
@@ -143,7 +143,7 @@ module _ (tail : Text) (alone there : ℕ) where
   word_closed (d ∷ w) [] e h = absurd (true≢false (sym e))
   word_closed (d ∷ w) (c ∷ t) e h = word_closed w t (and_parts _ _ e).1 (calm_rest c t h)
 
-  -- what flags make of the place, up to `:` or `)`
+  -- The place after flags, up to `:` or `)`.
   abbrev with_flags : Place → Flags × Text → Option (Opening × Place)
   with_flags p found =
       Some (if is_at ")" found.1 then setting else opens (λ re. re), record p { config = record (p.config) { flags = found.0 }; text = drop 1 found.1 })
@@ -165,7 +165,7 @@ module _ (tail : Text) (alone there : ℕ) where
       let same : other ≡ (found.0, closed tail found.1) = ap₂ (λ a t. (a, t)) h.holds.0 h.holds.1.0 in
       rw same (with_flags_same p names found.0 found.1 some (h.holds.1.1, count))
 
-  -- from a question mark on
+  -- An opening from its question mark.
   marked_closed : (p : Place) (names : Names) (t : Text) → Held t p.names names
       → Alike SameOpening (not (is_at ")" (drop 1 t)) >> (set_flags p.config.flags [] (drop 1 t) >>= with_flags p))
       (not (is_at ")" (drop 1 (closed tail t))) >> (set_flags p.config.flags [] (drop 1 (closed tail t)) >>= with_flags (beside p names)))
@@ -187,7 +187,7 @@ module _ (tail : Text) (alone there : ℕ) where
 
   -- ---- groups
 
-  -- the place after the tree
+  -- The place after the tree.
   abbrev placed : Place → Nested Re × Text → Option (Nested Re × Place)
   placed p found = Some (found.0, record p { text = found.1 })
 
@@ -202,7 +202,7 @@ module _ (tail : Text) (alone there : ℕ) where
   with_closed tree other p names same h =
       placed_closed p names _ _ h.1 (repetitions_closed tail p.config (length p.text + 1) (length (closed tail p.text) + 1) tree other p.text same h.0)
 
-  -- from the parenthesis that ends a group inside of the text
+  -- A group from the parenthesis that ends it inside the text.
   group_ends : (outside : Config) (names others : Names) (t : Text) (tree other : Nested Re) → SameTree tail tree other → Held t names others
       → Alike (SameTree tail) (is_at ")" t >> with_repetitions tree (record { config = outside; names = names; text = drop 1 t }))
       (is_at ")" (closed tail t) >> with_repetitions other (record { config = outside; names = others; text = drop 1 (closed tail t) }))
@@ -211,7 +211,7 @@ module _ (tail : Text) (alone there : ℕ) where
   group_ends outside names others (c ∷ t) tree other same h =
       test_alike (SameTree tail) (c ∈ ")") _ _ (λ e. with_closed tree other (record { config = outside; names = names; text = t }) others same (calm_rest c t h.0, h.1))
 
-  -- what reads inside of a group does so alike
+  -- The two inner readers read alike.
   abbrev ReadsAlike : (inner other : Place → Option (Nested Re × Place)) → Type 0
   ReadsAlike inner other = (p : Place) (names : Names) → Held p.text p.names names → Alike (SameTree tail) (inner p) (other (beside p names))
 
@@ -257,7 +257,7 @@ module _ (tail : Text) (alone there : ℕ) where
       then_alike SameTrees (SameTree tail) o q _ _ h (λ trees others p names same calm.
       some_alike (SameTree tail) (join f trees) (join f others) p names (is_bare (values others) ∙ ap f same ∙ sym (is_bare (values trees))) calm)
 
-  -- the items end where the text does, or at a mark in it
+  -- The items end at the end of the text, or at a mark in it.
   items_go_on : (p : Place) (names : Names) (t : Text) (more another : Option (List (Nested Re) × Place)) → Held t p.names names → (is_empty t ≡ false → Alike SameTrees more another)
       → Alike SameTrees (if is_empty t || is_at "|)" t then Some ([], record p { text = t }) else more)
       (if is_empty (closed tail t) || is_at "|)" (closed tail t) then Some ([], beside (record p { text = t }) names) else another)
@@ -296,6 +296,6 @@ module _ (tail : Text) (alone there : ℕ) where
         (then_alike SameTrees SameTrees _ _ _ _ (branches_closed n m (record after { text = drop 1 after.text }) others (rest.1, calm.1)) (λ parts twins last names' alike still.
         some_alike SameTrees (branch ∷ parts) (twin ∷ twins) last names' (ap₂ (λ a all. a ∷ all) same alike) still)))))
 
-  -- what is read by itself is read the same inside of a group
+  -- The text by itself is read as in a group.
   pub inside_closed : (n m : ℕ) (p : Place) (names : Names) → Held p.text p.names names → Alike (SameTree tail) (join_parts alt_all (branches n p)) (join_parts alt_all (branches m (beside p names)))
   inside_closed n m p names h = join_closed alt_all bare_alt_all _ _ (branches_closed n m p names h)

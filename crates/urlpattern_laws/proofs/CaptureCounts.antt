@@ -1,4 +1,4 @@
--- What parts capture is one capture for each name.
+-- Parts have a capture for each name.
 use Rattle.std.proofs.Common.{◌≡◌, ℕ, suc, List, [], ◌∷◌, ◌++◌, ap, length, ◌∙◌}
 use Rattle.urlpattern_laws.specs.LawsOfTexts.{CapturesAreAsNames}
 use Rattle.urlpattern_laws.specs.PartCaptures.{AreCapturesOf}
@@ -10,7 +10,7 @@ use Rattle.urlpattern_syntax.specs.declared.parser.PartType.TheVariants.{FixedTe
 use Rattle.urlpattern_syntax.specs.Parts.{PartView}
 use Rattle.urlpattern_syntax.specs.RegexpText.{group_names}
 
--- one part before others
+-- A part before others.
 counted_by : (kind : PartType) (modifier : PartModifier) (value name prefix suffix : List ℕ) (parts : List PartView) (n : ℕ) (text : List ℕ) (own others : Captures) →
     AreCapturesOf kind (part_of kind modifier value name prefix suffix) n text own → length others ≡ length (group_names parts) →
     length (own ++ others) ≡ length (group_names (part_of kind modifier value name prefix suffix ∷ parts))

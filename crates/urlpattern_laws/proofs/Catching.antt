@@ -1,4 +1,4 @@
--- What the groups of a pattern capture, in the texts that it takes.
+-- The captures of the groups of a pattern, in the texts that the pattern matches.
 use Rattle.std.proofs.Common.{◌≡◌, ℕ, suc, ◌+◌, ◌*◌, List, [], ◌∷◌, ◌++◌, replicate, length, true, ◌&&◌, Option, Some, None, ◌⊎◌, inl, inr, ⊎_elim, refl, sym, ap, ap₂, ◌∙◌, subst, append_assoc, append-nil, arith, true≢false, length-append}
 use Rattle.std.proofs.lemmas.Bool.{and_parts}
 use Rattle.std.proofs.lemmas.List.{length-replicate}
@@ -40,26 +40,26 @@ groupless_bare a = refl
 
 -- ---- captures
 
--- texts with captures, by a fact on each
+-- Sets of texts with captures.
 abbrev pub Caps : Type 1
 Caps = List ℕ → Captures → Type 0
 
--- such texts, with no capture
+-- The texts of a set, without captures.
 abbrev pub Only : Texts → Caps
 Only Is text captures = Is text × (captures ≡ [])
 
 abbrev pub Then : Caps → Caps → Caps
 Then A B text captures = (first rest : List ℕ) × (own others : Captures) × (text ≡ first ++ rest) × (captures ≡ own ++ others) × A first own × B rest others
 
--- the whole text is captured first
+-- The whole text is the first capture.
 abbrev pub Whole : Caps → Caps
 Whole A text captures = (inner : Captures) × (captures ≡ Some text ∷ inner) × A text inner
 
--- taken once, or not at all
+-- A text of the set, or the empty text with empty captures.
 abbrev pub Perhaps : ℕ → Caps → Caps
 Perhaps count A text captures = A text captures ⊎ ((text ≡ []) × (captures ≡ replicate count None))
 
--- a front of the text is taken so, and the writes show what is captured from group g on
+-- A prefix of the text is in the set, and the writes are its captures, from group g on.
 pub record CatchesFrom (g count : ℕ) (Cap : List ℕ → Captures → Type 0) (whole before text : List ℕ) (j : ℕ) (writes : Writes) : Type 0 where
   pub taken : List ℕ
   pub rest : List ℕ
@@ -70,7 +70,7 @@ pub record CatchesFrom (g count : ℕ) (Cap : List ℕ → Captures → Type 0) 
   pub counted : length captures ≡ count
   pub shown : Shown (encodes whole) g captures writes
 
--- each run of the pattern, at a place of a text of characters, does so
+-- Each run of the pattern, at any place of a text of characters, catches a text of the set.
 pub record Catches (g count : ℕ) (re : Re) (Cap : List ℕ → Captures → Type 0) : Type 0 where
   pub sound : (whole : List ℕ) → scalars whole ≡ true → (before text : List ℕ) → before ++ text ≡ whole → (j : ℕ) (writes : Writes) → Runs (encodes whole) re (at before) j writes
       → CatchesFrom g count Cap whole before text j writes
@@ -103,7 +103,7 @@ catches_same g count other re A B same weaker c = record {
       record { taken = f.taken; rest = f.rest; captures = f.captures; cut = f.cut; ends = f.ends; is = weaker f.taken f.captures fine f.is; counted = f.counted ∙ sym same; shown = f.shown };
 }
 
--- one front, and another after it
+-- A prefix of the text, and then a prefix of the rest.
 then_from : (g m n : ℕ) (A B : Caps) (whole before text : List ℕ) (l j : ℕ) (own more writes : Writes) → before ++ text ≡ whole → (a : CatchesFrom g m A whole before text l own)
     → CatchesFrom (g + m) n B whole (before ++ a.taken) a.rest j more → writes ≡ own ++ more → CatchesFrom g (m + n) (Then A B) whole before text j writes
 then_from g m n A B whole before text l j own more writes e a b all = record {
@@ -189,7 +189,7 @@ catches_append g m n trees others A B c d =
     let both = catches_cat g m n (cat_all trees) (cat_all others) A B c d in
     record { sound = λ whole good before text e j writes run. both.sound whole good before text e j writes (append_runs (encodes whole) trees others (at before) j writes run) }
 
--- a pattern and nothing after it
+-- A pattern with nothing after it.
 pub catches_last : (g count : ℕ) (a : Re) (A : Caps) → Catches g count a A → Catches g count (cat a empty) A
 catches_last g count a A c = record {
   sound = λ whole good before text e j writes (l, own, more, run, (ends, none), all).

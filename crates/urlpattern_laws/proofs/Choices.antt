@@ -1,4 +1,5 @@
--- Choices one after another, repeated and captured: how they cut a text, and that attempts try their ways in order.
+-- Choices in sequence, repeated and captured: how they split a text, and that attempts try their
+-- ways in order.
 use Rattle.std.proofs.Common.{◌≡◌, ℕ, ◌≤◌, ap₂, encode_utf8, suc, ◌+◌, ◌*◌, List, [], ◌∷◌, ◌++◌, length, drop, Option, Some, None, Bool, true, false, cond, ◌==◌, slice_get, refl, sym, ap, ◌∙◌, subst, append_assoc, append-nil, length-append, inl, inr, arith, eq-eqb, eqb-true, true≢false}
 use Rattle.std.proofs.lemmas.Bool.{and_parts, cond-false}
 use Rattle.std.proofs.lemmas.List.{length-replicate}
@@ -28,13 +29,13 @@ use Rattle.urlpattern_engine.proofs.LoopAttempts.{Suits, leaf, looped-suits}
 use Rattle.urlpattern_engine.proofs.TreeAttempts.{re_taken}
 use Rattle.urlpattern_engine.proofs.WayAnswers.{at, Gave, gave-append, gave-capturing, gave-continued, gave-idle}
 
--- ---- how texts are cut
+-- ---- splitting texts
 
--- so many captures
+-- The number of captures is `count`.
 abbrev pub HasCaptures : (count : ℕ) → List ℕ → Captures → Type 0
 HasCaptures count taken captures = length captures ≡ count
 
--- each way cuts the text in two, with so many captures
+-- Each way splits the text in two, with `count` captures.
 abbrev pub Cuts : Choice → (count : ℕ) → Type 0
 Cuts choice count = AreSound choice (HasCaptures count)
 
@@ -68,7 +69,7 @@ cuts_quantified quantifier groups choice allowed cuts text =
     (λ way p. (p.0, taken-count quantifier groups (HasCaptures groups) allowed (λ t c e. e) way.taken way.captures p.1))
     (taken-sound quantifier groups choice (HasCaptures groups) allowed (λ t c e. e) cuts text)
 
--- what captures nothing may be repeated
+-- A choice without captures may be repeated.
 pub allows_none : (quantifier : Quantifier) → AllowsGroups quantifier 0
 allows_none Once = tt
 allows_none Optional = tt
@@ -89,7 +90,7 @@ pattern_cuts (alt a b) text = cuts_either (pattern_ways a) (pattern_ways b) 0 (p
 pattern_cuts (group n a) text = pattern_cuts a text
 pattern_cuts (plus greedy a) text = cuts_looped greedy (pattern_ways a) (pattern_cuts a) text
 
--- ---- in which order attempts try the ways
+-- ---- the order in which attempts try ways
 
 same_bool : (b c : Bool) → (b ≡ true → c ≡ true) → (c ≡ true → b ≡ true) → b ≡ c
 same_bool true c there back = sym (there refl)
@@ -108,7 +109,8 @@ module _ (whole : List ℕ) (good : scalars whole ≡ true) where
   abbrev Shows : ℕ → List ℕ → Rest → List Way → Option Trace → Type 0
   Shows = Gave (Shown hay) (shown-append hay) (shown-idle hay)
 
-  -- at each place of the text, what is attempted tries these ways in order; its groups are from g on
+  -- At each place of the text, the attempt tries the ways of the choice in order. Its groups are
+  -- numbered from g on.
   abbrev pub Fits : (g : ℕ) → Choice → (Rest → Rest) → Type 0
   Fits = Suits (Shown hay) (shown-append hay) (shown-idle hay) whole good
 
@@ -158,7 +160,7 @@ module _ (whole : List ℕ) (good : scalars whole ≡ true) where
   fits_quantified g OneOrMore groups choice a allowed cuts fits before text e k = fits_looped g true choice a (subst (λ n. Cuts choice n) allowed cuts) fits before text e k
   fits_quantified g LazyOneOrMore groups choice a allowed cuts fits before text e k = fits_looped g false choice a (subst (λ n. Cuts choice n) allowed cuts) fits before text e k
 
-  -- ---- patterns that take nothing
+  -- ---- a pattern that never matches
 
   pub no_byte : (k : Rest) (i : ℕ) → attempt hay (byte_in []) k i ≡ None
   unfolding attempt
@@ -167,13 +169,13 @@ module _ (whole : List ℕ) (good : scalars whole ≡ true) where
   fits_nothing : (g : ℕ) → Fits g (λ text. []) (attempt hay (byte_in []))
   fits_nothing g before text e k = no_byte k (at before)
 
-  -- ---- one character
+  -- ---- a single character
 
-  -- what is left after these bytes
+  -- The text after these bytes.
   abbrev after_bytes : ℕ → List ℕ → List ℕ
   after_bytes i bytes = drop (i + length bytes) hay
 
-  -- where the bytes of a character are found, it is found
+  -- Where the bytes of a character are found, the character is found.
   found_there : (i : ℕ) (bytes : List ℕ) (c : ℕ) → IsScalar c → bytes ≡ encode_utf8 c → has_bytes_at hay i bytes ≡ true → char_at hay i ≡ Some c
   found_there i bytes c scalar is h =
       char_at_from hay i c (after_bytes i bytes) scalar (has_bytes_at_parts hay i bytes h ∙ ap (λ bs. bs ++ after_bytes i bytes) is)
@@ -235,9 +237,9 @@ module _ (whole : List ℕ) (good : scalars whole ≡ true) where
   pattern_fits (group n a) h none g = absurd (true≢false (sym none))
   pattern_fits (plus greedy a) h none g = fits_looped g greedy (pattern_ways a) a (pattern_cuts a) (pattern_fits a h none g)
 
--- ---- in every text
+-- ---- any text
 
--- so in every text of characters
+-- In any text of characters, the pattern tries the ways of the choice in order.
 abbrev pub Tries : (g : ℕ) → Choice → Re → Type 0
 Tries g choice re = (whole : List ℕ) (good : scalars whole ≡ true) → Fits whole good g choice (attempt (encodes whole) re)
 
@@ -271,13 +273,13 @@ pub tries_quantified : (g : ℕ) (quantifier : Quantifier) (groups : ℕ) (choic
 tries_quantified g quantifier groups choice sub allowed cuts tries =
     subst (Tries g (quantified_ways quantifier groups choice)) (repeated_value quantifier sub) (λ whole good. fits_quantified whole good g quantifier groups choice sub.value allowed cuts (tries whole good))
 
--- a pattern by itself, as the grammar builds it
+-- A pattern by itself, as the grammar builds it.
 pub tries_alone : (g : ℕ) (choice : Choice) (a : Re) → Tries g choice a → Tries g choice (alt a (byte_in []))
 tries_alone g choice a tries whole good before text e k =
     subst (λ ways. Gave (Shown (encodes whole)) (shown-append (encodes whole)) (shown-idle (encodes whole)) g before k ways (attempt (encodes whole) (alt a (byte_in [])) k (at before))) (append-nil (choice text))
     (fits_either whole good g choice (λ t. []) a (byte_in []) (tries whole good) (fits_nothing whole good g) before text e k)
 
--- a pattern and nothing after it
+-- A pattern with nothing after it.
 pub tries_last : (g : ℕ) (choice : Choice) (a : Re) → Tries g choice a → Tries g choice (cat a empty)
 unfolding attempt
 tries_last g choice a tries whole good before text e k = tries whole good before text e k
@@ -298,7 +300,7 @@ tries_append g m first next trees others cuts tries also whole good before text 
 
 -- ---- without groups
 
--- the ways of a pattern are those of another that is the same but for groups
+-- The ways of a pattern do not depend on the numbers of its groups.
 pub ways_bare : (a : Re) → pattern_ways (bare a) ≡ pattern_ways a
 ways_bare (cat a b) = ap₂ (λ (first next : Choice). followed_by first next) (ways_bare a) (ways_bare b)
 ways_bare (alt a b) =

@@ -1,4 +1,4 @@
--- How the grammar of `regex` reads the words of a text where a closing parenthesis and more follow the text.
+-- How the grammar of `regex` reads the words of a text before a closing parenthesis and more text.
 use Rattle.std.proofs.Common.{◌≡◌, ℕ, zero, suc, ◌≤◌, Bool, true, false, not, ◌==◌, [], ◌∷◌, ◌++◌, length, Option, Some, None, if◌then◌else◌, refl, sym, ap, ap₂, arith, true≢false, ⊎_elim, length-append}
 use Rattle.std.proofs.lemmas.Bool.{and_parts, cases_Bool}
 use Rattle.std.specs.Char.{is_whitespace}
@@ -6,11 +6,11 @@ use Rattle.std.specs.List.{list_all}
 use Rattle.regex_syntax.proofs.ReadingLemmas.{take_up_to_stops}
 use Rattle.regex_syntax.specs.Reading.{Text, ◌>>=◌, ◌>>◌, first, skip_from, skip, take_up_to, take_run}
 
--- no comment begins in the text, even under the flag x
+-- The text has no comment, even under the flag `x`.
 abbrev pub Calm : Text → Type 0
 Calm t = list_all (λ c. not (c == 35)) t ≡ true
 
--- the text, a closing parenthesis, and more
+-- The text, a closing parenthesis, and more text.
 abbrev pub closed : (tail : Text) → Text → Text
 closed tail t = t ++ 41 ∷ tail
 
@@ -25,7 +25,7 @@ pub calm_rest : (c : ℕ) (t : Text) → Calm (c ∷ t) → Calm t
 calm_rest c t h = (and_parts _ _ h).1
 
 module _ (tail : Text) where
-  -- what is left of the text is followed by the same, and has no comment
+  -- The rest is followed by the parenthesis and the tail, and has no comment.
   abbrev pub Leaves : (left other : Text) → Type 0
   Leaves left other = (other ≡ closed tail left) × Calm left
 
@@ -47,11 +47,11 @@ module _ (tail : Text) where
 
   -- ---- runs
 
-  -- the run is the same, and what it leaves is followed by the same
+  -- The run is the same, and the rests are alike.
   abbrev pub SameRun : (run other : Text × Text) → Type 0
   SameRun run other = (other.0 ≡ run.0) × Leaves run.1 other.1
 
-  -- a run of so many characters at most, where the parenthesis ends it if the text does
+  -- A run of at most `n` characters. The parenthesis ends it if the text does.
   pub run_closed : (v : Bool) (n : ℕ) (test : ℕ → Bool) (t : Text) → Calm t → test 41 ≡ false → SameRun (take_up_to v n test t) (take_up_to v n test (closed tail t))
   unfolding take_up_to first
   run_closed v zero test t h ends = (refl, (refl, h))
@@ -65,7 +65,7 @@ module _ (tail : Text) where
       (λ (e : test c ≡ false). rw e (refl, (refl, h)))
       (cases_Bool (test c))
 
-  -- a run as long as the text allows, where the parenthesis ends it if the text does
+  -- A run as long as the text allows. The parenthesis ends it if the text does.
   pub long_run_closed : (v : Bool) (n m : ℕ) (test : ℕ → Bool) (t : Text) → Calm t → length t ≤ n → length t ≤ m → ((take_up_to v n test t).1 ≡ [] → test 41 ≡ false)
       → SameRun (take_up_to v n test t) (take_up_to v m test (closed tail t))
   unfolding take_up_to first
@@ -95,7 +95,7 @@ module _ (tail : Text) where
   IsReadAlike (Some found) None = Unit {0}
   IsReadAlike (Some found) (Some other) = (other.0 ≡ found.0) × Leaves found.1 other.1
 
-  -- if both are read, the same is found, and what is left is followed by the same
+  -- If both are read, the results are the same, and the rests are alike.
   pub record ReadAlike {A : Type 0} (found other : Option (A × Text)) : Type 0 where
     pub holds : IsReadAlike found other
 
@@ -117,7 +117,7 @@ module _ (tail : Text) where
       let same : other ≡ (found.0, closed tail found.1) = ap₂ (λ a t. (a, t)) h.holds.0 h.holds.1.0 in
       rw same (k found.0 found.1 h.holds.1.1)
 
-  -- the same, where the first is known to be found
+  -- Steps in sequence, where the result of the first is known.
   pub alike_found : {A B : Type 0} (o q : Option (A × Text)) (f g : A × Text → Option (B × Text)) → ReadAlike o q
       → ((a : A) (t : Text) → o ≡ Some (a, t) → Calm t → ReadAlike (f (a, t)) (g (a, closed tail t))) → ReadAlike (o >>= f) (q >>= g)
   alike_found None q f g h k = alike_none _
@@ -126,7 +126,7 @@ module _ (tail : Text) where
       let same : other ≡ (found.0, closed tail found.1) = ap₂ (λ a t. (a, t)) h.holds.0 h.holds.1.0 in
       rw same (k found.0 found.1 refl h.holds.1.1)
 
-  -- a value that takes nothing of the text
+  -- A value that consumes no text.
   pub alike_value : {A B : Type 0} (o : Option A) (f g : A → Option (B × Text)) → ((a : A) → ReadAlike (f a) (g a)) → ReadAlike (o >>= f) (o >>= g)
   alike_value None f g h = alike_none _
   alike_value (Some a) f g h = h a
@@ -135,7 +135,7 @@ module _ (tail : Text) where
   alike_test true x y h = h
   alike_test false x y h = alike_none _
 
-  -- the same, where the test has held
+  -- A step after a test that holds.
   pub alike_when : {B : Type 0} (b : Bool) (x y : Option (B × Text)) → (b ≡ true → ReadAlike x y) → ReadAlike (b >> x) (b >> y)
   alike_when true x y h = h refl
   alike_when false x y h = alike_none _

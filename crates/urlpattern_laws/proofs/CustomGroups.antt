@@ -1,4 +1,5 @@
--- An expression that stands alone is read inside of a group as a pattern that takes what it takes by itself.
+-- An expression that stands alone is read in a group as a pattern that matches the texts of the
+-- expression.
 use Rattle.std.proofs.Common.{◌≡◌, ◌↔◌, ℕ, ◌+◌, ◌*◌, List, [], ◌∷◌, ◌++◌, length, true, false, ◌==◌, Some, None, refl, sym, ap, ◌∙◌, subst, arith, ne_eqb, length-append, ⊎_elim, append-nil, eqb-true}
 use Rattle.std.proofs.lemmas.Bool.{and_parts, both_ways, cases_Bool}
 use Rattle.std.proofs.lemmas.List.{nil_from_length}
@@ -36,7 +37,8 @@ nothing_left text taken rest cut e =
     nil_from_length rest
     (omega (arith, ap (λ t. length (encodes t)) cut, ap length (encodes-append taken rest), length-append (encodes taken) (encodes rest), length-le-encodes rest))
 
--- to take a text whole is to take it
+-- A pattern of characters matches a whole text exactly if it matches the text character by
+-- character.
 pub whole_takes : (re : Re) → takes_characters re ≡ true → (text : List ℕ) → scalars text ≡ true → Takes re text ↔ TakesWhole re text
 whole_takes re h text good = (
   λ takes. takes_matches text good re h [] text [] (append-nil text) takes,
@@ -47,7 +49,7 @@ whole_takes re h text good = (
 
 -- ---- expressions by themselves
 
--- what the grammar reads in the expression by itself
+-- The result of reading the expression by itself.
 pub record IsReadAlone (expression : List ℕ) : Type 0 where
   pub tree : Nested Re
   pub end : Place
@@ -80,7 +82,7 @@ read_alone expression h =
     empty_text : (t : Text) → is_empty t ≡ true → t ≡ []
     empty_text t e = nil_from_length t (eqb-true (length t) 0 e)
 
--- no expression begins with a quantifier
+-- A character that begins no quantifier differs from those that do.
 quantifier_first : (c : ℕ) → (c ∈ "?*+{") ≡ true → (d : ℕ) → (d ∈ "?*+{") ≡ false → (c == d) ≡ false
 quantifier_first c h d other = ne_eqb c d (λ e. both_ways _ other (ap (λ x. x ∈ "?*+{") (sym e) ∙ h))
 
@@ -113,7 +115,7 @@ denotes_expression expression alone = record {
       (λ takes. rw reads (whole.0 takes), λ is. whole.1 (rw reads at is));
 }
 
--- an expression that captures nothing opens no group
+-- An expression without captures opens no group.
 silent_alone : (expression : List ℕ) (alone : IsReadAlone expression) → captures_nothing expression ≡ true → (length alone.end.names ≡ 1) × (is_groupless alone.tree.value ≡ true)
 unfolding captures_nothing join_parts
 silent_alone expression alone h =
@@ -124,17 +126,18 @@ silent_alone expression alone h =
       sym (ap (λ (result : Nested Re × Place). is_groupless result.0.value) same) ∙ both.1,
     )
 
--- the ways of a pattern that is read in a group are those of the expression by itself
+-- The ways of a pattern that is read in a group are those of the expression by itself.
 ways_alone : (expression : List ℕ) (alone : IsReadAlone expression) (found : Re) → bare found ≡ bare alone.tree.value → pattern_ways found ≡ expression_ways expression
 ways_alone expression alone found e =
     sym (ways_bare found) ∙ ap pattern_ways e ∙ ways_bare alone.tree.value
     ∙ ap ways_of_reading (sym alone.is_read)
 
--- what an expression takes, and in which ways; what it captures is known if that is nothing
+-- The sense of an expression: its texts, its ways, and no captures, if it captures nothing.
 abbrev pub expression_sense : List ℕ → Sense
 expression_sense expression = quiet (IsTrue (captures_nothing expression)) (ExpressionTakes expression) (expression_ways expression)
 
--- a pattern that is the expression's but for groups
+-- A pattern that equals that of the expression, except for the numbers of groups, fulfils its
+-- sense.
 fulfils_expression : (expression : List ℕ) (alone : IsReadAlone expression) (g : ℕ) (found : Re) → bare found ≡ bare alone.tree.value → Fulfils (expression_sense expression) g found
 fulfils_expression expression alone g found e =
     let denotes = denotes_bare alone.tree.value found (ExpressionTakes expression) e (denotes_expression expression alone) in

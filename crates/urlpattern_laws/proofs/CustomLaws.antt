@@ -80,7 +80,7 @@ pattern_matchers_first = matchers_first pattern_engine KeepsCase HasNumbers _ pa
 abbrev AreFirst : OptionsView → List PartView → List ℕ → Option Captures → Type 0
 AreFirst options parts text result = result ≡ parts_first_way options parts text
 
--- what each matcher of an engine answers, that of a component does
+-- A law on the results of each matcher of an engine holds of the matchers of components.
 components_answer : {E : Type 0} (engine : Engine E) (Fits : Room) (Took : Taking E) (Are : OptionsView → List PartView → List ℕ → Option Captures → Type 0)
     → ((options : OptionsView) (inner : InnerView E) → TookText (λ value. ⊤) inner → Took options (engine_flags options) inner)
     → ((options : OptionsView) (flags : List ℕ) (parts : List PartView) (matcher : MatcherView E) → IsTakenAlone engine Fits Took options flags parts matcher → AllCaptureNothing parts → EachAnswerIs engine.answer matcher (Are options parts))

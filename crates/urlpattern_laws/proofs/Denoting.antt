@@ -1,4 +1,4 @@
--- Patterns that take exactly certain texts.
+-- Patterns that match exactly certain texts.
 use Rattle.std.proofs.Common.{◌≡◌, ◌↔◌, ℕ, zero, suc, List, [], ◌++◌, Bool, true, false, ◌&&◌, ◌⊎◌, inl, inr, refl, sym, ap, ap₂, ◌∙◌, subst, append-nil}
 use Rattle.std.proofs.lemmas.Bool.{and_from}
 use lib.Utf8.{scalars}
@@ -12,16 +12,16 @@ use Rattle.urlpattern_engine.proofs.ItemsRead.{repeated_as}
 use Rattle.urlpattern_engine.proofs.TreesRead.{scalars_parts}
 use Rattle.urlpattern_syntax.specs.Text.{IsRepeated}
 
--- texts, by a fact on each
+-- Sets of texts.
 abbrev pub Texts : Type 1
 Texts = List ℕ → Type 0
 
--- the pattern takes exactly these texts of characters
+-- The pattern matches exactly the texts of characters in the set.
 pub record Denotes (re : Re) (Is : List ℕ → Type 0) : Type 0 where
   pub plain : takes_characters re ≡ true
   pub same : (text : List ℕ) → scalars text ≡ true → Takes re text ↔ Is text
 
--- one text of each kind, one after the other
+-- A text of the first set, and then one of the second.
 abbrev pub Joined : Texts → Texts → Texts
 Joined A B text = (first rest : List ℕ) × (text ≡ first ++ rest) × A first × B rest
 
@@ -35,7 +35,7 @@ Quantified ZeroOrMore Is text = (n : ℕ) × IsRepeated Is n text
 Quantified OneOrMore Is text = (n : ℕ) × IsRepeated Is (suc n) text
 Quantified LazyOneOrMore Is text = (n : ℕ) × IsRepeated Is (suc n) text
 
--- both hold of the same texts of characters
+-- The sets have the same texts of characters.
 abbrev pub AreSameTexts : Texts → Texts → Type 0
 AreSameTexts A B = (text : List ℕ) → scalars text ≡ true → A text ↔ B text
 
@@ -92,7 +92,7 @@ denotes_alt a b A B d e = record {
   );
 }
 
--- a branch by itself, as the grammar builds it
+-- A branch by itself, as the grammar builds it.
 pub denotes_alone : (a : Re) (A : Texts) → Denotes a A → Denotes (alt a (byte_in [])) A
 denotes_alone a A d = record {
   plain = and_from _ _ d.plain refl;
@@ -108,7 +108,7 @@ joined_nothing A text good = (
   λ is. (text, [], sym (append-nil text), is, refl),
 )
 
--- the pattern before nothing
+-- A pattern before nothing.
 pub denotes_last : (a : Re) (A : Texts) → Denotes a A → Denotes (cat a empty) A
 denotes_last a A d = denotes_same (cat a empty) (Joined A Nothing) A (joined_nothing A) (denotes_cat a empty A Nothing d denotes_empty)
 
@@ -149,7 +149,7 @@ takes_bare (group n a) text good = takes_bare a text good
 takes_bare (plus greedy a) text good = quantified_same OneOrMore (Takes (bare a)) (Takes a) (takes_bare a) text good
 takes_bare a text good = (λ is. is, λ is. is)
 
--- a pattern takes what another takes that is the same but for groups
+-- The texts of a pattern do not depend on the numbers of its groups.
 pub denotes_bare : (a b : Re) (A : Texts) → bare b ≡ bare a → Denotes a A → Denotes b A
 denotes_bare a b A e d = record {
   plain = sym (plain_bare b) ∙ ap takes_characters e ∙ plain_bare a ∙ d.plain;

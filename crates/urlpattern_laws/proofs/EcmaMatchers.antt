@@ -1,4 +1,5 @@
--- Matchers that `EcmaRegexp` made answer the first way of their parts, where they keep a value.
+-- Matchers made by `EcmaRegexp` return the first way of their parts, where they hold a value of
+-- `regex`.
 use Rattle.std.proofs.Common.{◌≡◌, ℕ, List, Option, Some, None}
 use Rattle.std.specs.Prelude.{IfSome, IsTrue, is_some, option_and_then}
 use Rattle.std.specs.Str.{all_scalars}
@@ -13,7 +14,7 @@ use Rattle.urlpattern_syntax.proofs.TokenExamples.{no}
 use Rattle.urlpattern_matcher.proofs.FirstMatchers.{made_first}
 use Rattle.urlpattern_engine.proofs.RegexWays.{regex_answers_first}
 
--- the value that is kept answers the first way
+-- The value held returns the first way.
 kept_first : (regexp : List ℕ) (kept : Option Regex) → IfSome kept (IsRegexOf regexp) → IsTrue (is_some kept) → (tree : Items) (text : List ℕ) → IsTreeOf regexp tree → IsTrue (all_scalars text)
     → option_and_then (λ regex. regex_answer regex text) kept ≡ first_way tree text
 kept_first regexp None read some tree text is scalars = absurd (no some)

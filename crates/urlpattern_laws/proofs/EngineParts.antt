@@ -1,4 +1,4 @@
--- Patterns over engines that answer first ways match what their parts mean.
+-- Patterns over engines that return first ways match what their parts mean.
 use Rattle.urlpattern_matcher.proofs.FirstMatchers.{flags_agree}
 use Rattle.urlpattern_matcher.specs.Regexes.{regex_engine}
 use Rattle.urlpattern_matcher.specs.declared.regexp.RegExp.{Ghosts as Engine}

@@ -1,4 +1,4 @@
--- Escapes are read the same where a closing parenthesis and more follow the text.
+-- Escapes are read alike before a closing parenthesis and more text.
 use Rattle.std.proofs.Common.{◌≡◌, ℕ, Bool, true, false, not, ◌&&◌, ◌==◌, [], ◌∷◌, length, drop, refl, sym, ap, ◌∙◌, true≢false, nat_lt, ◌^◌, ⊎_elim}
 use Rattle.std.proofs.lemmas.Bool.{cases_Bool}
 use Rattle.std.specs.Char.{is_digit, is_whitespace}
@@ -27,7 +27,7 @@ module _ (tail : Text) where
   next_closed v w [] e h = absurd (true≢false (sym e))
   next_closed v w (c ∷ t) e h = (skip_closed tail v t (calm_rest c t h)).0
 
-  -- the run leaves something
+  -- A text with a mark at its start is not empty.
   left_at : (w : String) (t : Text) → is_at w t ≡ true → t ≡ [] → ⊥
   unfolding first
   left_at w t e none = true≢false (sym e ∙ ap (λ s. is_at w s) none)
@@ -42,7 +42,7 @@ module _ (tail : Text) where
       rw (decimal, spaces.1.0, digits.0, digits.1.0)
       (alike_test tail (not (is_empty written)) _ _ (alike_test tail (nat_lt (value 10 written) (2 ^ 32)) _ _ (alike_some tail (value 10 written) _ _ more.1)))
 
-  -- a run that has to end at a mark
+  -- A run that must end at a mark.
   pub marked_run : (v : Bool) (test : ℕ → Bool) (w : String) (t : Text) → Calm t → is_at w (take_run v test t).1 ≡ true → SameRun tail (take_run v test t) (take_run v test (closed tail t))
   marked_run v test w t h e = take_run_closed tail v test t h (λ none. absurd (left_at w (take_run v test t).1 e none))
 
@@ -50,7 +50,7 @@ module _ (tail : Text) where
     abbrev v : Bool
     v = is_verbose config
 
-    -- the digits of a character in braces, from the opening brace on
+    -- The digits of a character in braces, from the opening brace on.
     abbrev braced_digits : Text → Text × Text
     braced_digits t = take_run v (λ c. is_digit c 16) (next v t)
 
@@ -106,7 +106,7 @@ module _ (tail : Text) where
     named_closed negated t h =
         ⊎_elim (λ (e : is_at "{" t ≡ true). named_braced negated t e h) (λ (e : is_at "{" t ≡ false). named_letter negated t e h) (cases_Bool (is_at "{" t))
 
-    -- after the brace
+    -- A boundary in braces, after the opening brace.
     boundary_braced : (t left : Text) → Calm t → is_at "{" t ≡ true → next v t ≡ left → next v (closed tail t) ≡ closed tail left → Calm left → ReadAlike tail (boundary config t) (boundary config (closed tail t))
     unfolding boundary first take_run take_up_to
     boundary_braced t [] calm e f g h = rw (boundary, e, f) (alike_none tail _)

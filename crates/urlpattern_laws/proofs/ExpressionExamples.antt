@@ -31,17 +31,17 @@ optional : stands_alone (codes "png|jpe?g|webp") ≡ true
 unfolding stands_alone read branches items item atom char_meaning join_parts with_repetitions repetitions bounds repeat first skip verbatim names_below char_at has_bytes_at chars encode
 optional = refl
 
--- an assertion sees what is beside the expression
+-- An assertion looks at the text around the expression.
 word_boundary : stands_alone (codes "a\\b") ≡ false
 unfolding stands_alone read branches items item atom char_meaning piece_meaning join_parts with_repetitions repetitions first skip escape boundary verbatim names_below char_at has_bytes_at chars encode
 word_boundary = refl
 
--- a comment would hide the closing parenthesis
+-- A comment would hide the closing parenthesis.
 comment : stands_alone (codes "(?x)a#b") ≡ false
 unfolding stands_alone
 comment = refl
 
--- the parentheses of an expression by itself are in pairs
+-- The parentheses of an expression by itself must match.
 unpaired : stands_alone (codes "a)(b") ≡ false
 unfolding stands_alone read branches items item atom char_meaning join_parts with_repetitions repetitions first skip verbatim
 unpaired = refl
@@ -56,7 +56,7 @@ captures : captures_nothing (codes "(a)") ≡ false
 unfolding captures_nothing branches items item atom char_meaning join_parts with_repetitions repetitions first skip verbatim opening capture
 captures = refl
 
--- the group is not in the pattern, but the next one has number 2
+-- The group is not in the pattern, but the next one has number 2.
 never_taken : captures_nothing (codes "(a){0}b") ≡ false
 unfolding captures_nothing branches items item atom char_meaning join_parts with_repetitions repetitions bounds counted_bounds upper_bound decimal take_run take_up_to repeat first skip verbatim opening capture
 never_taken = refl

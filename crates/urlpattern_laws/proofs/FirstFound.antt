@@ -1,4 +1,4 @@
--- What is found of items between `^` and `$`: the first of their ways that takes the whole text.
+-- The result for items between `^` and `$`: the first of their ways that matches the whole text.
 use Rattle.std.proofs.Common.{◌≡◌, ℕ, ◌≤◌, ◌<◌, List, [], ◌∷◌, ◌++◌, length, Option, None, option_map, true, cond, if◌then◌else◌, refl, ap, ◌∙◌}
 use Rattle.std.proofs.lemmas.Bool.{cond-true, cond-false, cond_both}
 use Rattle.std.proofs.lemmas.Str.{IsCharBoundary-start}
@@ -28,7 +28,7 @@ module _ (own : List (Nested Re)) (ways : Choice) (count : ℕ) (cuts : Cuts way
   abbrev pattern : Re
   pattern = (between_lines own).value
 
-  -- what stands between the lines, and the line at the end
+  -- The attempt between `^` and `$`, and `$`.
   abbrev inside_lines : Option Trace
   inside_lines = attempt hay (cat_all (values own)) (to_end hay) 0
 
@@ -43,7 +43,7 @@ module _ (own : List (Nested Re)) (ways : Choice) (count : ℕ) (cuts : Cuts way
   abbrev from_line : ℕ → Option Trace
   from_line i = cond (holds Start hay i) (attempt hay (cat_all (values (own ++ last_line ∷ []))) accept i) None
 
-  -- the pattern has one branch
+  -- The pattern has a single branch.
   one_branch : (i : ℕ) → attempt hay pattern accept i ≡ from_line i
   unfolding attempt
   one_branch i = ap (option_or (from_line i)) (no_byte text good accept i) ∙ option_or-None (from_line i)
@@ -58,7 +58,7 @@ module _ (own : List (Nested Re)) (ways : Choice) (count : ℕ) (cuts : Cuts way
       cond_both (is_boundary hay i) (attempt hay pattern accept i) None (λ (o : Option Trace). o ≡ None)
       (λ _. one_branch i ∙ cond-false (holds Start hay i) _ None (not_start hay i p le)) (λ _. refl)
 
-  -- the groups of what is found are the captures of the first way
+  -- The groups of the match found are the captures of the first way.
   pub found_first : option_map (λ m. texts_from hay m 1 count) (find_str pattern hay 0) ≡ first_of (ways text)
   unfolding find_str
   found_first =

@@ -30,7 +30,7 @@ followed_assoc first next last = fun_ext (λ text. continued_twice next last (fi
 alone_ways : (atom : Atom) (quantifier : Quantifier) → ways (alone atom quantifier) ≡ quantified_ways quantifier (atom_group_count atom) (atom_ways atom)
 alone_ways atom quantifier = fun_ext (λ text. continued_idle (quantified_ways quantifier (atom_group_count atom) (atom_ways atom) text))
 
--- a text before items
+-- A text before items.
 text_ways : (marks text : List ℕ) (items : Items) → ways (put marks text items) ≡ followed_by (exactly text) (ways items)
 text_ways marks text items =
     ap ways (both_put marks text Nothing items) ∙ fun_ext (both_ways (put marks text Nothing) items)
@@ -40,7 +40,7 @@ put_count : (marks text : List ℕ) (items : Items) → group_count (put marks t
 put_count marks [] items = refl
 put_count marks (c ∷ text) items = omega (arith, put_count marks text items)
 
--- ---- what a group matches
+-- ---- the content of groups
 
 atom_but : (marks : List ℕ) (c : ℕ) → atom_ways (AnyBut (character marks c)) ≡ one_that (λ other. not (other == c))
 atom_but marks c = ap (λ (x : ℕ). one_that (λ other. not (other == x))) (character_same marks c)
@@ -56,7 +56,7 @@ segment_count marks (Some c) = refl
 -- ---- groups
 
 module _ (marks prefix suffix : List ℕ) (items : Items) (piece : Choice) (none : group_count items ≡ 0) (same : ways items ≡ piece) where
-  -- an atom, with its quantifier
+  -- An atom with its quantifier.
   abbrev quantified : Atom → Quantifier → Choice
   quantified atom quantifier = quantified_ways quantifier (atom_group_count atom) (atom_ways atom)
 
@@ -69,7 +69,7 @@ module _ (marks prefix suffix : List ℕ) (items : Items) (piece : Choice) (none
   bare_same modifiers.ZeroOrMore = ap captured_whole (repeated_ways ZeroOrMore)
   bare_same modifiers.OneOrMore = ap captured_whole (repeated_ways OneOrMore)
 
-  -- what is captured, between prefix and suffix
+  -- A capture between prefix and suffix.
   between_same : (core : Items) (choice : Choice) → ways core ≡ choice → ways (between marks prefix core suffix) ≡ between_ways prefix suffix choice
   between_same core choice e =
       text_ways marks prefix (Item (Captured core) Once (put marks suffix Nothing))

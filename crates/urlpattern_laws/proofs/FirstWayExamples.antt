@@ -18,7 +18,7 @@ use Rattle.urlpattern_syntax.specs.declared.parser.PartType.TheVariants.{Regexp}
 abbrev custom : PartModifier → List ℕ → PartView
 custom modifier value = part_of Regexp modifier value (codes "0") [] []
 
--- the first branch is preferred, though the second takes more
+-- The first branch is preferred, though the second matches more.
 pub short_branch : parts_first_way default_options (custom modifiers.None (codes "a|ab") ∷ custom modifiers.None (codes "b|") ∷ []) (codes "ab") ≡ Some (Some (codes "a") ∷ Some (codes "b") ∷ [])
 unfolding parts_first_way read branches items item atom char_meaning join_parts with_repetitions repetitions first skip verbatim names_below char_at has_bytes_at chars encode
 short_branch = refl
@@ -27,7 +27,7 @@ pub long_branch : parts_first_way default_options (custom modifiers.None (codes 
 unfolding parts_first_way read branches items item atom char_meaning join_parts with_repetitions repetitions first skip verbatim names_below char_at has_bytes_at chars encode
 long_branch = refl
 
--- a lazy loop takes as little as it can
+-- A lazy loop matches as little as possible.
 pub lazy_loop : parts_first_way default_options (custom modifiers.None (codes "a+?") ∷ custom modifiers.None (codes "a*") ∷ []) (codes "aa") ≡ Some (Some (codes "a") ∷ Some (codes "a") ∷ [])
 unfolding parts_first_way read branches items item atom char_meaning join_parts with_repetitions repetitions bounds repeat first skip verbatim names_below char_at has_bytes_at chars encode
 lazy_loop = refl
@@ -36,12 +36,12 @@ pub greedy_loop : parts_first_way default_options (custom modifiers.None (codes 
 unfolding parts_first_way read branches items item atom char_meaning join_parts with_repetitions repetitions bounds repeat first skip verbatim names_below char_at has_bytes_at chars encode
 greedy_loop = refl
 
--- a branch is given up where nothing takes what it leaves
+-- A branch is given up if nothing matches the rest.
 pub later_branch : parts_first_way default_options (custom modifiers.None (codes "a|ab") ∷ []) (codes "ab") ≡ Some (Some (codes "ab") ∷ [])
 unfolding parts_first_way read branches items item atom char_meaning join_parts with_repetitions repetitions first skip verbatim names_below char_at has_bytes_at chars encode
 later_branch = refl
 
--- copies between slashes are one capture
+-- Copies between slashes are a single capture.
 pub copies : parts_first_way pathname_options (part_of Regexp modifiers.OneOrMore (codes "a|b") (codes "x") (codes "/") [] ∷ []) (codes "/a/b") ≡ Some (Some (codes "a/b") ∷ [])
 unfolding parts_first_way read branches items item atom char_meaning join_parts with_repetitions repetitions first skip verbatim names_below char_at has_bytes_at chars encode
 copies = refl

@@ -1,4 +1,5 @@
--- Where case is ignored, a matcher answers as the folded one does to the folded text.
+-- A matcher that ignores case returns for a text what the folded matcher returns for the folded
+-- text.
 use Rattle.std.proofs.Common.{◌≡◌, ℕ, ◌+◌, ◌≤◌, ◌⊎◌, Bool, true, false, List, [], ◌∷◌, ◌++◌, length, take, drop, ap, inl, inr, refl, subst, sym, ◌∙◌, append_assoc, arith}
 use Rattle.std.proofs.lemmas.Bool.{and_from, and_parts, cases_lt}
 use Rattle.std.proofs.lemmas.Bool.Decides.{nat_tests}
@@ -28,7 +29,7 @@ use lib.Utf8.{low_scalar, scalar}
 abbrev pub lower : List ℕ → List ℕ
 lower text = folded true text
 
--- an upper case letter is moved, and any other character stays
+-- An upper case letter is moved, and any other character is kept.
 moved_or_same : (c : ℕ) → ((65 ≤ c) × (c ≤ 90) × (to_ascii_lowercase c ≡ c + 32)) ⊎ (to_ascii_lowercase c ≡ c)
 moved_or_same c = elim (cases_lt c 65) [
   | inl before ↦ inr ((lowercase_is c).1 before)
@@ -114,7 +115,7 @@ folded_matcher matcher = record {
   ignore_case = false;
 }
 
--- whatever a matcher asks
+-- Any result of an engine.
 abbrev pub AnyEngine : {E : Type 0} → List ℕ → Result E ErrorView → Type 0
 AnyEngine regexp engine = Unit {0}
 
@@ -131,7 +132,7 @@ module _ {E : Type 0} (IsEngine : List ℕ → Result E ErrorView → Type 0) (o
       ∙ ap (λ (end : List ℕ). record { prefix = folded true prefix ++ folded true part.prefix; suffix = end; inner = SingleCapture (option_map (folded_character true) filter) allow_empty; ignore_case = false })
       (map-append to_ascii_lowercase part.suffix suffix)
 
-  -- a matcher that asks an engine, folded, asks it too
+  -- A matcher with an engine, folded, is a matcher with an engine.
   engine_folded : (prefix : List ℕ) (middle : List PartView) (suffix : List ℕ) (matcher : MatcherView E) → IsMadeByEngine IsEngine options prefix middle suffix matcher →
       IsMadeByEngine AnyEngine (folded_options options) (folded true prefix) (folded_parts middle) (folded true suffix) (folded_matcher matcher)
   engine_folded prefix middle suffix matcher (engine, is, made) = (engine, tt, ap folded_matcher made)
@@ -165,7 +166,7 @@ module _ {E : Type 0} (IsEngine : List ℕ → Result E ErrorView → Type 0) (o
         (between_folded (end_text made.front) made.middle (end_text made.back) matcher made.is_made));
   }
 
-  -- a matcher ignores case where its options do
+  -- A matcher ignores case exactly if its options do.
   one_ignores : (kind : PartType) (modifier : PartModifier) (prefix : List ℕ) (part : PartView) (suffix : List ℕ) (matcher : MatcherView E) →
       IsMadeOfOne IsEngine kind modifier options prefix part suffix matcher → matcher.ignore_case ≡ options.ignore_case
   one_ignores FullWildcard modifiers.None prefix part suffix matcher made = ap (λ (m : MatcherView E). m.ignore_case) made
@@ -177,7 +178,7 @@ module _ {E : Type 0} (IsEngine : List ℕ → Result E ErrorView → Type 0) (o
   between_ignores prefix (part ∷ []) suffix matcher made = one_ignores part.kind part.modifier prefix part suffix matcher made
   between_ignores prefix (part ∷ next ∷ parts) suffix matcher (engine, is, made) = ap (λ (m : MatcherView E). m.ignore_case) made
 
--- ---- what is accepted
+-- ---- accepted captures
 
 filled_folded : (allow_empty : Bool) (text : List ℕ) → MayBeEmpty allow_empty text → MayBeEmpty allow_empty (lower text)
 filled_folded true text filled = filled
@@ -196,7 +197,7 @@ passes_unfolded : (filter : Option ℕ) (text : List ℕ) → PassesFilter false
 passes_unfolded None text passes = passes
 passes_unfolded (Some c) text passes = passes
 
--- a folded text that is three texts is cut where the text is
+-- A folded text that is split in three is split where the text is.
 abbrev pub IsCutAs : (text front middle back : List ℕ) → Type 0
 IsCutAs text front middle back =
     (begin between end : List ℕ) × (text ≡ begin ++ between ++ end) × (lower begin ≡ front) × (lower between ≡ middle) × (lower end ≡ back)
@@ -217,7 +218,7 @@ cut_unfolded text front middle back cut =
       sym (drop-map to_ascii_lowercase m rest) ∙ ap (λ (t : List ℕ). drop m t) is_rest ∙ drop_at middle back m refl,
     )
 
--- what an engine's value answers is the first way of these parts where case is ignored
+-- The result of an engine's value is the first way of these parts, case ignored.
 abbrev pub AnswersFolding : OptionsView → List PartView → (answer : List ℕ → Option Captures) → Type 0
 AnswersFolding options parts answer = (text : List ℕ) → answer text ≡ first_way_by true (tree_of options parts) text
 
@@ -225,7 +226,7 @@ some_folded : (o : Option Captures) (captures : Captures) → option_map folded_
 some_folded None captures e = cc
 some_folded (Some own) captures e = (own, refl)
 
--- what an engine answers to a text, folded, the other answers to the folded text
+-- The folded result for a text is the other's result for the folded text.
 abbrev pub FoldsAnswer : {E : Type 0} → (answer other : E → List ℕ → Option Captures) → InnerView E → Type 0
 FoldsAnswer answer other (RegExp (Ok engine)) = (text : List ℕ) → option_map folded_captures (answer engine text) ≡ other engine (lower text)
 FoldsAnswer answer other inner = Unit {0}
@@ -247,7 +248,7 @@ module _ {E : Type 0} (answer other : E → List ℕ → Option Captures) where
   accepted_unfolded (RegExp (Ok engine)) middle captures folds accepts = some_folded (answer engine middle) captures (folds middle ∙ accepts)
   accepted_unfolded (RegExp (Err error)) middle captures folds accepts = absurd accepts
 
-  -- ---- answers
+  -- ---- results
 
   module _ (matcher : MatcherView E) (ignored : matcher.ignore_case ≡ true) (folds : FoldsAnswer answer other matcher.inner) (text : List ℕ) where
     matched_folded : (captures : Captures) → Matches answer matcher text captures → Matches other (folded_matcher matcher) (lower text) (folded_captures captures)

@@ -68,7 +68,7 @@ fixed_folds modifiers.Optional marks value items others folds = (put_folds marks
 fixed_folds modifiers.ZeroOrMore marks value items others folds = (put_folds marks value Nothing Nothing tt, refl, folds)
 fixed_folds modifiers.OneOrMore marks value items others folds = (put_folds marks value Nothing Nothing tt, refl, folds)
 
--- a group, by whether it is bare
+-- A group, by whether prefix and suffix are empty.
 group_part_folds : (options : OptionsView) (kind : PartType) (part : PartView) (is_bare also : Bool) (items others : Items) → also ≡ is_bare → IsFolding items others →
     IsAtomFolding (group_atom is_bare part.modifier (escaped_marks options.syntax) part.prefix (wildcard_items options kind) part.suffix)
     (group_atom also part.modifier (escaped_marks options.syntax) (folded true part.prefix) (wildcard_items (folded_options options) kind) (folded true part.suffix))

@@ -1,4 +1,4 @@
--- A component that ignores case answers the folded way.
+-- A component that ignores case returns the folded way.
 use Rattle.std.proofs.Common.{◌≡◌, ◌≢◌, ℕ, ◌+◌, Bool, true, false, List, [], ◌∷◌, ◌++◌, length, take, drop, ap, inl, inr, refl, subst, sym, ◌∙◌, append_assoc, arith, cond}
 use Rattle.std.proofs.lemmas.List.{append-nil, length-append, length-drop, length-take-le, take-append-drop, take_at}
 use Rattle.std.proofs.lemmas.List.Elements.{All-cons, All-map, All-nil}
@@ -35,7 +35,7 @@ use Rattle.urlpattern_syntax.specs.Options.{OptionsView}
 use Rattle.urlpattern_syntax.specs.Parts.{PartView}
 use Rattle.urlpattern_syntax.specs.Text.{lacks, line_feed}
 
--- ---- stretches
+-- ---- substrings
 
 nothing_folded : (text : List ℕ) → lower text ≡ [] → text ≡ []
 nothing_folded [] same = refl
@@ -65,7 +65,7 @@ module _ (options : OptionsView) where
   alone : (part : PartView) (stretch : List ℕ) (captures : Captures) → IsFoldedStretch options part stretch captures → FoldedMean options (part ∷ []) stretch captures
   alone part stretch captures is = (stretch, [], captures, [], sym (append-nil stretch), sym (append-nil captures), is, (refl, refl))
 
-  -- a plain fixed text that is removed
+  -- A plain fixed text that is removed.
   end_means : (end : Option PartView) (IsThere : Type 0) (text : List ℕ) → IsRemoved end IsThere → lower text ≡ folded true (end_text end) → FoldedMean options (option_to_list end) text []
   end_means None IsThere text removed same = (nothing_folded text same, refl)
   end_means (Some part) IsThere text plain same = alone part text [] (record {
@@ -73,7 +73,7 @@ module _ (options : OptionsView) where
     are_pieces = All-nil (IsWithinStretch part text);
   })
 
-  -- what a single capture takes is a piece of the part's stretch
+  -- A single capture is a substring within that of its part.
   piece_of : (part : PartView) (front back text begin stretch end head middle tail : List ℕ) → text ≡ begin ++ stretch ++ end → text ≡ head ++ middle ++ tail →
       length begin ≡ length front → length end ≡ length back → length head ≡ length (front ++ part.prefix) → length tail ≡ length (part.suffix ++ back) → IsWithinStretch part stretch (Some middle)
   piece_of part front back text begin stretch end head middle tail cut also begins ends heads tails =
@@ -160,7 +160,8 @@ module _ {E : Type 0} (answer : E → List ℕ → Option Captures) (IsEngine : 
       (subst (λ (t : List ℕ). FoldedMean options parts t (captures ++ [])) (sym is_cut)
       (subst (λ (ps : List PartView). FoldedMean options ps (begin ++ stretch ++ end) (captures ++ [])) (sym made.are_peeled.cut) whole))
 
-  -- what a matcher answers, folded, is the first way of the folded parts, if the values that it asks answer first ways
+  -- The folded result of a matcher is the first way of the folded parts, if the values of its
+  -- engine return first ways.
   pub matcher_folded_first : (parts : List PartView) (matcher : MatcherView E) (text : List ℕ) (result : Option Captures) → IsMadeOf IsEngine options parts matcher → AreGenerated parts → options.ignore_case ≡ true →
       IsOfMiddle (λ engine middle. AreGenerated middle × AnswersFolding options middle (answer engine)) parts matcher.inner → IsTrue (lacks line_feed text) → IsTrue (all_scalars text) →
       Answers answer matcher text result → IsFirstOf (folded_options options) (folded_parts parts) (lower text) (option_map folded_captures result)
@@ -169,7 +170,7 @@ module _ {E : Type 0} (answer : E → List ℕ → Option Captures) (IsEngine : 
       ignores : matcher.ignore_case ≡ true
       ignores = between_ignores IsEngine options (end_text made.front) made.middle (end_text made.back) matcher made.is_made ∙ ignored
 
-      -- by what is asked instead of the engine's values
+      -- The result by the folded values in place of the engine's.
       asking : (other : E → List ℕ → Option Captures) → FoldsAnswer answer other matcher.inner → AnswersFirstInMiddle other (folded_options options) (folded_parts parts) (folded_inner matcher.inner) →
           IsFirstOf (folded_options options) (folded_parts parts) (lower text) (option_map folded_captures result)
       asking other folds asks =
@@ -204,7 +205,7 @@ module _ {E : Type 0} (answer : E → List ℕ → Option Captures) (IsEngine : 
             λ other t is_tree fine. ap (λ (x : Items). first_way x t) (trees_are_one regexp tree other (is_tree_of (folded_options options) (folded_parts middle) also) is_tree),
           ))
 
-  -- what is captured is in place
+  -- The captures are at their places.
   in_place : (parts : List PartView) (matcher : MatcherView E) (text : List ℕ) → IsMadeOf IsEngine options parts matcher → options.ignore_case ≡ true →
       IsOfMiddle (λ engine middle. AreGenerated middle × AnswersFolding options middle (answer engine)) parts matcher.inner → (result : Option Captures) → Answers answer matcher text result →
       Agrees (folded_options options) (folded_parts parts) (lower text) (option_map folded_captures result) → IfSome result (AreInPlace options parts text)
@@ -271,7 +272,8 @@ folded_answered engine manner compiled text result is_compiled ignores line answ
           (ignores.generated parts reads) ignores.case_ignored ignores.no_engine line.no_line_feed line.characters answers;
     }
 
--- a component that ignores case answers, folded, the first way of its folded parts, if the engine's values answer by their flags
+-- The folded result of a component that ignores case is the first way of its folded parts, if the
+-- values of the engine return results by their flags.
 pub folded_first_answered : {E : Type 0} (engine : Engine E) → ValuesAnswerByFlags engine → MatchersTakeGenerated engine → FoldedFirstsAreAnswered engine
 folded_first_answered {E} engine by_flags takes manner compiled text result is_compiled ignored generated line answers =
     let (parts, reads, is_component) = is_compiled.0 in

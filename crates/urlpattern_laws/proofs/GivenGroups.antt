@@ -1,4 +1,4 @@
--- What groups are given, by their names and captures.
+-- The texts given for groups, by their names and captures.
 use Rattle.std.proofs.Common.{◌≡◌, ◌∙◌, ℕ, Bool, true, false, List, [], ◌∷◌, ◌++◌, ◌⊎◌, ap, cond, inl, inr, length, map, refl, reverse, subst, sym, zip, Option, Some, None, bytes_eq, arith}
 use Rattle.std.proofs.Math.Path.{fun_ext}
 use Rattle.std.proofs.lemmas.Bool.{cases_Bool, false≢true}
@@ -131,7 +131,7 @@ one_component = by_name (λ other. (component : ComponentName) → Tested other 
 is_named : (component : ComponentName) → list_any (λ other. bytes_eq (name_text other) (name_text component)) components ≡ true
 is_named = by_name (λ component. list_any (λ other. bytes_eq (name_text other) (name_text component)) components ≡ true) refl refl refl refl refl refl refl refl
 
--- what is given for a group is the first text of its name
+-- The text given for a group is the first one with its name.
 pub given_first : (groups_of : ComponentName → Groups) (groups : List Lent) →
     map lent_group groups ≡ texts_captured (flat_map (λ other. named_groups other (groups_of other)) components) →
     (component : ComponentName) (name : List ℕ) → text_given (given_groups groups) component name ≡ first_text (groups_of component) name
@@ -160,7 +160,7 @@ none_found : (name : List ℕ) (groups : Groups) → Without name groups → loo
 none_found name [] apart = refl
 none_found name (group ∷ groups) apart = ap (λ (here : Bool). cond here (Some group.1) (lookup (bytes_eq name) groups)) apart.0 ∙ none_found name groups apart.1
 
--- the name of the first group is that of no later one
+-- The name of the first group is not the name of a later one.
 without_first : (name own : List ℕ) (groups : Groups) → bytes_eq name own ≡ true → Without own groups → Without name groups
 without_first name own groups same apart = subst (λ (text : List ℕ). Without text groups) (sym ((bytes_eq-Decides name own).0 same)) apart
 
@@ -183,7 +183,7 @@ first_found (group ∷ groups) name distinct = by (bytes_eq name group.0) refl g
         ∙ later
         ∙ ap (λ (here : Bool). option_flatten (cond here (Some (Some text)) (lookup (bytes_eq name) groups))) (sym e)
 
--- the last group of a name is the first
+-- The last group with a name is the first.
 pub found_reversed : (groups : Groups) (name : List ℕ) → Distinct groups → lookup (bytes_eq name) (reverse groups) ≡ lookup (bytes_eq name) groups
 unfolding IsDistinct
 found_reversed [] name distinct = refl
@@ -197,7 +197,7 @@ found_reversed (group ∷ groups) name distinct =
     by true e = ap (λ (found : Option (Option (List ℕ))). option_or found (Some group.1)) (none_found name groups (without_first name group.0 groups e distinct.0))
     by false e = or-none (lookup (bytes_eq name) groups)
 
--- ---- names beside captures
+-- ---- names with captures
 
 skip_first : (name : List ℕ) (capture : Option (List ℕ)) (groups : Groups) (names : List (List ℕ)) → AllByRecursion (λ other. bytes_eq name other ≡ false) names →
     map (λ other. option_flatten (lookup (bytes_eq other) ((name, capture) ∷ groups))) names ≡ map (λ other. option_flatten (lookup (bytes_eq other) groups)) names
@@ -222,7 +222,7 @@ keys_of_zip [] captures many = refl
 keys_of_zip (name ∷ names) [] many = absurd (omega (arith, many))
 keys_of_zip (name ∷ names) (capture ∷ captures) many = ap (λ (later : List (List ℕ)). name ∷ later) (keys_of_zip names captures (omega (arith, many)))
 
--- names beside captures are among the names
+-- Names with captures are distinct if the names are.
 pub zip_distinct : (names : List (List ℕ)) (captures : List (Option (List ℕ))) → IsDistinct bytes_eq names → Distinct (zip names captures)
 unfolding IsDistinct
 zip_distinct [] captures distinct = tt

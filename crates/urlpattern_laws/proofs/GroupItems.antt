@@ -1,4 +1,5 @@
--- The regular expressions of fixed texts and of groups, each with its modifier, are read as items that take exactly their copies.
+-- The regular expressions of fixed texts and of groups, with their modifiers, are read as items
+-- that match exactly their copies.
 use Rattle.std.proofs.Common.{Some, ◌≡◌, ◌↔◌, ◌⊎◌, inl, inr, ℕ, zero, suc, ◌≤◌, List, [], ◌∷◌, ◌++◌, Bool, true, false, refl, sym, ap, ◌∙◌, subst, append_assoc, append-nil, codes, arith}
 use lib.Utf8.{scalars}
 use Rattle.urlpattern_laws.proofs.Catching.{Only, Then, Whole}
@@ -21,7 +22,7 @@ use Rattle.urlpattern_syntax.specs.Text.{IsRepeated}
 
 -- ---- modifiers
 
--- as many copies as the modifier allows
+-- As many copies as the modifier allows.
 abbrev pub Counted : PartModifier → Texts → Texts
 Counted modifier Is text = (count : ℕ) × Allows modifier count × IsRepeated Is count text
 
@@ -74,7 +75,7 @@ fixed_part modifiers.OneOrMore text value K Is a =
 
 -- ---- groups
 
--- copies of a piece between prefix and suffix, with their capture
+-- The sense of copies of a piece between prefix and suffix, with their capture.
 abbrev pub group_sense : (is_bare : Bool) → PartModifier → (prefix suffix : List ℕ) → (K : Type 0) → Texts → Choice → Sense
 group_sense is_bare modifier prefix suffix K Is piece = record {
   Is = Counted modifier (IsBetween Is prefix suffix);
@@ -89,7 +90,7 @@ one_more : (K : Type 0) (modifier : PartModifier) (is_bare : Bool) (prefix suffi
     → s.ways ≡ copies_ways is_bare modifier prefix suffix piece → SameSense s (group_sense is_bare modifier prefix suffix K Is piece)
 one_more K modifier is_bare prefix suffix s Is piece texts count caps known ways = record { texts = texts; count = count; caps = caps; known = known; ways = ways }
 
--- without prefix and suffix a copy is a piece
+-- Without prefix and suffix a copy is a piece.
 bare_same : (Is : Texts) → AreSameTexts Is (IsBetween Is [] [])
 bare_same Is text good = (
   λ is. (text, sym (append-nil text), is),
@@ -105,16 +106,16 @@ counted_copies modifier A B p text good = (
 bare_counted : (modifier : PartModifier) (Is : Texts) → AreSameTexts (Quantified (quantifier_of modifier) Is) (Counted modifier (IsBetween Is [] []))
 bare_counted modifier Is = same_then _ _ _ (counted_same modifier Is) (counted_copies modifier Is (IsBetween Is [] []) (bare_same Is))
 
--- pieces end to end
+-- Pieces, one after the other, are the core of a capture.
 pieces_core : (Is : Texts) (n : ℕ) (text : List ℕ) → IsRepeated Is (suc n) text → IsCore Is [] [] n text
 pieces_core Is n text (first, rest, e, is, more) = (first, rest, e, is, repeated_map Is (IsFurther Is [] []) (λ t is. (t, refl, is)) n rest more)
 
--- one piece, which is captured whole
+-- A single piece is captured whole.
 one_whole : (Is : Texts) (modifier : PartModifier) → Allows modifier 1 → (text : List ℕ) (captures : Captures) → Whole (Only Is) text captures → GroupMeans Is true modifier [] [] text captures
 one_whole Is modifier allowed text captures (inner, all, (is, none)) =
     inr (0, text, allowed, sym (append-nil text), core_one Is [] [] text is, all ∙ ap (λ c. Some text ∷ c) none)
 
--- so many pieces, which are captured whole
+-- The pieces of all copies are captured whole.
 all_whole : (Is : Texts) (modifier : PartModifier) (n : ℕ) → Allows modifier (suc n) → (text : List ℕ) (captures : Captures) → IsRepeated Is (suc n) text → captures ≡ Some text ∷ [] → GroupMeans Is true modifier [] [] text captures
 all_whole Is modifier n allowed text captures are all = inr (n, text, allowed, sym (append-nil text), pieces_core Is n text are, all)
 
@@ -145,7 +146,7 @@ bare_group modifiers.OneOrMore text K Is piece a =
 
 -- ---- groups with prefix or suffix
 
--- a text that is given
+-- A text that equals `given`.
 abbrev pub Exactly : List ℕ → Texts
 Exactly given text = text ≡ given
 
@@ -161,7 +162,7 @@ further_same Is prefix suffix text good = (
   λ (piece, cut, is). (suffix ++ prefix, piece, cut, (suffix, prefix, refl, refl, refl), is),
 )
 
--- one piece or more, with suffix and prefix between them
+-- At least one piece, with suffix and prefix between pieces.
 abbrev Several : Texts → (prefix suffix : List ℕ) → Texts
 Several Is prefix suffix text = (n : ℕ) × IsCore Is prefix suffix n text
 
@@ -171,7 +172,7 @@ several_same Is prefix suffix text good = (
   λ (n, (first, rest, cut, is, more)). (first, rest, cut, is, (n, more)),
 )
 
--- copies are one piece or more between the first prefix and the last suffix
+-- Copies are at least one piece between the first prefix and the last suffix.
 copies_same : (Is : Texts) (prefix suffix : List ℕ) → AreSameTexts (IsBetween (Several Is prefix suffix) prefix suffix) (Quantified OneOrMore (IsBetween Is prefix suffix))
 copies_same Is prefix suffix text good = (
   λ (core, cut, (n, is)). (n, core_copies Is prefix suffix n core text cut is),
@@ -188,7 +189,7 @@ some_or_none Is text good = (
     by zero ended = inr ended
     by (suc n) are = inl (n, are)
 
--- what is captured between prefix and suffix
+-- A capture between prefix and suffix.
 abbrev Between : Texts → (prefix suffix : List ℕ) → Captures → Texts
 Between Is prefix suffix captures text = (core : List ℕ) × (text ≡ prefix ++ core ++ suffix) × Is core × (captures ≡ Some core ∷ [])
 
@@ -216,7 +217,7 @@ module _ (options : OptionsView) (prefix suffix : List ℕ) (good_prefix : scala
   abbrev after : List ℕ
   after = escaped_regexp options suffix
 
-  -- a group between prefix and suffix
+  -- A group between prefix and suffix.
   between_item : (text : List ℕ) (K : Type 0) (Is : Texts) (core : Choice) → IsInside text (quiet K Is core) → IsItemOf (grouped (before ++ captured text ++ after)) (between_sense K Is core prefix suffix)
   between_item text K Is core a =
       grouped_item _ _ (items_inside _ _ (same_items _ _ (between_sense K Is core prefix suffix)
@@ -225,7 +226,7 @@ module _ (options : OptionsView) (prefix suffix : List ℕ) (good_prefix : scala
       (append_items before (captured text) _ _ (fixed_items options prefix good_prefix) (once_items _ _ (captured_item text _ a)))
       (fixed_items options suffix good_suffix))))
 
-  -- suffix and prefix, and a piece
+  -- Suffix and prefix, and then a piece.
   abbrev further_ways : Choice → Choice
   further_ways piece = followed_by (followed_by (exactly suffix) (exactly prefix)) piece
 
@@ -250,11 +251,11 @@ module _ (options : OptionsView) (prefix suffix : List ℕ) (good_prefix : scala
   repeated_item : (text : List ℕ) (K : Type 0) (Is : Texts) (piece : Choice) → IsInside text (quiet K Is piece) → IsItemOf (repeated_regexp before text after) (between_sense K (Several Is prefix suffix) (several_ways prefix suffix piece) prefix suffix)
   repeated_item text K Is piece a = between_item _ K (Several Is prefix suffix) (several_ways prefix suffix piece) (several_inside text K Is piece a)
 
-  -- one piece between prefix and suffix
+  -- A single piece between prefix and suffix.
   one_between : (Is : Texts) (modifier : PartModifier) → Allows modifier 1 → (text : List ℕ) (captures : Captures) → Between Is prefix suffix captures text → GroupMeans Is false modifier prefix suffix text captures
   one_between Is modifier allowed text captures (core, cut, is, all) = inr (0, core, allowed, cut, core_one Is prefix suffix core is, all)
 
-  -- one piece or more between prefix and suffix
+  -- At least one piece between prefix and suffix.
   several_between : (Is : Texts) (modifier : PartModifier) → ((n : ℕ) → Allows modifier (suc n)) → (text : List ℕ) (captures : Captures) → Between (Several Is prefix suffix) prefix suffix captures text → GroupMeans Is false modifier prefix suffix text captures
   several_between Is modifier allowed text captures (core, cut, (n, is), all) = inr (n, core, allowed n, cut, is, all)
 

@@ -1,5 +1,5 @@
--- Groups that the grammar of `regex` reads, wherever they stand, as items that take exactly certain texts: of items, or of an
--- expression that stands alone.
+-- Groups that the grammar of `regex` reads, at any place, as items that match exactly certain
+-- texts: of items, or of an expression that stands alone.
 use Rattle.std.proofs.Common.{◌≡◌, ℕ, zero, suc, ◌+◌, ◌^◌, List, [], ◌∷◌, ◌++◌, length, true, false, Option, Some, None, nat_lt, refl, sym, ap, ◌∙◌, subst, append-nil, arith}
 use Rattle.std.proofs.lemmas.List.{length_push}
 use Rattle.std.proofs.lemmas.Option.{none-some, same_Some}
@@ -17,22 +17,22 @@ use Rattle.urlpattern_engine.proofs.AtomsRead.{full}
 use Rattle.urlpattern_engine.proofs.ItemsRead.{Free, at_text, brackets, level, opens_as}
 use Rattle.urlpattern_syntax.specs.RegexpText.{captured, grouped}
 
--- ---- what is inside of a group
+-- ---- the content of groups
 
--- what is found up to the closing parenthesis is a pattern in this sense
+-- The text before the closing parenthesis is read as a pattern with this sense.
 pub record InsideFound (s : Sense) (rest : Text) (before : Names) (found : Nested Re) (end : Place) : Type 0 where
   pub at_close : end.text ≡ 41 ∷ rest
   pub numbers : s.Known → length end.names ≡ length before + s.count
   pub fulfils : Fulfils s (length before) found.value
 
--- before a closing parenthesis, wherever the text stands, it is read as a pattern in this sense
+-- Before a closing parenthesis, at any place, the text is read as a pattern with this sense.
 pub record IsInside (t : Text) (s : Sense) : Type 0 where
   pub starts : (rest : Text) → Free (t ++ 41 ∷ rest)
-  -- there is such a pattern, whatever the grammar reads
+  -- A pattern with this sense exists.
   pub made : s.Known → (g : ℕ) → (tree : Nested Re) × Fulfils s g tree.value
   pub reads : (rest : Text) (n : ℕ) (names : Names) (found : Nested Re) (end : Place) → group_inside n (at_text names (t ++ 41 ∷ rest)) ≡ Some (found, end) → InsideFound s rest names found end
 
--- one branch
+-- A single branch.
 pub record OneBranch (n : ℕ) (p : Place) (found : Nested Re) (end : Place) : Type 0 where
   pub steps : ℕ
   pub parts : List (Nested Re)
@@ -102,7 +102,7 @@ items_inside t s a = record {
 
 -- ---- groups
 
--- what closes a group, whose inside is in one sense, and itself in another
+-- A group is read in the sense `u`, if its content is read in the sense `s`.
 closed_group : (inner : Place → Option (Nested Re × Place)) (make : Re → Re) (inside : Place) (s u : Sense) (rest : Text) (before : Names) (found : Nested Re) (end : Place)
     → ((tree : Nested Re) (after : Place) → inner inside ≡ Some (tree, after) → InsideFound s rest inside.names tree after)
     → ((re : Re) → Fulfils s (length inside.names) re → Fulfils u (length before) (make re))

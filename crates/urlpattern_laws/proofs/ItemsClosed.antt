@@ -1,5 +1,5 @@
--- Atoms, their repetitions and groups are read the same, but for the numbers of groups, where a closing parenthesis and more
--- follow the text.
+-- Atoms, their repetitions and groups are read alike before a closing parenthesis and more text,
+-- except for the numbers of groups.
 use Rattle.std.proofs.Common.{◌≡◌, ℕ, zero, suc, ◌+◌, ◌*◌, Bool, true, false, not, [], ◌∷◌, length, drop, Option, Some, None, if◌then◌else◌, nat_le, refl, sym, ap, ap₂, ◌∙◌, true≢false, ⊎_elim}
 use Rattle.std.proofs.lemmas.Bool.{cases_Bool}
 use Rattle.regex_class.specs.Ranges.{bool_xor}
@@ -29,7 +29,7 @@ module _ (tail : Text) where
   IsBoundsAlike (Some found) None = Unit {0}
   IsBoundsAlike (Some found) (Some other) = (other ≡ (found.0, found.1, closed tail found.2)) × Calm found.2
 
-  -- if both are read, they are the same, and what is left is followed by the same
+  -- If both are read, the results are the same, and the rests are alike.
   record BoundsAlike (found other : Option (ℕ × Option ℕ × Text)) : Type 0 where
     pub holds : IsBoundsAlike found other
 
@@ -92,7 +92,7 @@ module _ (tail : Text) where
 
   -- ---- trees
 
-  -- the two are the same but for groups
+  -- The trees are the same, except for the numbers of groups.
   abbrev pub SameTree : (tree other : Nested Re) → Type 0
   SameTree tree other = bare other.value ≡ bare tree.value
 
@@ -101,7 +101,8 @@ module _ (tail : Text) where
   IsTreeAlike (Some found) None = Unit {0}
   IsTreeAlike (Some found) (Some other) = SameTree found.0 other.0 × Leaves tail found.1 other.1
 
-  -- if both are read, they are the same but for groups, and what is left is followed by the same
+  -- If both are read, the trees are the same, except for the numbers of groups, and the rests are
+  -- alike.
   pub record TreeAlike (found other : Option (Nested Re × Text)) : Type 0 where
     pub holds : IsTreeAlike found other
 
@@ -126,7 +127,7 @@ module _ (tail : Text) where
     abbrev w : Bool
     w = is_verbose config
 
-    -- a question mark makes the operator lazy
+    -- A question mark makes the operator lazy.
     lazy_rest : (t : Text) → Calm t → Leaves tail (if is_at "?" t then drop 1 t else t) (if is_at "?" t then drop 1 (closed tail t) else closed tail t)
     lazy_rest t h =
         ⊎_elim

@@ -1,4 +1,4 @@
--- Texts that the grammar of `regex` reads, wherever they stand, as items that take exactly certain texts.
+-- Texts that the grammar of `regex` reads, at any place, as items that match exactly certain texts.
 use Rattle.std.proofs.Common.{max, ◌≡◌, ℕ, zero, suc, ◌+◌, List, [], ◌∷◌, ◌++◌, map, length, true, false, Some, refl, sym, ap, ◌∙◌, subst, append_assoc, append-nil, arith}
 use Rattle.std.proofs.lemmas.Bool.{and_parts, and_from}
 use Rattle.std.proofs.lemmas.Option.{none-some, same_Some}
@@ -24,7 +24,7 @@ use Rattle.urlpattern_engine.proofs.ItemsRead.{Free, OpensItem, at_text, quantif
 abbrev pub values : List (Nested Re) → List Re
 values trees = map (λ tree. tree.value) trees
 
--- ---- one after the other
+-- ---- items in sequence
 
 pub joined_assoc : (A B C : Texts) → AreSameTexts (Joined A (Joined B C)) (Joined (Joined A B) C)
 joined_assoc A B C text good = (
@@ -69,7 +69,7 @@ pub append_count : (trees others : List (Nested Re)) → group_count (cat_all (v
 append_count [] others = omega arith
 append_count (tree ∷ trees) others = omega (arith, append_count trees others)
 
--- the second is read after the groups of the first
+-- The groups of the second items are numbered after those of the first.
 fulfils_append : (s u : Sense) (g h : ℕ) (trees others : List (Nested Re)) → (s.Known → h ≡ g + s.count) → Fulfils s g (cat_all (values trees)) → Fulfils u h (cat_all (values others))
     → Fulfils (joined s u) g (cat_all (values (trees ++ others)))
 fulfils_append s u g h trees others after a b = record {
@@ -87,7 +87,7 @@ fulfils_append s u g h trees others after a b = record {
 
 -- ---- items
 
--- What is found begins with some items, and goes on with what is read in the rest.
+-- The items found begin with own items, and continue with those of the rest.
 pub record ItemsCut (rest : Text) (found : List (Nested Re)) (end : Place) : Type 0 where
   pub own : List (Nested Re)
   pub more : List (Nested Re)
@@ -96,16 +96,16 @@ pub record ItemsCut (rest : Text) (found : List (Nested Re)) (end : Place) : Typ
   pub cut : found ≡ own ++ more
   pub goes_on : items steps (at_text names rest) ≡ Some (more, end)
 
--- the items are in this sense
+-- The items read have this sense.
 pub record ItemsFound (s : Sense) (rest : Text) (before : Names) (found : List (Nested Re)) (end : Place) : Type 0 where
   pub front : ItemsCut rest found end
   pub numbers : s.Known → length front.names ≡ length before + s.count
   pub fulfils : Fulfils s (length before) (cat_all (values front.own))
 
--- wherever the text stands, before what is no quantifier, it is read as items in this sense
+-- At any place, if no quantifier follows, the text is read as items with this sense.
 pub record AreItemsOf (t : Text) (s : Sense) : Type 0 where
   pub starts : (rest : Text) → Free rest → Free (t ++ rest)
-  -- there are such items, whatever the grammar reads
+  -- Items with this sense exist.
   pub made : s.Known → (g : ℕ) → (own : List (Nested Re)) × Fulfils s g (cat_all (values own))
   pub reads : (rest : Text) → Free rest → (n : ℕ) (names : Names) (found : List (Nested Re)) (end : Place) → items n (at_text names (t ++ rest)) ≡ Some (found, end) → ItemsFound s rest names found end
 
@@ -157,7 +157,7 @@ same_items t s u p a = record {
       record { front = is.front; numbers = λ k. omega (arith, is.numbers (p.known k), p.count); fulfils = fulfils_same s u (length names) _ p is.fulfils };
 }
 
--- ---- one item
+-- ---- a single item
 
 pub record ItemFound (s : Sense) (rest : Text) (before : Names) (found : Nested Re) (end : Place) : Type 0 where
   pub core : Nested Re
@@ -166,14 +166,14 @@ pub record ItemFound (s : Sense) (rest : Text) (before : Names) (found : Nested 
   pub numbers : s.Known → length names ≡ length before + s.count
   pub fulfils : Fulfils s (length before) core.value
 
--- wherever the text stands, it is read as an item in this sense, before its quantifier
+-- At any place, before its quantifier, the text is read as an item with this sense.
 pub record IsItemOf (t : Text) (s : Sense) : Type 0 where
   pub opens : (rest : Text) → OpensItem (t ++ rest)
-  -- there is such an item, whatever the grammar reads
+  -- An item with this sense exists.
   pub made : s.Known → (g : ℕ) → (core : Nested Re) × Fulfils s g core.value
   pub reads : (rest : Text) (n : ℕ) (names : Names) (found : Nested Re) (end : Place) → item (group_inside n) (at_text names (t ++ rest)) ≡ Some (found, end) → ItemFound s rest names found end
 
--- an item, and what is read after it
+-- An item, and the items read after it.
 pub record OneItem (n : ℕ) (names : Names) (t : Text) (found : List (Nested Re)) (end : Place) : Type 0 where
   pub steps : ℕ
   pub part : Nested Re
@@ -209,14 +209,14 @@ items_stop (suc n) names t found end h e =
 
 -- ---- quantifiers
 
--- what an atom is read as, with its quantifier
+-- An atom is read with its quantifier.
 repeated_once : (q : Quantifier) (core : Nested Re) (names : Names) (rest : Text) → Free rest → (part : Nested Re) (after : Place) → with_repetitions core (at_text names (quantifier_text q ++ rest)) ≡ Some (part, after)
     → (part ≡ repeated_as q core) × (at_text names rest ≡ after)
 repeated_once q core names rest free part after e =
     let same = same_Some _ _ (sym (quantified q core names rest free) ∙ e) in
     (sym (ap (λ (result : Nested Re × Place). result.0) same), ap (λ (result : Nested Re × Place). result.1) same)
 
--- an item with its quantifier
+-- An item with its quantifier.
 repeated_items : (t : Text) (s u : Sense) (q : Quantifier) → u.count ≡ s.count → (u.Known → s.Known) → ((g : ℕ) (sub : Nested Re) → Fulfils s g sub.value → Fulfils u g (repeated_as q sub).value) → IsItemOf t s
     → AreItemsOf (t ++ quantifier_text q) u
 repeated_items t s u q count known conv a = record {
@@ -243,7 +243,7 @@ once_items t s a = subst (λ v. AreItemsOf v s) (append-nil t) (repeated_items t
 pub perhaps_items : (t : Text) (s : Sense) → IsItemOf t s → AreItemsOf (t ++ quantifier_text Optional) (perhaps s)
 perhaps_items t s a = repeated_items t s (perhaps s) Optional refl (λ k. k) (λ g sub f. fulfils_perhaps s g sub f) a
 
--- an item that is no group
+-- An item that is not a group.
 pub atom_item : (t : Text) (sub : Nested Re) (Is : Texts) (ways : Choice) → ((rest : Text) → OpensItem (t ++ rest)) → ((rest : Text) → is_at "(" (t ++ rest) ≡ false) → ((rest : Text) → atom default_config (t ++ rest) ≡ Some (sub, rest))
     → Denotes sub.value Is → is_groupless sub.value ≡ true → Cuts ways 0 → ((g : ℕ) → Tries g ways sub.value) → IsItemOf t (quiet (Unit {0}) Is ways)
 unfolding item

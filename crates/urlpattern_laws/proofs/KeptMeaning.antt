@@ -1,4 +1,4 @@
--- Patterns that answer by their texts match what the parts that they keep mean.
+-- Patterns that match by their texts match what the parts that they keep mean.
 use Rattle.std.proofs.Common.{◌≡◌, ◌∙◌, ℕ, Bool, true, false, List, ap, refl, subst, sym}
 use Rattle.std.specs.Prelude.{◌↔◌, IsTrue, Option, Some}
 use Rattle.urlpattern_matcher.specs.Components.{ComponentView}
@@ -24,7 +24,7 @@ use Rattle.urlpattern_syntax.specs.declared.parts.ComponentParts.{ComponentParts
 use Rattle.urlpattern_syntax.specs.Options.{OptionsView}
 use Rattle.urlpattern_syntax.specs.Parts.{PartView}
 
--- a component that answers by its text matches what the parts as which that reads mean
+-- A component that matches by its text matches what the parts of the text mean.
 matched_means : {E : Type 0} (answer : E → List ℕ → Option Captures) (manner : Manner) (compiled : ComponentView E) (parts : List PartView) (text : List ℕ) →
     AnswersByText answer manner compiled → ReadsAs manner parts → IsLine text → IsMatched answer compiled.matcher text ↔ MeansText manner.options parts text
 matched_means answer manner compiled parts text by reads line =
@@ -36,7 +36,7 @@ matched_means answer manner compiled parts text by reads line =
       λ means. by_answer answer compiled.matcher manner.options parts text whole.0 whole.1 (agrees whole.0 whole.1) means,
     )
 
--- what is known of the parts is known of the manner
+-- Parts of known meaning are of a manner with a meaning.
 has_meaning : (manner : Manner) (component : ComponentParts) → AreReadInManner manner component → IsKnown component → HasMeaning manner
 has_meaning manner component are known = record {
   generated = λ others reads. subst (λ (ps : List PartView). AreGenerated ps) (read_once manner (kept_parts component) others are.reads reads) known.generated;

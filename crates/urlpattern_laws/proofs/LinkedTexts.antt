@@ -1,4 +1,4 @@
--- Links of one pattern, by what their groups are to capture.
+-- Links of a pattern, by the captures that their groups are to have.
 use Rattle.std.proofs.Common.{◌≡◌, ◌∙◌, ℕ, List, ap, refl, sym, subst, Option, Some, None, Ok}
 use Rattle.std.specs.Prelude.{MatchOption}
 use Rattle.url.specs.Parser.{Parsed, parse_url}
@@ -24,14 +24,14 @@ use Rattle.urlpattern_compare.specs.declared.pattern.PatternParts.{PatternParts}
 use Rattle.urlpattern_syntax.specs.Parts.{PartView}
 use Rattle.urlpattern_generate.specs.UrlsOfTexts.{line_of}
 
--- ---- one text
+-- ---- a single text
 
--- parts have one text with these groups
+-- Parts have a single text with these groups.
 text_once : (manner : WritingManner) (parts : List PartView) (text other : List ℕ) → IsWritten manner parts text → IsWritten manner parts other → text ≡ other
 text_once manner parts text other is also =
     is.is_text ∙ ap (text_of_parts parts) (asked_one manner parts is.captures also.captures is.are_asked also.are_asked) ∙ sym also.is_text
 
--- with what was captured it is the text that was matched
+-- The text with the captures of a match is the text that was matched.
 text_again : {E : Type 0} (answer : E → List ℕ → Option Captures) (matcher : MatcherView E) (manner : WritingManner) (parts : List PartView) (text other : List ℕ) (captures : Captures) → IsWritten manner parts text →
     Answers answer matcher other (Some captures) → IsWrittenBack answer matcher manner parts other captures → text ≡ other
 text_again answer matcher manner parts text other captures is answered it =
@@ -41,7 +41,7 @@ text_again answer matcher manner parts text other captures is answered it =
 
 -- ---- links
 
--- a pattern with a link has parts
+-- A pattern with a link has parts.
 record HasLink {E : Type 0} (answer : E → List ℕ → Option Captures) (pattern : UrlPattern E) (groups : List GivenView) (url : Parts) : Type 0 where
   parts : PatternParts
   has : pattern.parts ≡ Some parts
@@ -54,7 +54,7 @@ has_link {E} answer pattern groups url is = by pattern.parts refl is
     by None e never = absurd never
     by (Some parts) e link = record { parts = parts; has = e; link = link }
 
--- of the parts that it has
+-- A link is a link of the pattern's parts.
 link_of : {E : Type 0} (answer : E → List ℕ → Option Captures) (pattern : UrlPattern E) (parts : PatternParts) (groups : List GivenView) (url : Parts) → pattern.parts ≡ Some parts → IsLink answer pattern groups url →
     IsLinkOf answer (eight_view pattern.components) parts groups url
 link_of answer pattern parts groups url has is = subst (λ (of : Option PatternParts). MatchOption of ⊥ (λ own. IsLinkOf answer (eight_view pattern.components) own groups url)) has is

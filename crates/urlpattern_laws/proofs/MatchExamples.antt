@@ -40,18 +40,18 @@ captures-left_over = refl
 names-left_over : group_of (codes "x" ∷ codes "y" ∷ []) (one ∷ []) (codes "y") ≡ None
 names-left_over = refl
 
--- of equal names one that is left over does not count
+-- Of two equal names, the one without a capture does not count.
 equal_name-left_over : group_of (codes "x" ∷ codes "x" ∷ []) (one ∷ []) (codes "x") ≡ Some one
 equal_name-left_over = refl
 
--- a group that took no part is there, and captures nothing
+-- A group that did not take part exists, and captures nothing.
 group-without_part : group_of (codes "x" ∷ []) (None ∷ []) (codes "x") ≡ Some None
 group-without_part = refl
 
 name-not_there : group_of (codes "x" ∷ []) (one ∷ []) (codes "z") ≡ None
 name-not_there = refl
 
--- what a group captured, and whether it took part, determine what there is at its name
+-- The capture of a group, and whether it took part, determine the entry of its name.
 captured_and_part-determine : (group other : Option (Option (List ℕ))) → option_flatten group ≡ option_flatten other → option_map is_some group ≡ option_map is_some other → group ≡ other
 captured_and_part-determine None None flat part = refl
 captured_and_part-determine None (Some other) flat part = absurd cc
@@ -60,11 +60,11 @@ captured_and_part-determine (Some group) (Some other) flat part = ap Some flat
 
 -- ---- matches
 
--- there is no engine here
+-- The results of an engine without values.
 no_engine : ⊥ → List ℕ → Option Captures
 no_engine never text = None
 
--- a component with this between an empty prefix and an empty suffix
+-- A component of this matcher, with empty prefix and suffix.
 abbrev component_of : InnerView ⊥ → (names : List (List ℕ)) → ComponentView ⊥
 component_of inner names = record {
   pattern_string = [];
@@ -74,7 +74,7 @@ component_of inner names = record {
   has_regexp_group = false;
 }
 
--- eight components that take any text
+-- Eight components that match any text.
 abbrev wildcards : PatternView ⊥
 wildcards component = component_of (SingleCapture None true) (codes "0" ∷ [])
 
@@ -91,12 +91,12 @@ wildcards-url url =
     let match = wildcards-texts (texts_of_url url) in
     (texts_of_url url, refl, λ component. (match.captures component, match.are_answers component))
 
--- the same, but for a path that has to be empty
+-- Eight components that match any text, except for a path that must be empty.
 abbrev wildcards_but_path : PatternView ⊥
 wildcards_but_path Pathname = component_of (Literal []) []
 wildcards_but_path component = wildcards component
 
--- one component that is not matched is no match
+-- A pattern does not match if a single component does not.
 wildcards_but_path-url : (url : Parts) → ¬ (at (texts_of_url url) Pathname ≡ []) → HasNoMatch no_engine wildcards_but_path (Url url)
 wildcards_but_path-url url other =
     inr (
@@ -110,12 +110,12 @@ wildcards_but_path-url url other =
       ),
     )
 
--- where each component matches there is no mismatch
+-- If each component matches there is no mismatch.
 wildcards-mismatch : (texts : Texts) → FindsMismatch no_engine wildcards texts None
 wildcards-mismatch texts =
     let match = wildcards-texts texts in λ component. (match.captures component, match.are_answers component)
 
--- of a path that has to be empty it is the path, as those before it match
+-- A path that must be empty is the first mismatch, as the components before it match.
 wildcards_but_path-mismatch : (texts : Texts) → ¬ (at texts Pathname ≡ []) → FindsMismatch no_engine wildcards_but_path texts (Some Pathname)
 wildcards_but_path-mismatch texts other =
     let matches = wildcards-mismatch texts in
@@ -130,11 +130,11 @@ wildcards_but_path-mismatch texts other =
 
 -- ---- when memory is allocated
 
--- no engine is asked by wildcards
+-- Wildcards call no engine.
 wildcards-ask_none : (answer : ⊥ → List ℕ → Option Captures) (texts : Texts) → ¬ AsksAnEngine answer wildcards texts
 wildcards-ask_none answer texts asks = asks.asked.1.2
 
--- a component with an engine between an empty prefix and an empty suffix
+-- A component of an engine, with empty prefix and suffix.
 abbrev engine_component : ComponentView (Unit {0})
 engine_component = record {
   pattern_string = [];
@@ -144,11 +144,11 @@ engine_component = record {
   has_regexp_group = false;
 }
 
--- an engine that stands alone asks about each text
+-- An engine without prefix and suffix is called for each text.
 engine_alone-asks : (text : List ℕ) → AsksEngine engine_component.matcher text
 engine_alone-asks text = (text, ([], [], sym (append-nil text), refl, refl), tt)
 
--- so a pattern of such components asks it
+-- A pattern of engines without prefix and suffix calls an engine.
 engine_alone-asked : (answer : Unit {0} → List ℕ → Option Captures) (texts : Texts) → AsksAnEngine answer (λ component. engine_component) texts
 engine_alone-asked answer texts = record {
   asked = (Pathname, engine_alone-asks (at texts Pathname));

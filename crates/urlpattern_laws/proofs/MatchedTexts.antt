@@ -29,7 +29,7 @@ use Rattle.urlpattern_pattern.specs.GeneratedTexts.{manner_in, parts_in}
 use Rattle.urlpattern_pattern.specs.Patterns.{PatternView, pattern_view}
 use Rattle.urlpattern_syntax.specs.{Parts.PartView, RegexpText.group_names, Text.text_of}
 
--- ---- what groups are given
+-- ---- the texts given for groups
 
 distinct_names : (names : List (List ℕ)) → NamesDiffer names → IsDistinct bytes_eq names
 distinct_names names differ = IsDistinct-from_AllPairs bytes_eq-Decides names differ
@@ -40,7 +40,7 @@ captures_given found groups are differ component name =
     let distinct : Distinct own = distinct_names (keys_of own) (differ component) in
     given_first (groups_view found) groups are component name ∙ first_found own name distinct ∙ ap option_flatten (sym (found_reversed own name distinct))
 
--- entries of a map have the names of their keys
+-- The entries of a map have the names of their keys.
 listed_found : (entries : List (String Global × Option (String Global))) (name : List ℕ) →
     lookup (bytes_eq name) (listed_entries entries) ≡ option_map (option_map text_of) (lookup (λ key. bytes_eq name (text_of key)) entries)
 listed_found [] name = refl

@@ -1,4 +1,4 @@
--- A matcher answers what its parts capture.
+-- A matcher returns what its parts capture.
 use Rattle.std.proofs.Common.{◌≡◌, ◌↔◌, ℕ, List, [], ◌∷◌, ◌++◌, false, Option, Some, None, refl, sym, ap, ◌∙◌, subst, append_assoc, append-nil, true≢false}
 use Rattle.std.proofs.lemmas.List.Elements.{All-head, All-tail}
 use Rattle.std.specs.Prelude.{◌≢◌, ◌&&◌, All, IsTrue, Ok, option_to_list}
@@ -24,14 +24,14 @@ use Rattle.urlpattern_syntax.specs.declared.parser.PartType.{PartType}
 use Rattle.urlpattern_syntax.specs.declared.parser.PartType.TheVariants.{FixedText, Regexp}
 use Rattle.urlpattern_syntax.specs.RegexpText.{is_fixed_text, is_unmodified}
 
--- ---- what parts mean
+-- ---- the meaning of parts
 
 mean_capture : (options : OptionsView) (kind : PartType) (modifier : PartModifier) (value name prefix suffix text : List ℕ) (captures : Captures) →
     PartMeans options (part_of kind modifier value name prefix suffix) text captures → PartCaptures options (part_of kind modifier value name prefix suffix) text captures
 mean_capture options Regexp modifier value name prefix suffix text captures means = absurd means.are_captures
 mean_capture options kind modifier value name prefix suffix text captures means = record { count = means.count; allowed = means.allowed; are_copies = means.are_copies; are_captures = means.are_captures }
 
--- what parts mean is what they take and capture
+-- Texts and captures that parts mean are those of a match by the parts.
 means_captures : (options : OptionsView) (parts : List PartView) (text : List ℕ) (captures : Captures) → PartsMean options parts text captures → PartsCapture options parts text captures
 means_captures options [] text captures means = means
 means_captures options (part ∷ parts) text captures (first, rest, own, others, cut, all, one, more) =
@@ -83,7 +83,7 @@ captured_taken : (options : OptionsView) (parts : List PartView) (text : List �
 captured_taken options parts text (Some captures) is = (λ some. captures_takes options parts text captures is, λ takes. refl)
 captured_taken options parts text None is = (λ some. absurd (true≢false (sym some)), λ takes. absurd (is takes))
 
--- ---- parts from which plain ends are removed
+-- ---- parts without plain ends
 
 plain_by : (options : OptionsView) (kind : PartType) (modifier : PartModifier) (value name prefix suffix : List ℕ) → IsTrue (is_fixed_text kind && is_unmodified modifier) → PartCaptures options (part_of kind modifier value name prefix suffix) value []
 plain_by options FixedText modifiers.None value name prefix suffix h = record { count = 1; allowed = refl; are_copies = (value, [], sym (append-nil value), refl, refl); are_captures = refl }
@@ -102,7 +102,7 @@ peeled_captures options parts front middle back text inner captures peeled cut i
     (captures_append options (option_to_list front ++ middle) (option_to_list back) text captures
     (end_text front ++ inner, end_text back, captures, [], cut, sym (append-nil captures), most, end_captures options back _ peeled.back_removed))
 
--- ---- a matcher that asks an engine
+-- ---- matchers with an engine
 
 engine_captured : {E : Type 0} (answer : E → List ℕ → Option Captures) (options : OptionsView) (parts : List PartView) (front : Option PartView) (middle : List PartView) (back : Option PartView) (matcher : MatcherView E) (engine : E) (text : List ℕ) (result : Option Captures) →
     ArePeeled parts front middle back → HasEnds options matcher (end_text front) (end_text back) → matcher.inner ≡ RegExp (Ok engine) → options.ignore_case ≡ false →
@@ -114,14 +114,15 @@ engine_captured answer options parts front middle back matcher engine text None 
     let taken = engine_taken answer options parts front middle back matcher engine text None peeled ends is case (λ t good. captured_taken options middle t (answer engine t) (captured t good)) fine never in
     true≢false (sym (taken.1 takes))
 
--- ---- every matcher
+-- ---- any matcher
 
 fast_captured : {E : Type 0} (answer : E → List ℕ → Option Captures) (options : OptionsView) (parts : List PartView) (matcher : MatcherView E) (text : List ℕ) (result : Option Captures) → All IsNotCustom parts →
     ((captures : Captures) → Matches answer matcher text captures ↔ PartsMean options parts text captures) → Answers answer matcher text result → IsCapturedByParts options parts text result
 fast_captured answer options parts matcher text (Some captures) plain same matches = means_captures options parts text captures ((same captures).0 matches)
 fast_captured answer options parts matcher text None plain same never = λ takes. true≢false (sym ((fast_taken answer options parts matcher text None plain same never).1 takes))
 
--- where the engine took its text, and its values answer what the parts capture, so do the matchers
+-- If the values of an engine return what the parts capture, the matchers with accepted expressions
+-- do too.
 pub matchers_capture : {E : Type 0} (engine : Engine E) (Keeps : Keeping) (Fits : Room) (Took : Taking E) → ValuesCapture engine Keeps Fits → HasRoomForFewer Fits → TookAsKept Took Keeps
     → MatchersCapture engine Fits Took
 matchers_capture engine Keeps Fits Took values shorter took options flags parts matcher made silent text result no_feed fine answers =

@@ -1,4 +1,4 @@
--- A matcher answers the first way of its parts.
+-- A matcher returns the first way of its parts.
 use Rattle.std.proofs.Common.{◌≡◌, ℕ, List, false, Option, Some, None, refl, sym, ap, ◌∙◌, subst}
 use Rattle.std.specs.Prelude.{IsTrue, Ok}
 use Rattle.std.specs.Str.{all_scalars}
@@ -21,7 +21,7 @@ use Rattle.urlpattern_meaning.specs.PartMeaning.{Captures}
 use Rattle.urlpattern_syntax.specs.Options.{OptionsView}
 use Rattle.urlpattern_syntax.specs.Parts.{PartView}
 
--- ---- a matcher that asks an engine
+-- ---- matchers with an engine
 
 engine_first : {E : Type 0} (answer : E → List ℕ → Option Captures) (options : OptionsView) (parts : List PartView) (front : Option PartView) (middle : List PartView) (back : Option PartView) (matcher : MatcherView E) (engine : E) (text : List ℕ) (result : Option Captures) →
     ArePeeled parts front middle back → HasEnds options matcher (end_text front) (end_text back) → matcher.inner ≡ RegExp (Ok engine) → options.ignore_case ≡ false →
@@ -41,14 +41,15 @@ engine_first answer options parts front middle back matcher engine text None pee
         firsts inner here ∙ sym (first_peeled options parts front middle back peeled inner) ∙ ap (parts_first_way options parts) (sym cut.1) ∙ e in
         absurd (never captures (answered answer options (end_text front) (end_text back) matcher engine ends is case text inner captures cut.1 found))
 
--- ---- every matcher
+-- ---- any matcher
 
 fast_middle : {E : Type 0} (answer : E → List ℕ → Option Captures) (options : OptionsView) (parts : List PartView) (inner : InnerView E) → IsFast inner → AnswersFirstInMiddle answer options parts inner
 fast_middle answer options parts (Literal literal) is = tt
 fast_middle answer options parts (SingleCapture filter allow_empty) is = tt
 fast_middle answer options parts (RegExp value) is = absurd is
 
--- where the engine took its text, and its values answer the first way of the parts, so do the matchers
+-- If the values of an engine return the first way of the parts, the matchers with accepted
+-- expressions do too.
 pub matchers_first : {E : Type 0} (engine : Engine E) (Keeps : Keeping) (Fits : Room) (Took : Taking E) → ValuesAnswerFirstOfParts engine Keeps Fits → HasRoomForFewer Fits → TookAsKept Took Keeps
     → MatchersAnswerFirstOfParts engine Fits Took
 matchers_first engine Keeps Fits Took values shorter took options flags parts matcher made silent text result no_feed fine answers =
@@ -58,7 +59,7 @@ matchers_first engine Keeps Fits Took values shorter took options flags parts ma
     (λ value e keeps ends of. engine_first engine.answer options parts m.front m.middle m.back matcher value text result m.are_peeled ends e made.case_kept
     (values options flags m.middle value keeps of.alone silent_middle of.fits of.is_made) fine answers)
   where
-    -- without an engine no part is custom, and the first way is that of the tree
+    -- Without an engine no part is custom, and the first way is that of the tree.
     fast : IsFast matcher.inner → result ≡ parts_first_way options parts text
     fast is =
         let m = made.is_made in

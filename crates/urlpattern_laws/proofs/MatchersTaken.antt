@@ -1,4 +1,4 @@
--- A matcher answers captures exactly to the texts that its parts take.
+-- A matcher returns captures exactly for the texts that its parts match.
 use Rattle.std.proofs.Common.{◌≡◌, ◌↔◌, ℕ, ◌≤◌, List, [], ◌∷◌, ◌++◌, length, true, false, Option, Some, None, Result, is_some, refl, sym, ap, ◌∙◌, subst, append-nil, length-append, arith, codes, true≢false}
 use Rattle.std.proofs.lemmas.List.Elements.{All-cons, All-head, All-nil, All-tail}
 use Rattle.std.specs.List.{flat_map}
@@ -30,9 +30,9 @@ use Rattle.urlpattern_syntax.specs.declared.parser.PartType.TheVariants.{FixedTe
 use Rattle.urlpattern_syntax.specs.RegexpText.{is_fixed_text, is_plain, is_unmodified, part_regexp, regexp_text}
 use Rattle.urlpattern_syntax.specs.Text.{IsRepeated}
 
--- ---- parts from which plain ends are removed
+-- ---- parts without plain ends
 
--- texts of characters, as the laws of parts see them
+-- The texts of parts are those of the first parts, and then those of the others.
 takes_append : (options : OptionsView) (parts others : List PartView) → AreSameTexts (PartsTake options (parts ++ others)) (Joined (PartsTake options parts) (PartsTake options others))
 takes_append options [] others = nothing_joined (PartsTake options others)
 takes_append options (part ∷ parts) others =
@@ -50,7 +50,7 @@ plain_by options kind modifier value name prefix suffix text h = absurd (true≢
 plain_takes : (options : OptionsView) (part : PartView) (text : List ℕ) → IsTrue (is_plain part) → PartTakes options part text ↔ (text ≡ part.value)
 plain_takes options part text h = plain_by options part.kind part.modifier part.value part.name part.prefix part.suffix text h
 
--- what is removed takes its text
+-- A removed end matches its own text alone.
 end_takes : (options : OptionsView) (end : Option PartView) (IsThere : Type 0) (text : List ℕ) → IsRemoved end IsThere → PartsTake options (option_to_list end) text ↔ (text ≡ end_text end)
 end_takes options None IsThere text goes = (λ takes. takes, λ is. is)
 end_takes options (Some part) IsThere text goes = (
@@ -58,7 +58,7 @@ end_takes options (Some part) IsThere text goes = (
   λ is. (text, [], sym (append-nil text), (plain_takes options part text goes).1 is, refl),
 )
 
--- the middle of the text is what the rest takes
+-- The text between the ends is matched by the middle parts.
 abbrev pub TakesBetween : OptionsView → (front : Option PartView) → List PartView → (back : Option PartView) → List ℕ → Type 0
 TakesBetween options front middle back text = (inner : List ℕ) × (text ≡ end_text front ++ inner ++ end_text back) × PartsTake options middle inner
 
@@ -84,9 +84,9 @@ peeled_takes options parts front middle back text peeled fine =
       m,
     )
 
--- ---- a matcher that asks an engine
+-- ---- matchers with an engine
 
--- What an engine is asked of a text that a matcher matches: what is between the texts that are removed. It answers the captures of the match.
+-- The text between the removed ends, for which the engine returns the captures of the match.
 pub record IsAsked {E : Type 0} (answer : E → List ℕ → Option Captures) (front back : List ℕ) (engine : E) (text : List ℕ) (captures : Captures) : Type 0 where
   pub inner : List ℕ
   pub cut : text ≡ front ++ inner ++ back
@@ -106,13 +106,13 @@ module _ {E : Type 0} (answer : E → List ℕ → Option Captures) (options : O
         found = subst (λ i. Accepts answer matcher.ignore_case i inner captures) is accepts;
       }
 
-  -- a text is matched with what the engine answers to what is between them
+  -- A text is matched with the engine's captures for the text between the ends.
   pub answered : (inner : List ℕ) (captures : Captures) → text ≡ front ++ inner ++ back → answer engine inner ≡ Some captures → Matches answer matcher text captures
   answered inner captures cut found =
       let whole : text ≡ matcher.prefix ++ inner ++ matcher.suffix = cut ∙ ap (λ t. t ++ inner ++ back) (sym ends.0) ∙ ap (λ t. matcher.prefix ++ inner ++ t) (sym ends.1) in
       (inner, (middle_kept matcher text inner (ends.2 ∙ case)).1 whole, subst (λ i. Accepts answer matcher.ignore_case i inner captures) (sym is) found)
 
--- an engine's captures, or None, are those of the parts where its own are those of the middle
+-- The result of an engine for the middle parts makes the result for all parts.
 pub engine_taken : {E : Type 0} (answer : E → List ℕ → Option Captures) (options : OptionsView) (parts : List PartView) (front : Option PartView) (middle : List PartView) (back : Option PartView) (matcher : MatcherView E) (engine : E) (text : List ℕ) (result : Option Captures) →
     ArePeeled parts front middle back → HasEnds options matcher (end_text front) (end_text back) → matcher.inner ≡ RegExp (Ok engine) → options.ignore_case ≡ false →
     ((t : List ℕ) → IsTrue (all_scalars t) → IsSomeIfTaken options middle t (answer engine t)) → IsTrue (all_scalars text) → Answers answer matcher text result → IsSomeIfTaken options parts text result
@@ -128,7 +128,7 @@ engine_taken answer options parts front middle back matcher engine text None pee
       absurd (never found.0 (answered answer options (end_text front) (end_text back) matcher engine ends is case text cut.0 found.0 cut.1 found.1)),
 )
 
--- ---- a matcher that asks none
+-- ---- matchers without an engine
 
 fast_one : {E : Type 0} (IsEngine : List ℕ → Result E ErrorView → Type 0) (options : OptionsView) (kind : PartType) (modifier : PartModifier) (front : List ℕ) (part : PartView) (back : List ℕ) (matcher : MatcherView E) →
     IsMadeOfOne IsEngine kind modifier options front part back matcher → IsFast matcher.inner → kind ≢ Regexp
@@ -173,7 +173,7 @@ pub middle_all : (P : PartView → Type 0) (parts : List PartView) (front : Opti
 middle_all P parts front middle back peeled h =
     all_right P (option_to_list front) middle (all_left P (option_to_list front ++ middle) (option_to_list back) (subst (λ ps. All P ps) peeled.cut h))
 
--- ---- room
+-- ---- lengths of expressions
 
 module _ (options : OptionsView) where
   abbrev pub written : List PartView → List ℕ
@@ -195,7 +195,7 @@ module _ (options : OptionsView) where
 pub shorter_room : (options : OptionsView) (parts middle : List PartView) → length (written options middle) ≤ length (written options parts) → HasNumbers (regexp_text options parts) → HasNumbers (regexp_text options middle)
 shorter_room options parts middle le room = omega (arith, room, le, length-append (written options middle) (codes "$"), length-append (written options parts) (codes "$"))
 
--- ---- every matcher
+-- ---- any matcher
 
 made_value : {E : Type 0} (IsEngine : List ℕ → Result E ErrorView → Type 0) (regexp : List ℕ) (value other : Result E ErrorView) → IsEngine regexp other → RegExp value ≡ RegExp other → IsEngine regexp value
 made_value IsEngine regexp value other is e = let same : value ≡ other = cc e in subst (λ made. IsEngine regexp made) (sym same) is
@@ -212,7 +212,7 @@ made_between IsEngine options front [] back matcher value made e = absurd (not_f
 made_between IsEngine options front (part ∷ []) back matcher value made e = made_one IsEngine options part.kind part.modifier front part back matcher value made e
 made_between IsEngine options front (part ∷ next ∷ parts) back matcher value (other, is, made) e = made_value IsEngine _ value other is (sym e ∙ ap (λ m. m.inner) made)
 
--- what needs no engine
+-- The result of a matcher without an engine.
 pub fast_taken : {E : Type 0} (answer : E → List ℕ → Option Captures) (options : OptionsView) (parts : List PartView) (matcher : MatcherView E) (text : List ℕ) (result : Option Captures) → All IsNotCustom parts →
     ((captures : Captures) → Matches answer matcher text captures ↔ PartsMean options parts text captures) → Answers answer matcher text result → IsSomeIfTaken options parts text result
 fast_taken answer options parts matcher text (Some captures) plain same matches = (λ some. means_takes options parts text captures ((same captures).0 matches), λ takes. refl)
@@ -221,22 +221,22 @@ fast_taken answer options parts matcher text None plain same never = (
   λ takes. let means = (parts_take_meanings options parts text plain).0 takes in absurd (never means.0 ((same means.0).1 means.1)),
 )
 
--- what the engine has of the parts between the ends: its value was made of their text
+-- The engine's value was made of the text of the middle parts.
 pub record IsOfMiddle {E : Type 0} (engine : Engine E) (Fits : (regexp : List ℕ) → Type 0) (options : OptionsView) (flags : List ℕ) (middle : List PartView) (value : E) : Type 0 where
   pub alone : AllStandAlone middle
   pub fits : Fits (regexp_text options middle)
   pub is_made : engine.IsMade value (regexp_text options middle) flags
 
--- there is room for the expression of some parts where there is for that of more
+-- An expression of some of the parts is short enough if that of all parts is.
 abbrev pub HasRoomForFewer : Room → Type 0
 HasRoomForFewer Fits =
     (options : OptionsView) (parts middle : List PartView) → length (written options middle) ≤ length (written options parts) → Fits (regexp_text options parts) → Fits (regexp_text options middle)
 
--- what an engine took, it took with flags that are kept
+-- An expression that the engine accepted was accepted with flags that keep case.
 abbrev pub TookAsKept : {E : Type 0} → Taking E → Keeping → Type 0
 TookAsKept {E} Took Keeps = (options : OptionsView) (flags : List ℕ) (inner : InnerView E) → options.ignore_case ≡ false → Took options flags inner → TookText (λ value. Keeps flags) inner
 
--- a matcher asks no engine, or a value that was made of the text of the parts between the ends
+-- A matcher has no engine, or a value that was made of the text of the middle parts.
 pub matcher_asks : {E : Type 0} (engine : Engine E) (Keeps : Keeping) (Fits : Room) (Took : Taking E) → HasRoomForFewer Fits → TookAsKept Took Keeps
     → (options : OptionsView) (flags : List ℕ) (parts : List PartView) (matcher : MatcherView E) (made : IsTakenAlone engine Fits Took options flags parts matcher)
     → (Is : Type 0) → (IsFast matcher.inner → Is)
@@ -258,7 +258,8 @@ matcher_asks {E} engine Keeps Fits Took shorter took options flags parts matcher
           is_made = made_between (IsEngineOf engine false flags) options (end_text m.front) m.middle (end_text m.back) matcher (Ok value) m.is_made e;
         })
 
--- where the engine took its text, and its values answer captures to what the parts take, so do the matchers
+-- If the values of an engine return captures for the texts that the parts match, the matchers with
+-- accepted expressions do too.
 pub matchers_taken : {E : Type 0} (engine : Engine E) (Keeps : Keeping) (Fits : Room) (Took : Taking E) → ValuesAnswerTaken engine Keeps Fits → HasRoomForFewer Fits → TookAsKept Took Keeps
     → MatchersAnswerTaken engine Fits Took
 matchers_taken engine Keeps Fits Took values shorter took options flags parts matcher made text result no_feed fine answers =

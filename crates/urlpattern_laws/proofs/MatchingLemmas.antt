@@ -1,4 +1,4 @@
--- What patterns match, by their parts.
+-- The texts that patterns match, by their parts.
 use Rattle.std.proofs.Common.{◌⊎◌, ℕ, List, inl, inr, sym, subst}
 use Rattle.std.proofs.lemmas.Str.{scalars-chars, IsUtf8-string_bytes}
 use Rattle.std.specs.Prelude.{⊤, Option, Some, None, String, string_bytes}
@@ -25,9 +25,9 @@ use Rattle.urlpattern_syntax.specs.Options.{OptionsView, options_view}
 use Rattle.urlpattern_syntax.specs.Parts.{PartView, parts_view}
 use Rattle.urlpattern_syntax.specs.Text.{text_of}
 
--- ---- one component
+-- ---- a single component
 
--- an answer that agrees with the parts says whether they mean the text
+-- A result that agrees with the parts says whether they mean the text.
 pub by_answer : {E : Type 0} (answer : E → List ℕ → Option Captures) (matcher : MatcherView E) (options : OptionsView) (parts : List PartView) (text : List ℕ) (found : Option Captures) →
     Answers answer matcher text found → Agrees options parts text found → MeansText options parts text → IsMatched answer matcher text
 by_answer answer matcher options parts text (Some captures) answers agrees means = (captures, answers)
@@ -35,7 +35,7 @@ by_answer answer matcher options parts text None answers agrees means = absurd (
 
 -- ---- a whole pattern
 
--- a pattern that was made of its parts matches what they mean, by an engine that answers first ways
+-- A pattern made of its parts matches what they mean, if the engine returns first ways.
 pub own_parts_mean : {E : Type 0} (engine : Engine E) (Took : Taking E) → EachAnswersFirst engine Took →
     ((options : OptionsView) (inner : InnerView E) → TookText (λ value. ⊤) inner → Took options (engine_flags options) inner) → OwnPartsMean engine
 own_parts_mean engine Took firsts taken pattern parts made name known text line =
@@ -67,7 +67,7 @@ meant_component answer pattern asked parts asked_parts name text are asked_are (
 meant_component answer pattern asked parts asked_parts name text are asked_are (inr within) line matched =
     (are name within.known text line).1 (within.within text line.characters line.no_line_feed ((asked_are name within.asked_known text line).0 matched))
 
--- parts that are the same cover by meaning, where that is known
+-- Equal parts cover by meaning, where the meaning is known.
 meant_or_same : (component asked : ComponentParts) → IsComponentCovered component asked → IsCoveredByMeaning component asked ⊎ (¬ IsKnown component × AreSame component asked)
 meant_or_same component asked (inl each_line) = inl (inl each_line)
 meant_or_same component asked (inr (inl within)) = inl (inr within)

@@ -1,4 +1,4 @@
--- Each init is compiled to a pattern, or it is refused.
+-- Each init is compiled to a pattern, or it is rejected.
 use Rattle.std.proofs.Common.{◌≡◌, ℕ, ◌⊎◌, Bool, true, false, List, [], ◌∷◌, ◌++◌, ap, inl, inr, refl, subst, sym, ◌∙◌}
 use Rattle.std.proofs.lemmas.List.{append-nil}
 use Rattle.std.proofs.lemmas.List.Folds.{Any-from_list_any, list_any-from_Any}
@@ -79,7 +79,7 @@ peeled (part ∷ parts) = front_end part parts (bool_decided (is_plain part))
 -- ---- matchers
 
 module _ {E : Type 0} (IsEngine : List ℕ → Result E ErrorView → Type 0) (options : OptionsView) where
-  -- what the engine makes of these parts
+  -- A result of the engine for these parts.
   abbrev Makes : List PartView → Type 0
   Makes parts = (made : Result E ErrorView) × IsEngine (regexp_text options parts) made
 
@@ -103,7 +103,7 @@ module _ {E : Type 0} (IsEngine : List ℕ → Result E ErrorView → Type 0) (o
       let (matcher, is_made) = between (end_text front) middle (end_text back) (makes (option_to_list front) middle (option_to_list back) are_peeled.cut) in
       (matcher, record { front = front; middle = middle; back = back; are_peeled = are_peeled; is_made = is_made })
 
--- ---- refusals of texts
+-- ---- rejected texts
 
 first_of_texts : (encoding : Encoding) (list : List Demand) (error : ErrorView) → FirstFails (of_texts encoding) list error → IsOfTexts error
 first_of_texts encoding [] error fails = absurd fails
@@ -116,13 +116,13 @@ refusal_of_texts : (text : List ℕ) (options : OptionsView) (encoding : Encodin
 refusal_of_texts text options encoding error (inl (fault, place, is, named)) = subst IsOfTexts (sym named) (λ same. cc, λ same. cc)
 refusal_of_texts text options encoding error (inr demand) = first_of_texts encoding (demands (items_of demand.pieces) demand.ending) error demand.fails
 
--- ---- one component
+-- ---- a single component
 
 abbrev Outcome : {E : Type 0} → Engine E → Manner → Type 0
 Outcome {E} engine manner =
     ((compiled : ComponentView E) × IsComponentCompiled engine manner compiled) ⊎ ((error : ErrorView) × IsOfTexts error × IsComponentRefused engine manner error)
 
--- the engine answers for parts in a row that the pattern text reads as
+-- The engine has a result for parts in a row of the pattern text.
 abbrev AnswersParts : {E : Type 0} → Engine E → Manner → Type 0
 AnswersParts {E} engine manner = (parts before middle after : List PartView) → ReadsAs manner parts → parts ≡ before ++ middle ++ after →
     (made : Result E ErrorView) × IsEngineOf engine false (engine_flags manner.options) (regexp_text manner.options middle) made

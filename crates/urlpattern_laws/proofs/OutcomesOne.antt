@@ -1,4 +1,4 @@
--- An init is compiled to a pattern or refused, and not both.
+-- An init is either compiled to a pattern or rejected.
 use Rattle.std.proofs.Common.{◌≡◌, ℕ, Bool, true, false, List, [], ◌∷◌, ap, inl, inr, refl, subst, sym, ◌∙◌}
 use Rattle.std.specs.Prelude.{Option, Result, Ok, Err, String, IsOk, encode_utf8_all, length, option_to_list}
 use Rattle.std.specs.Str.{chars}
@@ -34,9 +34,9 @@ use Rattle.urlpattern_syntax.specs.Parts.{PartView}
 use Rattle.urlpattern_syntax.specs.Reading.{Refuses, answer_view}
 use Rattle.urlpattern_syntax.specs.RegexpText.{regexp_text}
 
--- ---- answers of `url`
+-- ---- results of `url`
 
--- an answer that is no want of memory and no length
+-- The result is neither out of memory nor a text too long.
 abbrev pub Passes : Result (List ℕ) ErrorView → Type 0
 Passes answer = (error : ErrorView) → answer ≡ Err error → IsOfTexts error
 
@@ -46,7 +46,7 @@ texts_pass text error same = absurd cc
 error_passes : (error : ErrorView) → IsOfTexts error → Passes (Err error)
 error_passes error of other same = let one : error ≡ other = cc same in subst IsOfTexts one of
 
--- the answer as it is seen
+-- The result of `url` with its error as an error of patterns.
 seen : Parsed (List ℕ) → Result (List ℕ) ErrorView
 seen (Ok text) = Ok text
 seen (Err reason) = Err (views.Url reason)
@@ -70,9 +70,9 @@ of_texts_once canonical text answer other ((returned, is, same), passes) ((anoth
     let bytes = length (encode_utf8_all text) in
     answer_seen asked bytes answer returned passes is same ∙ sym (answer_seen asked bytes other another pass is_too same_too)
 
--- ---- one component
+-- ---- a single component
 
--- what is read is not refused
+-- A text that reads as parts is not rejected.
 read_or_refused : (manner : Manner) (parts : List PartView) (error : ErrorView) → IsOfTexts error → ReadsAs manner parts → Refuses manner.text manner.options (canonical_encoding manner.canonical) error → ⊥
 read_or_refused manner parts error of reads refuses =
     let encoding = canonical_encoding manner.canonical in
@@ -80,7 +80,7 @@ read_or_refused manner parts error of reads refuses =
     (still_reads Passes texts_pass encoding manner.text manner.options parts reads)
     (still_refuses Passes texts_pass encoding manner.text manner.options error (error_passes error of) refuses)
 
--- it is refused with one error
+-- A pattern text is rejected with one error only.
 refusals_one : (manner : Manner) (error other : ErrorView) → IsOfTexts error → IsOfTexts other → Refuses manner.text manner.options (canonical_encoding manner.canonical) error →
     Refuses manner.text manner.options (canonical_encoding manner.canonical) other → error ≡ other
 refusals_one manner error other of too refuses also =
@@ -96,7 +96,7 @@ module _ {E : Type 0} (engine : Engine E) (manner : Manner) where
   whole_too has flags regexp (Ok value) (Ok other) either takes is refuses = refl
   whole_too has flags regexp (Err error) other either takes is refuses = let never : false ≡ true = is in cc never
 
-  -- an engine that has what a component needs has it for another one of the same parts
+  -- An engine that a component needs exists for any component of the same parts.
   has_too : (parts : List PartView) (compiled other : ComponentView E) → TakesOrRefusesText engine manner → ReadsAs manner parts →
       IsComponentOf engine manner.options parts compiled → IsComponentOf engine manner.options parts other → HasEngine compiled → HasEngine other
   has_too parts compiled other either reads is is_other has = record {
@@ -108,7 +108,7 @@ module _ {E : Type 0} (engine : Engine E) (manner : Manner) where
         (either.of_matcher parts (option_to_list made.front) made.middle (option_to_list made.back) reads made.are_peeled.cut) has.of_matcher;
   }
 
-  -- a component is not both compiled and refused
+  -- A component is not both compiled and rejected.
   compiled_or_refused : (compiled : ComponentView E) (error : ErrorView) → TakesOrRefusesText engine manner → IsOfTexts error → IsComponentCompiled engine manner compiled → IsComponentRefused engine manner error → ⊥
   compiled_or_refused compiled error either of ((parts, reads, is), has) (inl refuses) = read_or_refused manner parts error of reads refuses
   compiled_or_refused compiled error either of ((parts, reads, is), has) (inr (refused, (others, also, is_other), refusal, named)) =
@@ -152,7 +152,7 @@ module _ {E : Type 0} (engine : Engine E) (asked : UrlPatternOptions) (values : 
   abbrev protocol_manner : Manner
   protocol_manner = manner_of asked values false Protocol
 
-  -- the pathname is of one kind
+  -- The kind of the pathname is determined.
   path_kind_one : (protocol other : ComponentView E) (kind other_kind : Bool) → IsComponentCompiled engine protocol_manner protocol → IsComponentCompiled engine protocol_manner other →
       IsPathKind engine.answer values protocol.matcher kind → IsPathKind engine.answer values other.matcher other_kind → kind ≡ other_kind
   path_kind_one protocol other kind other_kind is_compiled is_other is also =
@@ -200,7 +200,7 @@ init_refusal_one engine init asked values error other are_values decides of too 
 
 -- ---- engines that decide
 
--- a component whose pattern text has a meaning answers by it
+-- A component whose pattern text has a meaning matches by the text.
 answers_by : {E : Type 0} (engine : Engine E) (manner : Manner) (compiled : ComponentView E) → MakesFirstWays engine → HasMeaning manner → IsComponentCompiled engine manner compiled → AnswersByText engine.answer manner compiled
 answers_by engine manner compiled firsts has is_compiled =
     component_by engine manner compiled is_compiled has (λ parts reads is_component generated. firsts manner.options (engine_flags manner.options) parts compiled.matcher (record {

@@ -1,4 +1,4 @@
--- If the regular expression of parts is of characters, so are the texts of the parts in it.
+-- If the regular expression of parts is of characters, the texts of the parts in it are too.
 use Rattle.std.proofs.Common.{◌≡◌, ◌≢◌, ℕ, List, [], ◌∷◌, ◌++◌, Bool, true, false, ◌&&◌, refl, sym, ap, ◌∙◌, codes, if◌then◌else◌, true≢false}
 use Rattle.std.proofs.lemmas.Bool.{and_parts, and_from}
 use lib.Utf8.{scalars}
@@ -13,7 +13,7 @@ use Rattle.urlpattern_syntax.specs.declared.parser.PartType.TheVariants.{FixedTe
 use Rattle.urlpattern_syntax.specs.RegexpText.{affixed_regexp, bare_regexp, captured, escaped, escaped_marks, escaped_regexp, fixed_regexp, group_regexp, grouped, is_empty, is_fixed_text, matched_by, part_regexp, repeated_regexp}
 use Rattle.urlpattern_syntax.specs.Text.{is_among}
 
--- the texts of a part that its regular expression has
+-- The texts of a part that occur in its regular expression are of characters.
 pub record IsOfCharacters (part : PartView) : Type 0 where
   pub value : part.kind ≡ FixedText → scalars part.value ≡ true
   pub prefix : part.kind ≢ FixedText → scalars part.prefix ≡ true

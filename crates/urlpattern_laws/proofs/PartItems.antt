@@ -1,4 +1,4 @@
--- The regular expression of parts is read as items that take exactly the texts that the parts take.
+-- The regular expression of parts is read as items that match exactly the texts of the parts.
 use Rattle.std.proofs.Common.{Option, Some, ◌+◌, ◌≡◌, ◌≢◌, inl, inr, ℕ, suc, List, [], ◌∷◌, Bool, true, false, ◌&&◌, refl, sym, true≢false, if◌then◌else◌}
 use Rattle.std.proofs.lemmas.Bool.{and_parts}
 use Rattle.std.proofs.lemmas.List.Elements.{All-head, All-tail}
@@ -25,7 +25,7 @@ use Rattle.urlpattern_syntax.specs.RegexpText.{affixed_regexp, bare_regexp, esca
 use Rattle.urlpattern_syntax.specs.Text.{IsRepeated}
 use Rattle.urlpattern_laws.proofs.GroupItems.{Counted, Exactly, affixed_group, bare_group, fixed_part, group_sense}
 
--- ---- one part
+-- ---- a single part
 
 empty_by : (text : List ℕ) → is_empty text ≡ true → text ≡ []
 empty_by [] h = refl
@@ -47,7 +47,7 @@ group_items : (options : OptionsView) (kind : PartType) (modifier : PartModifier
     → AreItemsOf (group_regexp options (part_of kind modifier value name prefix suffix)) (group_sense (is_empty prefix && is_empty suffix) modifier prefix suffix (CapturesNothing kind value) (IsTakenPiece options kind value) (piece_ways options kind value))
 group_items options kind modifier value name prefix suffix group stands p s = group_by (is_empty prefix && is_empty suffix) options kind modifier value prefix suffix refl group stands p s
 
--- copies, and their capture
+-- Copies of a group, with their capture.
 group_copies : (Is : Texts) (kind : PartType) (modifier : PartModifier) (value name prefix suffix text : List ℕ) (captures : Captures) → GroupMeans Is (is_empty prefix && is_empty suffix) modifier prefix suffix text captures
     → (n : ℕ) × Allows modifier n × IsRepeated (IsBetween Is prefix suffix) n text × ((capture : Option (List ℕ)) × IsCapture (part_of kind modifier value name prefix suffix) n text capture × (captures ≡ capture ∷ []))
 group_copies Is kind modifier value name prefix suffix text captures (inl (allowed, none, all)) = (0, allowed, none, (capture_of_none modifier (is_empty prefix && is_empty suffix), refl, all))

@@ -1,4 +1,5 @@
--- The first way of parts is that of the parts between the ends, where plain fixed texts are removed.
+-- The first way of parts is that of the middle parts, where plain fixed texts at the ends are
+-- removed.
 use Rattle.std.proofs.Common.{◌≡◌, ℕ, List, [], ◌∷◌, ◌++◌, map, find, length, Option, Some, None, option_map, Bool, true, false, cond, ◌&&◌, ◌==◌, refl, sym, ap, ap₂, ◌∙◌, subst, append_assoc, append-nil, map-id, eq-eqb, eqb-true, ne_eqb, length-append, inl, inr, arith, true≢false}
 use Rattle.std.proofs.Math.Path.{fun_ext}
 use Rattle.std.proofs.lemmas.Bool.{cond-false, cond-true}
@@ -31,7 +32,7 @@ use Rattle.urlpattern_syntax.specs.declared.parser.PartModifier.TheVariants as m
 use Rattle.urlpattern_syntax.specs.declared.parser.PartType.{PartType}
 use Rattle.urlpattern_syntax.specs.declared.parser.PartType.TheVariants.{FixedText}
 
--- ---- what the ways of choices mean
+-- ---- the meaning of ways
 
 sound_followed : (first next : Choice) (A B : Caps) → AreSound first A → AreSound next B → AreSound (followed_by first next) (Then A B)
 sound_followed first next A B sound also text =
@@ -43,11 +44,11 @@ sound_followed first next A B sound also text =
     ))
     (also way.rest))
 
--- a given text, whatever is captured
+-- A given text, with any captures.
 abbrev Given : List ℕ → Caps
 Given given text captures = text ≡ given
 
--- any text
+-- Any text, with any captures.
 abbrev Any : Caps
 Any text captures = Unit {0}
 
@@ -93,14 +94,14 @@ continued_twice next last (way ∷ xs) =
     ap₂ ◌++◌ (joined_all way last (next way.rest)) (continued_twice next last xs)
     ∙ sym (continued_both last (map (joined_way way) (next way.rest)) (continued next xs))
 
--- nothing after a way
+-- No choice after a way.
 pub continued_idle : (xs : List Way) → continued (λ text. idle 0 text ∷ []) xs ≡ xs
 continued_idle [] = refl
 continued_idle (way ∷ xs) =
     let same : joined_way way (idle 0 way.rest) ≡ way = ap₂ (λ t c. way_of t c way.rest) (append-nil way.taken) (append-nil way.captures) in
     ap₂ (λ (w : Way) (l : List Way). w ∷ l) same (continued_idle xs)
 
--- nothing before a choice
+-- No choice before a choice.
 idle_continued : (next : Choice) (text : List ℕ) → next text ≡ continued next (idle 0 text ∷ [])
 idle_continued next text = sym (append-nil (map (joined_way (idle 0 text)) (next text)) ∙ map-id (next text))
 
@@ -118,13 +119,13 @@ seen_after : (given rest : List ℕ) (xs : List Way) → seen (map (joined_way (
 seen_after given rest [] = refl
 seen_after given rest (way ∷ xs) = ap (λ l. seen_of way ∷ l) (seen_after given rest xs)
 
--- a given text at the front takes itself
+-- A given text matches itself at the start of a text.
 first_after : (given rest : List ℕ) (next : Choice) → first_of (continued next (exactly given (given ++ rest))) ≡ first_of (next rest)
 first_after given rest next =
     let xs = map (joined_way (way_of given [] rest)) (next rest) in
     ap (λ all. first_of (continued next all)) (exactly_here given rest) ∙ ap first_of (append-nil xs) ∙ first_seen xs (next rest) (seen_after given rest (next rest))
 
--- it is taken as the tree of its characters is
+-- The ways of a given text are those of the tree of its characters.
 pub exactly_put : (marks given : List ℕ) → exactly given ≡ ways (put marks given Nothing)
 exactly_put marks [] = refl
 exactly_put marks (c ∷ given) =
@@ -132,7 +133,7 @@ exactly_put marks (c ∷ given) =
 
 -- ---- a given text at the end
 
--- ways that leave something are passed over
+-- Ways that leave some text are skipped.
 passed_over : (way : Way) (ms xs : List Way) → Every (λ m. takes_all m ≡ false) ms → first_of (map (joined_way way) ms ++ xs) ≡ first_of xs
 passed_over way [] xs every = refl
 passed_over way (m ∷ ms) xs every =
@@ -145,13 +146,13 @@ module _ (given : List ℕ) where
       every-weaker (IsSound way.rest (Given given)) _ (exactly given way.rest)
       (λ m p. ne_eqb (length m.rest) 0 (λ none. differs (omega (arith, ap length p.0, length-append m.taken m.rest, ap length p.1, none)))) (sound_exactly given way.rest)
 
-  -- where the text is all that is left, it is taken, and nothing else is captured
+  -- If the given text is all that is left, it matches without further captures.
   one_all : (way : Way) (xs : List Way) → way.rest ≡ given → first_of (map (joined_way way) (exactly given way.rest) ++ xs) ≡ Some way.captures
   one_all way xs e =
       ap (λ (ms : List Way). first_of (map (joined_way way) ms ++ xs)) (ap (exactly given) (e ∙ sym (append-nil given)) ∙ exactly_here given [])
       ∙ ap Some (append-nil way.captures)
 
-  -- so the first way of ways before the text is the first of those that leave it
+  -- The first way of a choice before the given text is the first of the ways that leave it.
   first_before : (xs us : List Way) → Cut given xs us → first_of (continued (exactly given) xs) ≡ first_of us
   first_before [] us e = ap first_of (sym e)
   first_before (way ∷ xs) us (inl (less, p)) =
@@ -172,7 +173,7 @@ module _ (given : List ℕ) where
           ∙ sym (ap first_of e ∙ ap (λ (t : List ℕ). option_map (λ (w : Way). w.captures) (cond (length t == 0) (Some other) (find takes_all others))) g
           ∙ ap (option_map (λ (w : Way). w.captures)) (cond-false (length (c ∷ rest) == 0) (Some other) (find takes_all others) (ne_eqb (length (c ∷ rest)) 0 (λ none. omega (arith, none)))))
 
--- what the first way captures is what its kind captures
+-- A fact on each way holds of the captures of the first.
 first_is : (text : List ℕ) (Is : Caps) (all : List Way) (captures : Captures) → Every (IsSound text Is) all → first_of all ≡ Some captures → Is text captures
 first_is text Is [] captures every e = absurd (none-some _ e)
 first_is text Is (way ∷ all) captures every e = by (takes_all way) refl e (first_is text Is all captures every.1)
@@ -198,13 +199,13 @@ module _ (options : OptionsView) where
   plain_ways_by FixedText modifiers.None value name prefix suffix text h = continued_idle (exactly value text)
   plain_ways_by kind modifier value name prefix suffix text h = absurd (true≢false (sym h))
 
-  -- what is removed at an end
+  -- The ways of an end that is removed.
   end_ways : (end : Option PartView) (IsThere : Type 0) → IsRemoved end IsThere → parts_ways options (option_to_list end) ≡ exactly (end_text end)
   end_ways None IsThere goes = refl
   end_ways (Some part) IsThere goes = fun_ext (λ text. plain_ways_by part.kind part.modifier part.value part.name part.prefix part.suffix text goes)
 
   module _ (parts : List PartView) (front : Option PartView) (middle : List PartView) (back : Option PartView) (peeled : ArePeeled parts front middle back) where
-    -- the parts between the ends, and the text at the back
+    -- The middle parts, and the text of the final end.
     abbrev rest_ways : Choice
     rest_ways = followed_by (parts_ways options middle) (exactly (end_text back))
 
@@ -223,7 +224,7 @@ module _ (options : OptionsView) where
         ∙ first_after (end_text front) (inner ++ B) rest_ways
         ∙ first_before B (parts_ways options middle (inner ++ B)) (parts_ways options middle inner) ((steady_parts options middle).same B inner)
 
-    -- a text between the ends
+    -- A text between the ends.
     abbrev Between : Caps
     Between text captures = (inner : List ℕ) × (text ≡ end_text front ++ inner ++ end_text back)
 
@@ -239,7 +240,7 @@ module _ (options : OptionsView) where
         (sound_followed (parts_ways options middle) (exactly (end_text back)) Any (Given (end_text back))
         (λ t. every-weaker (IsSound t (HasCaptures (parts_count middle))) (IsSound t Any) (parts_ways options middle t) (λ way p. (p.0, tt)) ((steady_parts options middle).cuts t)) (sound_exactly (end_text back))) text))
 
-    -- the parts take no other text
+    -- The parts match no other text than one between the ends.
     pub between_ends : (text : List ℕ) (captures : Captures) → parts_first_way options parts text ≡ Some captures → (inner : List ℕ) × (text ≡ end_text front ++ inner ++ end_text back)
     unfolding parts_first_way
     between_ends text captures e = first_is text Between (parts_ways options parts text) captures (between_sound text) e

@@ -1,4 +1,5 @@
--- Fixed texts and the pieces of groups, as the grammar of `regex` reads them in the regular expression of parts.
+-- Fixed texts and the pieces of groups, as the grammar of `regex` reads them in the regular
+-- expression of parts.
 use Rattle.std.proofs.Common.{◌≡◌, ◌≢◌, ℕ, List, [], ◌∷◌, ◌++◌, Bool, true, false, not, ◌&&◌, ◌||◌, ◌==◌, Option, Some, None, nat_le, if◌then◌else◌, refl, sym, ap, ◌∙◌, subst, append_assoc, append-nil, codes, encode_utf8, lt-ltb, le-leb, eq-eqb, arith, length, unwrap_or}
 use Rattle.std.proofs.lemmas.Bool.{and_parts, and_from}
 use Rattle.std.proofs.lemmas.Option.{same_Some}
@@ -58,7 +59,7 @@ unfolding first
 not_open (Plain c) h rest = differs regexp_marks c 40 h refl
 not_open (Escaped c) h rest = refl
 
--- one character, that is given
+-- The character `c`.
 abbrev one_of_text : ℕ → Choice
 one_of_text c = one_that (λ other. other == c)
 
@@ -118,7 +119,7 @@ below c scalar b =
     let fits : nat_le c 0x10_FFFF ≡ true = le-leb c 0x10_FFFF (omega (arith, InScalarRange-of_IsScalar c scalar)) in
     rw fits refl
 
--- a class takes the characters of its set
+-- A class matches the characters of its set.
 tries_set : (set : Set) (passes : ℕ → Bool) → ((c : ℕ) → IsScalar c → set c ≡ passes c) → (g : ℕ) → Tries g (one_that passes) (char_in (members set))
 tries_set set passes same g =
     tries_class g passes (members set)
@@ -132,7 +133,7 @@ but_same : (c d : ℕ) → IsScalar d → negate default_config (λ d. (d == c) 
 unfolding one_of negate
 but_same c d scalar = below d scalar (not ((d == c) || false)) ∙ ap not (or-false (d == c))
 
--- one character, but not this
+-- Any character except `c`.
 abbrev one_but : ℕ → Choice
 one_but c = one_that (λ other. not (other == c))
 
@@ -202,7 +203,7 @@ full_same options text good =
       λ is. let found = taken.0 (means.1 (is, refl)) in (found.0, found.1),
     )
 
--- ---- what a part's group matches
+-- ---- the content of groups
 
 abbrev pub piece_sense : OptionsView → PartType → (value : List ℕ) → Sense
 piece_sense options kind value = quiet (CapturesNothing kind value) (IsTakenPiece options kind value) (piece_ways options kind value)

@@ -1,5 +1,5 @@
--- What is made of texts that are a plain fixed text, an asterisk or nothing: their parts, what these mean, and what a component
--- of them answers.
+-- Pattern texts that are a plain fixed text, an asterisk or empty: their parts, the meaning of
+-- these, and the results of components made of them.
 use Rattle.std.proofs.Common.{◌≡◌, ℕ, List, [], ◌∷◌, ◌++◌, refl, sym, ap, ◌∙◌, append_assoc, subst, inl, None, Some, Ok, Err, ◌↔◌}
 use Rattle.std.proofs.lemmas.List.{append-nil}
 use Rattle.std.specs.Char.{encode_utf8}
@@ -39,24 +39,24 @@ use Rattle.urlpattern_syntax.specs.declared.tokenizer.TokenType.TheVariants.{Ast
 
 -- ---- parts
 
--- what is made of a fixed text
+-- The value of a fixed text.
 pub canonical_value : (canonical : List ℕ → Parsed (List ℕ)) (text value answer : List ℕ) → chars (encode_utf8_all text) ≡ text → canonical text ≡ Ok answer →
     canonical_encoding canonical text (Ok value) → value ≡ answer
 canonical_value canonical text value answer kept is (Ok string, asked, same) =
     let one : canonical text ≡ Ok (text_of string) = ap canonical (sym kept) ∙ asked in cc
 canonical_value canonical text value answer kept is (Err error, asked, same) = absurd cc
 
--- one plain fixed text
+-- A single plain fixed text.
 abbrev pub literal : List ℕ → List PartView
 literal text = fixed_text text modifiers.None ∷ []
 
--- a text that has one plain fixed text, which is kept
+-- A text of a single plain fixed text, which is kept.
 pub literal_read : (canonical : List ℕ → Parsed (List ℕ)) (text : List ℕ) (parts : List PartView) → chars (encode_utf8_all text) ≡ text → canonical text ≡ Ok text →
     (value : List ℕ) × (rest : List PartView) × (parts ≡ fixed_text value modifiers.None ∷ rest) × canonical_encoding canonical text (Ok value) × (rest ≡ []) → parts ≡ literal text
 literal_read canonical text parts kept is (value, rest, e, encoded, ended) =
     let same = canonical_value canonical text value text kept is encoded in cc
 
--- a full wildcard without a name
+-- A full wildcard without a name.
 abbrev pub anything : List PartView
 anything = group FullWildcard [] (codes "0") [] modifiers.None ∷ []
 
@@ -73,7 +73,7 @@ are_asterisk_tokens : AreTokens (codes "*") asterisk_tokens
 unfolding literals
 are_asterisk_tokens = tokens_of (token Asterisk 0 (codes "*") ∷ []) (next (mark (refl, refl) tt refl) done)
 
--- an asterisk reads as one
+-- An asterisk reads as a full wildcard.
 pub anything_read : (canonical : List ℕ → Parsed (List ℕ)) (parts : List PartView) → canonical [] ≡ Ok [] →
     Reads (codes "*") default_options (canonical_encoding canonical) parts → parts ≡ anything
 unfolding escaped encode_utf8 chars digits
@@ -86,11 +86,11 @@ anything_read canonical parts is reads =
     let ended : read.2 ≡ [] = read.6 in
     cc
 
--- an empty text reads as no part
+-- An empty text reads as no part.
 pub nothing_read : (options : OptionsView) (encoding : Encoding) (parts : List PartView) → Reads [] options encoding parts → parts ≡ []
 nothing_read options encoding parts reads = parts_of (token End 0 [] ∷ []) [] (token End 0 []) empty ([], refl, refl) reads
 
--- ---- what they mean
+-- ---- the meaning of the parts
 
 pub literal_means : (options : OptionsView) (value text : List ℕ) (captures : Captures) → PartsMean options (literal value) text captures ↔ ((text ≡ value) × (captures ≡ []))
 literal_means options value text captures = (
@@ -106,7 +106,7 @@ anything_means options text line = alone_means (record {
   are_captures = (Some text, (text, sym (append-nil text), refl), refl);
 })
 
--- one segment after its prefix
+-- A segment after its prefix.
 abbrev IsSegment : OptionsView → (prefix text : List ℕ) → Captures → Type 0
 IsSegment options prefix text captures = (id : List ℕ) × (text ≡ prefix ++ id) × IsWildcardText options SegmentWildcard id × (captures ≡ Some id ∷ [])
 
@@ -135,14 +135,14 @@ segment_means options prefix name text captures = (
   }),
 )
 
--- a plain fixed text, and then a segment after its prefix
+-- A plain fixed text, and then a segment after its prefix.
 abbrev pub text_and_segment : (front prefix name : List ℕ) → List PartView
 text_and_segment front prefix name = fixed_text front modifiers.None ∷ segment prefix name ∷ []
 
 segment_peeled : (front prefix name : List ℕ) → ArePeeled (text_and_segment front prefix name) (Some (fixed_text front modifiers.None)) (segment prefix name ∷ []) None
 segment_peeled front prefix name = record { cut = refl; front_removed = refl; back_removed = no }
 
--- what they mean: the text, the prefix and the segment, which is captured
+-- The meaning of a text and a segment: the text, the prefix and the segment, which is captured.
 abbrev pub IsTextAndSegment : OptionsView → (front prefix text : List ℕ) → Captures → Type 0
 IsTextAndSegment options front prefix text captures =
     (id : List ℕ) × (text ≡ front ++ prefix ++ id) × IsWildcardText options SegmentWildcard id × (captures ≡ Some id ∷ [])
@@ -164,12 +164,13 @@ text_and_segment_mean options front prefix name text captures =
 
 -- ---- a component
 
--- A component answers, to a line, what these parts mean, and has their names.
+-- A component that returns what these parts mean for each text without line feeds, and has their
+-- names.
 pub record IsOfParts (options : OptionsView) (parts : List PartView) (compiled : ComponentView PatternRegexp) : Type 0 where
   pub means : (text : List ℕ) (result : Option Captures) → IsLine text → Answers pattern_answer compiled.matcher text result → Agrees options parts text result
   pub names : compiled.group_name_list ≡ group_names parts
 
--- a compiled component whose text reads as these parts alone, none of them custom, where case is kept
+-- A compiled component, case kept, whose text reads as these parts alone, none of them custom.
 pub of_parts : (manner : Manner) (expected : List PartView) (compiled : ComponentView PatternRegexp) → IsComponentCompiled pattern_engine manner compiled →
     manner.options.ignore_case ≡ false → has_regexp expected ≡ false → ((parts : List PartView) → ReadsAs manner parts → parts ≡ expected) →
     IsOfParts manner.options expected compiled

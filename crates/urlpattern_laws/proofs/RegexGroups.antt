@@ -32,7 +32,7 @@ use Rattle.urlpattern_components.specs.Eight.{Texts, Values, at}
 
 module _ (manner : Manner) (compiled : ComponentView Regex) (is_compiled : IsComponentCompiled regex_engine manner compiled)
     (text : List ℕ) (premises : RegexPremises manner compiled text) where
-  -- the matcher is one that `regex` took
+  -- The matcher is one whose expression `regex` accepted.
   taken : (parts : List PartView) → IsComponentOf regex_engine manner.options parts compiled →
       IsTakenBy regex_engine (λ options flags. TookText (λ regex. ⊤)) manner.options (engine_flags manner.options) parts compiled.matcher
   taken parts is_component = record {

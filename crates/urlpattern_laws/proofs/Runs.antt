@@ -1,4 +1,4 @@
--- How an attempt at a pattern goes: where it ends, and what its groups write.
+-- The runs of an attempt at a pattern: where a run ends, and what its groups write.
 use Rattle.std.proofs.Common.{◌≡◌, ℕ, zero, suc, ◌+◌, ◌-◌, ◌*◌, List, [], ◌∷◌, ◌++◌, length, Some, Bool, true, false, cond, nat_lt, slice_get, ◌⊎◌, inl, inr, ⊎_elim, refl, sym, ap, ap₂, ◌∙◌, append_assoc}
 use Rattle.regex_class.specs.Ranges.{in_ranges}
 use Rattle.regex_hir.proofs.AttemptLemmas.{cond_some, is_some_and_parts, option_and_then_some}
@@ -9,7 +9,7 @@ use Rattle.regex_hir.specs.Re.{Re, empty, literal, byte_in, char_in, look, cat, 
 use Rattle.regex_hir.specs.Text.{char_at, has_bytes_at, is_some_and}
 use Rattle.urlpattern_engine.proofs.WayAnswers.{Writes, after_writes}
 
--- one or more rounds lead from i to the last number, and write this
+-- At least one round leads from `i` to the last number, with these writes.
 pub data RunRounds (R : ℕ → ℕ → Writes → Type 0) (i : ℕ) : ℕ → Writes → Type 0 where
   one_run : (j : ℕ) (own : Writes) → R i j own → RunRounds R i j own
   next_run : (l j : ℕ) (own more : Writes) → RunRounds R i l own → R l j more → RunRounds R i j (own ++ more)
@@ -40,7 +40,7 @@ run_matches hay re i j writes run = run.0
 
 -- ---- an attempt runs
 
--- R leads from i to a place from which k gave the rest of the trace
+-- R leads from `i` to a place at which `k` returned the rest of the trace.
 pub record RunsOn (R : ℕ → ℕ → Writes → Type 0) (k : Rest) (i : ℕ) (t : Trace) : Type 0 where
   pub at : ℕ
   pub own : Writes
@@ -58,7 +58,7 @@ more_writes own more t u v e f = e ∙ ap (after_writes own) f ∙ ap (λ ws. re
 abbrev RunsAlong : (Rest → Rest) → (ℕ → ℕ → Writes → Type 0) → Type 0
 RunsAlong body R = (k : Rest) (i : ℕ) (t : Trace) → body k i ≡ Some t → RunsOn R k i t
 
--- from j on, after rounds that led there
+-- The rest of a loop from `j` on, after rounds that led to `j`.
 rounds_run : (greedy : Bool) (body : Rest → Rest) (R : ℕ → ℕ → Writes → Type 0) → RunsAlong body R → (k : Rest) (i n j : ℕ) (own : Writes) (t : Trace) → RunRounds R i j own → rounds greedy body k n j ≡ Some t
     → (at : ℕ) × (all : Writes) × (rest : Trace) × RunRounds R i at all × (k at ≡ Some rest) × (after_writes own t ≡ after_writes all rest)
 unfolding rounds

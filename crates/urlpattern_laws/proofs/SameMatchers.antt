@@ -1,4 +1,4 @@
--- Matchers that were made of parts that are the same but for names.
+-- Matchers made of parts that are the same except for names.
 use Rattle.std.proofs.Common.{◌≡◌, ◌∙◌, ◌⊎◌, ℕ, Bool, true, false, List, [], ◌∷◌, ◌++◌, ap, ap₂, codes, inl, inr, map, refl, subst, sym, Option, Some, None, Result, Ok, Err}
 use Rattle.std.proofs.lemmas.List.{append-nil, map-append, same_from_push}
 use Rattle.std.specs.List.{flat_map}
@@ -48,7 +48,7 @@ parts_nameless options (part ∷ parts) = ap₂ ◌++◌ (part_nameless options 
 regexp_nameless : (options : OptionsView) (parts : List PartView) → regexp_text options (all_nameless parts) ≡ regexp_text options parts
 regexp_nameless options parts = ap (λ (text : List ℕ). codes "^" ++ text ++ codes "$") (parts_nameless options parts)
 
--- ---- plain ends have none
+-- ---- plain ends have no names
 
 list_nameless : (part : Option PartView) → all_nameless (option_to_list part) ≡ option_to_list (option_map nameless part)
 list_nameless (Some part) = refl
@@ -83,7 +83,7 @@ peeled_nameless parts front middle back peeled = record {
   back_removed = removed_nameless back (EndsPlain middle) (EndsPlain (all_nameless middle)) (ends_nameless middle) peeled.back_removed;
 }
 
--- ---- nor have matchers
+-- ---- matchers have no names
 
 module _ {E : Type 0} (IsEngine : List ℕ → Result E ErrorView → Type 0) (options : OptionsView) where
   engine_nameless : (prefix : List ℕ) (middle : List PartView) (suffix : List ℕ) (matcher : MatcherView E) → IsMadeByEngine IsEngine options prefix middle suffix matcher →
@@ -115,7 +115,7 @@ module _ {E : Type 0} (IsEngine : List ℕ → Result E ErrorView → Type 0) (o
         (between_nameless (end_text made.front) made.middle (end_text made.back) matcher made.is_made));
   }
 
--- ---- what they match
+-- ---- the texts that are matched
 
 middle_generated : (parts : List PartView) (front : Option PartView) (middle : List PartView) (back : Option PartView) → ArePeeled parts front middle back → AreGenerated parts → AreGenerated middle
 middle_generated parts front middle back peeled generated =
@@ -163,7 +163,7 @@ settled_nameless : (options : OptionsView) (parts : List PartView) → (options.
 settled_nameless options parts (inl kept) = inl kept
 settled_nameless options parts (inr generated) = inr (generated_nameless parts generated)
 
--- components that were made of the same parts match alike
+-- Components made of the same parts match the same texts.
 pub made_matched : {E : Type 0} (engine : Engine E) → MadeAreMatched engine
 made_matched {E} engine alike pattern asked parts asked_parts made also name unknown same =
     let component = at parts.components name in

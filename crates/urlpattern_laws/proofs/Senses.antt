@@ -1,4 +1,4 @@
--- What a pattern takes and captures, and what has to be known for its captures.
+-- The texts and captures of a pattern, and the condition under which its captures are known.
 use Rattle.std.proofs.Common.{◌≡◌, ℕ, suc, ◌+◌, List, [], ◌∷◌, ◌++◌, true, refl, sym, ap, ◌∙◌, subst, arith, max, true≢false}
 use Rattle.std.proofs.lemmas.Bool.{and_parts, and_from}
 use lib.Utf8.{scalars}
@@ -15,7 +15,8 @@ use Rattle.urlpattern_meaning.specs.PartMeaning.{Captures}
 use Rattle.urlpattern_meaning.specs.Ways.{Choice, idle, quantified_ways}
 use Rattle.urlpattern_engine.proofs.ItemsRead.{repeated_as}
 
--- Which texts are taken; with how many captures, which, and in which ways in their order, if this is known.
+-- The texts of a pattern, and, if `Known` holds: the number of captures, the captures and the ways,
+-- in order.
 pub record Sense : Type 1 where
   pub Is : List ℕ → Type 0
   pub count : ℕ
@@ -23,7 +24,7 @@ pub record Sense : Type 1 where
   pub Known : Type 0
   pub ways : Choice
 
--- no captures
+-- A sense without captures.
 abbrev pub quiet : Type 0 → Texts → Choice → Sense
 quiet Known Is ways = record { Is = Is; count = 0; Cap = Only Is; Known = Known; ways = ways }
 
@@ -36,7 +37,7 @@ whole s = record { Is = s.Is; count = suc s.count; Cap = Whole s.Cap; Known = s.
 abbrev pub perhaps : Sense → Sense
 perhaps s = record { Is = Quantified Optional s.Is; count = s.count; Cap = Perhaps s.count s.Cap; Known = s.Known; ways = quantified_ways Optional s.count s.ways }
 
--- the second says what the first says
+-- The second sense follows from the first.
 pub record SameSense (s u : Sense) : Type 0 where
   pub texts : AreSameTexts s.Is u.Is
   pub count : u.count ≡ s.count
@@ -58,7 +59,8 @@ joined_quiet K L M A B C first next p known = record {
 
 -- ---- patterns
 
--- the pattern, whose groups are from g on, takes these texts, and captures so if that is known
+-- The pattern, whose groups are numbered from g on, has the texts of the sense, and its captures
+-- and ways if they are known.
 pub record Fulfils (s : Sense) (g : ℕ) (re : Re) : Type 0 where
   pub denotes : Denotes re s.Is
   pub catches : s.Known → Catches g s.count re s.Cap
@@ -88,14 +90,14 @@ pub fulfils_quiet : (K : Type 0) (Is : Texts) (ways : Choice) (g : ℕ) (re : Re
 fulfils_quiet K Is ways g re d h cuts tries =
     record { denotes = d; catches = λ k. catches_silent g re Is d (h k); groupless = λ k none. h k; numbered = λ k. omega (arith, groupless_count re (h k)); cuts = cuts; tries = tries }
 
--- nothing, in one way
+-- The empty text, in a single way.
 abbrev pub no_text : Choice
 no_text text = idle 0 text ∷ []
 
 pub fulfils_empty : (g : ℕ) → Fulfils (quiet (Unit {0}) Nothing no_text) g empty
 fulfils_empty g = fulfils_quiet (Unit {0}) Nothing no_text g empty denotes_empty (λ k. refl) (λ k. cuts_idle 0) (λ k. tries_idle g 0)
 
--- a pattern that takes and captures the same as another
+-- A pattern with the texts and captures of another one.
 fulfils_by : (s : Sense) (g : ℕ) (a b : Re) → Fulfils s g a → Denotes b s.Is → (s.Known → Catches g s.count b s.Cap) → (is_groupless a ≡ true → is_groupless b ≡ true) → group_count b ≡ group_count a
     → (s.Known → Tries g s.ways b) → Fulfils s g b
 fulfils_by s g a b f d catches groupless same tries =

@@ -1,4 +1,5 @@
--- The ways of parts cut a text, and those that take nothing of a text after it are the same there.
+-- The ways of parts split a text, and the ways that leave a text after it whole are those without
+-- that text.
 use Rattle.std.proofs.Common.{ℕ, suc, ◌+◌, List, [], ◌∷◌, ◌++◌, length, Bool, true, false, Option, Some, None, not, ◌&&◌, ◌==◌, unwrap_or, refl, ap, arith, length-append}
 use Rattle.regex_class.specs.Ranges.{in_ranges}
 use Rattle.regex_hir.specs.Re.{Re, empty, literal, byte_in, char_in, look, cat, alt, group, plus}
@@ -27,7 +28,8 @@ falls_of : (choice : Choice) (n : ℕ) → Cuts choice n → Falls choice
 falls_of choice n cuts text =
     every-weaker (IsSound text (HasCaptures n)) _ (choice text) (λ way p. omega (arith, ap length p.0, length-append way.taken way.rest)) (cuts text)
 
--- each way cuts the text, with so many captures; and the ways in a longer text that leave it are those in the shorter
+-- Each way splits the text, with `count` captures, and the ways in a longer text that leave its end
+-- whole are those in the shorter one.
 pub record Steady (choice : Choice) (count : ℕ) : Type 0 where
   pub cuts : Cuts choice count
   pub same : (s : List ℕ) → IsCut s choice choice

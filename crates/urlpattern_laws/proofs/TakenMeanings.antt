@@ -1,4 +1,4 @@
--- Parts without a custom one take the texts that they mean.
+-- Parts without a custom one match the texts that they mean.
 use Rattle.std.proofs.Common.{ℕ, zero, suc, List, [], ◌∷◌, ◌++◌, Option, Some, refl}
 use Rattle.std.proofs.lemmas.List.Elements.{All-head, All-tail}
 use Rattle.std.specs.Prelude.{◌≢◌}
@@ -15,7 +15,7 @@ use Rattle.urlpattern_syntax.specs.declared.parser.PartType.{PartType}
 use Rattle.urlpattern_syntax.specs.declared.parser.PartType.TheVariants.{FixedText, Regexp, SegmentWildcard, FullWildcard}
 use Rattle.urlpattern_syntax.specs.Text.{IsRepeated}
 
--- so many copies have a capture
+-- Any number of copies has a capture.
 some_capture : (part : PartView) (IsPiece : List ℕ → Type 0) (n : ℕ) (text : List ℕ) → IsRepeated (IsBetween IsPiece part.prefix part.suffix) n text → (capture : Option (List ℕ)) × IsCapture part n text capture
 some_capture part IsPiece zero text are = (capture_of_no_copies part, refl)
 some_capture part IsPiece (suc n) text are = let found = copies_core IsPiece part.prefix part.suffix n text are in (Some found.0, (found.0, found.1, refl))
@@ -36,7 +36,7 @@ means_by : (options : OptionsView) (kind : PartType) (modifier : PartModifier) (
 means_by options Regexp modifier value name prefix suffix text captures means = absurd means.are_captures
 means_by options kind modifier value name prefix suffix text captures means = (means.count, means.allowed, means.are_copies)
 
--- a text that parts mean is one that they take
+-- A text that parts mean is a text that they match.
 pub means_takes : (options : OptionsView) (parts : List PartView) (text : List ℕ) (captures : Captures) → PartsMean options parts text captures → PartsTake options parts text
 means_takes options [] text captures means = means.0
 means_takes options (part ∷ parts) text captures (first, rest, own, others, cut, all, one, more) =

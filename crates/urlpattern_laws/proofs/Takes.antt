@@ -1,4 +1,4 @@
--- The texts that a pattern takes, character by character, wherever they stand.
+-- The texts that a pattern matches, character by character, at any place.
 use Rattle.std.proofs.Common.{◌≡◌, ℕ, zero, suc, ◌+◌, ◌≤◌, List, [], ◌∷◌, ◌++◌, length, drop, Option, Some, None, Bool, true, ◌==◌, ◌⊎◌, inl, inr, ⊎_elim, refl, sym, ap, ◌∙◌, subst, append_assoc, append-nil, length-append, arith, encode_utf8, eqb-true, true≢false}
 use Rattle.std.proofs.lemmas.Bool.{and_parts}
 use Rattle.std.proofs.lemmas.List.{drop_at}
@@ -55,7 +55,7 @@ pub nothing_in : (c : ℕ) → in_ranges [] c ≡ true → ⊥
 unfolding in_ranges
 nothing_in c h = true≢false (sym h)
 
--- the bytes of one character
+-- The bytes of a single character.
 pub character_of : (bytes : List ℕ) → is_one_character bytes ≡ true → (c : ℕ) × (char_at bytes 0 ≡ Some c) × IsScalar c × (bytes ≡ encode_utf8 c)
 character_of bytes h = of_found (char_at bytes 0) refl h
   where
@@ -70,7 +70,7 @@ module _ (whole : List ℕ) (good : scalars whole ≡ true) where
   abbrev hay : List ℕ
   hay = encodes whole
 
-  -- the character that stands after the front of the text
+  -- The character after the text before a place.
   pub char_here : (before : List ℕ) (c : ℕ) (rest : List ℕ) → before ++ c ∷ rest ≡ whole → char_at hay (at before) ≡ Some c
   char_here before c rest e =
       let scalar : IsScalar c = (and_parts _ _ (scalars_after before (c ∷ rest) (ap scalars e ∙ good))).0 in
@@ -78,7 +78,7 @@ module _ (whole : List ℕ) (good : scalars whole ≡ true) where
       ap (λ t. drop (at before) (encodes t)) (sym e) ∙ ap (drop (at before)) (encodes-append before (c ∷ rest)) ∙ drop_at (encodes before) (encodes (c ∷ rest)) (at before) refl in
       char_at_from hay (at before) c (encodes rest) scalar stands
 
-  -- a text whose first character is found
+  -- A text whose first character is found.
   first_is : (before text : List ℕ) (c : ℕ) → before ++ text ≡ whole → char_at hay (at before) ≡ Some c → (rest : List ℕ) × (text ≡ c ∷ rest)
   first_is before [] c e found =
       let past : length hay ≤ at before = omega (arith, ap at (sym e ∙ append-nil before)) in
@@ -92,7 +92,7 @@ module _ (whole : List ℕ) (good : scalars whole ≡ true) where
       → (rest : List ℕ) × (text ≡ (c ∷ []) ++ rest) × (j ≡ at (before ++ c ∷ []))
   one_character before text c e found j end = let is = first_is before text c e found in (is.0, is.1, end ∙ sym (at_push before c))
 
-  -- one stretch, and another after it
+  -- A substring, and then the one after it.
   stretches : (re : Re) (before text first rest : List ℕ) (l j : ℕ) → before ++ text ≡ whole → text ≡ first ++ rest → l ≡ at (before ++ first) → Matches hay re l j
       → ((before text : List ℕ) → before ++ text ≡ whole → (j : ℕ) → Matches hay re (at before) j → IsTakenFrom re before text j) → IsTakenFrom re (before ++ first) rest j
   stretches re before text first rest l j e cut is m takes =
@@ -148,7 +148,7 @@ module _ (whole : List ℕ) (good : scalars whole ≡ true) where
   matches_takes (group n a) h before text e j m = matches_takes a h before text e j m
   matches_takes (plus greedy a) h before text e j m = rounds_take a (matches_takes a h) greedy before text e j m
 
-  -- ---- the other way
+  -- ---- the converse
 
   abbrev pub StandsIn : (before taken rest : List ℕ) → Type 0
   StandsIn before taken rest = before ++ (taken ++ rest) ≡ whole

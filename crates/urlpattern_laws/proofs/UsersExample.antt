@@ -38,7 +38,7 @@ use Rattle.urlpattern_syntax.specs.declared.parser.PartType.TheVariants.{Segment
 use Rattle.urlpattern_syntax.specs.declared.parser.RegexSyntax.TheVariants.{Rust}
 use Rattle.urlpattern_syntax.specs.declared.tokenizer.TokenType.TheVariants.{End}
 
--- ---- what `url` makes of its fixed texts
+-- ---- the results of `url` for the fixed texts
 
 canonical_scheme : canonical_protocol (codes "https") ≡ Ok (codes "https")
 unfolding url_on_literals encode_utf8
@@ -56,7 +56,7 @@ canonical_slash : canonical_pathname (codes "/") ≡ Ok (codes "/")
 unfolding url_on_literals encode_utf8
 canonical_slash = refl
 
--- ---- the parts of its texts
+-- ---- the parts of the pattern texts
 
 protocol_read : (parts : List PartView) → Reads (codes "https") default_options (canonical_encoding canonical_protocol) parts → parts ≡ literal (codes "https")
 unfolding encode_utf8 chars
@@ -96,9 +96,9 @@ pathname_read parts reads =
     let ended : read.4.2 ≡ [] = read.4.6 in
     cc
 
--- ---- its values
+-- ---- the values of the pattern
 
--- the options of `UrlPatternOptions::default()`
+-- The options of `UrlPatternOptions::default()`.
 abbrev pub default_asked : UrlPatternOptions
 default_asked = record { regex_syntax = Rust; ignore_case = false }
 
@@ -116,7 +116,7 @@ users_compiled pattern is =
     let same : values ≡ users_values = cc (users_processed, processed) in
     subst (λ (of : Values). AreCompiled pattern_engine default_asked of pattern) same compiled
 
--- ---- its components
+-- ---- the components
 
 abbrev pub users_options : ComponentName → OptionsView
 users_options Hostname = hostname_options
@@ -144,7 +144,7 @@ each_of_parts pattern each Pathname = of_parts (manner Pathname) user_parts (pat
 each_of_parts pattern each Search = of_parts (manner Search) anything (pattern Search) (each Search) refl refl (λ parts. anything_read canonical_search parts refl)
 each_of_parts pattern each Hash = of_parts (manner Hash) anything (pattern Hash) (each Hash) refl refl (λ parts. anything_read canonical_hash parts refl)
 
--- each component is made of these parts; the pathname is hierarchical, as it begins with a slash
+-- Each component is made of these parts. The pathname is hierarchical, as it begins with a slash.
 pub users_of_parts : (pattern : PatternView PatternRegexp) → IsPatternOfText pattern_engine users_text None default_asked pattern → (component : ComponentName) →
     IsOfParts (users_options component) (users_parts component) (pattern component)
 users_of_parts pattern is =
@@ -152,9 +152,9 @@ users_of_parts pattern is =
     let hierarchical : compiled.hierarchical ≡ true = compiled.path_kind.1 (inr (inr refl)) in
     each_of_parts pattern (rw hierarchical at compiled.are_compiled)
 
--- ---- its own parts
+-- ---- the parts that the pattern keeps
 
--- the parts of its pathname are those of a path of segments
+-- The parts of the pathname are those of a path of segments.
 pub users_path : (pattern : UrlPattern PatternRegexp) → (kept : KeepsPartsOfText pattern_engine users_text None default_asked pattern) → kept_options (at kept.2.parts.components Pathname) ≡ pathname_options
 users_path pattern (init, constructed, kept) =
     let split = users_split (IsSpecialTo pattern_engine) (values_view init) constructed.is_split in

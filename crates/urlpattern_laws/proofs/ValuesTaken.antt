@@ -1,4 +1,5 @@
--- A value of an engine answers captures exactly to the texts that the parts take that it was made of.
+-- A value of an engine returns captures exactly for the texts that the parts of its expression
+-- match.
 use Rattle.std.proofs.Common.{◌-◌, true≢false, ◌≡◌, ℕ, suc, ◌^◌, ◌≤◌, List, ◌++◌, length, Bool, true, false, Option, Some, None, IsSome, is_some, option_map, inl, inr, refl, sym, ap, ◌∙◌, subst, arith, codes, length-append, encode_utf8_all}
 use Rattle.std.specs.List.{flat_map}
 use Rattle.std.specs.Prelude.{⊤, IfSome, IsTrue}
@@ -44,7 +45,7 @@ mapped : {A B : Type 0} (f : A → B) (o : Option A) → is_some (option_map f o
 mapped f None = refl
 mapped f (Some a) = refl
 
--- What the grammar reads in a regular expression, by which an engine answers.
+-- The result of reading a regular expression, by which an engine returns its results.
 record IsReadFor (regexp : List ℕ) (answer : List ℕ → Option Captures) : Type 0 where
   good : scalars regexp ≡ true
   found : Nested Re × Names
@@ -57,7 +58,7 @@ read_for regexp answer good some reads =
     let found = value_of_IsSome (read default_config regexp) some in
     record { good = good; found = found.0; is_read = found.1; answers = rw (found.1) at reads }
 
--- an answer by what the grammar reads is one exactly to the texts that the parts take
+-- A result by what the grammar reads has captures exactly if the parts match the text.
 answers_taken : (options : OptionsView) (parts : List PartView) (answer : List ℕ → Option Captures) → AllStandAlone parts → IsReadFor (regexp_text options parts) answer
     → (text : List ℕ) → IsTrue (all_scalars text) → IsSomeIfTaken options parts text (answer text)
 answers_taken options parts answer alone r text fine =
@@ -72,7 +73,7 @@ answers_taken options parts answer alone r text fine =
 
 -- ---- captures
 
--- what is found in the text captures what the parts capture
+-- The captures found in the text are those of the parts.
 captured_by : (options : OptionsView) (parts : List PartView) (own : List (Nested Re)) → Fulfils (parts_sense options parts) 1 (cat_all (values own)) → AllCaptureNothing parts → (count : ℕ) → count ≡ parts_count parts
     → (text : List ℕ) → IsTrue (all_scalars text) → (o : Option Match) → find_str (between_lines own).value (encode_utf8_all text) 0 ≡ o
     → IsSomeIfTaken options parts text (option_map (λ m. group_texts (encode_utf8_all text) count (group_of m)) o) → IsCapturedByParts options parts text (option_map (λ m. group_texts (encode_utf8_all text) count (group_of m)) o)
@@ -82,7 +83,7 @@ captured_by options parts own f silent count is text fine (Some m) e taken =
 
 -- ---- the first way
 
--- it is what is found in the text
+-- The result for a text is the first way of the parts.
 answers_first : (options : OptionsView) (parts : List PartView) (answer : List ℕ → Option Captures) → AllStandAlone parts → AllCaptureNothing parts → IsReadFor (regexp_text options parts) answer
     → (text : List ℕ) → IsTrue (all_scalars text) → answer text ≡ parts_first_way options parts text
 unfolding parts_first_way
@@ -99,7 +100,7 @@ answers_first options parts answer alone silent r text fine =
     ∙ ap (λ n. option_map (λ m. group_texts bytes n (group_of m)) (find_str (between_lines own).value bytes 0)) count
     ∙ found_first own (parts_ways options parts) (parts_count parts) (f.cuts silent) (f.tries silent) text fine
 
--- it is what the parts capture, whatever the grammar reads
+-- The captures of the first way are captures of the parts.
 pub first_captured : FirstWaysAreCaptured
 unfolding parts_first_way
 first_captured options parts text alone silent good fine =
@@ -115,7 +116,7 @@ first_captured options parts text alone silent good fine =
     subst (IsCapturedByParts options parts text) (found_first is.0 (parts_ways options parts) count (is.1.cuts silent) (is.1.tries silent) text fine)
     (captured_by options parts is.0 is.1 silent count refl text fine found refl (λ some. search.0 (sym same ∙ some), λ takes. same ∙ search.1 takes))
 
--- so a value that answers the first way answers what the parts capture
+-- A value that returns the first way returns what the parts capture.
 captured_as_first : {E : Type 0} (engine : Engine E) (Keeps : Keeping) (Fits : Room) → ValuesAnswerFirstOfParts engine Keeps Fits
     → ((value : E) (regexp flags : List ℕ) → engine.IsMade value regexp flags → scalars regexp ≡ true) → ValuesCapture engine Keeps Fits
 captured_as_first engine Keeps Fits first good options flags parts value keeps alone silent fits made text fine =
@@ -139,10 +140,10 @@ pub regex_values_capture : ValuesCapture regex_engine (λ flags. ⊤) (λ regexp
 regex_values_capture =
     captured_as_first regex_engine (λ flags. ⊤) (λ regexp. ⊤) regex_values_first (λ regex regexp flags made. text_good regex.pattern.source regexp made.of_text)
 
--- ---- values of the own engine
+-- ---- values of `PatternRegexp`
 
 mutual
-  -- a tree has no more groups than its text has characters
+  -- A tree has no more groups than its text has characters.
   items_few : (tree : Items) → group_count tree ≤ length (items_text tree)
   items_few Nothing = omega arith
   items_few (Item atom quantifier items) =

@@ -1,4 +1,5 @@
--- What the grammar of `regex` reads from `^` to `$` is found in exactly the texts that the items between them take.
+-- An expression from `^` to `$`, as the grammar of `regex` reads it, is found exactly in the texts
+-- that the items between them match.
 use Rattle.std.proofs.Common.{max, ap₂, map, option_map, ◌≡◌, ◌↔◌, ℕ, zero, suc, ◌+◌, ◌*◌, ◌<◌, ◌≤◌, List, [], ◌∷◌, ◌++◌, length, true, false, Some, None, IsSome, is_some, if◌then◌else◌, refl, sym, ap, ◌∙◌, subst, inl, inr, arith, length-append, append-nil, true≢false}
 use Rattle.std.proofs.lemmas.Bool.{cond-true}
 use Rattle.std.proofs.lemmas.Option.{same_Some}
@@ -40,9 +41,9 @@ use Rattle.urlpattern_meaning.specs.PartMeaning.{Captures}
 use Rattle.regex.specs.Writes.{group_of}
 use Rattle.std.specs.List.{range_with_len}
 
--- ---- what is read
+-- ---- the pattern read
 
--- one character that is an item by itself, without a quantifier
+-- A character that is an item by itself, without a quantifier.
 leaf_item : (m : ℕ) (names : Names) (c : ℕ) (rest : Text) (sub found : Nested Re) (end : Place) → is_at "(" (c ∷ rest) ≡ false → atom default_config (c ∷ rest) ≡ Some (sub, rest) → Free rest
     → item (group_inside m) (at_text names (c ∷ rest)) ≡ Some (found, end) → (found ≡ sub) × (end ≡ at_text names rest)
 unfolding item
@@ -51,7 +52,7 @@ leaf_item m names c rest sub found end no_group reads free e =
     let same = same_Some _ _ (sym is ∙ e) in
     (sym (ap (λ (result : Nested Re × Place). result.0) same), sym (ap (λ (result : Nested Re × Place). result.1) same))
 
--- the pattern of items between `^` and `$`
+-- The pattern of items between `^` and `$`.
 abbrev pub between_lines : List (Nested Re) → Nested Re
 between_lines own = join alt_all (join cat_all (first_line ∷ (own ++ last_line ∷ [])) ∷ [])
 
@@ -65,7 +66,7 @@ module _ (t : Text) (s : Sense) (a : AreItemsOf t s) where
   abbrev inside : Text
   inside = t ++ 36 ∷ []
 
-  -- what is found is such items between the lines, with as many groups
+  -- The pattern read is items with this sense between `^` and `$`, with as many groups.
   pub record WholeFound (found : Nested Re) : Type 0 where
     pub own : List (Nested Re)
     pub is : found ≡ between_lines own
@@ -97,7 +98,7 @@ module _ (t : Text) (s : Sense) (a : AreItemsOf t s) where
         fulfils = items_found.fulfils;
       }
 
-  -- the pattern, and how many names it has
+  -- The pattern read, with the number of its names.
   pub record WholeNamed (found : Nested Re × Names) : Type 0 where
     pub pattern : WholeFound found.0
     pub numbers : s.Known → length found.1 ≡ 1 + s.count
@@ -123,7 +124,7 @@ module _ (t : Text) (s : Sense) (a : AreItemsOf t s) where
       let ended = cond_some (is_empty whole.0.1.text) _ found whole.2 in
       subst WholeNamed (same_Some _ _ ended.1) (named whole.0.0 whole.0.1.names (inside_read n whole.0.0 whole.0.1 whole.1))
 
--- ---- where it is found
+-- ---- where the pattern is found
 
 append_matches : (hay : List ℕ) (trees others : List (Nested Re)) (i j : ℕ) → Matches hay (cat_all (values (trees ++ others))) i j
     ↔ ((l : ℕ) × Matches hay (cat_all (values trees)) i l × Matches hay (cat_all (values others)) l j)
@@ -188,7 +189,7 @@ module _ (own : List (Nested Re)) (Is : List ℕ → Type 0) (d : Denotes (cat_a
   pub search_is : IsSome (find_str whole hay 0) ↔ Is text
   search_is = (λ some. let m = value_of_IsSome (find_str whole hay 0) some in found_is m.0 m.1, is_found)
 
--- ---- what its groups capture
+-- ---- the captures of the groups
 
 module _ (own : List (Nested Re)) (s : Sense) (f : Fulfils s 1 (cat_all (values own))) (known : s.Known) (text : List ℕ) (good : scalars text ≡ true) where
   abbrev bytes : List ℕ
@@ -197,11 +198,11 @@ module _ (own : List (Nested Re)) (s : Sense) (f : Fulfils s 1 (cat_all (values 
   abbrev pattern : Re
   pattern = (between_lines own).value
 
-  -- the whole text is taken with these captures, which the writes show
+  -- The whole text has these captures, which the writes show.
   abbrev IsCaught : Writes → Type 0
   IsCaught writes = (captures : Captures) × s.Cap text captures × (length captures ≡ s.count) × Shown bytes 1 captures writes
 
-  -- the line at the end writes nothing
+  -- The `$` at the end writes nothing.
   ends_run : (k j : ℕ) (writes : Writes) → Runs bytes (cat_all (last_line.value ∷ [])) k j writes → (holds End bytes k ≡ true) × (writes ≡ [])
   ends_run k j writes (e, last, nothing, ((ended, here), no_last), (stays, no_more), both_are) = (ended, both_are ∙ ap₂ (λ (x y : Writes). x ++ y) no_last no_more)
 

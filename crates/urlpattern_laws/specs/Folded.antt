@@ -1,4 +1,5 @@
--- What a component answers where case is ignored: the texts are folded to be compared, and the captures are of the text itself.
+-- The results of a component that ignores case: texts are folded to be compared, and captures are
+-- substrings of the text itself.
 use Rattle.std.specs.Prelude.{◌≡◌, ◌⊎◌, All, ℕ, true, false, List, [], ◌∷◌, ◌++◌, length, map, Option, Some, None, IfSome, option_map}
 use Rattle.urlpattern_matcher.specs.Components.{ComponentView}
 use Rattle.urlpattern_matcher.specs.declared.regexp.RegExp.{Ghosts as Engine}
@@ -9,48 +10,50 @@ use Rattle.urlpattern_syntax.specs.{Options.OptionsView, Parts.PartView, RegexpT
 use Rattle.urlpattern_pattern.specs.{ByText.ReadsNoCustom, Meaning.ReadsAs}
 use Rattle.urlpattern_compile.specs.{Compiled.IsComponentCompiled, Compiled.Manner}
 
--- ---- what is compared
+-- ---- folded parts
 
--- a part with its texts folded; its name stays
+-- A part with its texts folded. The name is not folded.
 abbrev pub folded_part : PartView → PartView
 folded_part part = record part { value = folded true part.value; prefix = folded true part.prefix; suffix = folded true part.suffix }
 
+-- The parts with their texts folded.
 abbrev pub folded_parts : List PartView → List PartView
 folded_parts parts = map folded_part parts
 
--- the delimiter is folded too; folded texts are compared exactly
+-- The options for folded texts: the delimiter is folded, and texts are compared exactly.
 abbrev pub folded_options : OptionsView → OptionsView
 folded_options options = record options { delimiter = option_map (folded_character true) options.delimiter; ignore_case = false }
 
--- ---- what is captured
+-- ---- captures
 
--- a capture is a piece of the part's stretch: before it stand as many characters as the prefix has, and after it as many as
--- the suffix has
+-- The capture is the substring after as many characters as the prefix has, and before as many as
+-- the suffix has.
 abbrev pub IsWithinStretch : PartView → (stretch : List ℕ) → Option (List ℕ) → Type 0
 IsWithinStretch part stretch None = Unit {0}
 IsWithinStretch part stretch (Some piece) =
     (before after : List ℕ) × (stretch ≡ before ++ piece ++ after)
     × (length before ≡ length part.prefix) × (length after ≡ length part.suffix)
 
--- The part stands for the stretch but for case, and captures these pieces of it.
+-- The part means the substring but for case, with these captures of the substring.
 pub record IsFoldedStretch (options : OptionsView) (part : PartView) (stretch : List ℕ) (captures : Captures) : Type 0 where
   pub means : PartMeans (folded_options options) (folded_part part) (folded true stretch) (folded_captures captures)
   pub are_pieces : All (IsWithinStretch part stretch) captures
 
--- the parts stand for the text but for case, one stretch each, and capture this
+-- The text is split into one substring for each part, which the part means but for case, with these
+-- captures.
 abbrev pub FoldedMean : OptionsView → List PartView → List ℕ → Captures → Type 0
 FoldedMean options [] text captures = (text ≡ []) × (captures ≡ [])
 FoldedMean options (part ∷ parts) text captures =
     (first rest : List ℕ) × (own others : Captures) × (text ≡ first ++ rest) × (captures ≡ own ++ others)
     × IsFoldedStretch options part first own × FoldedMean options parts rest others
 
--- Folded, the captures are those of the first way in which the folded parts take the folded text, or None where they take it in
--- no way. The captures themselves are pieces of the text.
+-- Folded, the captures are those of the first way in which the folded parts match the folded text,
+-- or `None` if they do not match it. Unfolded, the captures are substrings of the text.
 pub record IsFoldedFirst (options : OptionsView) (parts : List PartView) (text : List ℕ) (captures : Option Captures) : Type 0 where
   pub is_first : IsFirstOf (folded_options options) (folded_parts parts) (folded true text) (option_map folded_captures captures)
   pub are_pieces : IfSome captures (FoldedMean options parts text)
 
--- So it is of the parts as which the pattern text reads.
+-- The captures are those of the first way, case ignored, of the parts of the pattern text.
 pub record IsFoldedWay (manner : Manner) (text : List ℕ) (captures : Option Captures) : Type 0 where
   pub parts : List PartView
   pub reads : ReadsAs manner parts
@@ -58,26 +61,27 @@ pub record IsFoldedWay (manner : Manner) (text : List ℕ) (captures : Option Ca
 
 -- ---- components
 
--- no engine stands between prefix and suffix
+-- No engine is between prefix and suffix.
 abbrev pub HoldsNoEngine : {E : Type 0} → InnerView E → Type 0
 HoldsNoEngine (Literal literal) = Unit {0}
 HoldsNoEngine (SingleCapture filter allow_empty) = Unit {0}
 HoldsNoEngine (RegExp engine) = ⊥
 
--- The component ignores case, and needs no engine: none of the parts that its pattern text reads as is custom.
+-- The component ignores case, and needs no engine: none of the parts of its pattern text is custom.
 pub record IgnoresCase {E : Type 0} (manner : Manner) (compiled : ComponentView E) : Type 0 where
   pub case_ignored : manner.options.ignore_case ≡ true
   pub generated : ReadsNoCustom manner
   pub no_engine : HoldsNoEngine compiled.matcher.inner
 
--- Such a component answers the folded way of its pattern text to each line.
+-- A component that ignores case without an engine returns the folded way of its pattern text for
+-- each text without line feeds.
 abbrev pub FoldedWaysAreAnswered : {E : Type 0} → Engine E → Type 0
 FoldedWaysAreAnswered {E} engine = (manner : Manner) (compiled : ComponentView E) (text : List ℕ) (result : Option Captures) →
     IsComponentCompiled engine manner compiled → IgnoresCase manner compiled → IsLine text →
     Answers engine.answer compiled.matcher text result → IsFoldedWay manner text result
 
--- The captures are those of the first way, case being ignored, in which the parts between the plain fixed texts at their ends take
--- what stands between these texts.
+-- The captures are those of the first way, case ignored, of the parts between an initial and a
+-- final plain fixed text, for the text between these two.
 pub record IsFirstBetween (options : OptionsView) (parts : List PartView) (text : List ℕ) (captures : Captures) : Type 0 where
   pub front : Option PartView
   pub middle : List PartView
@@ -93,19 +97,21 @@ pub record IsFirstBetween (options : OptionsView) (parts : List PartView) (text 
   pub is_tree : IsTreeOf (regexp_text options middle) tree
   pub is_first : first_way_by true tree inner ≡ Some captures
 
--- the captures are where the first way has them
+-- The captures are at the places of the first way.
 abbrev pub AreInPlace : OptionsView → List PartView → (text : List ℕ) → Captures → Type 0
 AreInPlace options parts text captures = FoldedMean options parts text captures ⊎ IsFirstBetween options parts text captures
 
--- Of the parts as which the pattern text reads: folded, the captures are those of the first way in which the folded parts take the
--- folded text, or None where they take it in no way. As they are, they are in place.
+-- Folded, the captures are those of the first way in which the folded parts of the pattern text
+-- match the folded text, or `None` if they do not match it. Unfolded, the captures are at their
+-- places.
 pub record IsFoldedAnswer (manner : Manner) (text : List ℕ) (captures : Option Captures) : Type 0 where
   pub parts : List PartView
   pub reads : ReadsAs manner parts
   pub is_first : IsFirstOf (folded_options manner.options) (folded_parts parts) (folded true text) (option_map folded_captures captures)
   pub are_in_place : IfSome captures (AreInPlace manner.options parts text)
 
--- Whichever shape it has, a component that ignores case, and of which no part is custom, answers so to each line.
+-- A component that ignores case and has no custom part returns, for each text without line feeds,
+-- the first way of the folded parts, with captures at their places.
 abbrev pub FoldedFirstsAreAnswered : {E : Type 0} → Engine E → Type 0
 FoldedFirstsAreAnswered {E} engine = (manner : Manner) (compiled : ComponentView E) (text : List ℕ) (result : Option Captures) →
     IsComponentCompiled engine manner compiled → manner.options.ignore_case ≡ true → ReadsNoCustom manner → IsLine text →

@@ -1,4 +1,5 @@
--- Laws on what custom regular expressions and parts take and capture, and on engines and matchers that return it.
+-- Statements of the laws on what custom regular expressions and parts match and capture, and on
+-- what engines and matchers return.
 use Rattle.std.specs.Prelude.{⊤, ◌≡◌, ◌↔◌, ℕ, ◌^◌, ◌≤◌, false, List, ◌++◌, length, codes, Option, Some, None, IfSome, IsSome, IsTrue}
 use Rattle.std.specs.Str.{all_scalars}
 use Rattle.regex_syntax.specs.Brackets.{join}
@@ -17,8 +18,9 @@ use Rattle.urlpattern_meaning.specs.Matching.{EachAnswerIs, IsMadeOf, MatcherVie
 use Rattle.urlpattern_meaning.specs.PartMeaning.{Captures, PartsMean}
 use Rattle.urlpattern_syntax.specs.{Options.OptionsView, Parts.PartView, RegexpText.group_names, RegexpText.regexp_text}
 
--- Inside of a group, whatever is before and after it, what the grammar reads of an expression that stands alone ends at the closing
--- parenthesis, and takes whole the texts that the expression takes. It reads nothing there if the name of a group occurs before.
+-- In a group, with any text before and after, the grammar reads an expression that stands alone up
+-- to the closing parenthesis, as a pattern that matches the texts of the expression, unless it
+-- reads nothing.
 abbrev pub ReadsInGroups : Type 0
 ReadsInGroups =
     (expression rest : List ℕ) (steps : ℕ) (names : Names) → IsTrue (stands_alone expression) →
@@ -26,42 +28,43 @@ ReadsInGroups =
     (end.text ≡ codes ")" ++ rest)
     × ((text : List ℕ) → IsTrue (all_scalars text) → TakesWhole (join alt_all patterns).value text ↔ ExpressionTakes expression text))
 
--- parts without a custom one take the texts that they mean
+-- Parts without a custom one match the texts that they mean.
 abbrev pub PartsTakeMeanings : Type 0
 PartsTakeMeanings =
     (options : OptionsView) (parts : List PartView) (text : List ℕ) → AreGenerated parts →
     PartsTake options parts text ↔ ((captures : Captures) × PartsMean options parts text captures)
 
--- and they capture what they mean
+-- Parts without a custom one capture what they mean.
 abbrev pub PartsCaptureMeanings : Type 0
 PartsCaptureMeanings =
     (options : OptionsView) (parts : List PartView) (text : List ℕ) (captures : Captures) → AreGenerated parts →
     PartsCapture options parts text captures ↔ PartsMean options parts text captures
 
--- what parts capture is one capture for each name
+-- Parts have a capture for each name.
 abbrev pub CapturesAreAsNames : Type 0
 CapturesAreAsNames =
     (options : OptionsView) (parts : List PartView) (text : List ℕ) (captures : Captures) → PartsCapture options parts text captures →
     length captures ≡ length (group_names parts)
 
--- the result is captures exactly if the parts take the text
+-- The result has captures exactly if the parts match the text.
 abbrev pub IsSomeIfTaken : OptionsView → List PartView → (text : List ℕ) → Option Captures → Type 0
 IsSomeIfTaken options parts text result = IsSome result ↔ PartsTake options parts text
 
--- the result is what the parts capture of the text, or `None` where they do not take it
+-- The result is the captures of the parts, or `None` if they do not match the text.
 abbrev pub IsCapturedByParts : OptionsView → List PartView → (text : List ℕ) → Option Captures → Type 0
 IsCapturedByParts options parts text (Some captures) = PartsCapture options parts text captures
 IsCapturedByParts options parts text None = ¬ PartsTake options parts text
 
--- how long a regular expression may be
+-- A limit on the length of a regular expression.
 abbrev pub Room : Type 1
 Room = (regexp : List ℕ) → Type 0
 
--- the grammar has a number for each group that an expression of so many characters can have
+-- The grammar has a number for each group of an expression of this length.
 abbrev pub HasNumbers : Room
 HasNumbers regexp = length regexp ≤ 2 ^ 32
 
--- each value of the engine that was made, with such flags, of such a regular expression of parts whose custom ones stand alone
+-- A value that the engine made of parts returns captures exactly if the parts match. Custom
+-- expressions stand alone.
 abbrev pub ValuesAnswerTaken : {E : Type 0} → Engine E → Keeping → Room → Type 0
 ValuesAnswerTaken {E} engine Keeps Fits =
     (options : OptionsView) (flags : List ℕ) (parts : List PartView) (value : E) → Keeps flags →
@@ -69,7 +72,8 @@ ValuesAnswerTaken {E} engine Keeps Fits =
     engine.IsMade value (regexp_text options parts) flags →
     (text : List ℕ) → IsTrue (all_scalars text) → IsSomeIfTaken options parts text (engine.answer value text)
 
--- the same, of parts whose custom ones capture nothing themselves, with what is captured
+-- A value that the engine made of parts returns their captures. Custom expressions stand alone and
+-- capture nothing themselves.
 abbrev pub ValuesCapture : {E : Type 0} → Engine E → Keeping → Room → Type 0
 ValuesCapture {E} engine Keeps Fits =
     (options : OptionsView) (flags : List ℕ) (parts : List PartView) (value : E) → Keeps flags →
@@ -77,8 +81,8 @@ ValuesCapture {E} engine Keeps Fits =
     engine.IsMade value (regexp_text options parts) flags →
     (text : List ℕ) → IsTrue (all_scalars text) → IsCapturedByParts options parts text (engine.answer value text)
 
--- The matcher is made by the engine of parts whose custom ones stand alone, case is kept, and the engine took the text, in this sense,
--- where it was needed.
+-- The engine made the matcher of parts whose custom expressions stand alone, case is kept, and the
+-- engine, where one is needed, accepted its text.
 pub record IsTakenAlone {E : Type 0} (engine : Engine E) (Fits : (regexp : List ℕ) → Type 0) (Took : Taking E)
     (options : OptionsView) (flags : List ℕ) (parts : List PartView) (matcher : MatcherView E) : Type 0 where
   pub is_made : IsMadeOf (IsEngineOf engine false flags) options parts matcher
@@ -87,25 +91,28 @@ pub record IsTakenAlone {E : Type 0} (engine : Engine E) (Fits : (regexp : List 
   pub case_kept : options.ignore_case ≡ false
   pub took : Took options flags matcher.inner
 
--- each such matcher answers captures to a text of characters without line feed exactly if the parts take it
+-- A matcher made of parts returns captures for a text without line feeds exactly if the parts match
+-- the text.
 abbrev pub MatchersAnswerTaken : {E : Type 0} → Engine E → Room → Taking E → Type 0
 MatchersAnswerTaken {E} engine Fits Took =
     (options : OptionsView) (flags : List ℕ) (parts : List PartView) (matcher : MatcherView E) →
     IsTakenAlone engine Fits Took options flags parts matcher →
     EachAnswerIs engine.answer matcher (IsSomeIfTaken options parts)
 
--- the same, of parts whose custom ones capture nothing themselves, with what is captured
+-- A matcher made of parts returns their captures for a text without line feeds. Custom expressions
+-- capture nothing themselves.
 abbrev pub MatchersCapture : {E : Type 0} → Engine E → Room → Taking E → Type 0
 MatchersCapture {E} engine Fits Took =
     (options : OptionsView) (flags : List ℕ) (parts : List PartView) (matcher : MatcherView E) →
     IsTakenAlone engine Fits Took options flags parts matcher → AllCaptureNothing parts →
     EachAnswerIs engine.answer matcher (IsCapturedByParts options parts)
 
--- the engine was given flags that ignore case where the options do, and took the text where it was needed
+-- The flags ignore case as the options do, and the engine, where one is needed, accepted its text.
 abbrev pub TookAlone : {E : Type 0} → Taking E
 TookAlone options flags inner = FlagsAgree options flags × TookText (λ value. ⊤) inner
 
--- So does a component that the engine compiled to such parts, if case is kept and the engine took the text where its matcher needs one.
+-- A component compiled to parts returns their captures, if case is kept and the engine, where one
+-- is needed, accepted its text.
 abbrev pub ComponentsCapture : {E : Type 0} → Engine E → Room → Type 0
 ComponentsCapture {E} engine Fits =
     (options : OptionsView) (parts : List PartView) (component : ComponentView E) → IsComponentOf engine options parts component →

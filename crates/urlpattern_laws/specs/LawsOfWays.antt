@@ -1,4 +1,5 @@
--- Laws on which of several captures is returned, where parts have custom expressions: that of the first way.
+-- Statements of the laws on the captures that are returned for parts with custom expressions: those
+-- of the first way.
 use Rattle.std.specs.Prelude.{◌≡◌, ⊤, ℕ, false, List, IsTrue}
 use Rattle.std.specs.Str.{all_scalars}
 use Rattle.urlpattern_matcher.specs.Components.{ComponentView, IsComponentOf}
@@ -14,22 +15,22 @@ use Rattle.urlpattern_meaning.specs.Matching.{EachAnswerIs, MatcherView}
 use Rattle.urlpattern_meaning.specs.Ways.{first_way}
 use Rattle.urlpattern_syntax.specs.{Options.OptionsView, Parts.PartView, RegexpText.regexp_text}
 
--- the first way of parts without a custom one is that of the tree of their regular expression
+-- The first way of parts without a custom one is that of the tree of their regular expression.
 abbrev pub FirstWaysAreOfTrees : Type 0
 FirstWaysAreOfTrees =
     (options : OptionsView) (parts : List PartView) (tree : Items) (text : List ℕ) → AreGenerated parts → IsTreeOf (regexp_text options parts) tree →
     parts_first_way options parts text ≡ first_way tree text
 
--- The first way of parts whose custom ones stand alone and capture nothing themselves is what they capture, or None where they do not take the
--- text. Their texts, as their regular expression has them, are of characters.
+-- The first way of parts has the captures of the parts, or is `None` if they do not match the text.
+-- Custom expressions stand alone and capture nothing themselves.
 abbrev pub FirstWaysAreCaptured : Type 0
 FirstWaysAreCaptured =
     (options : OptionsView) (parts : List PartView) (text : List ℕ) → AllStandAlone parts → AllCaptureNothing parts →
     IsTrue (all_scalars (regexp_text options parts)) → IsTrue (all_scalars text) →
     IsCapturedByParts options parts text (parts_first_way options parts text)
 
--- Each value of the engine that was made, with such flags, of such a regular expression of parts whose custom ones stand alone and capture
--- nothing themselves, answers the first way of the parts.
+-- A value that the engine made of parts returns their first way. Custom expressions stand alone and
+-- capture nothing themselves.
 abbrev pub ValuesAnswerFirstOfParts : {E : Type 0} → Engine E → Keeping → Room → Type 0
 ValuesAnswerFirstOfParts {E} engine Keeps Fits =
     (options : OptionsView) (flags : List ℕ) (parts : List PartView) (value : E) → Keeps flags →
@@ -37,14 +38,15 @@ ValuesAnswerFirstOfParts {E} engine Keeps Fits =
     engine.IsMade value (regexp_text options parts) flags →
     (text : List ℕ) → IsTrue (all_scalars text) → engine.answer value text ≡ parts_first_way options parts text
 
--- each such matcher of such parts answers their first way to a text of characters without line feed
+-- A matcher made of parts returns their first way for each text without line feeds.
 abbrev pub MatchersAnswerFirstOfParts : {E : Type 0} → Engine E → Room → Taking E → Type 0
 MatchersAnswerFirstOfParts {E} engine Fits Took =
     (options : OptionsView) (flags : List ℕ) (parts : List PartView) (matcher : MatcherView E) →
     IsTakenAlone engine Fits Took options flags parts matcher → AllCaptureNothing parts →
     EachAnswerIs engine.answer matcher (λ text result. result ≡ parts_first_way options parts text)
 
--- So does a component that the engine compiled to such parts, if case is kept and the engine took the text where its matcher needs one.
+-- A component compiled to parts returns their first way, if case is kept and the engine, where one
+-- is needed, accepted its regular expression.
 abbrev pub ComponentsAnswerFirstOfParts : {E : Type 0} → Engine E → Room → Type 0
 ComponentsAnswerFirstOfParts {E} engine Fits =
     (options : OptionsView) (parts : List PartView) (component : ComponentView E) → IsComponentOf engine options parts component →

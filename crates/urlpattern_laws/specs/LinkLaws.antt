@@ -1,4 +1,4 @@
--- The sentences of the laws of links.
+-- Statements of the laws of links.
 use Rattle.std.specs.Prelude.{◌≡◌, ◌≢◌, ℕ, All, IfSome, List, Option, Some, map}
 use Rattle.url.specs.Parser.{Parsed}
 use Rattle.url.specs.Parts.{Parts}
@@ -19,13 +19,14 @@ use Rattle.urlpattern_pattern.specs.UrlPatterns.{UrlPattern}
 use Rattle.urlpattern_compare.specs.declared.pattern.PatternParts.{PatternParts}
 use Rattle.urlpattern_syntax.specs.{Parts.PartView, RegexpText.group_names}
 
--- this is said of the parts of a component, in the manner in which its text is written with these groups
+-- `Is` holds of the parts of a component, with the manner in which its text is written for the
+-- groups.
 abbrev pub OfItsParts : {E : Type 0} → UrlPattern E → List GivenView → ComponentName → (Is : WritingManner → List PartView → Type 0) → Type 0
 OfItsParts pattern groups component Is = (parts : PatternParts) → pattern.parts ≡ Some parts → Is (manner_in parts groups component) (parts_in parts component)
 
 -- ---- links with different groups
 
--- the groups of a component are to capture this, by what is given
+-- The groups of a component are to capture this.
 abbrev pub AskFor : {E : Type 0} → UrlPattern E → List GivenView → ComponentName → Captures → Type 0
 AskFor pattern groups component captures = OfItsParts pattern groups component (λ manner parts. AreAsked manner parts captures)
 
@@ -36,34 +37,36 @@ LinksDiffer {E} answer = (pattern : UrlPattern E) (groups others : List GivenVie
     AskFor pattern groups component captures → AskFor pattern others component different →
     captures ≢ different → at (texts_of_url url) component ≢ at (texts_of_url other) component
 
--- There is one link with given groups.
+-- Any two links with the same groups are equal.
 abbrev pub LinksAreOne : {E : Type 0} → (answer : E → List ℕ → Option Captures) → Type 0
 LinksAreOne {E} answer = (pattern : UrlPattern E) (groups : List GivenView) (url other : Parts) →
     IsLink answer pattern groups url → IsLink answer pattern groups other → url ≡ other
 
--- ---- links with what was captured
+-- ---- links with captures
 
--- a text that was captured is its own canonical form
+-- A captured text is its own canonical form.
 abbrev pub IsCanonicalCapture : (canonical : List ℕ → Parsed (List ℕ)) → Option (List ℕ) → Type 0
 IsCanonicalCapture canonical capture = IfSome capture (IsCanonical canonical)
 
+-- All captured texts are their own canonical forms.
 abbrev pub AreCanonical : (canonical : List ℕ → Parsed (List ℕ)) → Captures → Type 0
 AreCanonical canonical captures = All (IsCanonicalCapture canonical) captures
 
--- What is asked of parts, of the text that a matcher answers by these captures, and of what is given for the groups: no fixed text has
--- a modifier, the answer is what the parts mean, and the captures are given as they are.
+-- The premises on parts, a text, its captures and the groups of a link: no fixed text has a
+-- modifier, a text matched with the captures has them by the meaning of the parts, and the groups
+-- are the captures, which are canonical.
 pub record IsWrittenBack {E : Type 0} (answer : E → List ℕ → Option Captures) (matcher : MatcherView E) (manner : WritingManner) (parts : List PartView) (text : List ℕ) (captures : Captures) : Type 0 where
   pub plain : HavePlainTexts parts
   pub means : Answers answer matcher text (Some captures) → PartsMean manner.options parts text captures
   pub are_given : map manner.given (group_names parts) ≡ captures
   pub are_canonical : AreCanonical manner.canonical captures
 
--- this holds of the parts of a component
+-- The parts of a component, its text and its captures meet the premises.
 abbrev pub TextIsWrittenBack : {E : Type 0} → (answer : E → List ℕ → Option Captures) → UrlPattern E → List GivenView → ComponentName → (text : List ℕ) → Captures → Type 0
 TextIsWrittenBack answer pattern groups component text captures =
     OfItsParts pattern groups component (λ manner parts. IsWrittenBack answer (pattern_view pattern component).matcher manner parts text captures)
 
--- A link with what a pattern captured of eight texts has these texts.
+-- A link with the captures of eight texts has these texts.
 abbrev pub LinksOfCapturesAreTheTexts : {E : Type 0} → (answer : E → List ℕ → Option Captures) → Type 0
 LinksOfCapturesAreTheTexts {E} answer = (pattern : UrlPattern E) (groups : List GivenView) (url : Parts) (texts : Texts) (captures : ComponentName → Captures) →
     IsLink answer pattern groups url → AreAnswers answer (pattern_view pattern) texts captures →

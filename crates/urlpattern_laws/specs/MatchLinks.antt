@@ -1,4 +1,4 @@
--- The sentences of the laws of links of a match: what its groups are given, and that the link has the matched texts.
+-- Statements of the laws of links of a match: the groups of the match, and the texts of the link.
 use Rattle.std.specs.Prelude.{◌≡◌, ◌≢◌, ℕ, AllPairs, List, Option, Some, map}
 use Rattle.std.specs.{Borrow.Bor, Map.keys_of}
 use Rattle.url.specs.Parts.{Parts}
@@ -24,36 +24,38 @@ use Rattle.urlpattern_components.specs.declared.eight.ComponentName.{ComponentNa
 use Rattle.urlpattern_components.specs.Eight.{Texts, Values, at, components}
 use Rattle.urlpattern_syntax.specs.{Parts.PartView, RegexpText.group_names}
 
--- ---- what the groups of a match are given
+-- ---- the groups of a match
 
--- a group that is passed to a link: its component, its name and its text
+-- A group that is passed to a link: its component, its name and its text.
 abbrev pub Lent : Type 0
 Lent = ComponentName × Bor (List ℕ) × Bor (List ℕ)
 
--- each group of the result is given what it captured, and none is given a text that took no part or is not there
+-- The groups of the result are given with their captures, and no group is given that did not
+-- capture.
 abbrev pub AreGroupsOfResult : (result : ComponentName → ResultView) → List GivenView → Type 0
 AreGroupsOfResult result groups =
     (component : ComponentName) (name : List ℕ) → text_given groups component name ≡ captured_text (result component) name
 
--- no two names are equal
+-- No two names are equal.
 abbrev pub NamesDiffer : List (List ℕ) → Type 0
 NamesDiffer names = AllPairs (λ name other. name ≢ other) names
 
--- `to_groups` of captures returns such groups, if no two groups of a component have one name
+-- `to_groups` of captures returns the groups with their captures, if no two groups of a component
+-- have the same name.
 abbrev pub GroupsOfCapturesAreGiven : Type 0
 GroupsOfCapturesAreGiven = (found : UrlPatternCaptures) (groups : List Lent) →
     map lent_group groups ≡ texts_captured (all_groups_view found components) →
     ((component : ComponentName) → NamesDiffer (keys_of (groups_view found component))) →
     AreGroupsOfResult (pattern_captures_view found) (given_groups groups)
 
--- so does that of a result
+-- `to_groups` of a result returns the groups with their captures.
 abbrev pub GroupsOfResultsAreGiven : Type 0
 GroupsOfResultsAreGiven = (result : UrlPatternResult) (groups : List Lent) →
     map lent_group groups ≡ texts_captured (all_listed_groups result components) →
     ((component : ComponentName) → HasDistinctGroups result component) →
     AreGroupsOfResult (result_view result) (given_groups groups)
 
--- of a match by a pattern that was compiled no two groups of a component have one name
+-- In a match by a compiled pattern, no two groups of a component have the same name.
 abbrev pub GroupsOfMatchesDiffer : {E : Type 0} → Engine E → Type 0
 GroupsOfMatchesDiffer {E} engine =
     (asked : UrlPatternOptions) (values : Values) (pattern : PatternView E) (texts : Texts) (found : UrlPatternCaptures) →
@@ -62,9 +64,9 @@ GroupsOfMatchesDiffer {E} engine =
 
 -- ---- links
 
--- What is asked of parts, of the text that a component's matcher answers by these captures, and of the component: no fixed text has a
--- modifier, the answer is what the parts mean, the names are those of the parts, of which no two are equal, and the captures are
--- canonical.
+-- The premises on a component, its parts, a text and its captures: no fixed text has a modifier, a
+-- text matched with the captures has them by the meaning of the parts, the names are those of the
+-- parts and differ, and the captures are canonical.
 pub record IsReadBackFrom {E : Type 0} (answer : E → List ℕ → Option Captures) (compiled : ComponentView E) (manner : WritingManner) (parts : List PartView) (text : List ℕ) (captures : Captures) : Type 0 where
   pub plain : HavePlainTexts parts
   pub means : Answers answer compiled.matcher text (Some captures) → PartsMean manner.options parts text captures
@@ -72,7 +74,7 @@ pub record IsReadBackFrom {E : Type 0} (answer : E → List ℕ → Option Captu
   pub names_differ : NamesDiffer (group_names parts)
   pub are_canonical : AreCanonical manner.canonical captures
 
--- this holds of the parts of a component
+-- A component, its parts, its text and its captures meet the premises.
 abbrev pub TextIsReadBack : {E : Type 0} → (answer : E → List ℕ → Option Captures) → UrlPattern E → List GivenView → ComponentName → (text : List ℕ) → Captures → Type 0
 TextIsReadBack answer pattern groups component text captures =
     OfItsParts pattern groups component (λ manner parts. IsReadBackFrom answer (pattern_view pattern component) manner parts text captures)

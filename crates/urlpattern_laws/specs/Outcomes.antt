@@ -1,4 +1,4 @@
--- The sentences of the laws on what becomes of an init: a pattern, or a refusal.
+-- Statements of the laws on the outcomes of an init: a pattern, or an error.
 use Rattle.std.specs.Prelude.{◌≡◌, ◌≢◌, ◌⊎◌, ℕ, Bool, false, List, ◌++◌, Result, Ok, Err}
 use Rattle.url.specs.declared.error.ParseError.TheVariants.{Overflow}
 use Rattle.urlpattern_matcher.specs.Components.{ComponentView, IsEngineOf, IsWholeEngineOf, engine_flags, has_regexp}
@@ -19,91 +19,96 @@ use Rattle.urlpattern_compile.specs.Compiled.{IsComponentCompiled, IsPatternOfIn
 
 -- ---- errors
 
--- the error is neither that memory ran out nor that a text is too long for `url`
+-- The error is neither out of memory nor a text too long for `url`.
 abbrev pub IsOfTexts : ErrorView → Type 0
 IsOfTexts error = (error ≢ views.OutOfMemory) × (error ≢ views.Url Overflow)
 
--- the encoding with no other errors than these
+-- The encoding without two errors: out of memory, and a text too long for `url`.
 abbrev pub of_texts : Encoding → Encoding
 of_texts encoding text answer = encoding text answer × ((error : ErrorView) → answer ≡ Err error → IsOfTexts error)
 
--- ---- what is asked of an engine
+-- ---- premises on an engine
 
--- the engine does not both take and refuse this regular expression of a whole component
+-- The engine does not both accept and reject this regular expression of a whole component.
 abbrev pub TakesOrRefuses : {E : Type 0} → Engine E → (has_regexp_group : Bool) → (flags regexp : List ℕ) → Type 0
 TakesOrRefuses {E} engine has_regexp_group flags regexp =
     (value : E) (error : ErrorView) → IsWholeEngineOf engine has_regexp_group flags regexp (Ok value) →
     ¬ IsWholeEngineOf engine has_regexp_group flags regexp (Err error)
 
--- nor this one of parts that a matcher leaves to it
+-- The engine does not both accept and reject this regular expression of parts that a matcher leaves
+-- to it.
 abbrev pub TakesOrRefusesPart : {E : Type 0} → Engine E → (flags regexp : List ℕ) → Type 0
 TakesOrRefusesPart {E} engine flags regexp =
     (value : E) (error : ErrorView) → IsEngineOf engine false flags regexp (Ok value) → ¬ IsEngineOf engine false flags regexp (Err error)
 
--- The engine decides so of the parts that the pattern text reads as, and of some of them in a row.
+-- The engine does not both accept and reject a regular expression of the parts of the pattern text,
+-- or of some of them in a row.
 pub record TakesOrRefusesText {E : Type 0} (engine : Engine E) (manner : Manner) : Type 0 where
   pub whole : (parts : List PartView) → ReadsAs manner parts →
       TakesOrRefuses engine (has_regexp parts) (engine_flags manner.options) (regexp_text manner.options parts)
   pub of_matcher : (parts before middle after : List PartView) → ReadsAs manner parts → parts ≡ before ++ middle ++ after →
       TakesOrRefusesPart engine (engine_flags manner.options) (regexp_text manner.options middle)
 
--- of two components compiled in this manner the one accepts a special scheme where the other does
+-- Two components compiled in the same manner accept a special scheme alike.
 abbrev pub AcceptsAlike : {E : Type 0} → Engine E → Manner → Type 0
 AcceptsAlike {E} engine manner = (compiled other : ComponentView E) →
     IsComponentCompiled engine manner compiled → IsComponentCompiled engine manner other →
     AcceptsSpecialScheme engine.answer compiled.matcher → AcceptsSpecialScheme engine.answer other.matcher
 
--- The engine decides what becomes of these values: whether the protocol is special, and which texts are taken.
+-- The engine decides the outcome of these values: whether the protocol is special, and which texts
+-- are accepted.
 pub record Decides {E : Type 0} (engine : Engine E) (asked : UrlPatternOptions) (values : Values) : Type 0 where
   pub accepts_alike : AcceptsAlike engine (manner_of asked values false Protocol)
   pub takes_or_refuses : (hierarchical : Bool) (component : ComponentName)
       → TakesOrRefusesText engine (manner_of asked values hierarchical component)
 
--- no pattern text of these values has a custom regular expression
+-- No pattern text of these values has a custom regular expression.
 abbrev pub NoneIsCustom : UrlPatternOptions → Values → Type 0
 NoneIsCustom asked values = (hierarchical : Bool) (component : ComponentName) → ReadsNoCustom (manner_of asked values hierarchical component)
 
--- the engine does not both take and refuse the regular expression of parts of which none is custom
+-- The engine does not both accept and reject a regular expression of parts without a custom one.
 abbrev pub TakesOrRefusesGenerated : {E : Type 0} → Engine E → Type 0
 TakesOrRefusesGenerated engine = (manner : Manner) → ReadsNoCustom manner → TakesOrRefusesText engine manner
 
--- the engine decides what becomes of values where no pattern text has a custom regular expression
+-- The engine decides the outcome of values without a custom regular expression.
 abbrev pub DecidesGenerated : {E : Type 0} → Engine E → Type 0
 DecidesGenerated engine = (asked : UrlPatternOptions) (values : Values) → NoneIsCustom asked values → Decides engine asked values
 
--- an engine does that makes first ways, and does not both take and refuse
+-- An engine that makes first ways, and does not both accept and reject an expression, decides the
+-- outcome of values without a custom regular expression.
 abbrev pub FirstWaysDecide : {E : Type 0} → Engine E → Type 0
 FirstWaysDecide engine = MakesFirstWays engine → TakesOrRefusesGenerated engine → DecidesGenerated engine
 
 -- ---- one outcome
 
--- the init is not both compiled to a pattern and refused
+-- An init is not both compiled to a pattern and rejected.
 abbrev pub PatternsExcludeRefusals : {E : Type 0} → Engine E → Type 0
 PatternsExcludeRefusals {E} engine =
     (init : UrlPatternInit) (asked : UrlPatternOptions) (values : Values) (pattern : PatternView E) (error : ErrorView) →
     pattern_values init ≡ Ok values → Decides engine asked values → IsOfTexts error →
     IsPatternOfInit engine init asked pattern → ¬ RefusesInit engine init asked error
 
--- it is refused with one error
+-- An init is rejected with one error only.
 abbrev pub InitRefusalsAreOne : {E : Type 0} → Engine E → Type 0
 InitRefusalsAreOne engine =
     (init : UrlPatternInit) (asked : UrlPatternOptions) (values : Values) (error other : ErrorView) →
     pattern_values init ≡ Ok values → Decides engine asked values → IsOfTexts error → IsOfTexts other →
     RefusesInit engine init asked error → RefusesInit engine init asked other → error ≡ other
 
--- ---- some outcome
+-- ---- an outcome exists
 
--- each init has values as a pattern
+-- Each init has values as a pattern.
 abbrev pub InitsHaveValues : Type 0
 InitsHaveValues = (init : UrlPatternInit) → (values : Values) × (pattern_values init ≡ Ok values)
 
--- `url` has an answer to each text that a pattern text asks it about
+-- `url` has a result for each text of the pattern texts that it is called with.
 abbrev pub UrlAnswers : UrlPatternOptions → Values → Type 0
 UrlAnswers asked values = (hierarchical : Bool) (component : ComponentName) →
     let manner = manner_of asked values hierarchical component in
     AnswersAsked manner.text manner.options (of_texts (canonical_encoding manner.canonical))
 
--- the engine makes a value of the regular expression of parts in a row that a pattern text reads as, or it may refuse it
+-- The engine makes a value of the regular expression of parts in a row of a pattern text, or may
+-- reject it.
 abbrev pub EngineAnswers : {E : Type 0} → Engine E → UrlPatternOptions → Values → Type 0
 EngineAnswers {E} engine asked values =
     (hierarchical : Bool) (component : ComponentName) (parts before middle after : List PartView) →
@@ -111,7 +116,7 @@ EngineAnswers {E} engine asked values =
     ReadsAs manner parts → parts ≡ before ++ middle ++ after →
     (made : Result E ErrorView) × IsEngineOf engine false (engine_flags manner.options) (regexp_text manner.options middle) made
 
--- the init is compiled to a pattern, or it is refused
+-- An init is compiled to a pattern, or it is rejected.
 abbrev pub InitsHaveOutcomes : {E : Type 0} → Engine E → Type 0
 InitsHaveOutcomes {E} engine =
     (init : UrlPatternInit) (asked : UrlPatternOptions) (values : Values) →

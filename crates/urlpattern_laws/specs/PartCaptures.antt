@@ -1,4 +1,4 @@
--- What parts capture, custom ones among them.
+-- The captures of parts, custom parts included.
 use Rattle.std.specs.Prelude.{◌≡◌, ℕ, List, [], ◌∷◌, ◌++◌, Option}
 use Rattle.urlpattern_laws.specs.PartTexts.{IsTakenCopy}
 use Rattle.urlpattern_meaning.specs.PartMeaning.{Allows, Captures, IsCapture}
@@ -6,19 +6,19 @@ use Rattle.urlpattern_syntax.specs.{Options.OptionsView, Parts.PartView}
 use Rattle.urlpattern_syntax.specs.declared.parser.PartType.{PartType}
 use Rattle.urlpattern_syntax.specs.Text.{IsRepeated}
 
--- what n copies of a part of this kind capture: nothing for a fixed text, and one text for a group
+-- The captures of n copies of a part of this kind: none for a fixed text, a single one for a group.
 abbrev pub AreCapturesOf : PartType → PartView → ℕ → List ℕ → Captures → Type 0
 AreCapturesOf PartType.FixedText part n text captures = captures ≡ []
 AreCapturesOf kind part n text captures = (capture : Option (List ℕ)) × IsCapture part n text capture × (captures ≡ capture ∷ [])
 
--- The text is as many copies of the part as its modifier allows, and they capture this.
+-- The text is as many copies of the part as its modifier allows, with these captures.
 pub record PartCaptures (options : OptionsView) (part : PartView) (text : List ℕ) (captures : Captures) : Type 0 where
   pub count : ℕ
   pub allowed : Allows part.modifier count
   pub are_copies : IsRepeated (IsTakenCopy options part.kind part) count text
   pub are_captures : AreCapturesOf part.kind part count text captures
 
--- the text is cut into a stretch for each part, and they capture this
+-- The text is split into one substring for each part, and the parts have these captures.
 abbrev pub PartsCapture : OptionsView → List PartView → List ℕ → Captures → Type 0
 PartsCapture options [] text captures = (text ≡ []) × (captures ≡ [])
 PartsCapture options (part ∷ parts) text captures =

@@ -1,4 +1,4 @@
--- Which texts parts take, custom ones among them: whatever they capture.
+-- The texts that parts match, custom parts included, whatever they capture.
 use Rattle.std.specs.Prelude.{◌≡◌, All, ℕ, List, [], ◌∷◌, ◌++◌, IsTrue}
 use Rattle.urlpattern_laws.specs.Expressions.{ExpressionTakes, captures_nothing, stands_alone}
 use Rattle.urlpattern_meaning.specs.PartMeaning.{Allows, IsWildcardText}
@@ -6,37 +6,40 @@ use Rattle.urlpattern_syntax.specs.{Options.OptionsView, Parts.PartView}
 use Rattle.urlpattern_syntax.specs.declared.parser.PartType.{PartType}
 use Rattle.urlpattern_syntax.specs.Text.{IsRepeated}
 
--- the group of a part of this kind takes the text
+-- The group of a part of this kind matches the text.
 abbrev pub IsTakenPiece : OptionsView → PartType → (value text : List ℕ) → Type 0
 IsTakenPiece options PartType.Regexp value text = ExpressionTakes value text
 IsTakenPiece options kind value text = IsWildcardText options kind text
 
--- a copy of a part of this kind: a fixed text, or what its group takes between prefix and suffix
+-- A copy of a part of this kind: a fixed text, or a match of its group between prefix and suffix.
 abbrev pub IsTakenCopy : OptionsView → PartType → PartView → List ℕ → Type 0
 IsTakenCopy options PartType.FixedText part text = text ≡ part.value
 IsTakenCopy options kind part text = (piece : List ℕ) × (text ≡ part.prefix ++ piece ++ part.suffix) × IsTakenPiece options kind part.value piece
 
--- the text is as many copies of the part as its modifier allows
+-- The text is as many copies of the part as its modifier allows.
 abbrev pub PartTakes : OptionsView → PartView → List ℕ → Type 0
 PartTakes options part text = (count : ℕ) × Allows part.modifier count × IsRepeated (IsTakenCopy options part.kind part) count text
 
--- the text is cut into a stretch for each part
+-- The text is split into one substring for each part, which the part matches.
 abbrev pub PartsTake : OptionsView → List PartView → List ℕ → Type 0
 PartsTake options [] text = text ≡ []
 PartsTake options (part ∷ parts) text = (first rest : List ℕ) × (text ≡ first ++ rest) × PartTakes options part first × PartsTake options parts rest
 
--- the expression of a custom part means the same in the regular expression of the parts as by itself
+-- The expression of a custom part means the same inside the regular expression of the parts as by
+-- itself.
 abbrev pub StandsAlone : PartType → (value : List ℕ) → Type 0
 StandsAlone PartType.Regexp value = IsTrue (stands_alone value)
 StandsAlone kind value = Unit {0}
 
+-- The expressions of all custom parts stand alone.
 abbrev pub AllStandAlone : List PartView → Type 0
 AllStandAlone parts = All (λ part. StandsAlone part.kind part.value) parts
 
--- the expression of a custom part captures nothing
+-- The expression of a custom part captures nothing.
 abbrev pub CapturesNothing : PartType → (value : List ℕ) → Type 0
 CapturesNothing PartType.Regexp value = IsTrue (captures_nothing value)
 CapturesNothing kind value = Unit {0}
 
+-- The expressions of all custom parts capture nothing.
 abbrev pub AllCaptureNothing : List PartView → Type 0
 AllCaptureNothing parts = All (λ part. CapturesNothing part.kind part.value) parts

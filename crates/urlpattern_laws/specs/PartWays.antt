@@ -1,5 +1,6 @@
--- In which ways a custom expression, and parts with custom ones among them, can take the front of a text, in the order in which an
--- engine that tries choices one by one comes to them; and what the first of these captures that takes the whole text.
+-- The ways in which a custom expression, or parts with custom ones among them, match the start of a
+-- text, in the order of a backtracking engine, and the captures of the first way that matches the
+-- whole text.
 use Rattle.std.specs.Prelude.{ℕ, Bool, true, false, not, ◌&&◌, ◌==◌, List, [], ◌∷◌, ◌++◌, length, map, find, Option, Some, None, option_map, unwrap_or}
 use Rattle.regex_class.specs.Ranges.{in_ranges}
 use Rattle.regex_hir.specs.Re.{Re, empty, literal, byte_in, char_in, look, cat, alt, group, plus}
@@ -14,25 +15,25 @@ use Rattle.urlpattern_syntax.specs.{Options.OptionsView, Parts.PartView, RegexpT
 use Rattle.urlpattern_syntax.specs.declared.parser.{PartModifier.PartModifier, PartType.PartType}
 use Rattle.urlpattern_syntax.specs.Text.{line_feed}
 
--- ---- one choice after another
+-- ---- sequences of choices
 
--- a front by the first choice, and another after it by the next
+-- The first choice on the text, and the next choice on the rest.
 abbrev pub followed_by : (first next : Choice) → Choice
 followed_by first next text = continued next (first text)
 
--- the front is captured too, as the first capture
+-- The choice, with its whole match as the first capture.
 abbrev pub captured_whole : Choice → Choice
 captured_whole choice text = map capturing (choice text)
 
--- this text
+-- The given text, character by character.
 abbrev pub exactly : (given : List ℕ) → Choice
 exactly [] text = idle 0 text ∷ []
 exactly (c ∷ given) text = continued (exactly given) (one_that (λ other. other == c) text)
 
 -- ---- custom expressions
 
--- The ways of a pattern whose steps take characters: the first of two patterns is preferred to the second, and another round of a loop
--- to its end where the loop is greedy. Groups capture nothing here.
+-- The ways of a pattern whose steps match characters: the first alternative is preferred, and a
+-- further round of a loop if the loop is greedy. Groups capture nothing here.
 abbrev pub pattern_ways : Re → Choice
 pattern_ways empty text = idle 0 text ∷ []
 pattern_ways (literal bytes) text = one_that (λ c. is_some_and (char_at bytes 0) (λ written. c == written)) text
@@ -44,47 +45,48 @@ pattern_ways (alt first second) text = pattern_ways first text ++ pattern_ways s
 pattern_ways (group number inner) text = pattern_ways inner text
 pattern_ways (plus greedy inner) text = looped greedy (pattern_ways inner) text
 
+-- The ways of what the grammar reads, or none if it reads nothing.
 abbrev pub ways_of_reading : Option (Nested Re × Names) → Choice
 ways_of_reading None text = []
 ways_of_reading (Some (pattern, names)) text = pattern_ways pattern.value text
 
--- the ways of an expression, as the grammar of `regex` reads it by itself
+-- The ways of an expression, as the grammar of `regex` reads it by itself.
 abbrev pub expression_ways : (expression : List ℕ) → Choice
 expression_ways expression text = ways_of_reading (read default_config expression) text
 
 -- ---- one part
 
--- what the group of a part of this kind takes once
+-- The ways of a single match of the group of a part of this kind.
 abbrev pub piece_ways : OptionsView → PartType → (value : List ℕ) → Choice
 piece_ways options PartType.FixedText value text = []
 piece_ways options PartType.Regexp value text = expression_ways value text
 piece_ways options PartType.SegmentWildcard value text = looped false (one_that (λ c. not (c == unwrap_or options.delimiter line_feed))) text
 piece_ways options PartType.FullWildcard value text = quantified_ways ZeroOrMore 0 (one_that (λ c. not (c == line_feed))) text
 
--- a fixed text, by its modifier
+-- The ways of a fixed text, by its modifier.
 abbrev pub fixed_ways : PartModifier → (value : List ℕ) → Choice
 fixed_ways PartModifier.None value text = exactly value text
 fixed_ways PartModifier.Optional value text = quantified_ways Optional 0 (exactly value) text
 fixed_ways PartModifier.ZeroOrMore value text = quantified_ways ZeroOrMore 0 (exactly value) text
 fixed_ways PartModifier.OneOrMore value text = quantified_ways OneOrMore 0 (exactly value) text
 
--- a group with neither prefix nor suffix, by its modifier
+-- The ways of a group without prefix and suffix, by its modifier.
 abbrev pub bare_ways : PartModifier → (piece : Choice) → Choice
 bare_ways PartModifier.None piece text = captured_whole piece text
 bare_ways PartModifier.Optional piece text = quantified_ways Optional 1 (captured_whole piece) text
 bare_ways PartModifier.ZeroOrMore piece text = captured_whole (quantified_ways ZeroOrMore 0 piece) text
 bare_ways PartModifier.OneOrMore piece text = captured_whole (quantified_ways OneOrMore 0 piece) text
 
--- what is captured, between prefix and suffix
+-- The ways of a capture between prefix and suffix.
 abbrev pub between_ways : (prefix suffix : List ℕ) → (core : Choice) → Choice
 between_ways prefix suffix core text = followed_by (followed_by (exactly prefix) (captured_whole core)) (exactly suffix) text
 
--- a piece, and any number of further ones with suffix and prefix between them
+-- The ways of a piece, and of any number of further ones with suffix and prefix between them.
 abbrev pub several_ways : (prefix suffix : List ℕ) → (piece : Choice) → Choice
 several_ways prefix suffix piece text =
     followed_by piece (quantified_ways ZeroOrMore 0 (followed_by (followed_by (exactly suffix) (exactly prefix)) piece)) text
 
--- a group with a prefix or a suffix, by its modifier
+-- The ways of a group with a prefix or a suffix, by its modifier.
 abbrev pub affixed_ways : PartModifier → (prefix suffix : List ℕ) → (piece : Choice) → Choice
 affixed_ways PartModifier.None prefix suffix piece text = between_ways prefix suffix piece text
 affixed_ways PartModifier.Optional prefix suffix piece text = quantified_ways Optional 1 (between_ways prefix suffix piece) text
@@ -92,11 +94,12 @@ affixed_ways PartModifier.OneOrMore prefix suffix piece text = between_ways pref
 affixed_ways PartModifier.ZeroOrMore prefix suffix piece text =
     quantified_ways Optional 1 (between_ways prefix suffix (several_ways prefix suffix piece)) text
 
--- copies of a piece, by whether there is neither prefix nor suffix
+-- The ways of the copies of a piece, by whether prefix and suffix are empty.
 abbrev pub copies_ways : (is_bare : Bool) → PartModifier → (prefix suffix : List ℕ) → (piece : Choice) → Choice
 copies_ways true modifier prefix suffix piece text = bare_ways modifier piece text
 copies_ways false modifier prefix suffix piece text = affixed_ways modifier prefix suffix piece text
 
+-- The ways of a part of this kind.
 abbrev pub part_ways_by : PartType → OptionsView → PartView → Choice
 part_ways_by PartType.FixedText options part text = fixed_ways part.modifier part.value text
 part_ways_by kind options part text =
@@ -104,11 +107,11 @@ part_ways_by kind options part text =
 
 -- ---- a list of parts
 
--- a stretch for each part
+-- The ways of parts, one after the other.
 abbrev pub parts_ways : OptionsView → List PartView → Choice
 parts_ways options [] text = idle 0 text ∷ []
 parts_ways options (part ∷ parts) text = continued (parts_ways options parts) (part_ways_by part.kind options part text)
 
--- the captures of the first way that takes the whole text; None where no way does
+-- The captures of the first way that matches the whole text, or `None` if no way does.
 unfoldable pub parts_first_way : OptionsView → List PartView → List ℕ → Option Captures
 parts_first_way options parts text = option_map (λ way. way.captures) (find (λ way. length way.rest == 0) (parts_ways options parts text))

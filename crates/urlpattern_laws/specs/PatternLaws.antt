@@ -1,4 +1,4 @@
--- The sentences of the laws of whole patterns.
+-- Statements of the laws of whole patterns.
 use Rattle.std.specs.Prelude.{◌≡◌, ◌↔◌, ℕ, List, Ok, Option}
 use Rattle.regex.specs.declared.string.regex.Regex.{Regex}
 use Rattle.urlpattern_matcher.specs.declared.regexp.RegExp.{Ghosts as Engine}
@@ -16,36 +16,36 @@ use Rattle.urlpattern_pattern.specs.ByText.{IsFirstResult}
 use Rattle.urlpattern_pattern.specs.Patterns.{PatternView}
 use Rattle.urlpattern_pattern.specs.Meaning.{IsExecuted, IsFoundByMeaning, MeaningPremises, RegexPremises}
 
--- What a compiled pattern answers to an input is what its pattern texts mean.
+-- The result of a compiled pattern for an input is what its pattern texts mean.
 abbrev pub AnswersMeanTheParts : {E : Type 0} → Engine E → Type 0
 AnswersMeanTheParts {E} engine = (asked : UrlPatternOptions) (values : Values) (pattern : PatternView E) (input : UrlPatternMatchInput) (texts : Texts)
     (found : Option (ComponentName → ResultView)) → (compiled : AreCompiled engine asked values pattern) →
     input_texts input ≡ Ok texts → ¬ IsLongInput input → IsExecuted engine.answer pattern input found →
     IsFoundByMeaning engine.answer (manner_of asked values compiled.hierarchical) pattern texts found
 
--- A test is true exactly where there is a match.
+-- A test is true exactly if there is a match.
 abbrev pub TestsAgree : {E : Type 0} → (answer : E → List ℕ → Option Captures) → Type 0
 TestsAgree {E} answer = (pattern : PatternView E) (input : UrlPatternMatchInput) →
     HasMatch answer pattern input ↔ ((result : ComponentName → ResultView) × IsMatch answer pattern input result)
 
--- There is one match.
+-- Any two matches of an input have the same results.
 abbrev pub MatchesAreOne : {E : Type 0} → (answer : E → List ℕ → Option Captures) → Type 0
 MatchesAreOne {E} answer = (pattern : PatternView E) (input : UrlPatternMatchInput) (result other : ComponentName → ResultView) →
     IsMatch answer pattern input result → IsMatch answer pattern input other →
     (component : ComponentName) → IsSameResult (result component) (other component)
 
--- A test is not false where there is a match, unless a text is longer than `url` is sure to take.
+-- With a match a test is not false, unless a text is longer than `url` is certain to accept.
 abbrev pub TestsAreOne : {E : Type 0} → (answer : E → List ℕ → Option Captures) → Type 0
 TestsAreOne {E} answer = (pattern : PatternView E) (input : UrlPatternMatchInput) →
     HasMatch answer pattern input → HasNoMatch answer pattern input → IsLongInput input
 
--- What is asked of a component's engine is met by `regex::Regex`, where it took the regular expression.
+-- `regex::Regex` meets the premises on a component's engine, if it accepted the regular expression.
 abbrev pub RegexMeetsPremises : Type 0
 RegexMeetsPremises = (asked : UrlPatternOptions) (values : Values) (pattern : PatternView Regex) (component : ComponentName) (text : List ℕ) →
     (compiled : AreCompiled regex_engine asked values pattern) → let manner = manner_of asked values compiled.hierarchical component in
     RegexPremises manner (pattern component) text → MeaningPremises regex_engine.answer manner (pattern component) text
 
--- Then the result of a component in a match is that of the first way.
+-- In a match by `regex::Regex`, the result of a component is that of the first way.
 abbrev pub RegexResultsAreFirst : Type 0
 RegexResultsAreFirst = (asked : UrlPatternOptions) (values : Values) (pattern : PatternView Regex) (input : UrlPatternMatchInput) (texts : Texts)
     (result : ComponentName → ResultView) (component : ComponentName) →
@@ -53,7 +53,7 @@ RegexResultsAreFirst = (asked : UrlPatternOptions) (values : Values) (pattern : 
     input_texts input ≡ Ok texts → IsMatch regex_engine.answer pattern input result →
     RegexPremises manner (pattern component) (at texts component) → IsFirstResult manner (at texts component) (result component)
 
--- There is one such result.
+-- Any two results of the first way are equal.
 abbrev pub FirstResultsAreOne : Type 0
 FirstResultsAreOne = (manner : Manner) (text : List ℕ) (result other : ResultView) →
     IsFirstResult manner text result → IsFirstResult manner text other → IsSameResult result other

@@ -20,82 +20,88 @@ use Rattle.urlpattern_syntax.specs.Text.{text_of}
 
 -- ---- matching
 
--- the parts are those of the pattern: where it is known what they mean, each component matches the lines that they mean
+-- The parts are those of the pattern: where their meaning is known, each component matches the
+-- texts without line feeds that they mean.
 abbrev pub AreItsParts : {E : Type 0} → (answer : E → List ℕ → Option Captures) → PatternView E → PatternParts → Type 0
 AreItsParts answer pattern parts =
     (name : ComponentName) → IsKnown (at parts.components name) → (text : List ℕ) → IsLine text →
     IsMatched answer (pattern name).matcher text ↔ MeansIn (at parts.components name) text
 
--- the characters of eight texts
+-- The characters of eight texts.
 abbrev pub eight_texts : Eight (String Global) → Texts
 eight_texts texts = each (λ name. text_of (at texts name))
 
 -- ---- laws
 
--- the matcher matches each line that the other one matches
+-- The matcher matches each text without line feeds that the other one matches.
 abbrev pub MatchesEachLineOf : {E : Type 0} → (answer : E → List ℕ → Option Captures) → (matcher other : MatcherView E) → Type 0
 MatchesEachLineOf answer matcher other = (text : List ℕ) → IsLine text → IsMatched answer other text → IsMatched answer matcher text
 
--- so do components of the same parts, of which it is not known what they mean
+-- Of components with equal parts whose meaning is not known, that of `pattern` matches what that of
+-- `asked` matches.
 abbrev pub SameAreMatched : {E : Type 0} → (answer : E → List ℕ → Option Captures) → (pattern asked : PatternView E) → (parts asked_parts : PatternParts) → Type 0
 SameAreMatched answer pattern asked parts asked_parts =
     (name : ComponentName) → ¬ IsKnown (at parts.components name) → AreSame (at parts.components name) (at asked_parts.components name) →
     MatchesEachLineOf answer (pattern name).matcher (asked name).matcher
 
--- what a covered pattern matches the other matches too
+-- A pattern matches what the patterns that it covers match.
 abbrev pub CoveredAreMatched : {E : Type 0} → (answer : E → List ℕ → Option Captures) → Type 0
 CoveredAreMatched {E} answer =
     (pattern asked : PatternView E) (parts asked_parts : PatternParts) → AreItsParts answer pattern parts → AreItsParts answer asked asked_parts →
     SameAreMatched answer pattern asked parts asked_parts →
     IsCovered parts asked_parts → (texts : Texts) → EachIsLine texts → AreMatched answer asked texts → AreMatched answer pattern texts
 
--- the component covers the asked one by what the parts mean
+-- The component covers the other by the meaning of the parts.
 abbrev pub IsCoveredByMeaning : (component asked : ComponentParts) → Type 0
 IsCoveredByMeaning component asked = TakesEachLine component ⊎ MeansAllOf component asked
 
--- each component does, or one of the asked ones means nothing
+-- Each component covers the other's by meaning, or a component of the other means nothing.
 abbrev pub AreCoveredByMeaning : (pattern asked : PatternParts) → Type 0
 AreCoveredByMeaning pattern asked =
     ((name : ComponentName) × TakesNoLine (at asked.components name))
     ⊎ ((name : ComponentName) → IsCoveredByMeaning (at pattern.components name) (at asked.components name))
 
--- what is covered by meaning is matched, and nothing is asked of components of the same parts
+-- A pattern matches what the patterns that it covers by meaning match.
 abbrev pub CoveredByMeaningAreMatched : {E : Type 0} → (answer : E → List ℕ → Option Captures) → Type 0
 CoveredByMeaningAreMatched {E} answer =
     (pattern asked : PatternView E) (parts asked_parts : PatternParts) → AreItsParts answer pattern parts → AreItsParts answer asked asked_parts →
     AreCoveredByMeaning parts asked_parts → (texts : Texts) → EachIsLine texts → AreMatched answer asked texts → AreMatched answer pattern texts
 
--- of each component that has the same parts it is known what these mean
+-- The meaning of any two components with equal parts is known.
 abbrev pub SameAreKnown : (pattern asked : PatternParts) → Type 0
 SameAreKnown pattern asked = (name : ComponentName) → AreSame (at pattern.components name) (at asked.components name) → IsKnown (at pattern.components name)
 
--- what is covered then is covered by meaning
+-- A pattern that covers another covers it by meaning, if the meaning of components with equal parts
+-- is known.
 abbrev pub KnownAreCoveredByMeaning : Type 0
 KnownAreCoveredByMeaning = (pattern asked : PatternParts) → SameAreKnown pattern asked → IsCovered pattern asked → AreCoveredByMeaning pattern asked
 
--- components that were made of the same parts match so, if the engine's values answer alike
+-- Components made of equal parts match the same texts, if equal expressions of the engine return
+-- the same results.
 abbrev pub MadeAreMatched : {E : Type 0} → Engine E → Type 0
 MadeAreMatched {E} engine = ExpressionsAnswerAlike engine →
     (pattern asked : PatternView E) (parts asked_parts : PatternParts) → AreMadeOfParts engine parts pattern → AreMadeOfParts engine asked_parts asked →
     SameAreMatched engine.answer pattern asked parts asked_parts
 
--- the parts that a pattern was made of say what it matches, where it is known what they mean
+-- The parts of which a pattern was made say what it matches, where their meaning is known.
 abbrev pub OwnPartsMean : {E : Type 0} → Engine E → Type 0
 OwnPartsMean {E} engine = (pattern : PatternView E) (parts : PatternParts) → AreMadeOfParts engine parts pattern → AreItsParts engine.answer pattern parts
 
--- so do the parts that a pattern keeps of an init, if it answers by its texts
+-- The parts that a compiled pattern keeps say what it matches, if it matches by its texts.
 abbrev pub KeptPartsMean : {E : Type 0} → Engine E → Type 0
 KeptPartsMean {E} engine =
     (init : UrlPatternInit) (asked : UrlPatternOptions) (pattern : UrlPattern E) → AnswersByItsText engine.answer init asked (pattern_view pattern) →
     (kept : KeepsPartsOf engine init asked pattern) → AreItsParts engine.answer (pattern_view pattern) kept.parts
 
--- what is covered is matched, with custom regular expressions or not, by patterns that were made of their parts
+-- A pattern made of its parts matches what the patterns that it covers match, with or without
+-- custom regular expressions.
 abbrev pub CoveredByEngineAreMatched : {E : Type 0} → Engine E → Type 0
 CoveredByEngineAreMatched {E} engine =
     (pattern asked : PatternView E) (parts asked_parts : PatternParts) → AreMadeOfParts engine parts pattern → AreMadeOfParts engine asked_parts asked →
     IsCovered parts asked_parts → (texts : Texts) → EachIsLine texts → AreMatched engine.answer asked texts → AreMatched engine.answer pattern texts
 
--- the texts in which patterns part are matched by the asked one, and not by the other
+-- The texts in which patterns part are matched by `asked`, and the one of the component is not
+-- matched by `pattern`.
 abbrev pub PartingsAreMatched : {E : Type 0} → (answer : E → List ℕ → Option Captures) → Type 0
 PartingsAreMatched {E} answer =
     (pattern asked : PatternView E) (parts asked_parts : PatternParts) (parting : Parting) → AreItsParts answer pattern parts →
@@ -103,13 +109,14 @@ PartingsAreMatched {E} answer =
     AreMatched answer asked (eight_texts parting.texts)
     × ¬ IsMatched answer (pattern parting.component).matcher (at (eight_texts parting.texts) parting.component)
 
--- texts that the parts mean are matched
+-- A pattern matches the texts that its parts mean.
 abbrev pub CommonAreMatched : {E : Type 0} → (answer : E → List ℕ → Option Captures) → Type 0
 CommonAreMatched {E} answer =
     (pattern : PatternView E) (parts : PatternParts) (texts : Eight (String Global)) → AreItsParts answer pattern parts →
     MeansEach parts texts → AreMatched answer pattern (eight_texts texts)
 
--- where a component's parts are apart, no eight lines are matched by both
+-- If the parts of a component are apart, no eight texts without line feeds are matched by both
+-- patterns.
 abbrev pub ApartMatchNothing : {E : Type 0} → (answer : E → List ℕ → Option Captures) → Type 0
 ApartMatchNothing {E} answer =
     (pattern other : PatternView E) (parts other_parts : PatternParts) (name : ComponentName) → AreItsParts answer pattern parts →

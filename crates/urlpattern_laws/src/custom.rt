@@ -1,6 +1,7 @@
-//! Laws on custom regular expressions: what they mean, and that matchers and two engines answer it.
+//! Laws on custom regular expressions: what they match and capture, and that two engines and their
+//! matchers return the same.
 //!
-//! Each function here does nothing; what it promises is a theorem.
+//! Each function has an empty body; its contract is a theorem.
 
 ghost use Rattle.std.specs.Prelude.{⊤};
 ghost use Rattle.urlpattern_matcher.specs.Regexes.{regex_engine};
@@ -10,73 +11,89 @@ ghost use Rattle.urlpattern_laws.specs.LawsOfWays.{ComponentsAnswerFirstOfParts,
 ghost use Rattle.urlpattern_engine.specs.PatternRegexps.{pattern_engine};
 ghost use Rattle.urlpattern_meaning.specs.FirstAnswers.{TookText};
 
-/// The grammar of the crate `regex` composes: inside of a group, whatever is before and after it, what it reads of an expression that
-/// stands alone ends at the closing parenthesis, and takes the texts that the expression takes by itself. Where it reads nothing, as
-/// where the name of a group occurs before, it rejects the longer expression.
+/// The grammar of the crate `regex` composes. In a group, with any text before and after, it reads
+/// an expression that stands alone up to the closing parenthesis, and what it reads matches the
+/// texts that the expression matches by itself. Where it reads nothing, as for a group name that
+/// occurs before, it rejects the longer expression.
 ///
-/// An expression stands alone if the grammar reads it by itself, without assertions and without classes of bytes, and if it has no `#`,
-/// which begins a comment under the flag `x`.
+/// An expression stands alone if the grammar reads it by itself, without assertions and byte
+/// classes, and if it has no `#`, which begins a comment under the flag `x`.
 #[tactic(auto, using(crate::proofs::CustomLaws::reads_in_groups))]
 pub fn expressions_are_read_in_groups()
     ensures { ReadsInGroups }
 {}
 
-/// Parts of which none is custom take exactly the texts that they mean, and capture what they mean.
+/// Parts without a custom one match exactly the texts that they mean, and capture what they mean.
 #[tactic(auto, using(crate::proofs::MatchersCapture::parts_capture_meanings, crate::proofs::TakenMeanings::parts_take_meanings))]
 pub fn parts_take_the_texts_that_they_mean()
     ensures takes { PartsTakeMeanings }
     ensures captures { PartsCaptureMeanings }
 {}
 
-/// A value of an engine that was made of the regular expression of parts answers captures to a text of characters exactly if the text
-/// is cut into stretches that the parts take, where a custom part takes what its expression takes by itself.
+/// A value that an engine made of the regular expression of parts returns captures for a text
+/// exactly if the parts match the text. A custom part matches what its expression matches by
+/// itself.
 ///
-/// It is asked of each custom expression that it stands alone. Of `PatternRegexp` it is asked that it was made without the flag `i`, of a
-/// regular expression of no more than 2³² characters.
+/// Premises: each custom expression stands alone. For `PatternRegexp`: the flag `i` is not set, and
+/// the regular expression has at most 2³² characters.
 #[tactic(auto, using(crate::proofs::ValuesTaken::pattern_values_taken, crate::proofs::ValuesTaken::regex_values_taken))]
 pub fn values_answer_the_texts_that_parts_take()
     ensures own { ValuesAnswerTaken pattern_engine KeepsCase HasNumbers }
     ensures regex { ValuesAnswerTaken regex_engine (λ flags. ⊤) (λ regexp. ⊤) }
 {}
 
-/// A matcher answers captures to a text of characters without line feed exactly if its parts take the text, custom ones among them, if
-/// case is kept and the engine took the regular expression where it was needed.
+/// A matcher returns captures for a text without line feeds exactly if its parts match the text,
+/// custom parts included.
+///
+/// Premises: each custom expression stands alone, case is kept, and the engine, where one is
+/// needed, accepted its regular expression. For `PatternRegexp`, the regular expression has at most
+/// 2³² characters.
 pub fn matchers_answer_the_texts_that_parts_take()
     ensures own { MatchersAnswerTaken pattern_engine HasNumbers TookAlone }
     ensures regex { MatchersAnswerTaken regex_engine (λ regexp. ⊤) (λ options flags. TookText (λ value. ⊤)) }
 {}
 
-/// A value of an engine answers what the parts capture, or `None` where they do not take the text. A custom part captures its copies
-/// without the first prefix and the last suffix, as any group does.
+/// A value of an engine returns what the parts capture, or `None` if they do not match the text. A
+/// custom part captures its copies without the first prefix and the last suffix, as any group does.
 ///
-/// It is asked of each custom expression that it stands alone and captures nothing itself. Of `PatternRegexp` it is asked that it was made
-/// without the flag `i`, of a regular expression of no more than 2³² characters.
+/// Premises: each custom expression stands alone and captures nothing itself. For `PatternRegexp`:
+/// the flag `i` is not set, and the regular expression has at most 2³² characters.
 #[tactic(auto, using(crate::proofs::ValuesTaken::pattern_values_capture, crate::proofs::ValuesTaken::regex_values_capture))]
 pub fn values_answer_what_parts_capture()
     ensures own { ValuesCapture pattern_engine KeepsCase HasNumbers }
     ensures regex { ValuesCapture regex_engine (λ flags. ⊤) (λ regexp. ⊤) }
 {}
 
-/// A matcher answers what its parts capture to a text of characters without line feed, or `None` where they do not take it, custom parts
-/// among them, if case is kept and the engine took the regular expression where it was needed.
+/// A matcher returns what its parts capture of a text without line feeds, or `None` if they do not
+/// match the text, custom parts included.
+///
+/// Premises: each custom expression stands alone and captures nothing itself, case is kept, and the
+/// engine, where one is needed, accepted its regular expression. For `PatternRegexp`, the regular
+/// expression has at most 2³² characters.
 pub fn matchers_answer_what_parts_capture()
     ensures own { MatchersCapture pattern_engine HasNumbers TookAlone }
     ensures regex { MatchersCapture regex_engine (λ regexp. ⊤) (λ options flags. TookText (λ value. ⊤)) }
 {}
 
-/// So does the matcher of a component that was compiled to such parts. There are as many captures as names.
+/// The matcher of a compiled component returns what the component's parts capture of a text without
+/// line feeds, or `None` if they do not match the text. There are as many captures as names.
+///
+/// Premises: each custom expression stands alone and captures nothing itself, case is kept, and the
+/// engine, where one is needed, accepted its regular expression. For `PatternRegexp`, the regular
+/// expression has at most 2³² characters.
 pub fn components_answer_what_parts_capture()
     ensures names { CapturesAreAsNames }
     ensures own { ComponentsCapture pattern_engine HasNumbers }
     ensures regex { ComponentsCapture regex_engine (λ regexp. ⊤) }
 {}
 
-/// Of several captures, a value of an engine answers those of the first way of the parts: an earlier choice is preferred to a later one, and
-/// inside of a custom part the choices of its expression are tried as the grammar reads it by itself. Without a custom part this is the first
-/// way of the tree of their regular expression. It is what the parts capture.
+/// A value of an engine returns the captures of the first way of the parts: an earlier choice is
+/// preferred to a later one, and inside a custom part the choices are those of its expression by
+/// itself. Without a custom part, this is the first way of the tree of the regular expression. The
+/// captures of the first way are what the parts capture.
 ///
-/// It is asked of each custom expression that it stands alone and captures nothing itself. Of `PatternRegexp` it is asked that it was made
-/// without the flag `i`, of a regular expression of no more than 2³² characters.
+/// Premises: each custom expression stands alone and captures nothing itself. For `PatternRegexp`:
+/// the flag `i` is not set, and the regular expression has at most 2³² characters.
 #[tactic(auto, using(crate::proofs::CustomLaws::first_ways))]
 pub fn values_answer_the_first_way_of_parts()
     ensures trees { FirstWaysAreOfTrees }
@@ -85,14 +102,23 @@ pub fn values_answer_the_first_way_of_parts()
     ensures regex { ValuesAnswerFirstOfParts regex_engine (λ flags. ⊤) (λ regexp. ⊤) }
 {}
 
-/// A matcher answers the first way of its parts to a text of characters without line feed, or `None` where there is none, if case is kept and
-/// the engine took the regular expression where it was needed.
+/// A matcher returns the first way of its parts for a text without line feeds, or `None` if there
+/// is none.
+///
+/// Premises: each custom expression stands alone and captures nothing itself, case is kept, and the
+/// engine, where one is needed, accepted its regular expression. For `PatternRegexp`, the regular
+/// expression has at most 2³² characters.
 pub fn matchers_answer_the_first_way_of_parts()
     ensures own { MatchersAnswerFirstOfParts pattern_engine HasNumbers TookAlone }
     ensures regex { MatchersAnswerFirstOfParts regex_engine (λ regexp. ⊤) (λ options flags. TookText (λ value. ⊤)) }
 {}
 
-/// So does the matcher of a component that was compiled to such parts.
+/// The matcher of a compiled component returns the first way of the component's parts for a text
+/// without line feeds, or `None` if there is none.
+///
+/// Premises: each custom expression stands alone and captures nothing itself, case is kept, and the
+/// engine, where one is needed, accepted its regular expression. For `PatternRegexp`, the regular
+/// expression has at most 2³² characters.
 pub fn components_answer_the_first_way_of_parts()
     ensures own { ComponentsAnswerFirstOfParts pattern_engine HasNumbers }
     ensures regex { ComponentsAnswerFirstOfParts regex_engine (λ regexp. ⊤) }

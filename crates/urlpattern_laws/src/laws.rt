@@ -1,6 +1,6 @@
-//! Laws of the definitions by which the contracts are written: those of the crates below, and that of the engine of browsers.
+//! Laws of the definitions in contracts: those of the crates below, and those of whole patterns.
 //!
-//! Each function here does nothing; what it promises is a theorem.
+//! Each function has an empty body; its contract is a theorem.
 
 ghost use Rattle.std.specs.Prelude.{⊤, ℕ, List, Option};
 ghost use Rattle.urlpattern_pattern.specs.ByText.{MakesFirstWays};
@@ -49,45 +49,48 @@ pub use urlpattern_meaning::laws::{
 };
 pub use urlpattern_plain::laws::reading_undoes_writing;
 
-/// What a pattern answers to an input is what its pattern texts mean. In a match each component's pattern text means the
-/// component's text, and the groups are the names of its parts beside the captures of one such meaning. No match is answered
-/// only where the pattern texts do not mean all eight texts.
+/// The results of a pattern are what its pattern texts mean. In a match, each component's pattern
+/// text means the component's text, and the groups are the names of its parts with the captures of
+/// one such meaning. The result is no match only if the pattern texts do not mean all eight texts.
 ///
-/// It holds of a component without a custom regular expression, where case is kept and the text is of characters without line
-/// feed, and where an engine that is needed took the regular expression that it was given and follows it. No text of the
-/// input is longer than `url` is sure to take.
+/// Premises, for each component: no part is custom, case is kept, the text has no line feed, and
+/// the engine, where one is needed, accepted its regular expression and follows it. No text of the
+/// input is longer than `url` is certain to accept.
 pub fn groups_mean_the_parts<R: RegExp>()
     ensures { AnswersMeanTheParts R.RegExp }
 {}
 
-/// A test of a pattern is true exactly where there is a match, and then there is one match. It is not false there, unless
-/// the texts of an init are longer than `url` takes.
+/// A test is true exactly if there is a match, and there is at most one match. With a match, a test
+/// is false only if a text of an init is longer than `url` is certain to accept.
 pub fn tests_agree_with_matches<E>()
     ensures agree { (answer : E → List ℕ → Option Captures) → TestsAgree answer }
     ensures one { (answer : E → List ℕ → Option Captures) → MatchesAreOne answer }
     ensures not_both { (answer : E → List ℕ → Option Captures) → TestsAreOne answer }
 {}
 
-/// Of a pattern that `regex::Regex` compiled, what is asked of a component's engine is met where it took the regular expression
-/// that it was given. So in a match the groups of a component are the names of its parts beside what the first way captures,
-/// which are determined by the pattern text and the component's text: no other result is a match.
+/// A pattern compiled by `regex::Regex` meets the premises on a component's engine, if the engine
+/// accepted its regular expression. In a match the groups of the component are the names of its
+/// parts with the captures of the first way, which is determined by the pattern text and the
+/// component's text.
 pub fn groups_by_regex_are_of_the_first_way()
     ensures premises { RegexMeetsPremises }
     ensures first { RegexResultsAreFirst }
     ensures one { FirstResultsAreOne }
 {}
 
-/// A matcher that `EcmaRegexp` made answers the first way of the tree of the parts, which is a meaning of them, or `None` where
-/// they have none, if a value of `regex` is kept where an engine is needed.
+/// A matcher made by `EcmaRegexp` returns the first way of the tree of the parts, which is one of
+/// their meanings, or `None` if they have none. Where an engine is needed, it has to hold a value
+/// of `regex`.
 pub fn matchers_by_ecma_regexp_answer_the_first_way()
     ensures { EachAnswersFirst ecma_engine (λ options flags. TookText KeepsRegex) }
 {}
 
-/// A pattern that was compiled answers by its texts: each component whose pattern text has no custom regular expression, where
-/// case is kept, has the names of the parts that its text reads as, and answers their first way to each text of characters
-/// without line feed. So what it finds in eight texts, or in an input, is determined by the pattern texts.
+/// A compiled pattern matches by its texts. Each component without a custom regular expression
+/// whose case is kept has the names of the parts of its pattern text, and returns their first way
+/// for each text without line feeds. The findings in eight texts, or in an input, are determined by
+/// the pattern texts.
 ///
-/// It is asked of an engine that its values answer the first way of the parts that are left to them.
+/// Premise: the engine's values return the first way of the parts that are left to them.
 pub fn patterns_answer_by_their_texts<R: RegExp>()
     ensures by_text { PatternsAnswerByText R.RegExp }
     ensures found { FindingsAreByText R.answer }
@@ -97,29 +100,30 @@ pub fn patterns_answer_by_their_texts<R: RegExp>()
     ensures meaning { CompiledHaveMeaning R.RegExp }
 {}
 
-/// Two patterns of one init find the same in eight texts, whatever engines they are over, if both answer by its texts and all
-/// of these have a meaning.
+/// Two patterns of one init, over any engines, have the same findings in eight texts, if both match
+/// by the init's pattern texts and all of these texts have a meaning.
 pub fn patterns_of_one_init_answer_alike<R: RegExp, S: RegExp>()
     ensures { PatternsAnswerAlike R.answer S.answer }
 {}
 
-/// Of the three engines here nothing is asked but what the pattern shows: of `PatternRegexp` nothing at all, of `regex::Regex`
-/// that it took what the components without a custom regular expression ask it for, of `EcmaRegexp` that it kept a value of
-/// `regex` for them.
+/// The premise on the engine, for each of three engines: none for `PatternRegexp`; `regex::Regex`
+/// accepted the regular expressions of the components without a custom one; `EcmaRegexp` holds a
+/// value of `regex` for them.
 pub fn patterns_by_these_engines_answer_by_their_texts()
     ensures pattern_regexp { MakesFirstWays pattern_engine }
     ensures regex { TakenPatternsAnswerByText regex_engine (TookText (λ value. ⊤)) }
     ensures ecma_regexp { TakenPatternsAnswerByText ecma_engine (TookText KeepsRegex) }
 {}
 
-/// An init has one outcome: it is compiled to a pattern, or it is refused with one error, and not both. It has that outcome
-/// where `url` answers each text that it is asked about, and the engine makes a value of each regular expression that it is asked
-/// for or may refuse it. The values of an init as a pattern are never refused. Left aside are two errors: that memory ran out,
-/// and that a text is too long for `url`.
+/// An init has one outcome: it is compiled to a pattern, or it is rejected with one error. The
+/// outcome exists if `url` has a result for each text that it is called with, and the engine makes
+/// a value of each regular expression or may reject it. The values of an init as a pattern are
+/// never rejected. Left aside are two errors: out of memory, and a text too long for `url`.
 ///
-/// Of the engine it is asked that it does not both take and refuse a regular expression that is made of a component's parts or of
-/// some of them, and that two of its matchers for the protocol accept a special scheme alike. An engine that makes first ways meets the second where no pattern
-/// text has a custom regular expression, and `PatternRegexp` meets both there.
+/// Premises: the engine does not both accept and reject a regular expression of a component's
+/// parts, or of some of them, and two of its matchers for the protocol accept a special scheme
+/// alike. An engine that makes first ways meets the second if no pattern text has a custom regular
+/// expression; `PatternRegexp` then meets both.
 pub fn inits_have_one_outcome<R: RegExp>()
     ensures not_both { PatternsExcludeRefusals R.RegExp }
     ensures refusals { InitRefusalsAreOne R.RegExp }
@@ -129,54 +133,57 @@ pub fn inits_have_one_outcome<R: RegExp>()
     ensures pattern_regexp { DecidesGenerated pattern_engine }
 {}
 
-/// A component whose case is ignored, and whose matcher needs no engine, answers by its pattern text too: to each text of
-/// characters without line feed it answers captures exactly where the parts, with the ASCII letters of their texts folded, take
-/// the folded text. Folded, the captures are those of the first way in which they do. As they are, they are pieces of the text
-/// itself, which is cut into a stretch for each part.
+/// A component that ignores case and whose matcher needs no engine matches by its pattern text. For
+/// a text without line feeds it returns captures exactly if the parts, with ASCII letters folded,
+/// match the folded text. Folded, the captures are those of the first way. Unfolded, they are
+/// substrings of the text, which is split into one substring for each part.
 ///
-/// Where an engine stands between prefix and suffix, these two are compared folded, and what is between them is left to the
-/// engine: `PatternRegexp` compares it folded too, and `regex::Regex` as it is.
+/// Prefix and suffix around an engine are compared with case folded. The text between them is left
+/// to the engine: `PatternRegexp` folds it too, `regex::Regex` does not.
 pub fn folded_ways_are_answered<R: RegExp>()
     ensures { FoldedWaysAreAnswered R.RegExp }
 {}
 
-/// A component over `PatternRegexp` whose case is ignored, and of which no part is custom, answers by its pattern text, whichever shape
-/// it has: to each text of characters without line feed it answers captures exactly where the folded parts take the folded text,
-/// and folded they are those of the first way in which they do.
+/// A component over `PatternRegexp` that ignores case and has no custom part matches by its pattern
+/// text, with any matcher. For a text without line feeds it returns captures exactly if the folded
+/// parts match the folded text. Folded, the captures are those of the first way.
 pub fn first_ways_are_answered_where_case_is_ignored()
     ensures { FoldedFirstsAreAnswered pattern_engine }
 {}
 
-/// There is one link with given groups, and links whose groups are to capture different texts of a component have different texts
-/// there.
+/// A link is determined by its groups. Links whose groups are to capture different texts of a
+/// component have different texts there.
 ///
-/// What groups are to capture are canonical forms: `é` and `%C3%A9` are the same text of a path.
+/// The captures meant are canonical forms: `é` and `%C3%A9` are the same text of a path.
 pub fn links_differ_by_their_groups<R: RegExp>()
     ensures one { LinksAreOne R.answer }
     ensures differ { LinksDiffer R.answer }
 {}
 
-/// A link whose groups are given what they captured of eight texts has these texts.
+/// A link whose groups are the captures of eight texts has these texts.
 ///
-/// It is asked of each component that its parts mean its text, with these captures; that no fixed text has a
-/// modifier, since its copies are not captured; and that each text that was captured is its own canonical form.
+/// Premises, for each component: its parts mean its text, with these captures; no fixed text has a
+/// modifier, since the copies are not captured; and each captured text is its own canonical form.
 pub fn links_of_captures_are_the_texts<R: RegExp>()
     ensures { LinksOfCapturesAreTheTexts R.answer }
 {}
 
-/// What `to_groups` returns, of captures or of a result, gives each group what it captured, and nothing to one that took no part.
+/// `to_groups`, of captures or of a result, returns each group with its capture, and no group that
+/// did not capture.
 ///
-/// Of captures it is asked that no two groups of a component have one name, as of a match by a pattern that was compiled.
+/// Premise for captures: no two groups of a component have the same name. A match by a compiled
+/// pattern meets it.
 pub fn groups_of_matches_are_given<R: RegExp>()
     ensures captures { GroupsOfCapturesAreGiven }
     ensures result { GroupsOfResultsAreGiven }
     ensures differ { GroupsOfMatchesDiffer R.RegExp }
 {}
 
-/// A link whose groups are given what a match captured has the texts that were matched.
+/// A link whose groups are the captures of a match has the texts that were matched.
 ///
-/// It is asked of each component that its names are those of its parts, no two of them equal, and that these mean its text, with what was
-/// captured; that no fixed text has a modifier; and that each text that was captured is its own canonical form.
+/// Premises, for each component: its names are those of its parts and differ; its parts mean its
+/// text, with these captures; no fixed text has a modifier; and each captured text is its own
+/// canonical form.
 pub fn links_of_matches_are_the_texts<R: RegExp>()
     ensures { LinksOfMatchesAreTheTexts R.answer }
 {}

@@ -1,7 +1,7 @@
-//! The laws of whole patterns, those that tie what the parts of a pattern mean to what it matches,
-//! and those of custom regular expressions.
+//! The laws of whole patterns, the laws that relate the meaning of a pattern's parts to what the
+//! pattern matches, and the laws of custom regular expressions.
 //!
-//! `urlpattern` passes on the modules.
+//! `urlpattern` re-exports the modules.
 #![tactic(auto)]
 
 pub mod custom;

@@ -1,4 +1,5 @@
--- Lemmas on the body of a custom regular expression: how a front of it goes on to its end, and how to a fault.
+-- Lemmas on the body of a custom regular expression: how the start of a body continues to its end
+-- or to a fault.
 use Rattle.std.proofs.Common.{◌≡◌, ℕ, suc, zero, ◌≤◌, ◌<◌, ◌⊎◌, Bool, false, List, [], ◌∷◌, ◌++◌, refl, sym, ap, ◌∙◌, subst, inl, inr, append_assoc, ◌+◌, ◌-◌, ◌==◌, arith}
 use Rattle.std.specs.Prelude.{codes, IsTrue}
 use Rattle.std.proofs.Math.Numerals.{add-one}
@@ -8,19 +9,19 @@ use Rattle.urlpattern_syntax.specs.declared.tokenizer.TokenType.TheVariants.{Reg
 use Rattle.urlpattern_syntax.specs.Tokens.{FaultView, IncompleteEscapeCode, InvalidName, InvalidRegex, NotAscii, EscapedNotAscii, GroupAtEnd, CapturingGroup, NotClosed, reason, IsFaultAt, IsLexed, LacksEscaped, LacksQuestionMark, Body, Front, body_text, front_text, IsBody, IsFront, IsRegexpFront, is_question_mark, Body as bodies, Front as fronts}
 use Rattle.urlpattern_syntax.specs.Text.{BeginsWith, is_among}
 
--- the text is of a body
+-- The text is a body.
 pub record IsBodyText (text : List ℕ) : Type 0 where
   pub body : Body
   pub is_body : IsBody body
   pub spelled : text ≡ body_text body
 
--- the text is of a front
+-- The text is the start of a body.
 pub record IsFrontText (text : List ℕ) : Type 0 where
   pub front : Front
   pub is_front : IsFront front
   pub spelled : text ≡ front_text front
 
--- A text that may stand before a body.
+-- A text that may be put before a body.
 pub record Prepends (unit : List ℕ) : Type 0 where
   pub onto : Body → Body
   pub keeps : (body : Body) → IsBody body → IsBody (onto body)
@@ -69,7 +70,7 @@ prepends_plain c ascii plain = record { onto = bodies.Plain c; keeps = λ body h
 pub prepends_escaped : (c : ℕ) → c < 128 → Prepends (codes "\\" ++ c ∷ [])
 prepends_escaped c ascii = record { onto = bodies.Escaped c; keeps = λ body h. (ascii, h); spells = λ body. refl }
 
--- a group whose body begins with a question mark
+-- A group whose body begins with a question mark.
 pub prepends_group : (inner : List ℕ) → IsBodyText inner → BeginsWith is_question_mark inner → Prepends (codes "(" ++ inner ++ codes ")")
 prepends_group inner i marked = record {
   onto = bodies.Group i.body;
@@ -77,14 +78,14 @@ prepends_group inner i marked = record {
   spells = λ body. ap (λ x. (codes "(" ++ x ++ codes ")") ++ body_text body) (sym i.spelled);
 }
 
--- ---- the rest of a body after so many inner brackets that are open
+-- ---- the rest of a body inside inner parentheses
 
--- the text closes them and is the rest of a body
+-- The text closes as many parentheses as `depth` says, and is then the rest of a body.
 abbrev pub Closes : ℕ → List ℕ → Type 0
 Closes zero text = IsBodyText text
 Closes (suc depth) text = (inner rest : List ℕ) × (text ≡ (inner ++ codes ")") ++ rest) × IsBodyText inner × Closes depth rest
 
--- the text closes some of them and is then a front
+-- The text closes some of the parentheses, and is then the start of a body.
 abbrev pub GoesOn : ℕ → List ℕ → Type 0
 GoesOn zero text = IsFrontText text
 GoesOn (suc depth) text =
@@ -109,7 +110,7 @@ GoesOn-prepended (suc depth) unit text p (inl f) = inl (prepended_front unit tex
 GoesOn-prepended (suc depth) unit text p (inr h) =
     inr (unit ++ h.0, h.1, behind unit h.0 h.1 text h.2, prepended unit h.0 p h.3, h.4)
 
--- a closing bracket closes one
+-- A closing parenthesis closes a group.
 pub Closes-closed : (depth : ℕ) (text : List ℕ) → Closes depth text → Closes (suc depth) (codes ")" ++ text)
 Closes-closed depth text h = ([], text, refl, nothing, h)
 
@@ -119,7 +120,7 @@ GoesOn-closed depth text h = inr ([], text, refl, nothing, h)
 question_mark : Prepends (codes "?")
 question_mark = prepends_plain 63 (omega arith) (λ h. false≢true h)
 
--- an opening bracket and its question mark open one
+-- An opening parenthesis and its question mark open a group.
 pub Closes-opened : (depth : ℕ) (text : List ℕ) → Closes (suc depth) text → Closes depth (codes "(?" ++ text)
 Closes-opened depth text h =
     subst (Closes depth) (ap (λ x. codes "(?" ++ x) (sym h.2))
@@ -141,7 +142,7 @@ GoesOn-opened depth text (inr h) =
 
 -- ---- reading
 
--- the text before the rest is the front of a body in which so many inner brackets are open
+-- The text before `rest` is the start of a body, with as many open parentheses as `depth` says.
 pub record HasRead (text rest : List ℕ) (depth : ℕ) : Type 0 where
   pub read : List ℕ
   pub cut : text ≡ read ++ rest
@@ -184,7 +185,7 @@ pub HasRead-closed : (text rest after : List ℕ) (depth : ℕ) → HasRead text
 HasRead-closed text rest after depth h some e =
     HasRead-closed_suc text rest after (depth - 1) (subst (HasRead text rest) (let p : depth ≡ suc (depth - 1) = omega arith in p) h) e
 
--- ---- what is read where the loop ends
+-- ---- the end of the loop
 
 begins_longer : (p : ℕ → Bool) (xs ys : List ℕ) → BeginsWith p xs → BeginsWith p (xs ++ ys)
 begins_longer p [] ys h = absurd (false≢true h)
@@ -195,7 +196,7 @@ begins_among [] h = h
 begins_among (c ∷ text) h = elim (or_cases (63 == c) false h) [ inl e ↦ or_left (63 == c) (is_among (codes ")") c) e | inr e ↦ absurd (false≢true e) ]
 
 module _ (text rest : List ℕ) (depth : ℕ) (h : HasRead text rest depth) (unmarked : ¬ BeginsWith (is_among (codes "?)")) text) where
-  -- what was read may stand before a fault
+  -- The text read may precede a fault.
   pub front_read : IsRegexpFront h.read
   front_read =
       let f : IsFrontText h.read = subst IsFrontText (append-nil h.read) (h.goes_on [] (GoesOn-front depth [] nowhere)) in

@@ -9,12 +9,12 @@ use Rattle.std.proofs.lemmas.Str.{chars-append, encodes-append, encodes-chars}
 use Rattle.urlpattern_syntax.proofs.TextLemmas.{chars-empty, chars-some}
 use Rattle.urlpattern_syntax.specs.Writing.{Compares}
 
--- the bytes of a text whose characters begin with those of another
+-- The bytes of a text whose characters begin with those of another.
 front_bytes : (left text rest : List ℕ) → IsUtf8 left → IsUtf8 text → chars left ≡ chars text ++ rest → left ≡ text ++ encode_utf8_all rest
 front_bytes left text rest u v e =
     sym (encodes-chars left u) ∙ ap encode_utf8_all e ∙ encodes-append (chars text) rest ∙ ap (λ x. x ++ encode_utf8_all rest) (encodes-chars text v)
 
--- a text that is stripped of what it begins with
+-- Stripping a prefix from a text compares the text with the prefix.
 pub stripped : (left text : List ℕ) (result : Option (Bor (List ℕ))) → IsUtf8 left → IsUtf8 text →
     MatchOption result ((rest : List ℕ) → ¬ (left ≡ text ++ rest)) (λ rest. StripsPrefix (FindsTextPrefix text) left rest.now) →
     Compares (Some (chars left)) (chars text) (option_map (λ (rest : Bor (List ℕ)). chars rest.now) result)
@@ -23,7 +23,7 @@ stripped left text (Some rest) u v h =
     let same : left ≡ text ++ rest.now = h.1.1 ∙ ap (λ x. text ++ x) (sym h.2) in
     ap chars same ∙ chars-append text rest.now v
 
--- all of the text was written
+-- A text is all that was written if nothing of it is left.
 pub all_written : (text written left : List ℕ) → Compares (Some text) written (Some left) → left ≡ [] → text ≡ written
 all_written text written left h e = h ∙ ap (λ x. written ++ x) e ∙ append-nil written
 

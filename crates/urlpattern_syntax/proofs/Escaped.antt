@@ -9,7 +9,7 @@ pub escaped-append : (marks xs ys : List ℕ) → escaped marks (xs ++ ys) ≡ e
 unfolding escaped
 escaped-append marks xs ys = flat_map-append (λ c. if is_among marks c then codes "\\" ++ c ∷ [] else c ∷ []) xs ys
 
--- one character, by whether it is a mark
+-- A single character, by whether it is a mark.
 pub escaped-mark : (marks : List ℕ) (c : ℕ) → true ≡ is_among marks c → escaped marks (c ∷ []) ≡ codes "\\" ++ c ∷ []
 unfolding escaped
 escaped-mark marks c e = rw (← e)
@@ -18,12 +18,12 @@ pub escaped-other : (marks : List ℕ) (c : ℕ) → false ≡ is_among marks c 
 unfolding escaped
 escaped-other marks c e = rw (← e)
 
--- an element of a list, between those before it and those after it
+-- A list is the elements before one of its elements, that element, and the elements after.
 pub cut_at : {X : Type 0} (xs : List X) (i : ℕ) (x : X) → i < length xs → x ≡ get_or xs i x → xs ≡ take i xs ++ (x ∷ drop (suc i) xs)
 cut_at xs i x below here = sym (take-append-drop i xs) ∙ ap (λ rest. take i xs ++ rest) (drop-cons xs i x below ∙ ap (λ y. y ∷ drop (suc i) xs) (sym here))
 
--- A text is escaped up to `rest`: this was written, and what is from the start of `unwritten` to there is still to be
--- written as it stands.
+-- The text before `rest` is escaped, except that `pending`, which begins at `unwritten`, is yet to
+-- be written.
 pub record IsEscapedTo (marks text unwritten rest written : List ℕ) : Type 0 where
   pub seen : List ℕ
   pub pending : List ℕ
@@ -35,7 +35,7 @@ pub escapes_from_start : (marks text : List ℕ) → IsEscapedTo marks text text
 unfolding escaped
 escapes_from_start marks text = record { seen = []; pending = []; are_seen = refl; are_pending = refl; are_escaped = refl }
 
--- what was looked at, with one character more
+-- A character more is escaped.
 escaped_so_far : (marks seen written pending piece : List ℕ) (c : ℕ) → escaped marks seen ≡ written ++ pending → escaped marks (c ∷ []) ≡ piece
     → escaped marks (seen ++ c ∷ []) ≡ written ++ (pending ++ piece)
 escaped_so_far marks seen written pending piece c before now =
@@ -65,7 +65,7 @@ escapes_mark marks text unwritten rest written after run c h cut mark is_run =
           ∙ sym (append_assoc (written ++ run) (codes "\\") (c ∷ []));
     }
 
--- what is still to be written
+-- The text, escaped, is what is written, the pending text and the rest, escaped.
 pub escaped-rest : (marks text unwritten rest written : List ℕ) → (h : IsEscapedTo marks text unwritten rest written) → escaped marks text ≡ written ++ (h.pending ++ escaped marks rest)
 escaped-rest marks text unwritten rest written h =
     ap (λ xs. escaped marks xs) h.are_seen ∙ escaped-append marks h.seen rest ∙ ap (λ xs. xs ++ escaped marks rest) h.are_escaped ∙ append_assoc written h.pending (escaped marks rest)

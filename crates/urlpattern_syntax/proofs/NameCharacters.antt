@@ -1,4 +1,4 @@
--- Lemmas on the characters with which names and numbers begin.
+-- Lemmas on the first characters of names and numbers.
 use Rattle.std.proofs.Common.{rules, ◌≡◌, ℕ, zero, suc, ◌+◌, ◌-◌, ◌<◌, ◌≤◌, ◌/◌, ◌%◌, Bool, true, false, List, [], ◌∷◌, refl, ap, ◌∙◌, subst, arith}
 use Rattle.std.specs.Prelude.{◌==◌, ◌||◌, codes, decimal}
 use Rattle.std.specs.Char.{is_ascii, is_ascii_alphabetic, is_ascii_alphanumeric, is_ascii_digit}
@@ -30,7 +30,7 @@ digit_starts_none (suc (suc (suc (suc (suc (suc (suc (suc (suc (suc k)))))))))) 
 glyph_is_digit : (n : ℕ) → is_ascii_digit (digit_glyph false (n % 10)) ≡ true
 glyph_is_digit n = search rules
 
--- the digits before those that are there begin with a digit too
+-- Digits put before digits begin with a digit.
 onto_digit : (k n : ℕ) (ds : List ℕ) → starts_with_digit ds ≡ true → starts_with_digit (digits_onto k 10 false n ds) ≡ true
 unfolding starts_with_digit
 onto_digit zero n ds h = h
@@ -64,7 +64,7 @@ unfolding starts_with_digit
 name_starts [] h = absurd h
 name_starts (c ∷ name) h = name_start_no_digit c h.0
 
--- the same, where the test is in sight
+-- A decimal number begins with a digit.
 pub decimal_digited : (n : ℕ) → begins_with is_ascii_digit (decimal n) ≡ true
 unfolding starts_with_digit
 decimal_digited n = decimal_starts n
@@ -73,14 +73,14 @@ pub name_not_digited : (name : List ℕ) → IsName name → begins_with is_asci
 unfolding starts_with_digit
 name_not_digited name h = name_starts name h
 
--- a name that a pattern gives is no number
+-- A name from a pattern is no number.
 pub given_no_number : (name : List ℕ) (number : ℕ) → IsGiven name → ¬ (decimal number ≡ name)
 unfolding starts_with_digit
 given_no_number [] number h e = both_ways false refl h
 given_no_number (c ∷ name) number h e =
     both_ways (starts_with_digit (c ∷ name)) (name_start_no_digit c h) (subst (λ x. starts_with_digit x ≡ true) e (decimal_starts number))
 
--- the text of a Name is one
+-- The value of a Name token is a name from a pattern.
 pub name_given : (name : List ℕ) → IsName name → IsGiven name
 name_given [] h = absurd h
 name_given (c ∷ name) h = h.0

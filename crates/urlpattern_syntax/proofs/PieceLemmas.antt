@@ -1,4 +1,4 @@
--- Lemmas on pieces: what tokens begin with.
+-- Lemmas on pieces, by the first tokens of a list.
 use Rattle.std.proofs.Common.{◌≡◌, ◌≢◌, ℕ, ◌⊎◌, Bool, true, false, List, [], ◌∷◌, ◌++◌, Some, None, refl, sym, ap, ◌∙◌, subst, inl, inr, append_assoc}
 use Rattle.std.specs.Prelude.{codes, IsTrue}
 use Rattle.std.specs.List.{list_all}
@@ -27,7 +27,7 @@ spelled_modifier token spelling h e = by_spelling (spelled_kind token.kind Other
     by_spelling (same, inl plus) = inl (same ∙ plus)
     by_spelling (same, inr mark) = inr (same ∙ mark)
 
--- the tokens of a cut, and End after them
+-- The tokens of a cut, with End after them, are a token list.
 cut_token_list : (whole text left : List ℕ) (tokens : List TokenView) (last : TokenView) → last.kind ≡ End → IsCut (IsTokenOf whole) text tokens left → IsTokenList (tokens ++ last ∷ [])
 cut_token_list whole text left [] last e h = e
 cut_token_list whole text left (token ∷ []) last e h =
@@ -40,15 +40,15 @@ cut_token_list whole text left (token ∷ next ∷ tokens) last e h =
       cut_token_list whole h.1 left (next ∷ tokens) last e h.4,
     )
 
--- the tokens of a text
+-- The tokens of a text are a token list.
 pub are_token_list : (text : List ℕ) (tokens : List TokenView) → AreTokens text tokens → IsTokenList tokens
 are_token_list text tokens h = subst IsTokenList (sym h.all) (cut_token_list text text [] h.front (end_of text) refl h.cut)
 
--- the tokens after a place
+-- The tokens after a place are a token list.
 pub are_token_list_after : (whole rest : List ℕ) (tokens : List TokenView) → AreTokensAfter whole rest tokens → IsTokenList tokens
 are_token_list_after whole rest tokens h = subst IsTokenList (sym h.all) (cut_token_list whole rest [] h.front (end_of whole) refl h.cut)
 
--- one token more at their front
+-- A token before a token list makes a token list.
 pub IsTokenList-more : (token : TokenView) (tokens : List TokenView) → token.kind ≢ End → IsModifierSpelled token → IsTokenList tokens → IsTokenList (token ∷ tokens)
 IsTokenList-more token [] other mark h = absurd h
 IsTokenList-more token (next ∷ tokens) other mark h = (other, mark, h)
@@ -61,7 +61,7 @@ pub IsTokenList-mark : (token : TokenView) (rest : List TokenView) → IsTokenLi
 IsTokenList-mark token [] h e = absurd (cc (h, e))
 IsTokenList-mark token (next ∷ rest) h e = h.1 e
 
--- what follows a token of this kind
+-- The tokens after a token other than End are a token list.
 pub IsTokenList-behind : (kind : TokenType) (tokens rest : List TokenView) (token : TokenView) → kind ≢ End → tokens ≡ token ∷ rest → token.kind ≡ kind → IsTokenList tokens → IsTokenList rest
 IsTokenList-behind kind tokens rest token other e k h =
     IsTokenList-rest token rest (subst IsTokenList e h) (λ f. other (sym k ∙ f))
@@ -80,7 +80,7 @@ regexp_only Asterisk e = absurd (false≢true e)
 regexp_only End e = absurd (false≢true e)
 regexp_only InvalidChar e = absurd (false≢true e)
 
--- no Regexp begins the tokens
+-- A list without a Regexp token at its head.
 pub no_regexp : (tokens : List TokenView) → ¬ BeginsWithToken Regexp tokens → ¬ BeginsWithKind is_regexp tokens
 no_regexp [] h g = g
 no_regexp (token ∷ tokens) h g = h (regexp_only token.kind g)
@@ -132,12 +132,12 @@ optional_or_more tokens rest token modifier h e k is takes = record {
   closed = IsTokenList-behind OtherModifier tokens rest token (λ f. cc f) e k h;
 }
 
--- a question mark
+-- A question mark is the modifier `Optional`.
 pub optional : (tokens rest : List TokenView) (token : TokenView) → IsTokenList tokens → tokens ≡ token ∷ rest → token.kind ≡ OtherModifier → token.value ≡ codes "?" → BeginsWithModifier tokens modifiers.Optional rest
 optional tokens rest token h e k v =
     optional_or_more tokens rest token modifiers.Optional h e k (λ l. (ap (λ kind. kind ∷ []) l, ap (λ value. value ∷ []) v)) tt
 
--- another modifier is a plus
+-- A modifier token other than a question mark is a plus.
 pub one_or_more : (tokens rest : List TokenView) (token : TokenView) → IsTokenList tokens → tokens ≡ token ∷ rest → token.kind ≡ OtherModifier → ¬ (token.value ≡ codes "?") → BeginsWithModifier tokens modifiers.OneOrMore rest
 one_or_more tokens rest token h e k other =
     let plus : token.value ≡ codes "+" = elim (IsTokenList-mark token rest (subst IsTokenList e h) k) [ inl p ↦ p | inr q ↦ absurd (other q) ] in
@@ -157,14 +157,14 @@ zero_or_more tokens rest token h e k = record {
 text_not_end : (kind : TokenType) → is_text kind ≡ true → kind ≢ End
 text_not_end kind e f = false≢true (subst (λ k. is_text k ≡ true) f e)
 
--- what follows texts
+-- The tokens after texts are a token list.
 pub IsTokenList-texts : (front rest : List TokenView) → IsTrue (list_all (λ token. is_text token.kind) front) → IsTokenList (front ++ rest) → IsTokenList rest
 IsTokenList-texts [] rest h g = g
 IsTokenList-texts (token ∷ front) rest h g =
     let p = and_parts (is_text token.kind) (list_all (λ (t : TokenView). is_text t.kind) front) h in
     IsTokenList-texts front rest p.1 (IsTokenList-rest token (front ++ rest) g (text_not_end token.kind p.0))
 
--- one more text
+-- A further text token.
 pub AreTexts-push : (front : List TokenView) (text value : List ℕ) (token : TokenView) → AreTexts front text → IsTrue (is_text token.kind) → token.value ≡ value → AreTexts (front ++ token ∷ []) (text ++ value)
 AreTexts-push front text value token t h e = (
   list_all-append (λ (x : TokenView). is_text x.kind) front (token ∷ []) ∙ and_from _ _ t.0 (and_from _ _ h refl),
@@ -204,7 +204,7 @@ takes_narrower matched.Segment (token ∷ back) behind closing h = h
 takes_narrower matched.Anything back behind closing h = tt
 takes_narrower (matched.Custom body) back behind closing h = tt
 
--- what fills braces fills them whatever stands after them
+-- The content of braces fits in braces whatever follows their Close.
 pub narrower : (inner : List TokenView) (before after : List ℕ) (behind : List TokenView) (closing : TokenView) (placeholder : Placeholder) → IsFilled inner before placeholder after (closing ∷ behind) → IsFilled inner before placeholder after (closing ∷ [])
 narrower inner before after behind closing placeholder f = record {
   front = f.front;
@@ -217,7 +217,7 @@ narrower inner before after behind closing placeholder f = record {
   are_texts_after = f.are_texts_after;
 }
 
--- braces round what stands between them, and a modifier
+-- Tokens in braces, with a modifier.
 module _ (opening : TokenView) (inner tokens behind rest : List TokenView) (modifier : PartModifier) (is_open : opening.kind ≡ Open) (inner_cut : tokens ≡ inner ++ behind) (c : BeginsWithClose behind modifier rest) where
   braced_cut : opening ∷ tokens ≡ (opening ∷ inner ++ c.closing ∷ c.begins.front) ++ rest
   braced_cut =
@@ -244,7 +244,7 @@ module _ (opening : TokenView) (inner tokens behind rest : List TokenView) (modi
   filled_group point before after placeholder f =
       (opening ∷ inner ++ c.closing ∷ c.begins.front, braced_cut, (inner, braced, narrower inner before after c.behind c.closing placeholder f))
 
--- texts, a placeholder and texts
+-- Texts, a placeholder and texts.
 pub filled : (tokens behind others rest : List TokenView) (before after : List ℕ) (placeholder : Placeholder) → (t : BeginsWithTexts tokens before behind) → (p : BeginsWithPlaceholder behind placeholder others) → (u : BeginsWithTexts others after rest) → IsFilled (t.front ++ p.front ++ u.front) before placeholder after rest
 filled tokens behind others rest before after placeholder t p u = record {
   front = t.front;
@@ -262,11 +262,11 @@ filled_cut tokens behind others rest before after placeholder t p u =
     t.cut ∙ ap (λ x. t.front ++ x) (p.cut ∙ ap (λ x. p.front ++ x) u.cut ∙ sym (append_assoc p.front u.front rest))
     ∙ sym (append_assoc t.front (p.front ++ u.front) rest) ∙ ap (λ x. x ++ rest) (sym (append_assoc t.front p.front u.front))
 
--- a group that is all texts
+-- A group of texts alone.
 pub open_texts : (inner rest : List TokenView) → AreTexts inner (joined_values inner) → ¬ BeginsWithKind is_text rest → ¬ BeginsWithKind is_placeholder rest → IsOpenGroup inner rest
 open_texts inner rest t h g = (h, inl (joined_values inner, t, g))
 
--- a group that lacks its Close
+-- A group that lacks its Close.
 pub open_ending : (opening : TokenView) (inner tokens rest more : List TokenView) (found : TokenView) → opening.kind ≡ Open → tokens ≡ inner ++ rest → rest ≡ found ∷ more → IsOpenGroup inner rest → found.kind ≢ Close → HasEndingAt (opening ∷ tokens) endings.LacksClose rest
 open_ending opening inner tokens rest more found k cut e left other = (
   found,
@@ -275,7 +275,7 @@ open_ending opening inner tokens rest more found k cut e left other = (
   (opening, inner, more, ap (λ x. opening ∷ x) (cut ∙ ap (λ x. inner ++ x) e), k, subst (IsOpenGroup inner) e left, other),
 )
 
--- no placeholder begins where the first token is no placeholder's
+-- The tokens do not begin with a kind if the first token is of no such kind.
 pub not_first : (test : TokenType → Bool) (token : TokenView) (more tokens : List TokenView) → tokens ≡ token ∷ more → test token.kind ≡ false → ¬ BeginsWithKind test tokens
 not_first test token more tokens e f h = false≢true (sym f ∙ subst (BeginsWithKind test) e h)
 
@@ -288,7 +288,7 @@ pub not_regexp : (kind : TokenType) → kind ≢ Regexp → is_regexp kind ≡ f
 not_regexp Regexp h = absurd (h refl)
 not_regexp other h = refl
 
--- a placeholder that is neither a name nor a custom regular expression is an asterisk
+-- A placeholder that is neither a name nor a custom regular expression is an asterisk.
 pub asterisk_left : (kind : TokenType) → IsTrue (is_placeholder kind) → kind ≢ Name → kind ≢ Regexp → kind ≡ Asterisk
 asterisk_left Asterisk h f g = refl
 asterisk_left Name h f g = absurd (f refl)
@@ -301,7 +301,7 @@ asterisk_left OtherModifier h f g = absurd (false≢true h)
 asterisk_left End h f g = absurd (false≢true h)
 asterisk_left InvalidChar h f g = absurd (false≢true h)
 
--- the kinds with which no piece begins
+-- The kinds that begin no piece.
 pub stop_left : (kind : TokenType) → kind ≢ Open → kind ≢ Name → kind ≢ Regexp → kind ≢ Asterisk → kind ≢ Char → kind ≢ EscapedChar → IsTrue (is_stop kind)
 stop_left Open a b c d e f = absurd (a refl)
 stop_left Name a b c d e f = absurd (b refl)
@@ -314,6 +314,6 @@ stop_left OtherModifier a b c d e f = refl
 stop_left End a b c d e f = refl
 stop_left InvalidChar a b c d e f = refl
 
--- a token that is tested is not the last
+-- A token whose kind passes a test is not End, if End does not pass.
 pub tested_not_end : (test : TokenType → Bool) (kind : TokenType) → test End ≡ false → IsTrue (test kind) → kind ≢ End
 tested_not_end test kind f h e = false≢true (sym f ∙ subst (λ k. test k ≡ true) e h)

@@ -1,4 +1,4 @@
--- A list of tokens always has pieces, up to where they end.
+-- Each list of tokens has pieces, up to where they end.
 use Rattle.std.proofs.Common.{◌≡◌, ◌≢◌, ℕ, suc, zero, ◌≤◌, Bool, true, false, List, [], ◌∷◌, ◌++◌, length, Option, Some, None, refl, sym, ap, ◌∙◌, subst, inl, inr, append_assoc, arith, length-append}
 use Rattle.std.specs.Prelude.{codes, IsTrue}
 use Rattle.std.specs.List.{list_all}
@@ -17,11 +17,11 @@ use Rattle.urlpattern_syntax.proofs.PieceLemmas.{IsTokenList-rest, IsTokenList-t
 
 -- ---- kinds
 
--- a test of a kind that is known
+-- A test that holds of a known kind.
 tested : (test : TokenType → Bool) (kind known : TokenType) → kind ≡ known → IsTrue (test known) → IsTrue (test kind)
 tested test kind known e h = subst (λ k. IsTrue (test k)) (sym e) h
 
--- a test that fails at a kind that is known
+-- A test that fails for a known kind.
 failed : (test : TokenType → Bool) (kind known : TokenType) → kind ≡ known → test known ≡ false → ¬ IsTrue (test kind)
 failed test kind known e f h = both_ways (test known) f (subst (λ k. IsTrue (test k)) e h)
 
@@ -30,7 +30,7 @@ not_end kind h e = false≢true (subst (λ k. is_text k ≡ true) e h)
 
 -- ---- what tokens begin with
 
--- a modifier, as far as there is one, and what follows it
+-- A modifier, if there is one, and the tokens after it.
 record ModifierAt (tokens : List TokenView) : Type 0 where
   pub modifier : PartModifier
   pub rest : List TokenView
@@ -64,7 +64,7 @@ modifier_at (token ∷ rest) h = by_kind token.kind refl
     by_kind Asterisk e = record { modifier = modifiers.ZeroOrMore; rest = rest; begins = zero_or_more (token ∷ rest) rest token h refl e }
     by_kind other e = no_modifier (token ∷ rest) h (failed is_modifier token.kind other e refl)
 
--- a placeholder, and what follows it
+-- A placeholder, and the tokens after it.
 record PlaceholderAt (tokens : List TokenView) : Type 0 where
   pub placeholder : Placeholder
   pub rest : List TokenView
@@ -96,7 +96,7 @@ placeholder_at (token ∷ rest) h = by_kind token.kind refl
     by_kind Asterisk e = record { placeholder = _; rest = rest; begins = wildcard (token ∷ rest) rest token refl e }
     by_kind other e = absurd (failed is_placeholder token.kind other e refl h)
 
--- texts, as many as there are, and what follows them
+-- All texts at the start, and the tokens after them.
 record TextsAt (tokens : List TokenView) : Type 0 where
   pub front : List TokenView
   pub rest : List TokenView
@@ -121,9 +121,9 @@ texts_at : (tokens : List TokenView) → TextsAt tokens
 texts_at [] = record { front = []; rest = []; cut = refl; all = refl; none = λ h. h }
 texts_at (token ∷ tokens) = text_or_not token tokens (is_text token.kind) refl (texts_at tokens)
 
--- ---- one step
+-- ---- a step
 
--- a piece and fewer tokens after it, or where the pieces end
+-- A piece with fewer tokens after it, or the end of the pieces.
 data Step (point : List ℕ) (tokens : List TokenView) : Type 0 where
   ends : (ending : Ending) → IsEnding tokens ending → Step point tokens
   goes_on : (front rest : List TokenView) (piece : Piece) → tokens ≡ front ++ rest → IsPiece point front piece rest → IsTokenList rest → ¬ (front ≡ []) → Step point tokens
@@ -180,7 +180,7 @@ char_step point token (next ∷ rest) e h = before_placeholder (is_placeholder n
 
 -- ---- groups
 
--- braces, with what they make of what is between them
+-- Braces, with the piece that they make of their content.
 group_step : (point : List ℕ) (opening closing : TokenView) (inner behind : List TokenView) (piece : PartModifier → Piece) → opening.kind ≡ Open → closing.kind ≡ Close →
     ((tokens rest : List TokenView) (modifier : PartModifier) → (braces : IsBraced tokens inner modifier rest) → braces.closing ≡ closing → IsPiece point tokens (piece modifier) rest) →
     IsTokenList behind → Step point (opening ∷ inner ++ closing ∷ behind)
@@ -203,7 +203,7 @@ group_step point opening closing inner behind piece k l is h = with_modifier (mo
         }) refl)
         q.closed (λ e. cc e)
 
--- what follows the texts after the placeholder of a group
+-- The step after the texts that follow the placeholder of a group.
 filled_step : (point : List ℕ) (opening : TokenView) (inner : List TokenView) (before after : List ℕ) (placeholder : Placeholder) (rest : List TokenView) → opening.kind ≡ Open → IsFilled inner before placeholder after rest → ¬ BeginsWithKind is_text rest → IsTokenList rest → Step point (opening ∷ inner ++ rest)
 filled_step point opening inner before after placeholder [] k f none h = absurd h
 filled_step point opening inner before after placeholder (found ∷ behind) k f none h = by_kind found.kind refl
@@ -216,7 +216,7 @@ filled_step point opening inner before after placeholder (found ∷ behind) k f 
         (IsTokenList-rest found behind h (λ g. cc (e, g)))
     by_kind other e = ends (LacksClose found) (opening, inner, behind, refl, k, (none, inr (before, after, placeholder, f)), λ g. cc (e, g))
 
--- what follows the placeholder of a group
+-- The step after the placeholder of a group.
 placeholder_step : (point : List ℕ) (opening : TokenView) (before tokens : List TokenView) → opening.kind ≡ Open → IsTrue (list_all (λ token. is_text token.kind) before) → IsTokenList tokens → (found : PlaceholderAt tokens) → TextsAt found.rest → Step point (opening ∷ before ++ tokens)
 placeholder_step point opening before tokens k all h found t =
     let p = found.begins in
@@ -236,7 +236,7 @@ placeholder_step point opening before tokens k all h found t =
     (filled_step point opening (before ++ p.front ++ t.front) (joined_values before) (joined_values t.front) found.placeholder t.rest k fills t.none
     (IsTokenList-texts t.front t.rest t.all (subst IsTokenList t.cut (p.closed h))))
 
--- what follows the texts at the front of a group
+-- The step after the texts at the start of a group.
 open_step : (point : List ℕ) (opening : TokenView) (inner rest : List TokenView) → opening.kind ≡ Open → IsTrue (list_all (λ token. is_text token.kind) inner) → ¬ BeginsWithKind is_text rest → IsTokenList rest → Step point (opening ∷ inner ++ rest)
 open_step point opening inner [] k all none h = absurd h
 open_step point opening inner (found ∷ behind) k all none h = by_kind found.kind refl

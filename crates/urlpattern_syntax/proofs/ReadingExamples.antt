@@ -1,4 +1,4 @@
--- Worked examples of texts that are read, and of texts that are refused.
+-- Worked examples of texts that are read, and of texts that are rejected.
 use Rattle.std.proofs.Common.{◌≡◌, ◌≢◌, ℕ, zero, suc, List, [], ◌∷◌, ◌++◌, take, drop, refl, arith, inl, inr, lit<, Some, None, Ok, Err, Contains, if◌then◌else◌}
 use Rattle.std.specs.Fmt.{digits}
 use Rattle.std.specs.Prelude.{codes, bytes_eq}
@@ -20,11 +20,11 @@ use Rattle.urlpattern_syntax.proofs.TokenExamples.{Cut, done, next, cut_of, lite
 
 -- ---- steps
 
--- a text is these tokens, one after the other, and its end
+-- A text has these tokens, and then End.
 pub tokens_of : {text : List ℕ} (front : List TokenView) → Cut text [] text front → AreTokens text (front ++ end_of text ∷ [])
 tokens_of front cut = record { front = front; cut = cut_of cut; all = refl }
 
--- a text reads as these parts by its tokens and its pieces, whose demands are met
+-- A text reads as these parts, by its tokens and by its pieces, whose demands are met.
 pub read_by : {text : List ℕ} {options : OptionsView} {encoding : Encoding} {parts : List PartView} {tokens : List TokenView} (pieces : List Piece)
     (found : TokenView) → AreTokens text tokens → PieceCut options.prefix (Stops found) tokens pieces → AreMet encoding (demands (items_of pieces) (Stops found))
     → AreParts options encoding (items_of pieces) parts → Reads text options encoding parts
@@ -38,7 +38,7 @@ read_by pieces found are_tokens cut met are_parts = record {
   are_parts = are_parts;
 }
 
--- it is refused by the first of these demands that fails
+-- A text is rejected with the error of the first demand that fails.
 pub refused_by : {text : List ℕ} {options : OptionsView} {encoding : Encoding} {error : ErrorView} {tokens : List TokenView} (pieces : List Piece)
     (ending : Ending) → AreTokens text tokens → PieceCut options.prefix ending tokens pieces → FirstFails encoding (demands (items_of pieces) ending) error
     → Refuses text options encoding error
@@ -47,38 +47,38 @@ refused_by pieces ending are_tokens cut fails =
 
 -- ---- words
 
--- the encoding that keeps each text
+-- The encoding that keeps each text.
 abbrev pub keeping : Encoding
 keeping text answer = answer ≡ Ok text
 
--- an encoding that refuses each text
+-- An encoding that rejects each text.
 abbrev pub refusing : Encoding
 refusing text answer = answer ≡ Err (views.Url InvalidPort)
 
--- a segment with a name
+-- A segment with a name.
 abbrev pub named : List ℕ → Placeholder
 named name = record { name = Some name; matched = Segment }
 
--- what is matched without a name
+-- A placeholder without a name.
 abbrev pub unnamed : Matched → Placeholder
 unnamed matched = record { name = None; matched = matched }
 
--- the first name is new
+-- The first name is new.
 pub first_name : {name : List ℕ} → ¬ Contains [] name
 first_name h = omega (arith, h.1)
 
--- a second name that differs from the first is new
+-- A second name that differs from the first is new.
 pub other_name : {earlier name : List ℕ} → earlier ≢ name → ¬ Contains (earlier ∷ []) name
 other_name differs (zero, below, same) = differs same
 other_name differs (suc k, below, same) = omega (arith, below)
 
--- an escaped character is no prefix
+-- An escaped character is no prefix.
 not_char : EscapedChar ≢ Char
 not_char e = cc
 
 -- ---- texts that are read
 
--- the pattern `{a/:x/b}+`: one part, with the texts on both sides
+-- The pattern `{a/:x/b}+`: one part, with the texts on both sides.
 abbrev pub joined_front : List TokenView
 joined_front =
     token Open 0 (codes "{") ∷ token Char 1 (codes "a") ∷ token Char 2 (codes "/") ∷ token Name 3 (codes "x")
@@ -99,7 +99,7 @@ joined =
     ) (ends (_, refl, refl)))
     (first_name, ((_, refl), ((_, refl), (refl, tt)))) (codes "a/", codes "/b", [], refl, refl, refl, refl)
 
--- the pattern `a{}?b`: an empty group with a modifier gives no part, and keeps the texts apart
+-- The pattern `a{}?b`: an empty group with a modifier makes no part, and keeps the texts apart.
 abbrev pub apart_front : List TokenView
 apart_front =
     token Char 0 (codes "a") ∷ token Open 1 (codes "{") ∷ token Close 2 (codes "}")
@@ -127,7 +127,7 @@ apart =
     read_by apart_pieces (token End 5 []) apart_tokens apart_cut ((_, refl), ((_, refl), (refl, tt)))
     (codes "a", fixed_text (codes "b") modifiers.None ∷ [], refl, refl, (codes "b", [], refl, refl, refl))
 
--- the body `[^/]+?` is one of plain characters
+-- The body `[^/]+?` has only plain characters.
 pub segment_body : IsRegexpBody (codes "[^/]+?")
 segment_body = record {
   body = Plain _ (Plain _ (Plain _ (Plain _ (Plain _ (Plain _ Nothing)))));
@@ -137,7 +137,7 @@ segment_body = record {
   not_marked = no;
 }
 
--- its tokens and its piece as the expression of a pathname's pattern
+-- The pattern `([^/]+?)` of a pathname: its tokens and its piece.
 abbrev pub segment_tokens : List TokenView
 segment_tokens = token Regexp 0 (codes "[^/]+?") ∷ token End 8 [] ∷ []
 
@@ -151,14 +151,16 @@ segment_pieces = Bare [] (unnamed (Custom (codes "[^/]+?"))) modifiers.None ∷ 
 pub segment_cut : PieceCut (codes "/") (Stops (token End 8 [])) segment_tokens segment_pieces
 segment_cut = piece 1 (bare 0 1 (inl (refl, refl)) (refl, refl) refl tt no) (ends (_, refl, refl))
 
--- the pattern `([^/]+?)` of a pathname: the text of a segment makes a segment, with a number for a name
+-- The pattern `([^/]+?)` of a pathname: the expression of a segment makes a segment, with a number
+-- as its name.
 pub segment : Reads (codes "([^/]+?)") pathname_options keeping (group SegmentWildcard [] (codes "0") [] modifiers.None ∷ [])
 unfolding escaped digits
 segment =
     read_by segment_pieces (token End 8 []) are_segment_tokens segment_cut (first_name, ((_, refl), ((_, refl), (refl, tt))))
     ([], [], [], refl, refl, refl, refl)
 
--- the same text in ECMAScript's syntax, whose segment is written otherwise: a custom regular expression
+-- The pattern `([^/]+?)` in ECMAScript's syntax, where the expression of a segment is another: a
+-- custom regular expression.
 pub segment_ecma : Reads (codes "([^/]+?)") ecma_pathname_options keeping (
     record { kind = kinds.Regexp; value = codes "[^/]+?"; modifier = modifiers.None; name = codes "0"; prefix = []; suffix = [] } ∷ [])
 unfolding escaped digits
@@ -166,7 +168,8 @@ segment_ecma =
     read_by segment_pieces (token End 8 []) are_segment_tokens segment_cut (first_name, ((_, refl), ((_, refl), (refl, tt))))
     ([], [], [], refl, refl, refl, refl)
 
--- the pattern `:x**`: a segment that may stand any number of times, and a full wildcard with a number for a name
+-- The pattern `:x**`: a segment that may occur any number of times, and a full wildcard with a
+-- number as its name.
 pub starred_read : Reads (codes ":x**") default_options keeping (
     group SegmentWildcard [] (codes "x") [] modifiers.ZeroOrMore ∷ group FullWildcard [] (codes "0") [] modifiers.None ∷ [])
 unfolding digits literals
@@ -177,7 +180,7 @@ starred_read =
     starred_cut (first_name, ((_, refl), ((_, refl), (other_name (λ e. cc), ((_, refl), ((_, refl), (refl, tt)))))))
     ([], [], _, refl, refl, refl, ([], [], [], refl, refl, refl, refl))
 
--- the pattern `\/:x` of a pathname: an escaped slash is no prefix
+-- The pattern `\/:x` of a pathname: an escaped slash is no prefix.
 pub escaped_slash : Reads (codes "\\/:x") pathname_options keeping (
     fixed_text (codes "/") modifiers.None ∷ group SegmentWildcard [] (codes "x") [] modifiers.None ∷ [])
 unfolding escaped literals
@@ -188,7 +191,8 @@ escaped_slash =
     (piece 1 (_, refl, refl, refl, λ k v. absurd (not_char k)) (piece 1 (bare 0 1 (inl (refl, refl)) (refl, refl) refl no no) (ends (_, refl, refl))))
     ((_, refl), (first_name, ((_, refl), ((_, refl), (refl, tt))))) (codes "/", _, refl, refl, ([], [], [], refl, refl, refl, refl))
 
--- the pattern `/users/:id` of a pathname: texts run together, and the slash before a name is its prefix
+-- The pattern `/users/:id` of a pathname: texts are joined, and the slash before a name is its
+-- prefix.
 abbrev pub users_pieces : List Piece
 users_pieces = Text (codes "/") ∷ Text (codes "u") ∷ Text (codes "s") ∷ Text (codes "e") ∷ Text (codes "r") ∷ Text (codes "s")
     ∷ Bare (codes "/") (named (codes "id")) modifiers.None ∷ []
@@ -203,7 +207,8 @@ users =
     (piece 2 (bare 1 1 (inr (refl, refl, refl)) (refl, refl) refl no no) (ends (_, refl, refl)))))))))
     ((_, refl), (first_name, ((_, refl), ((_, refl), (refl, tt))))) (codes "/users", _, refl, refl, (codes "/", [], [], refl, refl, refl, refl))
 
--- the pattern `a\{:b(c)`: an escaped brace runs together with the text before it, and the name takes the expression
+-- The pattern `a\{:b(c)`: an escaped brace is joined with the text before it, and the expression
+-- belongs to the name.
 pub custom : Reads (codes "a\\{:b(c)") default_options keeping (
     fixed_text (codes "a{") modifiers.None
     ∷ record { kind = kinds.Regexp; value = codes "c"; modifier = modifiers.None; name = codes "b"; prefix = []; suffix = [] } ∷ [])
@@ -214,11 +219,11 @@ custom =
     (piece 2 (bare 0 2 (inl (refl, refl)) (refl, refl) refl tt no) (ends (_, refl, refl)))))
     ((_, refl), (first_name, ((_, refl), ((_, refl), (refl, tt))))) (codes "a{", _, refl, refl, ([], [], [], refl, refl, refl, refl))
 
--- an encoding that answers the empty text for a lone line feed, and keeps any other text
+-- An encoding that returns the empty text for a lone line feed, and keeps any other text.
 abbrev pub emptying : Encoding
 emptying text answer = answer ≡ Ok (if bytes_eq text (codes "\n") then [] else text)
 
--- the body `abc` is one of plain characters
+-- The body `abc` has only plain characters.
 pub letters_body : IsRegexpBody (codes "abc")
 letters_body = record {
   body = Plain _ (Plain _ (Plain _ Nothing));
@@ -228,7 +233,8 @@ letters_body = record {
   not_marked = no;
 }
 
--- a fixed text whose encoding is empty is a part too, and keeps a name apart from a custom regular expression
+-- A fixed text whose encoding is empty is a part too, and separates a name from a custom regular
+-- expression.
 pub emptied : Reads (codes ":x\\\n(abc)") default_options emptying (
     group SegmentWildcard [] (codes "x") [] modifiers.None ∷ fixed_text [] modifiers.None
     ∷ record { kind = kinds.Regexp; value = codes "abc"; modifier = modifiers.None; name = codes "0"; prefix = []; suffix = [] } ∷ [])
@@ -242,11 +248,11 @@ emptied =
     (first_name, ((_, refl), ((_, refl), ((_, refl), (other_name (λ e. cc), ((_, refl), ((_, refl), (refl, tt))))))))
     ([], [], _, refl, refl, refl, ([], _, refl, refl, ([], [], [], refl, refl, refl, refl)))
 
--- an empty text has no parts, and its encoding is not asked for
+-- An empty text has no parts, and is not encoded.
 pub nothing : Reads [] default_options refusing []
 nothing = read_by [] (token End 0 []) empty (ends ([], refl, refl)) (refl, tt) refl
 
--- the pattern `{}?`: an empty group gives no part, and is not encoded either
+-- The pattern `{}?`: an empty group makes no part, and is not encoded.
 pub empty_group : Reads (codes "{}?") default_options refusing []
 unfolding literals
 empty_group =
@@ -260,9 +266,9 @@ empty_group =
     ) (ends (_, refl, refl)))
     (refl, tt) refl
 
--- ---- texts that are refused
+-- ---- texts that are rejected
 
--- the pattern `{a`: a group is not closed
+-- The pattern `{a`: a group is not closed.
 pub open_group : Refuses (codes "{a") default_options keeping (views.ExpectedToken Close End [])
 unfolding literals
 open_group =
@@ -270,7 +276,7 @@ open_group =
     (tokens_of (token Open 0 (codes "{") ∷ token Char 1 (codes "a") ∷ []) (next (mark (refl, refl) tt refl) (next (char refl refl refl) done)))
     (ends (_, token Char 1 (codes "a") ∷ [], _, refl, refl, (no, inl (codes "a", (refl, refl), no)), λ e. cc)) (inl (λ e. cc, refl))
 
--- the pattern `a?`: a text takes no modifier
+-- The pattern `a?`: a text has no modifier.
 pub stray_modifier : Refuses (codes "a?") default_options keeping (views.ExpectedToken End OtherModifier (codes "?"))
 unfolding literals
 stray_modifier =
@@ -278,14 +284,14 @@ stray_modifier =
     (tokens_of (token Char 0 (codes "a") ∷ token OtherModifier 1 (codes "?") ∷ []) (next (char refl refl refl) (next (mark (refl, inr refl) tt refl) done)))
     (piece 1 (_, refl, refl, refl, λ k v. no) (ends (_, refl, refl))) (inr ((_, refl), inl (λ e. cc, refl)))
 
--- the pattern `}`: a brace closes nothing
+-- The pattern `}`: no group is open.
 pub stray_close : Refuses (codes "}") default_options keeping (views.ExpectedToken End Close (codes "}"))
 unfolding literals
 stray_close =
     refused_by [] (Stops (token Close 0 (codes "}"))) (tokens_of (token Close 0 (codes "}") ∷ []) (next (mark (refl, refl) tt refl) done))
     (ends (_, refl, refl)) (inl (λ e. cc, refl))
 
--- the pattern `{a{b}}`: a brace opens where the group would have to be closed
+-- The pattern `{a{b}}`: a brace opens where the group must be closed.
 pub nested_group : Refuses (codes "{a{b}}") default_options keeping (views.ExpectedToken Close Open (codes "{"))
 unfolding literals
 nested_group =
@@ -298,7 +304,7 @@ nested_group =
     (next (char refl refl refl) (next (mark (refl, refl) tt refl) (next (mark (refl, refl) tt refl) done)))))))
     (ends nested) (inl (λ e. cc, refl))
 
--- the pattern `:a:a`: the name of the second segment is that of the first
+-- The pattern `:a:a`: two segments have the same name.
 pub same_name : Refuses (codes ":a:a") default_options keeping (views.DuplicateName (codes "a"))
 unfolding literals
 same_name =
@@ -308,7 +314,7 @@ same_name =
     (piece 1 (bare 0 1 (inl (refl, refl)) (refl, refl) refl no no) (piece 1 (bare 0 1 (inl (refl, refl)) (refl, refl) refl no no) (ends (_, refl, refl))))
     (inr (first_name, inr ((_, refl), inr ((_, refl), inl ((0, lit< tt, refl), refl)))))
 
--- the pattern `a{`: what is before a group that is not closed is not encoded
+-- The pattern `a{`: the text before a group that is not closed is not encoded.
 pub unasked : Refuses (codes "a{") default_options refusing (views.ExpectedToken Close End [])
 unfolding literals
 unasked =
@@ -316,7 +322,7 @@ unasked =
     (tokens_of (token Char 0 (codes "a") ∷ token Open 1 (codes "{") ∷ []) (next (char refl refl refl) (next (mark (refl, refl) tt refl) done)))
     (piece 1 (_, refl, refl, refl, λ k v. no) (ends (_, [], _, refl, refl, (no, inl ([], (refl, refl), no)), λ e. cc))) (inl (λ e. cc, refl))
 
--- the pattern `a}`: a text is encoded before its end is asked for
+-- The pattern `a}`: a text is encoded before End is expected.
 pub asked : Refuses (codes "a}") default_options refusing (views.Url InvalidPort)
 unfolding literals
 asked =
@@ -324,7 +330,7 @@ asked =
     (tokens_of (token Char 0 (codes "a") ∷ token Close 1 (codes "}") ∷ []) (next (char refl refl refl) (next (mark (refl, refl) tt refl) done)))
     (piece 1 (_, refl, refl, refl, λ k v. no) (ends (_, refl, refl))) (inl refl)
 
--- the pattern `:x`: an empty prefix is encoded too
+-- The pattern `:x`: an empty prefix is encoded too.
 pub asked_prefix : Refuses (codes ":x") default_options refusing (views.Url InvalidPort)
 unfolding literals
 asked_prefix =
@@ -332,7 +338,7 @@ asked_prefix =
     (tokens_of (token Name 0 (codes "x") ∷ []) (next (name (codes "x") (refl, refl) no refl) done))
     (piece 1 (bare 0 1 (inl (refl, refl)) (refl, refl) refl no no) (ends (_, refl, refl))) (inr (first_name, inl refl))
 
--- the pattern `{b}?`: the text of a group is encoded
+-- The pattern `{b}?`: the text of a group is encoded.
 pub asked_group : Refuses (codes "{b}?") default_options refusing (views.Url InvalidPort)
 unfolding literals
 asked_group =
@@ -346,7 +352,7 @@ asked_group =
     ) (ends (_, refl, refl)))
     (inl refl)
 
--- the pattern `a:`: a fault of the tokens is told before the encoding is asked for
+-- The pattern `a:`: a tokenizer fault is reported before any text is encoded.
 pub fault_first : Refuses (codes "a:") default_options refusing (views.Tokenizer InvalidName 1)
 unfolding literals
 fault_first = inl (

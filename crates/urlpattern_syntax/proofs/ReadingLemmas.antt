@@ -1,4 +1,4 @@
--- Lemmas on reading: items and their demands, parts, and what is read so far.
+-- Lemmas on reading: items and their demands, parts, and the parts read so far.
 use Rattle.std.proofs.Common.{◌≡◌, ◌≢◌, ℕ, Bool, true, false, not, Option, Some, None, List, [], ◌∷◌, ◌++◌, map, refl, sym, ap, ◌∙◌, subst, inl, inr, append_assoc, arith, ◌+◌, ◌<◌, length, take, drop, get_or}
 use Rattle.std.specs.Prelude.{Result, Ok, Err, bytes_eq, filter, if◌then◌else◌, Contains, IfErr, IfOk, String}
 use Rattle.std.specs.Str.{IsUtf8, chars}
@@ -77,7 +77,7 @@ EndsOther-push [] x h = h
 EndsOther-push (y ∷ []) x h = h
 EndsOther-push (y ∷ z ∷ xs) x h = EndsOther-push (z ∷ xs) x h
 
--- demands go on after a fixed text before another item
+-- A fixed text before other items adds its demand.
 demands-fixed_item : (earlier : List (List ℕ)) (text : List ℕ) (modifier : PartModifier) (x : Item) (rest : List Item) (ending : Ending) → demands_after earlier (Fixed text modifier ∷ x ∷ rest) ending ≡ encode_fixed text ++ demands_after earlier (x ∷ rest) ending
 demands-fixed_item earlier text modifiers.None x rest (endings.Stops found) = refl
 demands-fixed_item earlier text modifiers.None x rest (endings.LacksClose found) = refl
@@ -85,7 +85,7 @@ demands-fixed_item earlier text modifiers.Optional x rest ending = refl
 demands-fixed_item earlier text modifiers.ZeroOrMore x rest ending = refl
 demands-fixed_item earlier text modifiers.OneOrMore x rest ending = refl
 
--- and after one that is not plain
+-- A fixed text that is not plain adds its demand, whatever follows.
 demands-fixed_other : (earlier : List (List ℕ)) (text : List ℕ) (modifier : PartModifier) (rest : List Item) (ending : Ending) → ¬ IsPlain (Fixed text modifier) → demands_after earlier (Fixed text modifier ∷ rest) ending ≡ encode_fixed text ++ demands_after earlier rest ending
 demands-fixed_other earlier text modifier (x ∷ rest) ending h = demands-fixed_item earlier text modifier x rest ending
 demands-fixed_other earlier text modifiers.None [] ending h = absurd (h tt)
@@ -93,7 +93,7 @@ demands-fixed_other earlier text modifiers.Optional [] ending h = refl
 demands-fixed_other earlier text modifiers.ZeroOrMore [] ending h = refl
 demands-fixed_other earlier text modifiers.OneOrMore [] ending h = refl
 
--- the demands of items that end in no plain fixed text, and of what follows
+-- The demands of items that do not end in a plain fixed text, and of what follows.
 pub demands-split : (earlier : List (List ℕ)) (items rest : List Item) (ending : Ending) → EndsOther items → demands_after earlier (items ++ rest) ending ≡ item_demands earlier items ++ demands_after (earlier ++ item_names items) rest ending
 demands-split earlier [] rest ending h = ap (λ e. demands_after e rest ending) (sym (append-nil earlier))
 demands-split earlier (Fixed text modifier ∷ []) rest ending h =
@@ -110,7 +110,7 @@ demands-split earlier (Capture prefix name match suffix modifier ∷ y ∷ items
     (demands-split (earlier ++ name ∷ []) (y ∷ items) rest ending h
     ∙ ap (λ e. item_demands (earlier ++ name ∷ []) (y ∷ items) ++ demands_after e rest ending) (append_assoc earlier (name ∷ []) (item_names (y ∷ items))))
 
--- the end, where nothing or the pending text is left
+-- The demands of the pending text at the end.
 pub demands-pending : (earlier : List (List ℕ)) (pending : List ℕ) (found : TokenView) → demands_after earlier (pending_items pending) (endings.Stops found) ≡ encode_fixed pending ++ Expect End found ∷ []
 demands-pending earlier [] found = refl
 demands-pending earlier (c ∷ pending) found = refl
@@ -121,7 +121,7 @@ demands-lacking earlier (c ∷ pending) found = refl
 
 -- ---- joining
 
--- two texts put before items one after the other are one text
+-- Two texts that are put before items one by one are put before them as a single text.
 pub with_text-twice : (xs ys : List ℕ) (items : List Item) → with_text xs (with_text ys items) ≡ with_text (xs ++ ys) items
 with_text-twice [] ys items = refl
 with_text-twice (x ∷ xs) [] items = ap (λ z. with_text (x ∷ z) items) (sym (append-nil xs))
@@ -132,7 +132,7 @@ with_text-twice (x ∷ xs) (y ∷ ys) (Fixed more modifiers.ZeroOrMore ∷ items
 with_text-twice (x ∷ xs) (y ∷ ys) (Fixed more modifiers.OneOrMore ∷ items) = refl
 with_text-twice (x ∷ xs) (y ∷ ys) (Capture prefix name match suffix modifier ∷ items) = refl
 
--- a text before an item that is not plain stands apart
+-- A text before an item that is not plain is an item of its own.
 pub with_text-other : (text : List ℕ) (x : Item) (items : List Item) → ¬ IsPlain x → with_text text (x ∷ items) ≡ pending_items text ++ x ∷ items
 with_text-other [] x items h = refl
 with_text-other (c ∷ text) (Fixed more modifiers.None) items h = absurd (h tt)
@@ -145,7 +145,7 @@ pub with_text-nil : (text : List ℕ) → with_text text [] ≡ pending_items te
 with_text-nil [] = refl
 with_text-nil (c ∷ text) = refl
 
--- an item that is not plain is joined with nothing
+-- An item that is not plain is not joined with the next.
 pub joined-other : (x : Item) (items : List Item) → ¬ IsPlain x → joined_items (x ∷ items) ≡ x ∷ joined_items items
 joined-other (Fixed more modifiers.None) items h = absurd (h tt)
 joined-other (Fixed more modifiers.Optional) items h = refl
@@ -168,7 +168,7 @@ capture_is_group options regexp =
     cond_both (bytes_eq regexp (segment_wildcard options)) SegmentWildcard _ (λ kind. is_fixed_text kind ≡ false) (λ _. refl)
     (λ _. cond_both (bytes_eq regexp full_wildcard) FullWildcard Regexp (λ kind. is_fixed_text kind ≡ false) (λ _. refl) (λ _. refl))
 
--- the names of the parts are those of the items
+-- The names of the parts are those of the items.
 pub names-AreParts : (options : OptionsView) (encoding : Encoding) (items : List Item) (parts : List PartView) → AreParts options encoding items parts → group_names parts ≡ item_names items
 names-AreParts options encoding [] parts h = ap group_names h
 names-AreParts options encoding (Fixed [] modifier ∷ items) parts h = names-AreParts options encoding items parts h
@@ -208,7 +208,7 @@ names_of_group part h = ap (λ b. map (λ (p : PartView). p.name) (if not b then
 pub names_of_fixed : (part : PartView) → part.kind ≡ FixedText → group_names (part ∷ []) ≡ []
 names_of_fixed part h = ap (λ kind. map (λ (p : PartView). p.name) (if not (is_fixed_text kind) then part ∷ [] else [])) h
 
--- the names of the first parts are among those of all
+-- The names of the first parts are among the names of all.
 pub Contains-first : (parts : List Part) (i : ℕ) (name : List ℕ) → Contains (group_names (map part_view (take i parts))) name → Contains (group_names (map part_view parts)) name
 Contains-first parts i name h =
     subst (λ x. Contains (group_names (map part_view x)) name) (take-append-drop i parts)
@@ -232,7 +232,7 @@ abbrev first_or_zero : List ℕ → ℕ
 first_or_zero [] = 0
 first_or_zero (c ∷ text) = c
 
--- the regular expression of a segment is not that of any text
+-- The regular expression of a segment is not that of a full wildcard.
 no_segment : (syntax : RegexSyntax) (delimiter : Option ℕ) → full_wildcard ≢ segment_wildcard_of syntax delimiter
 no_segment syntax None e = cc e
 no_segment syntax (Some c) e = let h : 46 ≡ 91 = ap first_or_zero e in omega (arith, h)
@@ -245,7 +245,7 @@ kind_custom options regexp h g =
     ap (λ b. if b then SegmentWildcard else (if bytes_eq regexp full_wildcard then FullWildcard else Regexp)) (other_bytes regexp (segment_wildcard options) h)
     ∙ ap (λ b. if b then FullWildcard else Regexp) (other_bytes regexp full_wildcard g)
 
--- ---- what callbacks answer
+-- ---- results of callbacks
 
 pub asked_ok : (returns : List ℕ → Result (String Global) Error → Type 0) (bytes : List ℕ) (answer : Result (String Global) Error) → IsUtf8 bytes → returns bytes answer → IfOk answer (λ text. encoding_of returns (chars bytes) (Ok (text_of text)))
 asked_ok returns bytes (Ok text) u h = (Ok text, subst (λ b. returns b (Ok text)) (sym (encodes-chars bytes u)) h, refl)
@@ -255,7 +255,7 @@ pub asked_err : (returns : List ℕ → Result (String Global) Error → Type 0)
 asked_err returns bytes (Ok text) u h = tt
 asked_err returns bytes (Err error) u h = (Err error, subst (λ b. returns b (Err error)) (sym (encodes-chars bytes u)) h, refl)
 
--- memory ran out, or a weaker fact
+-- `MemoryOr` of a weaker fact.
 pub MemoryOr-weaker : (P Q : ErrorView → Type 0) (error : Error) → ((view : ErrorView) → P view → Q view) → MemoryOr P error → MemoryOr Q error
 MemoryOr-weaker P Q error f (inl h) = inl h
 MemoryOr-weaker P Q error f (inr h) = inr (f (error_view error) h)
@@ -283,7 +283,7 @@ nothing_pending options encoding old e = record {
   pending = e;
 }
 
--- ---- one more item after what was added
+-- ---- an item after those added
 
 module _ (options : OptionsView) (encoding : Encoding) (old mid : PartListView) (items : List Item) (a : AddsParts options encoding old items mid) where
   names_mid : group_names mid.parts ≡ group_names old.parts ++ item_names items
@@ -309,7 +309,7 @@ module _ (options : OptionsView) (encoding : Encoding) (old mid : PartListView) 
   fails_item item error h =
       subst (λ demands. FirstFails encoding demands error) (sym (split_demands item)) (FirstFails-behind encoding error _ _ a.are_met h)
 
--- what fails items fails them before one more
+-- An error of items is an error of the items with one after them.
 pub fails_longer : (encoding : Encoding) (earlier : List (List ℕ)) (items : List Item) (item : Item) (error : Error) → MemoryOr (FirstFails encoding (item_demands earlier items)) error → MemoryOr (FirstFails encoding (item_demands earlier (items ++ item ∷ []))) error
 fails_longer encoding earlier items item error (inl h) = inl h
 fails_longer encoding earlier items item error (inr h) =

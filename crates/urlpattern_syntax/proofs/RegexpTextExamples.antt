@@ -10,58 +10,58 @@ use Rattle.urlpattern_syntax.specs.Options.{OptionsView, default_options, hostna
 use Rattle.urlpattern_syntax.specs.Parts.{PartView, fixed_text}
 use Rattle.urlpattern_syntax.specs.RegexpText.{escaped, escaped_regexp, segment_wildcard, part_regexp, regexp_text, group_names}
 
--- the options of a pathname in ECMAScript's syntax
+-- The options of a pathname in ECMAScript's syntax.
 abbrev pub ecma_pathname_options : OptionsView
 ecma_pathname_options = record pathname_options { syntax = EcmaScript }
 
 -- ---- texts and segments
 
--- a dot takes a backslash, and a slash does not in Rust's syntax
+-- A dot is escaped, and a slash is not in Rust's syntax.
 pub escaped_dot : escaped_regexp default_options (codes "a.b/c") ≡ codes "a\\.b/c"
 unfolding escaped
 escaped_dot = refl
 
--- a slash takes one in ECMAScript's syntax
+-- A slash is escaped in ECMAScript's syntax.
 pub escaped_slash : escaped_regexp ecma_pathname_options (codes "a.b/c") ≡ codes "a\\.b\\/c"
 unfolding escaped
 escaped_slash = refl
 
--- without a delimiter a segment is any text that is not empty
+-- A segment without a delimiter is any text that is not empty.
 pub default_segment : segment_wildcard default_options ≡ codes ".+?"
 default_segment = refl
 
--- a dot is escaped between the brackets
+-- A dot is escaped in the class.
 pub hostname_segment : segment_wildcard hostname_options ≡ codes "[^\\.]+?"
 unfolding escaped
 hostname_segment = refl
 
--- a slash is not escaped in Rust's syntax
+-- A slash is not escaped in Rust's syntax.
 pub pathname_segment : segment_wildcard pathname_options ≡ codes "[^/]+?"
 unfolding escaped
 pathname_segment = refl
 
--- a slash is escaped in ECMAScript's syntax
+-- A slash is escaped in ECMAScript's syntax.
 pub ecma_pathname_segment : segment_wildcard ecma_pathname_options ≡ codes "[^\\/]+?"
 unfolding escaped
 ecma_pathname_segment = refl
 
--- a delimiter that ends a class is escaped in it
+-- A delimiter that ends a class is escaped in it.
 pub bracket_segment : segment_wildcard (record default_options { delimiter = Some (slice_index (codes "]") 0) }) ≡ codes "[^\\]]+?"
 unfolding escaped
 bracket_segment = refl
 
 -- ---- lists of parts
 
--- a part with a group but without a value
+-- A part with a group but without a value.
 abbrev pub group : PartType → (prefix name suffix : List ℕ) → PartModifier → PartView
 group kind prefix name suffix modifier =
     record { kind = kind; value = []; modifier = modifier; name = name; prefix = prefix; suffix = suffix }
 
--- the pattern `/users/:id`: a fixed text, and a segment that takes the slash as its prefix
+-- The pattern `/users/:id`: a fixed text, and a segment with the slash as its prefix.
 abbrev pub users_parts : List PartView
 users_parts = fixed_text (codes "/users") modifiers.None ∷ group SegmentWildcard (codes "/") (codes "id") [] modifiers.None ∷ []
 
--- parts, with the regular expression and the names that they have under options
+-- Parts, with their regular expression and names under options.
 record Written : Type 0 where
   options : OptionsView
   parts : List PartView
@@ -74,32 +74,34 @@ written options parts regexp names = record { options = options; parts = parts; 
 abbrev examples : List Written
 examples =
     written pathname_options users_parts (codes "^/users(?:/([^/]+?))$") (codes "id" ∷ [])
-    -- in ECMAScript's syntax each slash is escaped
+    -- The pattern `/users/:id` in ECMAScript's syntax, where each slash is escaped.
     ∷ written ecma_pathname_options users_parts (codes "^\\/users(?:\\/([^\\/]+?))$") (codes "id" ∷ [])
-    -- the empty pattern: no parts, and a regular expression of the empty text alone
+    -- The empty pattern: no parts, and a regular expression of the empty text alone.
     ∷ written default_options [] (codes "^$") []
-    -- the pattern `{a}?b`: fixed texts make no group that captures
+    -- The pattern `{a}?b`: fixed texts have no capturing group.
     ∷ written default_options (fixed_text (codes "a") modifiers.Optional ∷ fixed_text (codes "b") modifiers.None ∷ [])
     (codes "^(?:a)?b$") []
-    -- the pattern `/:x*`: any number of segments, of which the first slash is not captured
+    -- The pattern `/:x*`: any number of segments, of which the first slash is not captured.
     ∷ written pathname_options (group SegmentWildcard (codes "/") (codes "x") [] modifiers.ZeroOrMore ∷ [])
     (codes "^(?:/((?:[^/]+?)(?:/(?:[^/]+?))*))?$") (codes "x" ∷ [])
-    -- the pattern `{a/:x/b}+`: between two copies stand the suffix of one and the prefix of the next
+    -- The pattern `{a/:x/b}+`: between two copies are the suffix of the first and the prefix of the
+    -- second.
     ∷ written pathname_options (group SegmentWildcard (codes "a/") (codes "x") (codes "/b") modifiers.OneOrMore ∷ [])
     (codes "^(?:a/((?:[^/]+?)(?:/ba/(?:[^/]+?))*)/b)$") (codes "x" ∷ [])
-    -- the pattern `:x**`: the first asterisk is a modifier, the second a full wildcard
+    -- The pattern `:x**`: the first asterisk is a modifier, the second a full wildcard.
     ∷ written default_options (group SegmentWildcard [] (codes "x") [] modifiers.ZeroOrMore ∷ group FullWildcard [] (codes "0") [] modifiers.None ∷ [])
     (codes "^((?:.+?)*)(.*)$") (codes "x" ∷ codes "0" ∷ [])
-    -- the pattern `{:x\foo}`: a suffix alone makes brackets round the group
+    -- The pattern `{:x\foo}`: a suffix alone encloses the group in parentheses.
     ∷ written default_options (group SegmentWildcard [] (codes "x") (codes "foo") modifiers.None ∷ [])
     (codes "^(?:(.+?)foo)$") (codes "x" ∷ [])
-    -- the pattern `{a*b}+`: a full wildcard that is repeated
+    -- The pattern `{a*b}+`: a full wildcard that is repeated.
     ∷ written default_options (group FullWildcard (codes "a") (codes "0") (codes "b") modifiers.OneOrMore ∷ [])
     (codes "^(?:a((?:.*)(?:ba(?:.*))*)b)$") (codes "0" ∷ [])
-    -- the pattern `:a.:b` of a hostname: the dot between the segments is escaped
+    -- The pattern `:a.:b` of a hostname: the dot between the segments is escaped.
     ∷ written hostname_options (group SegmentWildcard [] (codes "a") [] modifiers.None ∷ fixed_text (codes ".") modifiers.None ∷ group SegmentWildcard [] (codes "b") [] modifiers.None ∷ [])
     (codes "^([^\\.]+?)\\.([^\\.]+?)$") (codes "a" ∷ codes "b" ∷ [])
-    -- the pattern `a\{:b(c)`: the body of a custom regular expression stands as it is, a fixed text is escaped
+    -- The pattern `a\{:b(c)`: the body of a custom regular expression is unchanged, a fixed text is
+    -- escaped.
     ∷ written default_options (fixed_text (codes "a{") modifiers.None ∷ record { kind = Regexp; value = codes "c"; modifier = modifiers.None; name = codes "b"; prefix = []; suffix = [] } ∷ [])
     (codes "^a\\{(c)$") (codes "b" ∷ [])
     ∷ []

@@ -1,4 +1,4 @@
--- Lemmas on texts: characters against bytes, places, and where a text may be cut.
+-- Lemmas on texts: characters and bytes, places, and where a text may be cut.
 use Rattle.std.proofs.Common.{◌≡◌, ℕ, ◌-◌, ◌≤◌, List, [], ◌∷◌, ◌++◌, length, take, refl, sym, ap, ◌∙◌, arith, length-append}
 use Rattle.std.specs.Prelude.{codes, encode_utf8_all, slice_range}
 use Rattle.std.proofs.Math.Seq.{take-append_seam}
@@ -12,12 +12,12 @@ use Rattle.urlpattern_syntax.specs.RegexpText.{modifier_text}
 use Rattle.urlpattern_syntax.specs.Text.{byte_len, BeginsAt}
 pub use Rattle.urlpattern_syntax.specs.WritingLaws.{byte_len-append, byte_len-nil}
 
--- the bytes of a text whose characters are these and those of an end of it
+-- The bytes of a text whose characters are `front` and those of a suffix.
 pub bytes_before : (text end : List ℕ) (front : List ℕ) → IsUtf8 text → IsUtf8 end → chars text ≡ front ++ chars end → text ≡ encode_utf8_all front ++ end
 bytes_before text end front u v e =
     sym (encodes-chars text u) ∙ ap encode_utf8_all e ∙ encodes-append front (chars end) ∙ ap (λ x. encode_utf8_all front ++ x) (encodes-chars end v)
 
--- what is before an end of a list
+-- The elements before a suffix of a list.
 pub slice_before : (xs front end : List ℕ) → xs ≡ front ++ end → slice_range xs 0 (length xs - length end) ≡ front
 slice_before xs front end e =
     let n : length xs - length end ≡ length front = omega (arith, ap length e, length-append front end) in
@@ -30,19 +30,19 @@ pub byte_len-chars : (bytes : List ℕ) → IsUtf8 bytes → byte_len (chars byt
 unfolding byte_len
 byte_len-chars bytes u = ap length (encodes-chars bytes u)
 
--- each character takes a byte at least
+-- A character has at least one byte.
 pub length-le-byte_len : (text : List ℕ) → length text ≤ byte_len text
 unfolding byte_len
 length-le-byte_len text = length-le-encodes text
 
--- where an end of a text begins, by the lengths of their bytes
+-- The place of a suffix of a text, by the lengths in bytes.
 pub BeginsAt-bytes : (whole rest : List ℕ) → IsUtf8 whole → IsUtf8 rest → length rest ≤ length whole → BeginsAt (chars whole) (chars rest) (length whole - length rest)
 BeginsAt-bytes whole rest u v le =
     let e = byte_len-chars whole u in
     let f = byte_len-chars rest v in
     omega arith
 
--- an empty text has no character
+-- A text without bytes has no character.
 pub chars-empty : (bytes : List ℕ) → length bytes ≡ 0 → chars bytes ≡ []
 chars-empty [] e = chars-nil
 chars-empty (b ∷ bytes) e = absurd (omega arith)
@@ -53,11 +53,11 @@ chars-some bytes u some e =
     let f = ap byte_len e ∙ byte_len-nil in
     some (omega arith)
 
--- the bytes of a text whose characters are known
+-- The bytes of a text whose characters are known.
 pub bytes_from_chars : (bytes text : List ℕ) → IsUtf8 bytes → chars bytes ≡ text → encode_utf8_all text ≡ text → bytes ≡ text
 bytes_from_chars bytes text u e f = sym (encodes-chars bytes u) ∙ ap encode_utf8_all e ∙ f
 
--- a text whose characters and bytes are the same numbers
+-- A text whose characters and bytes are the same numbers.
 abbrev pub IsOfSingleBytes : List ℕ → Type 0
 IsOfSingleBytes text = (chars text ≡ text) × (encode_utf8_all text ≡ text)
 
@@ -69,7 +69,7 @@ pub full_wildcard : IsOfSingleBytes (codes ".*")
 unfolding chars encode_utf8
 full_wildcard = (refl, refl)
 
--- the spelling of a modifier has a byte for each character
+-- The characters of a modifier's spelling are its bytes.
 pub modifier_chars : (modifier : PartModifier) → chars (modifier_text modifier) ≡ modifier_text modifier
 unfolding chars
 modifier_chars modifiers.None = refl
@@ -77,7 +77,7 @@ modifier_chars modifiers.Optional = refl
 modifier_chars modifiers.ZeroOrMore = refl
 modifier_chars modifiers.OneOrMore = refl
 
--- texts with the same characters have the same bytes
+-- Texts with the same characters have the same bytes.
 pub bytes_same : (xs ys : List ℕ) → IsUtf8 xs → IsUtf8 ys → chars xs ≡ chars ys → xs ≡ ys
 bytes_same xs ys u v e = sym (encodes-chars xs u) ∙ ap encode_utf8_all e ∙ encodes-chars ys v
 

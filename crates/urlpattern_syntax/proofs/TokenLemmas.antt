@@ -1,4 +1,4 @@
--- Lemmas on tokens: what is skipped, how a body goes on, how cuts are joined.
+-- Lemmas on tokens: skipped characters, the rest of a body, and joined cuts.
 use Rattle.std.proofs.Common.{◌≡◌, ℕ, ◌<◌, ◌⊎◌, Bool, true, false, List, [], ◌∷◌, ◌++◌, length, Err, refl, sym, ap, ◌∙◌, subst, inl, inr, arith, append_assoc}
 use Rattle.std.specs.Prelude.{codes, IsTrue}
 use Rattle.std.proofs.lemmas.Bool.{both_ways, and_from}
@@ -14,7 +14,7 @@ use Rattle.urlpattern_syntax.specs.Text.{byte_len, BeginsAt, BeginsWith, is_amon
 use Rattle.urlpattern_syntax.proofs.TextLemmas.{byte_len-append, length-le-byte_len}
 use Rattle.urlpattern_syntax.specs.Tokens.{TokenView, end_of, AreTokensUnder, IsCut, IsInvalidChar, IsInvalidCharOf, IsTokenOf, Skips, SkipsBy, IsLexed, Spells, EndsThere, IsName, IsFaultAt, InvalidName, ReportsFaultUnder, marks, is_ignored}
 
--- ---- what is skipped
+-- ---- skipped characters
 
 pub SkipsBy-none : (p : ℕ → Bool) (text : List ℕ) → SkipsBy p text text
 SkipsBy-none p text = ([], refl, refl)
@@ -33,7 +33,7 @@ SkipsBy-joined p text rest left s t = (
   list_all-append p s.0 t.0 ∙ and_from _ _ s.2 t.2,
 )
 
--- an empty text begins with nothing
+-- An empty text begins with no character.
 pub BeginsWith-empty : (p : ℕ → Bool) (text : List ℕ) → text ≡ [] → ¬ BeginsWith p text
 BeginsWith-empty p text e h = false≢true (subst (BeginsWith p) e h)
   where
@@ -43,9 +43,9 @@ BeginsWith-empty p text e h = false≢true (subst (BeginsWith p) e h)
 pub BeginsWith-other : (p : ℕ → Bool) (text rest : List ℕ) (c : ℕ) → text ≡ c ∷ rest → p c ≡ false → ¬ BeginsWith p text
 BeginsWith-other p text rest c e f h = both_ways (p c) f (subst (BeginsWith p) e h)
 
--- ---- tokens at the front of a text
+-- ---- tokens at the start of a text
 
--- what stands before the rest of a text is its first character
+-- The text before all but the first character is that character.
 pub one_character : (text value rest : List ℕ) (c : ℕ) → text ≡ c ∷ rest → text ≡ value ++ rest → value ≡ c ∷ []
 one_character text value rest c e f = append_cancel_right value (c ∷ []) rest (sym f ∙ e)
 
@@ -57,7 +57,7 @@ escaped_lexed text value rest c e f = record {
   ends = tt;
 }
 
--- a name after a colon: its first character, and what is skipped after that
+-- A name after a colon: its first character, and all name characters after it.
 pub name_lexed : (text value tail rest : List ℕ) (c : ℕ) → text ≡ c ∷ tail → is_name_start c ≡ true → SkipsBy is_name_part tail rest → ¬ BeginsWith is_name_part rest → text ≡ value ++ rest → IsLexed (codes ":" ++ text) Name value rest
 name_lexed text value tail rest c e starts skips all f = record {
   spelling = codes ":" ++ value;
@@ -69,11 +69,11 @@ name_lexed text value tail rest c e starts skips all f = record {
     whole : value ≡ c ∷ skips.0
     whole = append_cancel_right value (c ∷ skips.0) rest (sym f ∙ e ∙ ap (λ x. c ∷ x) skips.1)
 
--- no name begins after this colon
+-- A colon without a name is a fault.
 pub no_name : (text : List ℕ) → ¬ BeginsWith is_name_start text → IsFaultAt (codes ":" ++ text) InvalidName
 no_name text h = (text, refl, h)
 
--- one character that spells a token by itself
+-- A character that is the spelling of a token.
 pub character_lexed : (kind : TokenType) (text value rest : List ℕ) (c : ℕ) → text ≡ c ∷ rest → text ≡ value ++ rest → ((spelling : List ℕ) → spelling ≡ c ∷ [] → Spells kind spelling spelling) → EndsThere kind rest → IsLexed text kind value rest
 character_lexed kind text value rest c e f spells ends = record {
   spelling = value;
@@ -82,7 +82,7 @@ character_lexed kind text value rest c e f spells ends = record {
   ends = ends;
 }
 
--- a text that does not begin with what is skipped begins with another character
+-- A text that does not begin with a skipped character begins with a character that is not skipped.
 pub not_ignored : (text rest : List ℕ) (c : ℕ) → text ≡ c ∷ rest → ¬ BeginsWith is_ignored text → ¬ IsTrue (is_ignored c)
 not_ignored text rest c e h g = h (subst (BeginsWith is_ignored) (sym e) g)
 
@@ -96,7 +96,7 @@ IsCut-more Item text [] left rest next token cut item skips = (left, rest, cut, 
 IsCut-more Item text (first ∷ tokens) left rest next token cut item skips =
     (cut.0, cut.1, cut.2, cut.3, IsCut-more Item cut.1 tokens left rest next token cut.4 item skips)
 
--- a spelling has a character
+-- A spelling is not empty.
 pub Spells-some : (kind : TokenType) (value text : List ℕ) → Spells kind value text → 0 < length text
 Spells-some Open value text h = omega (arith, ap length h.1)
 Spells-some Close value text h = omega (arith, ap length h.1)
@@ -109,7 +109,7 @@ Spells-some Char value text h = omega (arith, ap length h.1.1)
 Spells-some End value text h = absurd h
 Spells-some InvalidChar value text h = absurd h
 
--- what follows a token is shorter
+-- The text after a token is shorter.
 pub IsLexed-shorter : (text value rest : List ℕ) (kind : TokenType) → IsLexed text kind value rest → byte_len rest < byte_len text
 IsLexed-shorter text value rest kind h =
     let some = Spells-some kind value h.spelling h.spells in
@@ -122,7 +122,7 @@ end_view text value index e f = λ i. record { kind = End; index = e i; value = 
 
 -- ---- tokens under a policy
 
--- what a token of the whole text is under a policy, where this begins and that follows
+-- The text, a suffix of `whole`, begins with the token under the policy, and `rest` follows.
 abbrev pub IsTokenUnder : TokenizePolicy → (whole text : List ℕ) → TokenView → (rest : List ℕ) → Type 0
 IsTokenUnder policies.Strict whole text token rest = IsTokenOf whole text token rest
 IsTokenUnder policies.Lenient whole text token rest = IsTokenOf whole text token rest ⊎ IsInvalidCharOf whole text token rest
@@ -130,12 +130,12 @@ IsTokenUnder policies.Lenient whole text token rest = IsTokenOf whole text token
 abbrev pub IsCutUnder : TokenizePolicy → (text : List ℕ) → List TokenView → (left : List ℕ) → Type 0
 IsCutUnder policy text tokens left = IsCut (IsTokenUnder policy text) text tokens left
 
--- a token at the front of a text, or a character with which no token begins
+-- The text begins with a token, or, if the policy is lenient, with a character that begins none.
 abbrev pub IsLexedUnder : TokenizePolicy → List ℕ → TokenType → (value rest : List ℕ) → Type 0
 IsLexedUnder policies.Strict text kind value rest = IsLexed text kind value rest
 IsLexedUnder policies.Lenient text kind value rest = IsLexed text kind value rest ⊎ IsInvalidChar text kind value rest
 
--- a character that is taken leaves a shorter text
+-- The text after a character that begins no token is shorter.
 pub IsInvalidChar-shorter : (text value rest : List ℕ) (kind : TokenType) → IsInvalidChar text kind value rest → byte_len rest < byte_len text
 IsInvalidChar-shorter text value rest kind h =
     let least = length-le-byte_len (h.character ∷ []) in
@@ -164,12 +164,12 @@ IsTokenUnder-made policies.Lenient whole text value rest kind index h place = el
   | inr invalid ↦ inr (invalid_token whole text value rest kind index invalid place)
 ]
 
--- one more token, and what is skipped after it
+-- A further token, and the skipped characters after it.
 pub IsCutUnder-more : (policy : TokenizePolicy) (text : List ℕ) (tokens : List TokenView) (left value rest next : List ℕ) (kind : TokenType) (index : ℕ) → IsCutUnder policy text tokens left → IsLexedUnder policy left kind value rest → BeginsAt text left index → Skips rest next → IsCutUnder policy text (tokens ++ record { kind = kind; index = index; value = value } ∷ []) next
 IsCutUnder-more policy text tokens left value rest next kind index cut lexed place skips =
     IsCut-more (IsTokenUnder policy text) text tokens left rest next (record { kind = kind; index = index; value = value }) cut (IsTokenUnder-made policy text left value rest kind index lexed place) skips
 
--- the tokens of a cut that leaves nothing, and End
+-- The tokens of a cut of the whole text, with End after them, are the tokens of the text.
 pub AreTokensUnder-cut : (policy : TokenizePolicy) (text : List ℕ) (tokens front : List TokenView) → IsCutUnder policy text front [] → tokens ≡ front ++ end_of text ∷ [] → AreTokensUnder policy text tokens
 AreTokensUnder-cut policies.Strict text tokens front cut all = record { front = front; cut = cut; all = all }
 AreTokensUnder-cut policies.Lenient text tokens front cut all = record { front = front; cut = cut; all = all }

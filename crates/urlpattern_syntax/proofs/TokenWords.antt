@@ -1,4 +1,4 @@
--- What lists of tokens mean by themselves.
+-- Definitions on token lists, without the text of the tokens.
 use Rattle.std.specs.Prelude.{◌≡◌, ℕ, List, [], ◌∷◌}
 use Rattle.std.specs.List.{flat_map}
 use Rattle.urlpattern_syntax.specs.declared.tokenizer.TokenType.{TokenType}
@@ -9,16 +9,16 @@ use Rattle.urlpattern_syntax.specs.Pieces.{ArePieces, Piece, Ending, Ending as e
 use Rattle.urlpattern_syntax.specs.Reading.{demands, items_of, AreMet, AreParts, Encoding, FirstFails}
 use Rattle.urlpattern_syntax.specs.Tokens.{TokenView}
 
--- the values of tokens, end to end
+-- The values of the tokens, joined.
 abbrev pub joined_values : List TokenView → List ℕ
 joined_values tokens = flat_map (λ token. token.value) tokens
 
--- the first token is of this kind
+-- The first token is of this kind.
 abbrev pub BeginsWithToken : TokenType → List TokenView → Type 0
 BeginsWithToken kind [] = ⊥
 BeginsWithToken kind (token ∷ tokens) = token.kind ≡ kind
 
--- the tokens mean these parts
+-- The tokens read as these parts.
 pub record ReadsTokens (tokens : List TokenView) (options : OptionsView) (encoding : Encoding) (parts : List PartView) : Type 0 where
   pub pieces : List Piece
   pub found : TokenView
@@ -26,7 +26,7 @@ pub record ReadsTokens (tokens : List TokenView) (options : OptionsView) (encodi
   pub are_met : AreMet encoding (demands (items_of pieces) (endings.Stops found))
   pub are_parts : AreParts options encoding (items_of pieces) parts
 
--- the first demand of the tokens' pieces that is not met fails with this error
+-- The first demand of the tokens that is not met fails with this error.
 pub record FailsTokens (tokens : List TokenView) (options : OptionsView) (encoding : Encoding) (error : ErrorView) : Type 0 where
   pub pieces : List Piece
   pub ending : Ending

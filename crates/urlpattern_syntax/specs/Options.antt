@@ -1,4 +1,4 @@
--- The options of a component: what a clause sees of them.
+-- The options of a component, as clauses see them.
 use Rattle.std.specs.Prelude.{ℕ, Bool, false, List, [], Option, None, Some, codes}
 use Rattle.url.specs.Ascii.{dot, slash}
 pub use Rattle.urlpattern_syntax.specs.declared.parser.RegexSyntax.{RegexSyntax}
@@ -12,6 +12,7 @@ pub record OptionsView : Type 0 where
   pub syntax : RegexSyntax
   pub ignore_case : Bool
 
+-- The options, as clauses see them.
 abbrev pub options_view : Options → OptionsView
 options_view options = record {
   delimiter = options.delimiter_code_point;
@@ -20,15 +21,18 @@ options_view options = record {
   ignore_case = options.ignore_case;
 }
 
--- the standard's three sets of options, in Rust's syntax: a delimiter and a prefix code point
+-- A set of options in Rust's syntax, by its delimiter and its prefix code point.
 abbrev pub standard_options : Option ℕ → List ℕ → OptionsView
 standard_options delimiter prefix = record { delimiter = delimiter; prefix = prefix; syntax = RegexSyntax.Rust; ignore_case = false }
 
+-- The options of most components.
 abbrev pub default_options : OptionsView
 default_options = standard_options None []
 
+-- The options of a hostname: the delimiter is a dot.
 abbrev pub hostname_options : OptionsView
 hostname_options = standard_options (Some dot) []
 
+-- The options of a pathname: delimiter and prefix are a slash.
 abbrev pub pathname_options : OptionsView
 pathname_options = standard_options (Some slash) (codes "/")

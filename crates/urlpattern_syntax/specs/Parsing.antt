@@ -1,4 +1,5 @@
--- The parser step by step: which tokens it takes, which tokens are left, and what it adds to the list of parts.
+-- The parser step by step: the tokens of a step, the tokens left, and what is added to the list of
+-- parts.
 use Rattle.std.specs.Prelude.{◌≡◌, ◌≢◌, ◌+◌, ℕ, ◌⊎◌, List, [], ◌∷◌, ◌++◌, map, codes, Option, Some, None}
 use Rattle.urlpattern_syntax.specs.declared.tokenizer.TokenType.TheVariants.{Close, Name, OtherModifier, End}
 use Rattle.urlpattern_syntax.specs.Errors.{Error, ErrorView, error_view}
@@ -10,28 +11,29 @@ use Rattle.urlpattern_syntax.specs.Pieces.{Piece, Placeholder, Ending, IsPiece, 
 use Rattle.urlpattern_syntax.specs.Reading.{AreMet, AreParts, Demand, Encode, Encoding, FirstFails, Item, Fixed, Capture, NewName, encode_fixed}
 use Rattle.urlpattern_syntax.specs.Tokens.{Token, TokenView, token_view}
 
+-- The tokens, as clauses see them.
 abbrev pub views : List Token → List TokenView
 views tokens = map token_view tokens
 
--- a modifier is spelled as one
+-- A modifier token is spelled `+` or `?`.
 abbrev pub IsModifierSpelled : TokenView → Type 0
 IsModifierSpelled token = token.kind ≡ OtherModifier → (token.value ≡ codes "+") ⊎ (token.value ≡ codes "?")
 
--- a name that a pattern gives, which begins as no number does
+-- A name from a pattern: its first character may begin a name, which a digit may not.
 abbrev pub IsGiven : List ℕ → Type 0
 IsGiven name = BeginsWith is_name_start name
 
--- the value of a Name is such a name
+-- The value of a Name token is a name from a pattern.
 abbrev pub IsNameSpelled : TokenView → Type 0
 IsNameSpelled token = token.kind ≡ Name → IsGiven token.value
 
--- tokens of which End is the last and only the last
+-- A token list: End is the last token and only the last, and each modifier is spelled as one.
 abbrev pub IsTokenList : List TokenView → Type 0
 IsTokenList [] = ⊥
 IsTokenList (token ∷ []) = token.kind ≡ End
 IsTokenList (token ∷ next ∷ tokens) = (token.kind ≢ End) × IsModifierSpelled token × IsTokenList (next ∷ tokens)
 
--- the tokens begin with a placeholder, which takes all that it may
+-- The tokens begin with a placeholder of maximal length.
 pub record BeginsWithPlaceholder (tokens : List TokenView) (placeholder : Placeholder) (rest : List TokenView) : Type 0 where
   pub front : List TokenView
   pub cut : tokens ≡ front ++ rest
@@ -39,7 +41,7 @@ pub record BeginsWithPlaceholder (tokens : List TokenView) (placeholder : Placeh
   pub takes_regexp : TakesRegexp placeholder.matched rest
   pub closed : IsTokenList tokens → IsTokenList rest
 
--- the tokens begin with a modifier, if there is one
+-- The tokens begin with a modifier, if there is one.
 pub record BeginsWithModifier (tokens : List TokenView) (modifier : PartModifier) (rest : List TokenView) : Type 0 where
   pub front : List TokenView
   pub cut : tokens ≡ front ++ rest
@@ -47,21 +49,21 @@ pub record BeginsWithModifier (tokens : List TokenView) (modifier : PartModifier
   pub takes_modifier : TakesModifier modifier rest
   pub closed : IsTokenList rest
 
--- ---- what is left of a text
+-- ---- names and runs of texts
 
--- ---- what the code's pieces show
-
--- the name, if there is one, is one that a pattern gives
+-- The name, if there is one, is from a pattern.
 abbrev pub IsNameGiven : Option (List ℕ) → Type 0
 IsNameGiven None = Unit {0}
 IsNameGiven (Some name) = IsGiven name
 
+-- The name in the piece, if there is one, is from a pattern.
 abbrev pub IsPieceNamed : Piece → Type 0
 IsPieceNamed (Piece.Bare prefix placeholder modifier) = IsNameGiven placeholder.name
 IsPieceNamed (Piece.Group before placeholder after modifier) = IsNameGiven placeholder.name
 IsPieceNamed other = Unit {0}
 
--- the tokens begin with a character and then with more of them (`more`), of which there is none or another one follows
+-- The tokens begin with `first` and the text tokens of `more`. A further text token follows, unless
+-- `more` is empty.
 pub record BeginsWithCharacters (tokens : List TokenView) (first : TokenView) (more : List ℕ) (rest : List TokenView) : Type 0 where
   pub row : List TokenView
   pub cut : tokens ≡ first ∷ row ++ rest
@@ -69,21 +71,21 @@ pub record BeginsWithCharacters (tokens : List TokenView) (first : TokenView) (m
   pub none : more ≡ [] → row ≡ []
   pub goes_on : (more ≡ []) ⊎ BeginsWithKind is_text rest
 
--- the tokens begin with these texts, and another one follows
+-- The tokens begin with the text tokens of `text`, and a further text token follows.
 pub record BeginsWithRow (tokens : List TokenView) (text : List ℕ) (rest : List TokenView) : Type 0 where
   pub row : List TokenView
   pub cut : tokens ≡ row ++ rest
   pub are_texts : AreTexts row text
   pub goes_on : BeginsWithKind is_text rest
 
--- the tokens begin with these texts, and no text follows them
+-- The tokens begin with the text tokens of `text`, and no text token follows.
 pub record BeginsWithTexts (tokens : List TokenView) (text : List ℕ) (rest : List TokenView) : Type 0 where
   pub front : List TokenView
   pub cut : tokens ≡ front ++ rest
   pub are_texts : AreTexts front text
   pub all : ¬ BeginsWithKind is_text rest
 
--- the tokens begin with the end of a group and its modifier
+-- The tokens begin with the Close of a group and its modifier.
 pub record BeginsWithClose (tokens : List TokenView) (modifier : PartModifier) (rest : List TokenView) : Type 0 where
   pub closing : TokenView
   pub behind : List TokenView
@@ -91,35 +93,35 @@ pub record BeginsWithClose (tokens : List TokenView) (modifier : PartModifier) (
   pub is_close : closing.kind ≡ Close
   pub begins : BeginsWithModifier behind modifier rest
 
--- the tokens begin with the piece
+-- The tokens begin with the piece.
 abbrev pub BeginsWithPiece : (point : List ℕ) → List TokenView → Piece → (rest : List TokenView) → Type 0
 BeginsWithPiece point tokens piece rest = (front : List TokenView) × (tokens ≡ front ++ rest) × IsPiece point front piece rest
 
--- the tokens have this ending, at the first token of the rest
+-- The tokens have the ending, whose token is the first of `rest`.
 abbrev pub HasEndingAt : List TokenView → (TokenView → Ending) → (rest : List TokenView) → Type 0
 HasEndingAt tokens ending rest = (found : TokenView) × (more : List TokenView) × (rest ≡ found ∷ more) × IsEnding tokens (ending found)
 
--- ---- what is read so far
+-- ---- the parts read
 
--- The parts so far, the pending text, and how many placeholders had no name.
+-- The parts read, the pending text, and the number of placeholders without a name.
 pub record PartListView : Type 0 where
   pub parts : List PartView
   pub pending : List ℕ
   pub number : ℕ
 
--- the demands of items, where more may follow them
+-- The demands of items without an ending, after groups with the names `earlier`.
 abbrev pub item_demands : List (List ℕ) → List Item → List Demand
 item_demands earlier [] = []
 item_demands earlier (Fixed text modifier ∷ items) = encode_fixed text ++ item_demands earlier items
 item_demands earlier (Capture prefix name match suffix modifier ∷ items) =
     NewName earlier name ∷ Encode prefix ∷ Encode suffix ∷ item_demands (earlier ++ name ∷ []) items
 
--- the pending text as an item, if there is one
+-- The pending text as an item, if it is not empty.
 abbrev pub pending_items : List ℕ → List Item
 pending_items [] = []
 pending_items (c ∷ text) = Fixed (c ∷ text) PartModifier.None ∷ []
 
--- the parts of these items stand after those of before, and nothing is pending
+-- The parts of the items are appended, and no text is pending.
 pub record AddsParts (options : OptionsView) (encoding : Encoding) (old : PartListView) (items : List Item) (new : PartListView) : Type 0 where
   pub added : List PartView
   pub parts : new.parts ≡ old.parts ++ added
@@ -127,16 +129,17 @@ pub record AddsParts (options : OptionsView) (encoding : Encoding) (old : PartLi
   pub are_met : AreMet encoding (item_demands (group_names old.parts) items)
   pub pending : new.pending ≡ []
 
--- the item is added: a plain fixed text is put after the pending text, any other after the part of that
+-- The item is added: a plain fixed text to the pending text, any other as a part after that of the
+-- pending text.
 abbrev pub AddsItem : OptionsView → Encoding → PartListView → Item → PartListView → Type 0
 AddsItem options encoding old (Fixed text PartModifier.None) new = (new.parts ≡ old.parts) × (new.pending ≡ old.pending ++ text)
 AddsItem options encoding old item new = AddsParts options encoding old (pending_items old.pending ++ item ∷ []) new
 
--- memory ran out, or a demand of these items after the parts fails with the error
+-- Memory ran out, or the first demand of the items that is not met fails with the error.
 abbrev pub FailsItems : Encoding → List PartView → List Item → Error → Type 0
 FailsItems encoding parts items error = MemoryOr (FirstFails encoding (item_demands (group_names parts) items)) error
 
--- the item is not added: for a plain fixed text memory ran out, any other may fail a demand
+-- The item is not added. For a plain fixed text memory ran out; any other may also fail a demand.
 abbrev pub FailsItem : Encoding → PartListView → Item → Error → Type 0
 FailsItem encoding old (Fixed text PartModifier.None) error = error_view error ≡ ErrorView.OutOfMemory
 FailsItem encoding old item error = FailsItems encoding old.parts (pending_items old.pending ++ item ∷ []) error

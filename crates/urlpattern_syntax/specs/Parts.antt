@@ -1,9 +1,9 @@
--- The parts of a pattern: what a clause sees of them.
+-- The parts of a pattern, as clauses see them.
 use Rattle.std.specs.Prelude.{ℕ, List, [], map}
 pub use Rattle.urlpattern_syntax.specs.declared.parser.{Part.Part, PartModifier.PartModifier, PartType.PartType}
 use Rattle.urlpattern_syntax.specs.Text.{text_of}
 
--- A part, with its texts.
+-- A part, with its texts as characters.
 pub record PartView : Type 0 where
   pub kind : PartType
   pub value : List ℕ
@@ -12,6 +12,7 @@ pub record PartView : Type 0 where
   pub prefix : List ℕ
   pub suffix : List ℕ
 
+-- A part, as clauses see it.
 abbrev pub part_view : Part → PartView
 part_view part = record {
   kind = part.kind;
@@ -22,9 +23,10 @@ part_view part = record {
   suffix = text_of part.suffix;
 }
 
+-- The parts, as clauses see them.
 abbrev pub parts_view : List Part → List PartView
 parts_view parts = map part_view parts
 
--- a fixed text
+-- The part of a fixed text.
 abbrev pub fixed_text : List ℕ → PartModifier → PartView
 fixed_text value modifier = record { kind = PartType.FixedText; value = value; modifier = modifier; name = []; prefix = []; suffix = [] }

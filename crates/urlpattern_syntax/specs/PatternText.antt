@@ -1,11 +1,12 @@
--- The characters of a pattern text, after the URLPattern Standard, section "Converting part lists to pattern strings".
+-- Escaped pattern texts, after the URLPattern Standard, section "Converting part lists to pattern
+-- strings".
 use Rattle.std.specs.Prelude.{ℕ, List, codes}
 use Rattle.urlpattern_syntax.specs.RegexpText.{escaped}
 
--- the characters that mean more than themselves in a pattern
+-- The special characters of patterns.
 abbrev pub pattern_marks : List ℕ
 pattern_marks = codes "+*?:{}()\\"
 
--- a backslash before each of these
+-- The text with a backslash before each special character of patterns.
 abbrev pub escaped_pattern : List ℕ → List ℕ
 escaped_pattern text = escaped pattern_marks text

@@ -1,112 +1,119 @@
--- The pieces of a list of tokens, after the URLPattern Standard, section "Parsing pattern strings": texts,
--- placeholders and groups, each of which takes all that it may.
+-- The pieces of a token list, after the URLPattern Standard, section "Parsing pattern strings":
+-- texts, placeholders and groups, each of maximal length.
 use Rattle.std.specs.Prelude.{◌≡◌, ◌≢◌, ℕ, ◌⊎◌, Bool, true, false, List, [], ◌∷◌, ◌++◌, map, codes, Option, Some, None, IsTrue}
 use Rattle.std.specs.List.{flat_map, list_all}
 use Rattle.urlpattern_syntax.specs.declared.parser.PartModifier.{PartModifier}
 use Rattle.urlpattern_syntax.specs.declared.tokenizer.TokenType.TheVariants.{Asterisk, Char, Close, End, EscapedChar, InvalidChar, Name, Open, OtherModifier, Regexp}
 use Rattle.urlpattern_syntax.specs.Tokens.{TokenType, TokenView}
 
--- What a placeholder stands for: a segment, what a custom regular expression matches, or anything.
+-- What a placeholder matches: a segment, any text, or what a custom regular expression matches.
 pub data Matched : Type 0 where
   Segment Anything : Matched
   Custom : List ℕ → Matched
 
--- A placeholder, perhaps with a name.
+-- A placeholder, with or without a name.
 pub record Placeholder : Type 0 where
   pub name : Option (List ℕ)
   pub matched : Matched
 
+-- A piece of a pattern text.
 pub data Piece : Type 0 where
-  -- one character
+  -- A single character.
   Text : List ℕ → Piece
-  -- a placeholder without braces, with the prefix code point before it or nothing
+  -- A placeholder without braces, after the prefix code point or nothing.
   Bare : (prefix : List ℕ) → Placeholder → PartModifier → Piece
-  -- texts in braces
+  -- Texts in braces.
   TextGroup : List ℕ → PartModifier → Piece
-  -- a placeholder in braces, with the texts before and after it
+  -- A placeholder in braces, with the texts before and after it.
   Group : (before : List ℕ) → Placeholder → (after : List ℕ) → PartModifier → Piece
 
 -- ---- tokens by kind
 
+-- The kinds of the tokens.
 abbrev pub kinds : List TokenView → List TokenType
 kinds tokens = map (λ token. token.kind) tokens
 
+-- The values of the tokens.
 abbrev pub values : List TokenView → List (List ℕ)
 values tokens = map (λ token. token.value) tokens
 
+-- Whether the kind is that of a literal character.
 abbrev pub is_text : TokenType → Bool
 is_text Char = true
 is_text EscapedChar = true
 is_text kind = false
 
--- a placeholder begins with such a token
+-- Whether a token of this kind begins a placeholder.
 abbrev pub is_placeholder : TokenType → Bool
 is_placeholder Name = true
 is_placeholder Regexp = true
 is_placeholder Asterisk = true
 is_placeholder kind = false
 
--- the first token is of such a kind
+-- The first token is of a kind that passes the test.
 abbrev pub BeginsWithKind : (TokenType → Bool) → List TokenView → Type 0
 BeginsWithKind test [] = ⊥
 BeginsWithKind test (token ∷ tokens) = IsTrue (test token.kind)
 
--- ---- what tokens spell
+-- ---- the meaning of tokens
 
--- texts, end to end
+-- The tokens are literal characters, and `text` is their values, joined.
 abbrev pub AreTexts : List TokenView → List ℕ → Type 0
 AreTexts tokens text = IsTrue (list_all (λ token. is_text token.kind) tokens) × (text ≡ flat_map (λ token. token.value) tokens)
 
--- the tokens are a placeholder with this name that matches this
+-- The tokens are a placeholder with this name that matches `Matched`.
 abbrev pub IsPlaceholderOf : List TokenView → Option (List ℕ) → Matched → Type 0
 IsPlaceholderOf tokens (Some name) Segment = (kinds tokens ≡ Name ∷ []) × (values tokens ≡ name ∷ [])
 IsPlaceholderOf tokens (Some name) (Custom body) =
     (kinds tokens ≡ Name ∷ Regexp ∷ []) × (values tokens ≡ name ∷ body ∷ [])
 IsPlaceholderOf tokens None (Custom body) = (kinds tokens ≡ Regexp ∷ []) × (values tokens ≡ body ∷ [])
 IsPlaceholderOf tokens None Anything = kinds tokens ≡ Asterisk ∷ []
--- there is no name with an asterisk, and no segment without a name
+-- An asterisk has no name, and a segment has one.
 IsPlaceholderOf tokens (Some name) Anything = ⊥
 IsPlaceholderOf tokens None Segment = ⊥
 
+-- The tokens spell the modifier.
 abbrev pub IsModifier : List TokenView → PartModifier → Type 0
 IsModifier tokens PartModifier.None = tokens ≡ []
 IsModifier tokens PartModifier.Optional = (kinds tokens ≡ OtherModifier ∷ []) × (values tokens ≡ codes "?" ∷ [])
 IsModifier tokens PartModifier.OneOrMore = (kinds tokens ≡ OtherModifier ∷ []) × (values tokens ≡ codes "+" ∷ [])
 IsModifier tokens PartModifier.ZeroOrMore = kinds tokens ≡ Asterisk ∷ []
 
--- nothing, or a Char that is the prefix code point
+-- The prefix is empty without tokens, or the prefix code point as a Char token.
 abbrev pub IsPrefixOf : (point : List ℕ) → List TokenView → List ℕ → Type 0
 IsPrefixOf point tokens prefix =
     ((tokens ≡ []) × (prefix ≡ [])) ⊎ ((kinds tokens ≡ Char ∷ []) × (values tokens ≡ prefix ∷ []) × (prefix ≡ point))
 
--- ---- what may be taken is taken
+-- ---- maximal length
 
+-- Whether a token of this kind may be a modifier.
 abbrev pub is_modifier : TokenType → Bool
 is_modifier OtherModifier = true
 is_modifier Asterisk = true
 is_modifier kind = false
 
--- a modifier goes to what stands before it
+-- A modifier token belongs to the piece before it.
 abbrev pub TakesModifier : PartModifier → List TokenView → Type 0
 TakesModifier PartModifier.None rest = ¬ BeginsWithKind is_modifier rest
 TakesModifier modifier rest = Unit {0}
 
+-- Whether the kind is a custom regular expression.
 abbrev pub is_regexp : TokenType → Bool
 is_regexp Regexp = true
 is_regexp kind = false
 
--- a Regexp goes to the name before it
+-- A Regexp token belongs to the name before it.
 abbrev pub TakesRegexp : Matched → List TokenView → Type 0
 TakesRegexp Segment rest = ¬ BeginsWithKind is_regexp rest
 TakesRegexp matched rest = Unit {0}
 
--- a Char that is the prefix code point goes to the placeholder after it
+-- A Char token with the prefix code point belongs to the placeholder after it.
 abbrev pub TakesPrefix : (point : List ℕ) → TokenView → List TokenView → Type 0
 TakesPrefix point token rest = token.kind ≡ Char → token.value ≡ point → ¬ BeginsWithKind is_placeholder rest
 
 -- ---- pieces
 
--- a placeholder and a modifier, as they stand before the rest
+-- The tokens before `rest` are a prefix, a placeholder and a modifier, without braces.
 pub record IsBare (point : List ℕ) (tokens : List TokenView) (prefix : List ℕ) (placeholder : Placeholder) (modifier : PartModifier) (rest : List TokenView) : Type 0 where
   pub front : List TokenView
   pub middle : List TokenView
@@ -118,7 +125,7 @@ pub record IsBare (point : List ℕ) (tokens : List TokenView) (prefix : List �
   pub takes_regexp : TakesRegexp placeholder.matched (back ++ rest)
   pub takes_modifier : TakesModifier modifier rest
 
--- braces round what stands between them, and a modifier
+-- The tokens before `rest` are `inner` in braces and a modifier.
 pub record IsBraced (tokens inner : List TokenView) (modifier : PartModifier) (rest : List TokenView) : Type 0 where
   pub opening : TokenView
   pub closing : TokenView
@@ -129,7 +136,7 @@ pub record IsBraced (tokens inner : List TokenView) (modifier : PartModifier) (r
   pub is_modifier : IsModifier back modifier
   pub takes_modifier : TakesModifier modifier rest
 
--- texts, a placeholder, texts, as they stand before the rest
+-- The tokens between braces, before `rest`, are texts, a placeholder and texts.
 pub record IsFilled (inner : List TokenView) (before : List ℕ) (placeholder : Placeholder) (after : List ℕ) (rest : List TokenView) : Type 0 where
   pub front : List TokenView
   pub middle : List TokenView
@@ -140,7 +147,7 @@ pub record IsFilled (inner : List TokenView) (before : List ℕ) (placeholder : 
   pub takes_regexp : TakesRegexp placeholder.matched (back ++ rest)
   pub are_texts_after : AreTexts back after
 
--- the tokens are this piece, as it stands before the rest
+-- The tokens before `rest` are this piece.
 abbrev pub IsPiece : (point : List ℕ) → List TokenView → Piece → (rest : List TokenView) → Type 0
 IsPiece point tokens (Text text) rest =
     (token : TokenView) × (tokens ≡ token ∷ []) × IsTrue (is_text token.kind) × (text ≡ token.value)
@@ -152,15 +159,15 @@ IsPiece point tokens (Group before placeholder after modifier) rest =
     (inner : List TokenView) × (braces : IsBraced tokens inner modifier rest)
     × IsFilled inner before placeholder after (braces.closing ∷ [])
 
--- ---- what is left
+-- ---- the end of the pieces
 
--- Where the pieces end: before a token with which none begins, or before a group that lacks its Close, where this
--- token stands in its place.
+-- Where the pieces end: at a token that begins no piece, or at a group that has this token in place
+-- of its Close.
 pub data Ending : Type 0 where
   Stops : TokenView → Ending
   LacksClose : TokenView → Ending
 
--- no piece begins with such a token
+-- Whether a token of this kind begins no piece.
 abbrev pub is_stop : TokenType → Bool
 is_stop End = true
 is_stop Close = true
@@ -168,21 +175,21 @@ is_stop OtherModifier = true
 is_stop InvalidChar = true
 is_stop kind = false
 
--- what may stand between braces, before the rest, which is none of it
+-- The tokens are the content of a group, and `rest` does not continue it.
 abbrev pub IsOpenGroup : List TokenView → List TokenView → Type 0
 IsOpenGroup inner rest =
     ¬ BeginsWithKind is_text rest
     × (((text : List ℕ) × AreTexts inner text × ¬ BeginsWithKind is_placeholder rest)
     ⊎ ((before after : List ℕ) × (placeholder : Placeholder) × IsFilled inner before placeholder after rest))
 
--- what the pieces leave
+-- The tokens after the last piece have this ending.
 abbrev pub IsEnding : List TokenView → Ending → Type 0
 IsEnding tokens (Stops found) = (more : List TokenView) × (tokens ≡ found ∷ more) × IsTrue (is_stop found.kind)
 IsEnding tokens (LacksClose found) =
     (opening : TokenView) × (inner more : List TokenView) × (tokens ≡ opening ∷ inner ++ found ∷ more) × (opening.kind ≡ Open)
     × IsOpenGroup inner (found ∷ more) × (found.kind ≢ Close)
 
--- the tokens are these pieces and what is left of them
+-- The tokens are these pieces, and then have the ending.
 abbrev pub ArePieces : (point : List ℕ) → List TokenView → List Piece → Ending → Type 0
 ArePieces point tokens [] ending = IsEnding tokens ending
 ArePieces point tokens (piece ∷ pieces) ending =

@@ -1,4 +1,5 @@
--- What a pattern text means, or why it is refused, after the URLPattern Standard, section "Parsing pattern strings".
+-- The parts of a pattern text, or why it is rejected, after the URLPattern Standard, section
+-- "Parsing pattern strings".
 use denote.Param.Members.{Shared}
 use Rattle.std.specs.Prelude.{◌≡◌, ◌≢◌, ℕ, suc, ◌⊎◌, List, [], ◌∷◌, ◌++◌, bytes_eq, decimal, Option, Some, None, Result, Ok, Err, String, Contains, if◌then◌else◌, encode_utf8_all}
 use Rattle.std.specs.{Borrow.Bor, Fn.FnReturnsAt}
@@ -11,23 +12,24 @@ use Rattle.urlpattern_syntax.specs.Pieces.{Piece, Matched, Ending, ArePieces}
 use Rattle.urlpattern_syntax.specs.RegexpText.{segment_wildcard, full_wildcard}
 use Rattle.urlpattern_syntax.specs.Tokens.{AreTokens, FaultView, IsFault, TokenType, TokenView}
 
--- ---- what pieces stand for
+-- ---- the items of pieces
 
--- A fixed text, or a group with the texts round it, its name and what it matches.
+-- A fixed text with its modifier, or a group: its prefix, name, content, suffix and modifier.
 pub data Item : Type 0 where
   Fixed : List ℕ → PartModifier → Item
   Capture : (prefix name : List ℕ) → Matched → (suffix : List ℕ) → PartModifier → Item
 
--- a placeholder's name, or its number among those that have none
+-- The name of a placeholder, or its number among the placeholders without a name.
 abbrev pub name_or : Option (List ℕ) → ℕ → List ℕ
 name_or (Some name) number = name
 name_or None number = decimal number
 
+-- The number of placeholders without a name, after a placeholder.
 abbrev pub next_number : Option (List ℕ) → ℕ → ℕ
 next_number (Some name) number = number
 next_number None number = suc number
 
--- what a piece stands for, where so many placeholders before it have no name
+-- The item of a piece, where `number` placeholders before it have no name.
 abbrev pub item : ℕ → Piece → Item
 item number (Piece.Text text) = Fixed text PartModifier.None
 item number (Piece.TextGroup text modifier) = Fixed text modifier
@@ -36,51 +38,53 @@ item number (Piece.Bare prefix placeholder modifier) =
 item number (Piece.Group before placeholder after modifier) =
     Capture before (name_or placeholder.name number) placeholder.matched after modifier
 
--- how many placeholders have no name, this piece's too
+-- The number of placeholders without a name, up to the piece and with it.
 abbrev pub number_after : ℕ → Piece → ℕ
 number_after number (Piece.Text text) = number
 number_after number (Piece.TextGroup text modifier) = number
 number_after number (Piece.Bare prefix placeholder modifier) = next_number placeholder.name number
 number_after number (Piece.Group before placeholder after modifier) = next_number placeholder.name number
 
--- what the pieces stand for, one by one
+-- The items of the pieces, one by one.
 abbrev pub items_from : ℕ → List Piece → List Item
 items_from number [] = []
 items_from number (piece ∷ rest) = item number piece ∷ items_from (number_after number piece) rest
 
--- a plain fixed text before items: nothing if it is empty, and one with the plain fixed text that they begin with
+-- The items with a plain fixed text before them. An empty text is dropped, and a plain fixed text
+-- at the head is extended.
 abbrev pub with_text : List ℕ → List Item → List Item
 with_text [] items = items
 with_text (c ∷ text) (Fixed more PartModifier.None ∷ items) = Fixed (c ∷ text ++ more) PartModifier.None ∷ items
 with_text (c ∷ text) items = Fixed (c ∷ text) PartModifier.None ∷ items
 
--- neighbouring plain fixed texts made one
+-- The items, with neighbouring plain fixed texts joined.
 abbrev pub joined_items : List Item → List Item
 joined_items [] = []
 joined_items (Fixed text PartModifier.None ∷ items) = with_text text (joined_items items)
 joined_items (item ∷ items) = item ∷ joined_items items
 
+-- The items of a list of pieces.
 abbrev pub items_of : List Piece → List Item
 items_of list = joined_items (items_from 0 list)
 
 -- ---- demands
 
--- What a list of items asks for.
+-- A condition on a list of items.
 pub data Demand : Type 0 where
-  -- the encoding answers a text for this text
+  -- The encoding has a text for this text.
   Encode : List ℕ → Demand
-  -- none of these is the name
+  -- The name is none of the earlier ones.
   NewName : (earlier : List (List ℕ)) → List ℕ → Demand
-  -- the token is of this kind
+  -- The token is of this kind.
   Expect : TokenType → TokenView → Demand
 
--- an empty fixed text asks for nothing
+-- An empty fixed text demands nothing.
 abbrev pub encode_fixed : List ℕ → List Demand
 encode_fixed [] = []
 encode_fixed (c ∷ text) = Encode (c ∷ text) ∷ []
 
--- The demands of the items and of what is left, in order, where these names stand before them. The pending text before
--- a group that lacks its Close is not demanded.
+-- The demands of the items and of the ending, in order, after groups with the names `earlier`. The
+-- pending text before a group that lacks its Close is not demanded.
 abbrev pub demands_after : List (List ℕ) → List Item → Ending → List Demand
 demands_after earlier [] (Ending.Stops found) = Expect TokenType.End found ∷ []
 demands_after earlier [] (Ending.LacksClose found) = Expect TokenType.Close found ∷ []
@@ -89,30 +93,32 @@ demands_after earlier (Fixed text modifier ∷ items) ending = encode_fixed text
 demands_after earlier (Capture prefix name match suffix modifier ∷ items) ending =
     NewName earlier name ∷ Encode prefix ∷ Encode suffix ∷ demands_after (earlier ++ name ∷ []) items ending
 
+-- The demands of the items of a whole text.
 abbrev pub demands : List Item → Ending → List Demand
 demands items ending = demands_after [] items ending
 
--- An encoding relates a text to what it may answer.
+-- An encoding relates a text to its possible results.
 abbrev pub Encoding : Type 1
 Encoding = List ℕ → Result (List ℕ) ErrorView → Type 0
 
--- the demand is met
+-- The demand is met.
 abbrev pub IsMet : Encoding → Demand → Type 0
 IsMet encoding (Encode text) = (answer : List ℕ) × encoding text (Ok answer)
 IsMet encoding (NewName earlier name) = ¬ Contains earlier name
 IsMet encoding (Expect kind token) = token.kind ≡ kind
 
+-- All demands are met.
 abbrev pub AreMet : Encoding → List Demand → Type 0
 AreMet encoding [] = Unit {0}
 AreMet encoding (demand ∷ rest) = IsMet encoding demand × AreMet encoding rest
 
--- the demand is not met, and this error reports it
+-- The demand is not met, and the error reports it.
 abbrev pub Fails : Encoding → Demand → ErrorView → Type 0
 Fails encoding (Encode text) error = encoding text (Err error)
 Fails encoding (NewName earlier name) error = Contains earlier name × (error ≡ ErrorView.DuplicateName name)
 Fails encoding (Expect kind token) error = (token.kind ≢ kind) × (error ≡ ErrorView.ExpectedToken kind token.kind token.value)
 
--- the first demand that is not met fails with this error
+-- The first demand that is not met fails with this error.
 abbrev pub FirstFails : Encoding → List Demand → ErrorView → Type 0
 FirstFails encoding [] error = ⊥
 FirstFails encoding (demand ∷ rest) error =
@@ -120,24 +126,24 @@ FirstFails encoding (demand ∷ rest) error =
 
 -- ---- parts
 
--- the regular expression that decides the kind of a part
+-- The regular expression by which the kind of a part is decided.
 abbrev pub compared : OptionsView → Matched → List ℕ
 compared options Matched.Segment = segment_wildcard options
 compared options (Matched.Custom body) = body
 compared options Matched.Anything = full_wildcard
 
--- the kind of a part, by the regular expression that is compared
+-- The kind of a part with this regular expression.
 abbrev pub kind_of : OptionsView → List ℕ → PartType
 kind_of options regexp =
     if bytes_eq regexp (segment_wildcard options) then PartType.SegmentWildcard
     else (if bytes_eq regexp full_wildcard then PartType.FullWildcard else PartType.Regexp)
 
--- a custom regular expression keeps its text
+-- The value of a part: the regular expression if it is a custom one, otherwise empty.
 abbrev pub value_of : PartType → List ℕ → List ℕ
 value_of PartType.Regexp regexp = regexp
 value_of kind regexp = []
 
--- the part of a group
+-- The part of a group.
 abbrev pub capture_part : OptionsView → (prefix name : List ℕ) → Matched → (suffix : List ℕ) → PartModifier → PartView
 capture_part options prefix name match suffix modifier =
     let regexp = compared options match in
@@ -150,7 +156,7 @@ capture_part options prefix name match suffix modifier =
       suffix = suffix;
     }
 
--- the parts that the items give, with answers of the encoding in place of their texts
+-- The parts of the items, with their texts encoded.
 abbrev pub AreParts : OptionsView → Encoding → List Item → List PartView → Type 0
 AreParts options encoding [] parts = parts ≡ []
 AreParts options encoding (Fixed [] modifier ∷ items) parts = AreParts options encoding items parts
@@ -162,9 +168,9 @@ AreParts options encoding (Capture prefix name match suffix modifier ∷ items) 
     × (parts ≡ capture_part options before name match after modifier ∷ rest)
     × encoding prefix (Ok before) × encoding suffix (Ok after) × AreParts options encoding items rest
 
--- ---- reading and refusal
+-- ---- reading and rejection
 
--- the text means these parts
+-- The text reads as these parts.
 pub record Reads (text : List ℕ) (options : OptionsView) (encoding : Encoding) (parts : List PartView) : Type 0 where
   pub tokens : List TokenView
   pub pieces : List Piece
@@ -174,7 +180,7 @@ pub record Reads (text : List ℕ) (options : OptionsView) (encoding : Encoding)
   pub are_met : AreMet encoding (demands (items_of pieces) (Ending.Stops found))
   pub are_parts : AreParts options encoding (items_of pieces) parts
 
--- the first demand of the text's pieces that is not met fails with this error
+-- The first demand of the text that is not met fails with this error.
 pub record FailsDemand (text : List ℕ) (options : OptionsView) (encoding : Encoding) (error : ErrorView) : Type 0 where
   pub tokens : List TokenView
   pub pieces : List Piece
@@ -183,31 +189,33 @@ pub record FailsDemand (text : List ℕ) (options : OptionsView) (encoding : Enc
   pub are_pieces : ArePieces options.prefix tokens pieces ending
   pub fails : FirstFails encoding (demands (items_of pieces) ending) error
 
--- the text is refused with this error: its first fault, or else its first demand that is not met
+-- The text is rejected with this error: its first fault, or else its first demand that is not met.
 abbrev pub Refuses : List ℕ → OptionsView → Encoding → ErrorView → Type 0
 Refuses text options encoding error =
     ((fault : FaultView) × (place : ℕ) × IsFault text fault place × (error ≡ ErrorView.Tokenizer fault place))
     ⊎ FailsDemand text options encoding error
 
--- the text means the parts of this vector
+-- The text reads as the parts of this vector.
 abbrev pub IsReadAs : (text : List ℕ) → OptionsView → Encoding → Vec Part Global → Type 0
 IsReadAs text options encoding parts = Reads text options encoding (parts_view parts.items)
 
--- ---- what callbacks answer
+-- ---- the results of callbacks
 
+-- The result of a callback, with its text as characters.
 abbrev pub answer_view : Result (String Global) Error → Result (List ℕ) ErrorView
 answer_view (Ok text) = Ok (text_of text)
 answer_view (Err error) = Err (error_view error)
 
--- The encoding of a callback: what it may return for the UTF-8 of a text.
+-- The encoding of a callback: its possible results for the UTF-8 of a text.
 abbrev pub encoding_of : (List ℕ → Result (String Global) Error → Type 0) → Encoding
 encoding_of returns text answer =
     (returned : Result (String Global) Error) × returns (encode_utf8_all text) returned × (answer ≡ answer_view returned)
 
--- what calls of callbacks of the type `F` may return: `F.Fn`, of the bound `F: Fn(&str) -> Result<String, Error>`
+-- The possible results of callbacks of the type `F`: `F.Fn`, of the bound
+-- `F: Fn(&str) -> Result<String, Error>`.
 abbrev pub Calls : Type 0 → Type 1
 Calls F = Shared F (Bor (List ℕ) × Unit {0}) (Result (String Global) Error)
 
--- the encoding of this callback
+-- The encoding of this callback.
 abbrev pub encoding_by : {F : Type 0} → Calls F → F → Encoding
 encoding_by calls callback = encoding_of (FnReturnsAt calls callback)

@@ -1,8 +1,8 @@
--- A refusal of `url` as an error.
+-- The errors of `url` as errors of patterns.
 use Rattle.url.specs.declared.error.ParseError.{ParseError}
 use Rattle.urlpattern_syntax.specs.Errors.{ErrorView}
 
--- out of memory is kept apart
+-- The error of a URL that `url` rejects. Out of memory stays out of memory.
 abbrev pub url_error : ParseError → ErrorView
 url_error ParseError.OutOfMemory = ErrorView.OutOfMemory
 url_error reason = ErrorView.Url reason

@@ -1,123 +1,133 @@
--- The regular expression of a list of parts, as a text, and the names of its groups, after the URLPattern Standard,
--- section "Converting part lists to regular expressions".
+-- The regular expression text of a list of parts and the names of its groups, after the URLPattern
+-- Standard, section "Converting part lists to regular expressions".
 use Rattle.std.specs.Prelude.{ℕ, Bool, true, false, not, ◌&&◌, List, [], ◌∷◌, ◌++◌, map, filter, codes, Option, Some, None, if◌then◌else◌}
 use Rattle.std.specs.List.{flat_map}
 use Rattle.urlpattern_syntax.specs.Options.{OptionsView, RegexSyntax}
 use Rattle.urlpattern_syntax.specs.Parts.{PartModifier, PartType, PartView}
 use Rattle.urlpattern_syntax.specs.Text.{is_among}
 
--- the characters that mean more than themselves in a regular expression
+-- The special characters of regular expressions.
 abbrev pub regexp_marks : List ℕ
 regexp_marks = codes ".+*?^${}()[]|\\"
 
--- the characters that take a backslash in each syntax
+-- The characters that are escaped in each syntax.
 abbrev pub escaped_marks : RegexSyntax → List ℕ
 escaped_marks RegexSyntax.Rust = regexp_marks
 escaped_marks RegexSyntax.EcmaScript = regexp_marks ++ codes "/"
 
--- a backslash before each of these characters in the text
+-- The text with a backslash before each of the marks.
 unfoldable pub escaped : (marks text : List ℕ) → List ℕ
 escaped marks text = flat_map (λ c. if is_among marks c then codes "\\" ++ c ∷ [] else c ∷ []) text
 
+-- The text, escaped for a regular expression.
 abbrev pub escaped_regexp : OptionsView → List ℕ → List ℕ
 escaped_regexp options text = escaped (escaped_marks options.syntax) text
 
--- some characters, but no delimiter; the dot stands for any but a line feed
+-- At least one character other than the delimiter. Without a delimiter, any but a line feed.
 abbrev pub segment_wildcard_of : RegexSyntax → Option ℕ → List ℕ
 segment_wildcard_of syntax None = codes ".+?"
 segment_wildcard_of syntax (Some c) = codes "[^" ++ escaped (escaped_marks syntax) (c ∷ []) ++ codes "]+?"
 
+-- The regular expression of a segment under the options.
 abbrev pub segment_wildcard : OptionsView → List ℕ
 segment_wildcard options = segment_wildcard_of options.syntax options.delimiter
 
+-- The regular expression of a full wildcard.
 abbrev pub full_wildcard : List ℕ
 full_wildcard = codes ".*"
 
--- the modifier as it is written
+-- The spelling of a modifier.
 abbrev pub modifier_text : PartModifier → List ℕ
 modifier_text PartModifier.None = []
 modifier_text PartModifier.Optional = codes "?"
 modifier_text PartModifier.ZeroOrMore = codes "*"
 modifier_text PartModifier.OneOrMore = codes "+"
 
--- what a part's group matches
+-- The regular expression inside the group of a part.
 abbrev pub matched_by : OptionsView → PartType → (value : List ℕ) → List ℕ
 matched_by options PartType.FixedText value = escaped_regexp options value
 matched_by options PartType.Regexp value = value
 matched_by options PartType.SegmentWildcard value = segment_wildcard options
 matched_by options PartType.FullWildcard value = full_wildcard
 
--- brackets that capture, and brackets that do not
+-- A capturing group.
 abbrev pub captured : List ℕ → List ℕ
 captured text = codes "(" ++ text ++ codes ")"
 
+-- A group that does not capture.
 abbrev pub grouped : List ℕ → List ℕ
 grouped text = codes "(?:" ++ text ++ codes ")"
 
--- a fixed text, by its modifier
+-- The regular expression of a fixed text, by its modifier.
 abbrev pub fixed_regexp : PartModifier → List ℕ → List ℕ
 fixed_regexp PartModifier.None text = text
 fixed_regexp modifier text = grouped text ++ modifier_text modifier
 
--- a group with neither prefix nor suffix, by its modifier
+-- The regular expression of a group without prefix and suffix, by its modifier.
 abbrev pub bare_regexp : PartModifier → List ℕ → List ℕ
 bare_regexp PartModifier.None text = captured text
 bare_regexp PartModifier.Optional text = captured text ++ codes "?"
 bare_regexp PartModifier.ZeroOrMore text = captured (grouped text ++ codes "*")
 bare_regexp PartModifier.OneOrMore text = captured (grouped text ++ codes "+")
 
--- one or more copies with suffix and prefix between them, all captured but for the first prefix and the last suffix
+-- At least one copy, with suffix and prefix between copies. The first prefix and the last suffix
+-- are not captured.
 abbrev pub repeated_regexp : (prefix text suffix : List ℕ) → List ℕ
 repeated_regexp prefix text suffix =
     grouped (prefix ++ captured (grouped text ++ grouped (suffix ++ prefix ++ grouped text) ++ codes "*") ++ suffix)
 
--- a group with a prefix or a suffix, by its modifier
+-- The regular expression of a group with a prefix or a suffix, by its modifier.
 abbrev pub affixed_regexp : PartModifier → (prefix text suffix : List ℕ) → List ℕ
 affixed_regexp PartModifier.None prefix text suffix = grouped (prefix ++ captured text ++ suffix)
 affixed_regexp PartModifier.Optional prefix text suffix = grouped (prefix ++ captured text ++ suffix) ++ codes "?"
 affixed_regexp PartModifier.OneOrMore prefix text suffix = repeated_regexp prefix text suffix
 affixed_regexp PartModifier.ZeroOrMore prefix text suffix = repeated_regexp prefix text suffix ++ codes "?"
 
+-- Whether the text is empty.
 abbrev pub is_empty : List ℕ → Bool
 is_empty [] = true
 is_empty (c ∷ text) = false
 
+-- Whether the kind is that of a fixed text.
 abbrev pub is_fixed_text : PartType → Bool
 is_fixed_text PartType.FixedText = true
 is_fixed_text kind = false
 
+-- The kind is a segment wildcard or a full wildcard.
 abbrev pub IsWildcard : PartType → Type 0
 IsWildcard PartType.SegmentWildcard = Unit {0}
 IsWildcard PartType.FullWildcard = Unit {0}
 IsWildcard kind = ⊥
 
+-- Whether there is no modifier.
 abbrev pub is_unmodified : PartModifier → Bool
 is_unmodified PartModifier.None = true
 is_unmodified modifier = false
 
--- a fixed text without modifier
+-- Whether the part is a fixed text without a modifier.
 abbrev pub is_plain : PartView → Bool
 is_plain part = is_fixed_text part.kind && is_unmodified part.modifier
 
--- a group, with or without prefix and suffix
+-- The regular expression of a group, with or without prefix and suffix.
 abbrev pub group_regexp : OptionsView → PartView → List ℕ
 group_regexp options part =
     if is_empty part.prefix && is_empty part.suffix
     then bare_regexp part.modifier (matched_by options part.kind part.value)
     else affixed_regexp part.modifier (escaped_regexp options part.prefix) (matched_by options part.kind part.value) (escaped_regexp options part.suffix)
 
+-- The regular expression of a part, by whether the part is a fixed text.
 abbrev pub part_regexp_of : OptionsView → PartView → Bool → List ℕ
 part_regexp_of options part true = fixed_regexp part.modifier (escaped_regexp options part.value)
 part_regexp_of options part false = group_regexp options part
 
--- the regular expression of one part
+-- The regular expression of a part.
 unfoldable pub part_regexp : OptionsView → PartView → List ℕ
 part_regexp options part = part_regexp_of options part (is_fixed_text part.kind)
 
--- the regular expression of a list of parts
+-- The regular expression of a list of parts.
 abbrev pub regexp_text : OptionsView → List PartView → List ℕ
 regexp_text options parts = codes "^" ++ flat_map (part_regexp options) parts ++ codes "$"
 
--- the names of the groups, in order
+-- The names of the groups, in order.
 abbrev pub group_names : List PartView → List (List ℕ)
 group_names parts = map (λ part. part.name) (filter (λ part. not (is_fixed_text part.kind)) parts)

@@ -3,13 +3,13 @@ use Rattle.std.specs.Prelude.{◌≡◌, ℕ, List, ◌∷◌, ◌++◌}
 use Rattle.urlpattern_syntax.specs.Pieces.{ArePieces, Ending, IsEnding, LacksClose, Piece, Stops}
 use Rattle.urlpattern_syntax.specs.Tokens.{AreTokens, TokenView}
 
--- the token before which pieces end
+-- The token at which the pieces end.
 abbrev pub found_in : Ending → TokenView
 found_in (Stops found) = found
 found_in (LacksClose found) = found
 
--- The pieces of the text end before `found`. The first token that none of them takes is `first`: the same one, or the
--- brace of the group that lacks its end.
+-- The pieces of the text end at the token `found`. The first token outside the pieces is `first`:
+-- `found` itself, or the Open of the group that lacks its Close.
 pub record IsStopOf (text point : List ℕ) (first found : TokenView) : Type 0 where
   pub tokens : List TokenView
   pub front : List TokenView

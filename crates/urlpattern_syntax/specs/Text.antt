@@ -6,52 +6,52 @@ use Rattle.std.specs.declared.alloc.Global.{Global}
 use Rattle.std.specs.List.{list_all, list_any}
 use Rattle.unicode.specs.Binary.{is_id_start, is_id_continue}
 
--- the characters of a `String`
+-- The characters of a `String`.
 abbrev pub text_of : String Global → List ℕ
 text_of string = chars (string_bytes string)
 
--- the characters of a text that may be missing
+-- The characters of an optional text.
 abbrev pub option_text : Option (Bor (List ℕ)) → Option (List ℕ)
 option_text text = option_map (λ (present : Bor (List ℕ)). chars present.now) text
 
--- how many bytes the characters take in UTF-8
+-- The length of the characters in UTF-8, in bytes.
 unfoldable pub byte_len : List ℕ → ℕ
 byte_len text = length (encode_utf8_all text)
 
--- `rest`, which ends `whole`, begins at this byte: the bytes before it and its own are those of the whole
+-- The suffix `rest` of `whole` begins at this byte index.
 abbrev pub BeginsAt : (whole rest : List ℕ) → ℕ → Type 0
 BeginsAt whole rest place = place + byte_len rest ≡ byte_len whole
 
--- the character is one of these
+-- Whether the character is one of `marks`.
 abbrev pub is_among : List ℕ → ℕ → Bool
 is_among marks c = list_any (λ mark. mark == c) marks
 
--- whether the text begins with a character that passes the test
+-- Whether the text begins with a character that passes the test.
 abbrev pub begins_with : (ℕ → Bool) → List ℕ → Bool
 begins_with test [] = false
 begins_with test (c ∷ text) = test c
 
--- the text begins with a character that passes the test
+-- The text begins with a character that passes the test.
 abbrev pub BeginsWith : (ℕ → Bool) → List ℕ → Type 0
 BeginsWith test [] = IsTrue false
 BeginsWith test (c ∷ text) = IsTrue (test c)
 
--- the text has no such character
+-- Whether the character does not occur in the text.
 abbrev pub lacks : ℕ → List ℕ → Bool
 lacks c text = list_all (λ other. not (other == c)) text
 
 abbrev pub line_feed : ℕ
 line_feed = slice_index (codes "\n") 0
 
--- the text is cut into n stretches of this kind
+-- The text is a concatenation of n texts of this kind.
 abbrev pub IsRepeated : (List ℕ → Type 0) → ℕ → List ℕ → Type 0
 IsRepeated Is zero text = text ≡ []
 IsRepeated Is (suc n) text = (first rest : List ℕ) × (text ≡ first ++ rest) × Is first × IsRepeated Is n rest
 
--- a character that may begin a name: ID_Start, `$` or `_`
+-- Whether a name may begin with the character: ID_Start, `$` or `_`.
 unfoldable pub is_name_start : ℕ → Bool
 is_name_start c = is_id_start c || is_among (codes "$_") c
 
--- a character of a name: ID_Continue, `$`, U+200C or U+200D
+-- Whether a name may continue with the character: ID_Continue, `$`, U+200C or U+200D.
 unfoldable pub is_name_part : ℕ → Bool
 is_name_part c = is_id_continue c || is_among (codes "$") c || is_among (0x200C ∷ 0x200D ∷ []) c

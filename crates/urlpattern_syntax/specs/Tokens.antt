@@ -13,35 +13,39 @@ pub record TokenView : Type 0 where
   pub index : ℕ
   pub value : List ℕ
 
+-- A token, as clauses see it.
 abbrev pub token_view : Token → TokenView
 token_view token = record { kind = token.kind; index = token.index; value = chars token.value.now }
 
 -- ---- the body of a custom regular expression
 
--- A backslash and a character, another character, or brackets round a body; and what follows.
+-- A body: an escaped character, a plain character or a parenthesized body, and then the rest of the
+-- body.
 pub data Body : Type 0 where
   Nothing : Body
   Escaped : ℕ → Body → Body
   Plain : ℕ → Body → Body
   Group : Body → Body → Body
 
+-- The text of a body.
 abbrev pub body_text : Body → List ℕ
 body_text Nothing = []
 body_text (Escaped c body) = codes "\\" ++ c ∷ body_text body
 body_text (Plain c body) = c ∷ body_text body
 body_text (Group inner body) = codes "(" ++ body_text inner ++ codes ")" ++ body_text body
 
+-- Whether the character is a question mark.
 abbrev pub is_question_mark : ℕ → Bool
 is_question_mark c = is_among (codes "?") c
 
--- its characters are ASCII, and each inner bracket is followed by `?`
+-- A body of ASCII characters, in which `?` follows each inner opening parenthesis.
 abbrev pub IsBody : Body → Type 0
 IsBody Nothing = Unit {0}
 IsBody (Escaped c body) = (c < 128) × IsBody body
 IsBody (Plain c body) = (c < 128) × ¬ IsTrue (is_among (codes "\\()") c) × IsBody body
 IsBody (Group inner body) = BeginsWith is_question_mark (body_text inner) × IsBody inner × IsBody body
 
--- the text between the brackets of a Regexp token
+-- The text is the value of a Regexp token.
 pub record IsRegexpBody (text : List ℕ) : Type 0 where
   pub body : Body
   pub is_body : IsBody body
@@ -51,19 +55,20 @@ pub record IsRegexpBody (text : List ℕ) : Type 0 where
 
 -- ---- spelling
 
--- the characters that begin a token other than a Char
+-- The characters that begin a token other than a Char.
 abbrev pub marks : List ℕ
 marks = codes "{}*+?\\:("
 
--- what is skipped between tokens: tab, line feed and carriage return
+-- Whether the character is skipped between tokens: tab, line feed and carriage return.
 abbrev pub is_ignored : ℕ → Bool
 is_ignored c = is_among (codes "\t\n\r") c
 
+-- The text is a name.
 abbrev pub IsName : List ℕ → Type 0
 IsName [] = ⊥
 IsName (c ∷ text) = IsTrue (is_name_start c) × IsTrue (list_all is_name_part text)
 
--- the text spells one token of this kind and value
+-- The text spells one token of this kind and value.
 abbrev pub Spells : TokenType → (value text : List ℕ) → Type 0
 Spells Open value text = (value ≡ text) × (text ≡ codes "{")
 Spells Close value text = (value ≡ text) × (text ≡ codes "}")
@@ -74,16 +79,17 @@ Spells Name value text = (text ≡ codes ":" ++ value) × IsName value
 Spells Regexp value text = (text ≡ codes "(" ++ value ++ codes ")") × IsRegexpBody value
 Spells Char value text =
     (value ≡ text) × ((c : ℕ) × (text ≡ c ∷ []) × ¬ IsTrue (is_among marks c) × ¬ IsTrue (is_ignored c))
--- these two are not spelled: End stands after the whole text, InvalidChar in a fault's place
+-- End and InvalidChar have no spelling: the first follows the whole text, the second replaces a
+-- fault.
 Spells End value text = ⊥
 Spells InvalidChar value text = ⊥
 
--- a name takes all the name characters that there are
+-- A name has maximal length.
 abbrev pub EndsThere : TokenType → List ℕ → Type 0
 EndsThere Name rest = ¬ BeginsWith is_name_part rest
 EndsThere kind rest = Unit {0}
 
--- the text begins with the spelling of a token, and this follows it
+-- The text begins with the spelling of a token, and `rest` follows.
 pub record IsLexed (text : List ℕ) (kind : TokenType) (value rest : List ℕ) : Type 0 where
   pub spelling : List ℕ
   pub cut : text ≡ spelling ++ rest
@@ -92,31 +98,33 @@ pub record IsLexed (text : List ℕ) (kind : TokenType) (value rest : List ℕ) 
 
 -- ---- faults
 
--- Where the front of a body stops: in it, or after an inner bracket that is not closed.
+-- The start of a body, which stops in the body or inside an inner parenthesis.
 pub data Front : Type 0 where
   Here : Body → Front
   Inside : Body → Front → Front
 
+-- The text of the start of a body.
 abbrev pub front_text : Front → List ℕ
 front_text (Here body) = body_text body
 front_text (Inside body front) = body_text body ++ codes "(" ++ front_text front
 
+-- The start of a valid body.
 abbrev pub IsFront : Front → Type 0
 IsFront (Here body) = IsBody body
 IsFront (Inside body front) = IsBody body × IsFront front × BeginsWith is_question_mark (front_text front)
 
--- what may stand after `(` before a fault
+-- The text may follow an opening parenthesis before a fault.
 pub record IsRegexpFront (text : List ℕ) : Type 0 where
   pub front : Front
   pub is_front : IsFront front
   pub spelled : text ≡ front_text front
   pub not_marked : ¬ BeginsWith is_question_mark text
 
--- What is wrong after `(`.
+-- A fault after an opening parenthesis.
 pub data RegexpFault : Type 0 where
   StartsWithQuestionMark NotAscii EscapedNotAscii GroupAtEnd CapturingGroup NotClosed NoBody : RegexpFault
 
--- this follows `(`, and no token begins there for this reason
+-- The text after an opening parenthesis has this fault.
 abbrev pub LacksRegexp : List ℕ → RegexpFault → Type 0
 LacksRegexp rest StartsWithQuestionMark = BeginsWith is_question_mark rest
 LacksRegexp rest NotAscii =
@@ -130,7 +138,7 @@ LacksRegexp rest CapturingGroup =
 LacksRegexp rest NotClosed = IsRegexpFront rest
 LacksRegexp rest NoBody = (more : List ℕ) × (rest ≡ codes ")" ++ more)
 
--- the words in which the fault is reported
+-- The words in which a fault is reported.
 abbrev pub reason : RegexpFault → List ℕ
 reason StartsWithQuestionMark = codes "must not start with ?, and may only contain ascii"
 reason NotAscii = codes "must not start with ?, and may only contain ascii"
@@ -140,12 +148,12 @@ reason CapturingGroup = codes "nested groups must start with ?"
 reason NotClosed = codes "missing closing )"
 reason NoBody = codes "length must be > 0"
 
--- A `TokenizerError`.
+-- A `TokenizerError`, with its reason as a text.
 pub data FaultView : Type 0 where
   IncompleteEscapeCode InvalidName : FaultView
   InvalidRegex : List ℕ → FaultView
 
--- a reason in words
+-- The words of a reason.
 abbrev pub regex_fault_text : RegexFault → List ℕ
 regex_fault_text RegexFault.BadCharacter = reason NotAscii
 regex_fault_text RegexFault.BadEscape = reason EscapedNotAscii
@@ -154,12 +162,13 @@ regex_fault_text RegexFault.NestedGroupCaptures = reason CapturingGroup
 regex_fault_text RegexFault.MissingClose = reason NotClosed
 regex_fault_text RegexFault.Empty = reason NoBody
 
+-- A `TokenizerError`, as clauses see it.
 abbrev pub fault_view : TokenizerError → FaultView
 fault_view TokenizerError.IncompleteEscapeCode = IncompleteEscapeCode
 fault_view TokenizerError.InvalidName = InvalidName
 fault_view (TokenizerError.InvalidRegex fault) = InvalidRegex (regex_fault_text fault)
 
--- a token would begin where the text begins, and there is none for this reason
+-- No token begins at the start of the text, because of this fault.
 abbrev pub IsFaultAt : List ℕ → FaultView → Type 0
 IsFaultAt text IncompleteEscapeCode =
     (text ≡ codes "\\") ⊎ ((front : List ℕ) × IsRegexpFront front × (text ≡ codes "(" ++ front ++ codes "\\"))
@@ -167,41 +176,42 @@ IsFaultAt text InvalidName = (rest : List ℕ) × (text ≡ codes ":" ++ rest) �
 IsFaultAt text (InvalidRegex reported) =
     (rest : List ℕ) × (fault : RegexpFault) × (text ≡ codes "(" ++ rest) × LacksRegexp rest fault × (reported ≡ reason fault)
 
--- ---- a whole text
+-- ---- whole texts
 
--- `rest` follows characters at the front of the text that pass the test
+-- The text is characters that pass the test, and then `rest`.
 abbrev pub SkipsBy : (ℕ → Bool) → (text rest : List ℕ) → Type 0
 SkipsBy test text rest = (skipped : List ℕ) × (text ≡ skipped ++ rest) × IsTrue (list_all test skipped)
 
--- `rest` follows what is skipped at the front of the text
+-- The text is skipped characters, and then `rest`.
 abbrev pub Skips : (text rest : List ℕ) → Type 0
 Skips text rest = SkipsBy is_ignored text rest
 
--- The text is cut into these tokens up to what is left, each of them an `Item` of the text where it stands.
+-- The text is these tokens and then `left`. Each token is an `Item` of the text at its place.
 abbrev pub IsCut : (List ℕ → TokenView → List ℕ → Type 0) → List ℕ → List TokenView → List ℕ → Type 0
 IsCut Item text [] left = Skips text left
 IsCut Item text (token ∷ tokens) left =
     (start rest : List ℕ) × Skips text start × Item start token rest × IsCut Item rest tokens left
 
--- a token stands in the whole text where this begins
+-- The text, a suffix of `whole`, begins with the token, and `rest` follows.
 pub record IsTokenOf (whole text : List ℕ) (token : TokenView) (rest : List ℕ) : Type 0 where
   pub lexed : IsLexed text token.kind token.value rest
   pub place : BeginsAt whole text token.index
 
--- Strict tokens, but for End.
+-- Strict tokens without End, and then `left`.
 abbrev pub IsStrictCut : (text : List ℕ) → List TokenView → (left : List ℕ) → Type 0
 IsStrictCut text tokens left = IsCut (IsTokenOf text) text tokens left
 
+-- The End token of a text.
 abbrev pub end_of : List ℕ → TokenView
 end_of text = record { kind = End; index = byte_len text; value = [] }
 
--- These are the strict tokens of the text.
+-- The strict tokens of the text.
 pub record AreTokens (text : List ℕ) (tokens : List TokenView) : Type 0 where
   pub front : List TokenView
   pub cut : IsStrictCut text front []
   pub all : tokens ≡ front ++ end_of text ∷ []
 
--- The first fault of the text, and its place.
+-- The first fault of the text, and its byte index.
 pub record IsFault (text : List ℕ) (reported : FaultView) (index : ℕ) : Type 0 where
   pub front : List TokenView
   pub left : List ℕ
@@ -209,7 +219,7 @@ pub record IsFault (text : List ℕ) (reported : FaultView) (index : ℕ) : Type
   pub place : BeginsAt text left index
   pub fault : IsFaultAt left reported
 
--- a character in a fault's place stands in the whole text where this begins
+-- The text, a suffix of `whole`, begins with a fault, whose character becomes an InvalidChar token.
 pub record IsInvalidCharOf (whole text : List ℕ) (token : TokenView) (rest : List ℕ) : Type 0 where
   pub character : ℕ
   pub cut : text ≡ character ∷ rest
@@ -218,20 +228,21 @@ pub record IsInvalidCharOf (whole text : List ℕ) (token : TokenView) (rest : L
   pub is_token : token ≡ record { kind = InvalidChar; index = token.index; value = character ∷ [] }
   pub place : BeginsAt whole text token.index
 
--- These are the lenient tokens of the text: in a fault's place stands one character, and the cut goes on after it.
+-- The lenient tokens of the text: where no token begins, a single character is an InvalidChar
+-- token.
 pub record AreLenientTokens (text : List ℕ) (tokens : List TokenView) : Type 0 where
   pub front : List TokenView
   pub cut : IsCut (λ start token rest. IsTokenOf text start token rest ⊎ IsInvalidCharOf text start token rest) text front []
   pub all : tokens ≡ front ++ end_of text ∷ []
 
--- These are the tokens of the text under the policy.
+-- The tokens of the text under the policy.
 abbrev pub AreTokensUnder : TokenizePolicy → (text : List ℕ) → List TokenView → Type 0
 AreTokensUnder TokenizePolicy.Strict text tokens = AreTokens text tokens
 AreTokensUnder TokenizePolicy.Lenient text tokens = AreLenientTokens text tokens
 
--- ---- what calls answer
+-- ---- the results of calls
 
--- the text begins with a character with which no token begins, and this follows it
+-- The text begins with a character at which no token begins, and `rest` follows.
 pub record IsInvalidChar (text : List ℕ) (kind : TokenType) (value rest : List ℕ) : Type 0 where
   pub character : ℕ
   pub cut : text ≡ character ∷ rest
@@ -240,14 +251,14 @@ pub record IsInvalidChar (text : List ℕ) (kind : TokenType) (value rest : List
   pub is_kind : kind ≡ InvalidChar
   pub is_value : value ≡ character ∷ []
 
--- no ASCII character stands after a backslash in the body of a custom regular expression
+-- The text after a backslash in a body does not begin with an ASCII character.
 abbrev pub LacksEscaped : List ℕ → FaultView → Type 0
 LacksEscaped text IncompleteEscapeCode = text ≡ []
 LacksEscaped text InvalidName = ⊥
 LacksEscaped text (InvalidRegex reported) =
     (c : ℕ) × (more : List ℕ) × (text ≡ c ∷ more) × (128 ≤ c) × (reported ≡ reason EscapedNotAscii)
 
--- no question mark stands after an inner bracket
+-- The text after an inner opening parenthesis does not begin with a question mark.
 abbrev pub LacksQuestionMark : List ℕ → FaultView → Type 0
 LacksQuestionMark text IncompleteEscapeCode = ⊥
 LacksQuestionMark text InvalidName = ⊥
@@ -255,13 +266,13 @@ LacksQuestionMark text (InvalidRegex reported) =
     ((text ≡ []) × (reported ≡ reason GroupAtEnd))
     ⊎ ((c : ℕ) × (more : List ℕ) × (text ≡ c ∷ more) × ¬ IsTrue (is_question_mark c) × (reported ≡ reason CapturingGroup))
 
--- the error reports the first fault of the text, or that memory ran out
+-- The error is the first fault of the text, or `OutOfMemory`.
 abbrev pub ReportsFault : List ℕ → Error → Type 0
 ReportsFault text (Error.Tokenizer fault place) = IsFault text (fault_view fault) place
 ReportsFault text Error.OutOfMemory = Unit {0}
 ReportsFault text other = ⊥
 
--- the same under the policy: the lenient one reports no fault
+-- The error of a call with the policy. With the lenient policy no fault is reported.
 abbrev pub ReportsFaultUnder : TokenizePolicy → List ℕ → Error → Type 0
 ReportsFaultUnder TokenizePolicy.Strict text error = ReportsFault text error
 ReportsFaultUnder TokenizePolicy.Lenient text error = error ≡ Error.OutOfMemory

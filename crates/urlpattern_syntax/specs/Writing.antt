@@ -8,34 +8,35 @@ use Rattle.urlpattern_syntax.specs.Text.{byte_len, chars, option_text, text_of}
 use Rattle.urlpattern_syntax.specs.declared.writing.Comparison.{Comparison}
 use Rattle.urlpattern_syntax.specs.declared.escape.{Escaped.Escaped, Marks.Marks}
 
--- the bytes of this text were added to those that were counted, unless that is the largest number or more
+-- The counter grew by the bytes of the piece, unless it is saturated.
 pub record Counts (before : ℕ) (piece : List ℕ) (after : ℕ) : Type 0 where
   pub count : after < MAX → after ≡ before + byte_len piece
 
--- the `String` has memory for this text too
+-- The `String` has capacity for the piece.
 pub record HasRoom (string : String Global) (piece : List ℕ) : Type 0 where
   pub room : string_len string + byte_len piece ≤ string_capacity string
 
--- this text was put after that of the `String`, which has as much memory as before, or more
+-- The piece was appended to the `String`, whose capacity did not shrink.
 pub record Appends (before : String Global) (piece : List ℕ) (after : String Global) : Type 0 where
   pub text : text_of after ≡ text_of before ++ piece
   pub capacity : string_capacity before ≤ string_capacity after
 
--- what is left of the text that is compared
+-- The rest of the compared text, or `None` after a difference.
 abbrev pub left_view : Comparison → Option (List ℕ)
 left_view comparison = option_text comparison.left
 
--- what a text leaves after this piece at its front: None where it does not begin with it
+-- The comparison with the piece leaves the rest after it, or `None` if the text does not begin with
+-- it.
 abbrev pub Compares : Option (List ℕ) → (piece : List ℕ) → Option (List ℕ) → Type 0
 Compares None piece after = after ≡ None
 Compares (Some text) piece (Some rest) = text ≡ piece ++ rest
 Compares (Some text) piece None = (rest : List ℕ) → ¬ (text ≡ piece ++ rest)
 
--- the characters that take a backslash
+-- The characters that are escaped with a backslash.
 abbrev pub marks_of : Marks → List ℕ
 marks_of (Marks.Regexp syntax) = escaped_marks syntax
 marks_of Marks.Pattern = pattern_marks
 
--- the text with its backslashes
+-- The text with its backslashes.
 unfoldable pub escaped_text : Escaped → List ℕ
 escaped_text text = escaped (marks_of text.marks) (chars text.text.now)

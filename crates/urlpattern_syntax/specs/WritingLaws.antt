@@ -1,4 +1,5 @@
--- The laws of the trait `Writer`, for its two impls. An impl cites the proof of a law, so these lemmas can't stand in proofs/.
+-- The laws of the trait `Writer` for its impls. An impl cites the proofs of the laws, which is why
+-- these lemmas are not in proofs/.
 use Rattle.std.specs.Prelude.{◌≡◌, ◌+◌, ◌++◌, ℕ, List, [], Option, Some, None, String, string_bytes, string_len, encode_utf8_all, length}
 use Rattle.std.proofs.Common.{refl, sym, ap, ◌∙◌, arith, append_assoc, length-append}
 use Rattle.std.proofs.lemmas.List.{append-nil, append_cancel_left}
@@ -55,7 +56,7 @@ pub compares_nothing : (left : Option (List ℕ)) → Compares left [] left
 compares_nothing None = refl
 compares_nothing (Some text) = refl
 
--- a piece and the next are one longer piece
+-- After `xs`, a text that begins with `xs ++ ys` begins with `ys`.
 compares_one : (text between xs ys : List ℕ) → text ≡ xs ++ between → (rest : List ℕ) → text ≡ (xs ++ ys) ++ rest → between ≡ ys ++ rest
 compares_one text between xs ys e rest f = append_cancel_left xs between (ys ++ rest) (sym e ∙ f ∙ append_assoc xs ys rest)
 

@@ -28,21 +28,21 @@ use std::{error, fmt};
 pub enum Error {
     /// A relative input was given with no base URL.
     BaseUrlRequired,
-    /// Both an init and a base URL beside it were given.
+    /// An init and a separate base URL were both given.
     BaseUrlWithInit,
-    /// A pattern text has no token at this place, a byte index.
+    /// No token begins at this byte index of a pattern text.
     Tokenizer(TokenizerError, usize),
-    /// The tokens of a pattern text are no pattern.
+    /// The tokens of a pattern text do not form a pattern.
     Parser(ParserError),
     /// A part of a URL is not valid.
     Url(url::ParseError),
-    /// The engine refused the text of a regular expression.
+    /// The engine rejected a regular expression.
     RegExp(()),
-    /// The allocator had no memory.
+    /// Memory ran out.
     OutOfMemory,
 }
 
-/// Prints the error, with the place in a pattern text where it has one.
+/// Prints the message, with the place in the pattern text for an error of the tokenizer.
 impl fmt::Display for Error {
     ghost output = { λ error. error_text (error_view error) };
 
@@ -93,7 +93,7 @@ impl From<OutOfMemory> for Error {
     }
 }
 
-/// Out of memory stays so, and is no error of `url`.
+/// Converts out of memory to [`Error::OutOfMemory`], any other error of `url` to [`Error::Url`].
 impl From<url::ParseError> for Error {
     ghost from_gives = { λ reason error. error_view error ≡ url_error reason };
 
@@ -105,14 +105,14 @@ impl From<url::ParseError> for Error {
     }
 }
 
-/// Why a pattern text has no token at a place.
+/// Why no token begins at a place of a pattern text.
 #[derive(Debug, PartialEq, Eq, Drop)]
 pub enum TokenizerError {
-    /// A backslash stands at the end of the text.
+    /// A backslash is the last character of the text.
     IncompleteEscapeCode,
-    /// No character that may begin a name follows a colon.
+    /// A colon is not followed by a name.
     InvalidName,
-    /// What follows an open bracket is no custom regular expression, for the reason given.
+    /// An opening parenthesis does not begin a custom regular expression, for the reason given.
     InvalidRegex(RegexFault),
 }
 
@@ -134,27 +134,27 @@ impl fmt::Display for TokenizerError {
 
 impl error::Error for TokenizerError {}
 
-/// Why what follows an open bracket is no custom regular expression.
+/// Why an opening parenthesis does not begin a custom regular expression.
 #[derive(Debug, Clone, Copy, PartialEq, Eq)]
 pub enum RegexFault {
-    /// It starts with a question mark, or has a character that is not ASCII.
+    /// The expression starts with a question mark, or has a character that is not ASCII.
     BadCharacter,
-    /// A backslash takes a character that is not ASCII.
+    /// A backslash escapes a character that is not ASCII.
     BadEscape,
-    /// An inner bracket is the last of the text.
+    /// The text ends with an inner opening parenthesis.
     NestedGroupNotClosed,
-    /// A character other than a question mark follows an inner bracket.
+    /// A character other than a question mark follows an inner opening parenthesis.
     NestedGroupCaptures,
-    /// The text ends before the closing bracket.
+    /// The text ends before the closing parenthesis.
     MissingClose,
-    /// Nothing stands between the brackets.
+    /// The parentheses are empty.
     Empty,
 }
 
 impl RegexFault {
     ghost use Rattle.urlpattern_syntax.specs.Tokens.{regex_fault_text};
 
-    /// The reason in words.
+    /// Returns the reason in words.
     pub fn as_str(self) -> &'static str
         ensures { result.now ≡ regex_fault_text self }
     {
@@ -169,16 +169,16 @@ impl RegexFault {
     }
 }
 
-/// Why the tokens of a pattern text are no pattern.
+/// Why the tokens of a pattern text do not form a pattern.
 #[derive(Debug, PartialEq, Eq, Drop)]
 pub enum ParserError {
-    /// The kind of token that had to stand at a place, then the kind and the value of the token that stands there.
+    /// The kind of token expected at a place, then the kind and the value of the token found there.
     ExpectedToken(TokenType, TokenType, String),
-    /// A second group has this name.
+    /// Two groups have this name.
     DuplicateName(String),
 }
 
-/// Prints what was expected and what was found, or the name.
+/// Prints the expected and the found token, or the name.
 impl fmt::Display for ParserError {
     ghost output = { λ error. Some (parser_error_text error) };
 
@@ -202,7 +202,7 @@ impl fmt::Display for ParserError {
 
 impl error::Error for ParserError {}
 
-/// The allocator had no memory.
+/// Memory ran out.
 #[derive(Debug, PartialEq, Eq, Drop)]
 pub struct OutOfMemory;
 
@@ -229,16 +229,16 @@ impl<T: Drop> From<AllocFailed<T>> for OutOfMemory {
     }
 }
 
-/// Why an engine gives no regular expression.
+/// Why an engine did not compile a regular expression.
 #[derive(Debug, PartialEq, Eq, Drop)]
 pub enum RegExpError {
-    /// The engine refused the text.
+    /// The engine rejected the text.
     Pattern,
-    /// The allocator had no memory.
+    /// Memory ran out.
     OutOfMemory,
 }
 
-/// Prints the text of the [`Error`] of the same name, which for a refused text is [`Error::RegExp`].
+/// Prints the text of the [`Error`] of the same name; for `Pattern`, that of [`Error::RegExp`].
 impl fmt::Display for RegExpError {
     ghost output = { λ error. error_text (regexp_error_view error) };
 

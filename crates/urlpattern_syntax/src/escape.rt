@@ -1,4 +1,4 @@
-//! Texts with a backslash before each character that means more than itself.
+//! Texts with a backslash before each special character.
 ghost use Rattle.std.specs.Prelude.{◌≡◌, ◌∷◌, [], IfOk};
 ghost use Rattle.std.specs.Str.{chars};
 ghost use Rattle.urlpattern_syntax.specs.{Errors.OnlyOutOfMemory, Options.options_view};
@@ -13,9 +13,7 @@ use crate::text::{before, split_first};
 use crate::writing::{Writable, Writer, written};
 use std::alloc::Global;
 
-/// The text of a pattern that stands for this text.
-///
-/// The error is that memory ran out.
+/// Escapes a text for a pattern, with a backslash before each special character.
 ///
 /// <https://urlpattern.spec.whatwg.org/#escape-a-pattern-string>
 pub fn escape_pattern_string(alloc: Global, input: &str) -> Result<String, Error>
@@ -25,17 +23,17 @@ pub fn escape_pattern_string(alloc: Global, input: &str) -> Result<String, Error
     Ok(written(alloc, &Escaped::pattern(input))?)
 }
 
-/// The characters that take a backslash.
+/// The characters that are escaped with a backslash.
 #[derive(Clone, Copy)]
 pub enum Marks {
-    /// Those that mean more than themselves in a regular expression of this syntax.
+    /// The special characters of regular expressions in this syntax.
     Regexp(RegexSyntax),
-    /// Those that mean more than themselves in a pattern.
+    /// The special characters of patterns.
     Pattern,
 }
 
 impl Marks {
-    /// Whether the character is one of these.
+    /// Whether the character is among the marks.
     fn contain(self, c: char) -> bool
         ensures { result ≡ is_among (marks_of self) c }
     {
@@ -46,7 +44,8 @@ impl Marks {
         }
     }
 
-    /// Writes the text, with a backslash before each of these. What stands between two backslashes is written at once.
+    /// Writes the text with a backslash before each mark. The text between two backslashes is
+    /// written in one call.
     fn write_escaped<W: Writer>(self, text: &str, writer: &mut W)
         requires { W.Fits writer.old (escaped (marks_of self) (chars text.now)) }
         ensures { W.Writes writer.old (escaped (marks_of self) (chars text.now)) writer.new }
@@ -65,7 +64,7 @@ impl Marks {
     }
 }
 
-/// Whether the character means more than itself in a regular expression.
+/// Whether the character is special in a regular expression.
 fn is_regexp_mark(c: char) -> bool
     ensures { result ≡ is_among regexp_marks c }
 {
@@ -75,14 +74,14 @@ fn is_regexp_mark(c: char) -> bool
     )
 }
 
-/// Whether the character means more than itself in a pattern.
+/// Whether the character is special in a pattern.
 fn is_pattern_mark(c: char) -> bool
     ensures { result ≡ is_among pattern_marks c }
 {
     matches!(c, '+' | '*' | '?' | ':' | '{' | '}' | '(' | ')' | '\\')
 }
 
-/// A text, with a backslash before each of some characters.
+/// A text that is written with a backslash before each mark.
 #[derive(Clone, Copy)]
 pub struct Escaped<'a> {
     marks: Marks,
@@ -90,7 +89,7 @@ pub struct Escaped<'a> {
 }
 
 impl<'a> Escaped<'a> {
-    /// The text as it stands in a regular expression.
+    /// Returns the text, escaped for a regular expression.
     pub fn regexp(text: &'a str, options: &Options) -> Self
         ensures { escaped_text result ≡ escaped_regexp (options_view options.now) (chars text.now) }
     {
@@ -100,7 +99,7 @@ impl<'a> Escaped<'a> {
         }
     }
 
-    /// The text as it stands in a pattern.
+    /// Returns the text, escaped for a pattern.
     pub fn pattern(text: &'a str) -> Self
         ensures { escaped_text result ≡ escaped_pattern (chars text.now) }
     {
@@ -120,7 +119,7 @@ impl Writable for Escaped<'_> {
     }
 }
 
-/// A character, with a backslash before it if it is one of these.
+/// A character that is written with a backslash before it if it is among the marks.
 #[derive(Clone, Copy)]
 struct EscapedChar(Marks, char);
 
@@ -136,7 +135,7 @@ impl Writable for EscapedChar {
     }
 }
 
-/// The regular expression of a segment: some characters that are no delimiter.
+/// The regular expression of a segment: one or more characters other than the delimiter.
 ///
 /// <https://urlpattern.spec.whatwg.org/#generate-a-segment-wildcard-regexp>
 #[derive(Clone, Copy)]

@@ -1,5 +1,5 @@
-//! The syntax of URL patterns: tokens and parts of the text of one component's pattern, what they mean to its reader, errors, and how
-//! texts are written and escaped.
+//! The syntax of URL patterns: the tokens and parts of a component's pattern text and what they
+//! mean, the errors, and how texts are written and escaped.
 #![tactic(auto)]
 
 pub mod error;

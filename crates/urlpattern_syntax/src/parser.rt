@@ -1,4 +1,4 @@
-//! The parts of a pattern text, and the options under which it is read.
+//! The parts of a pattern text, and the options with which it is parsed.
 //!
 //! <https://urlpattern.spec.whatwg.org/#parts-and-part-lists>
 ghost use Rattle.std.specs.Prelude.{◌≡◌, Some};
@@ -32,14 +32,15 @@ pub const FULL_WILDCARD_REGEXP_VALUE: &str = ".*";
 /// ```
 #[derive(Clone, Copy, Debug, Default, PartialEq, Eq, Deserialize, Serialize)]
 pub enum RegexSyntax {
-    /// That of Rust's crate `regex`, which takes no escaped slash. The default.
+    /// The syntax of Rust's crate `regex`, in which a slash is not escaped. The default.
     #[default]
     Rust,
-    /// That of ECMAScript. Whether a custom regular expression is refused is the engine's matter.
+    /// The syntax of ECMAScript, in which a slash is escaped. Whether a custom regular expression
+    /// is valid is decided by the engine.
     EcmaScript,
 }
 
-/// How one component's pattern text is read.
+/// How a component's pattern text is parsed.
 ///
 /// ```rust options
 /// let options = Options {
@@ -52,9 +53,10 @@ pub enum RegexSyntax {
 /// <https://urlpattern.spec.whatwg.org/#options-header>
 #[derive(Debug, Clone, Drop)]
 pub struct Options {
-    /// The character that ends a segment. A name alone stands for a segment, which is any text if there is none.
+    /// The character that ends a segment, which a name alone matches. Without a delimiter a name
+    /// matches any non-empty text.
     pub delimiter_code_point: Option<char>,
-    /// The character that a group takes as its prefix where it stands directly before it, or an empty text.
+    /// The character that becomes the prefix of a group directly after it, or an empty text.
     pub prefix_code_point: String,
     /// The syntax of the generated regular expression.
     pub regex_syntax: RegexSyntax,
@@ -62,22 +64,22 @@ pub struct Options {
     pub ignore_case: bool,
 }
 
-/// What a part stands for.
+/// What a part matches.
 ///
 /// <https://urlpattern.spec.whatwg.org/#part-type>
 #[derive(Debug, PartialEq, Eq, Drop)]
 pub enum PartType {
-    /// Its value.
+    /// The part's value.
     FixedText,
     /// What a custom regular expression matches.
     Regexp,
-    /// A text with no delimiter, not empty.
+    /// A non-empty text without the delimiter.
     SegmentWildcard,
     /// Any text.
     FullWildcard,
 }
 
-/// How often a part stands.
+/// How often a part may occur.
 ///
 /// <https://urlpattern.spec.whatwg.org/#part-modifier>
 #[derive(Debug, Clone, Copy, PartialEq, Eq)]
@@ -93,7 +95,7 @@ pub enum PartModifier {
 }
 
 impl PartModifier {
-    /// The modifier as a pattern and a regular expression spell it.
+    /// Returns the modifier as patterns and regular expressions spell it.
     #[tactic(auto, using(crate::proofs::TextLemmas::modifier_chars))]
     pub fn as_str(&self) -> &'static str
         ensures bytes { result.now ≡ modifier_text self.now }
@@ -134,22 +136,22 @@ impl fmt::Display for PartModifier {
 /// <https://urlpattern.spec.whatwg.org/#part>
 #[derive(Debug, Drop)]
 pub struct Part {
-    /// What the part stands for.
+    /// What the part matches.
     pub kind: PartType,
-    /// The text of a fixed text, the body of a custom regular expression, and else empty.
+    /// The literal of a fixed text, the body of a custom regular expression, otherwise empty.
     pub value: String,
-    /// How often the part stands.
+    /// How often the part may occur.
     pub modifier: PartModifier,
-    /// The name of its group, empty for a fixed text.
+    /// The name of the group, empty for a fixed text.
     pub name: String,
-    /// The text that stands before it each time, empty for a fixed text.
+    /// The text before each occurrence, empty for a fixed text.
     pub prefix: String,
-    /// The text that stands after it each time, empty for a fixed text.
+    /// The text after each occurrence, empty for a fixed text.
     pub suffix: String,
 }
 
 impl Part {
-    /// A fixed text. It does not allocate.
+    /// Returns a fixed text. Does not allocate.
     pub fn fixed(alloc: Global, value: String, modifier: PartModifier) -> Self
         ensures { part_view result ≡ fixed_text (text_of value) modifier }
     {

@@ -1,20 +1,21 @@
-//! The parts of one component, beside the options under which they were read.
+//! The parts of one component, with the options with which they were parsed.
 
 use crate::parser::{Options, Part};
 
-/// The parts that the pattern text of a component reads as, and the options under which it was read.
+/// The parts of a component's pattern text, and the options with which it was parsed.
 ///
 /// <https://urlpattern.spec.whatwg.org/#parts-and-part-lists>
 #[derive(Debug)]
 pub struct ComponentParts {
-    /// The options.
+    /// The options with which the text was parsed.
     pub options: Options,
-    /// The parts.
+    /// The parts, in order.
     pub parts: Vec<Part>,
 }
 
 impl Drop for ComponentParts {
-    /// Drops the fields. Where parts go out of scope, the prover handles one call in place of each field.
+    /// Drops the fields. Where parts go out of scope, the prover sees one call instead of one for
+    /// each field.
     fn drop(self) {
         let Self {
             options: _options,

@@ -1,8 +1,8 @@
-//! Texts that are cut in two.
+//! Splitting a text in two.
 ghost use Rattle.std.specs.Prelude.{◌≡◌, ◌<◌, List, ℕ, ◌∷◌, ◌++◌, [], length, IfNone, IfSome};
 ghost use Rattle.std.specs.Str.{chars};
 
-/// What stands in a text before this end of it.
+/// Returns the text before its suffix `end`.
 pub fn before<'a>(text: &'a str, end: &str) -> &'a str
     requires { (front : List ℕ) × (chars text.now ≡ front ++ chars end.now) }
     ensures { chars text.now ≡ chars result.now ++ chars end.now }
@@ -10,7 +10,7 @@ pub fn before<'a>(text: &'a str, end: &str) -> &'a str
     &text[..text.len() - end.len()]
 }
 
-/// The first character of a text and what follows it. `None`, if the text is empty.
+/// Returns the first character and the rest of the text, or `None` for an empty text.
 pub fn split_first(text: &str) -> Option<(char, &str)>
     ensures empty { IfNone result (chars text.now ≡ []) }
     ensures cut { IfSome result (λ found. chars text.now ≡ found.0 ∷ chars found.1.now) }

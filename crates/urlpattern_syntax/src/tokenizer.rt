@@ -6,7 +6,7 @@ ghost use Rattle.urlpattern_syntax.specs.Text.{is_name_start, is_name_part};
 
 use unicode::properties::{is_id_continue, is_id_start};
 
-/// What a token is.
+/// The kind of a token.
 ///
 /// <https://urlpattern.spec.whatwg.org/#token-type>
 #[derive(Debug, Clone, Copy, PartialEq, Eq)]
@@ -15,11 +15,11 @@ pub enum TokenType {
     Open,
     /// `}`, which ends a group.
     Close,
-    /// A custom regular expression in brackets.
+    /// A custom regular expression in parentheses.
     Regexp,
     /// A colon and a name.
     Name,
-    /// A character that stands for itself.
+    /// A literal character.
     Char,
     /// A backslash and the character that it escapes.
     EscapedChar,
@@ -29,14 +29,14 @@ pub enum TokenType {
     Asterisk,
     /// The end of the text.
     End,
-    /// A character with which no token begins.
+    /// A character that begins no token.
     InvalidChar,
 }
 
 impl TokenType {
     ghost use Rattle.urlpattern_syntax.specs.ErrorText.{kind_name};
 
-    /// The name of the kind.
+    /// Returns the name of the kind.
     pub fn name(&self) -> &'static str
         ensures { result.now ≡ kind_name self.now }
     {
@@ -55,7 +55,7 @@ impl TokenType {
     }
 }
 
-/// A token: what it is, where it stands, and its value.
+/// A token: its kind, its place and its value.
 ///
 /// ```rust tokens
 /// let tokens = tokenize(rt.alloc(), "/users/:id", TokenizePolicy::Strict)?;
@@ -70,23 +70,23 @@ impl TokenType {
 /// <https://urlpattern.spec.whatwg.org/#token>
 #[derive(Debug, Clone, Copy)]
 pub struct Token<'a> {
-    /// What the token is.
+    /// The kind of the token.
     pub kind: TokenType,
-    /// The place where its spelling begins, a byte index.
+    /// The byte index at which the spelling begins.
     pub index: usize,
-    /// Its value, a slice of the text: a name without its colon, the body of a regular expression, an escaped
-    /// character without its backslash, and else the spelling.
+    /// The value, a slice of the pattern text: a name without its colon, the body of a regular
+    /// expression, an escaped character without its backslash, otherwise the spelling.
     pub value: &'a str,
 }
 
-/// What to do where a text has no token.
+/// What the tokenizer does where no token begins.
 ///
 /// <https://urlpattern.spec.whatwg.org/#tokenize-policy>
 #[derive(Debug, PartialEq, Eq, Drop)]
 pub enum TokenizePolicy {
-    /// Answer an error.
+    /// Returns an error.
     Strict,
-    /// Take the character as a token of the kind `InvalidChar`, and go on after it.
+    /// Makes the character a token of the kind `InvalidChar` and continues after it.
     Lenient,
 }
 
@@ -103,7 +103,7 @@ pub fn is_name_start(c: char) -> bool
     is_id_start(c)
 }
 
-/// Whether a name may go on with the character.
+/// Whether a name may continue with the character.
 #[tactic(auto, using(crate::proofs::NameCharacters::part_ascii, crate::proofs::NameCharacters::part_other))]
 pub fn is_name_part(c: char) -> bool
     ensures { result ≡ is_name_part c }

@@ -1,7 +1,7 @@
-//! Texts that are written piece by piece, in one request for memory.
+//! Texts that are written piece by piece, with one allocation.
 //!
-//! A text says once how it is written, to any [`Writer`]. [`written`] first has its bytes counted, asks for that much
-//! memory, and then has it written, which can't fail. For the crates of this project.
+//! A [`Writable`] says once how it is written, to any [`Writer`]. [`written`] first counts the
+//! bytes, allocates them, and then writes, which cannot fail. For the crates of this project.
 ghost use Rattle.std.specs.Prelude.{◌≡◌, ◌∷◌, ◌++◌, ℕ, List, [], IfOk, MatchBool};
 ghost use Rattle.std.specs.Str.{chars};
 ghost use Rattle.urlpattern_syntax.specs.Text.{text_of};
@@ -11,7 +11,7 @@ ghost use Rattle.urlpattern_syntax.specs.WritingLaws.{appends_both, appends_noth
 use crate::text::split_first;
 use std::alloc::{AllocError, Global};
 
-/// Where a text is written: a counter of its bytes, or a `String` that has memory for it.
+/// A destination of text: a byte counter, a `String` with enough capacity, or a comparison.
 pub trait Writer {
     ghost Fits: { Self → List ℕ → Type 0 };
 
@@ -36,7 +36,7 @@ pub trait Writer {
     ghost writes_both: { (before between after : Self) (xs ys : List ℕ) → Writes before xs between → Writes between ys after → Writes before (xs ++ ys) after };
 }
 
-/// A counter of bytes, which stays at the largest number once it is there.
+/// A byte counter, which saturates at the largest number.
 #[derive(Drop)]
 struct Counter {
     bytes: usize,
@@ -64,7 +64,7 @@ impl Writer for Counter {
     ghost writes_both = { λ before between after xs ys first second. counts_both before.bytes between.bytes after.bytes xs ys first second };
 }
 
-/// A `String` takes what it has memory for, and then no request is made.
+/// Writes into reserved capacity. Does not allocate.
 impl Writer for String {
     ghost Fits = { HasRoom };
 
@@ -87,13 +87,14 @@ impl Writer for String {
     ghost writes_both = { appends_both };
 }
 
-/// A text with which what is written is compared: what is left of it after that, or `None` where they differ.
+/// A text that is compared with what is written: the rest of the text, or `None` after a
+/// difference.
 #[derive(Drop)]
 struct Comparison<'a> {
     left: Option<&'a str>,
 }
 
-/// What is written is taken from the front of the text.
+/// Strips what is written from the start of the text.
 impl Writer for Comparison<'_> {
     ghost Fits = { λ comparison text. Unit {0} };
 
@@ -133,9 +134,9 @@ pub trait Writable {
         ensures { W.Writes writer.old (text self.now) writer.new };
 }
 
-/// The text as a `String`, in one request for memory, or none if it is empty.
+/// Returns the text as a `String`, with one allocation, or none if the text is empty.
 ///
-/// The error is that memory ran out, or that the text is longer than any `String`.
+/// `AllocError`: memory ran out, or the text is longer than any `String`.
 pub fn written<T: Writable>(alloc: Global, text: &T) -> Result<String, AllocError>
     ensures { IfOk result (λ string. text_of string ≡ T.text text.now) }
 {
@@ -150,7 +151,7 @@ pub fn written<T: Writable>(alloc: Global, text: &T) -> Result<String, AllocErro
     Ok(string)
 }
 
-/// Whether a text is the one that would be written. It does not allocate.
+/// Whether the text equals what would be written. Does not allocate.
 pub fn is_written<T: Writable>(text: &str, written: &T) -> bool
     ensures { MatchBool result (chars text.now ≡ T.text written.now) (¬ (chars text.now ≡ T.text written.now)) }
 {
@@ -162,7 +163,7 @@ pub fn is_written<T: Writable>(text: &str, written: &T) -> bool
     }
 }
 
-/// A character as it is.
+/// Writes the character.
 impl Writable for char {
     ghost text = { λ c. c ∷ [] };
 
@@ -171,7 +172,7 @@ impl Writable for char {
     }
 }
 
-/// A text as it is.
+/// Writes the text.
 impl Writable for &str {
     ghost text = { λ text. chars text.now };
 
@@ -180,7 +181,7 @@ impl Writable for &str {
     }
 }
 
-/// Two texts, end to end.
+/// Writes two texts, one after the other.
 impl<A: Writable, B: Writable> Writable for (A, B) {
     ghost text = { λ texts. A.text texts.0 ++ B.text texts.1 };
 
@@ -190,7 +191,7 @@ impl<A: Writable, B: Writable> Writable for (A, B) {
     }
 }
 
-/// Three texts, end to end.
+/// Writes three texts, one after the other.
 impl<A: Writable, B: Writable, C: Writable> Writable for (A, B, C) {
     ghost text = { λ texts. A.text texts.0 ++ B.text texts.1 ++ C.text texts.2 };
 
@@ -201,7 +202,7 @@ impl<A: Writable, B: Writable, C: Writable> Writable for (A, B, C) {
     }
 }
 
-/// Four texts, end to end.
+/// Writes four texts, one after the other.
 impl<A: Writable, B: Writable, C: Writable, D: Writable> Writable for (A, B, C, D) {
     ghost text = { λ texts. A.text texts.0 ++ B.text texts.1 ++ C.text texts.2 ++ D.text texts.3 };
 

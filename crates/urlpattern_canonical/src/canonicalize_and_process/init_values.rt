@@ -1,4 +1,4 @@
-//! The values of an init: kept for a pattern, and made canonical for a URL.
+//! The values of an init: unchanged for a pattern, canonical for a URL.
 ghost use Rattle.std.specs.Prelude.{◌≡◌, Some, length, IfOk};
 ghost use Rattle.std.specs.Str.{chars};
 ghost use Rattle.urlpattern_syntax.specs.Text.{text_of, option_text};
@@ -11,9 +11,9 @@ use super::{Canonicalizer, ProcessType};
 use urlpattern_syntax::Error;
 
 impl Canonicalizer {
-    /// The protocol of an init, without a colon at its end.
+    /// Returns the protocol of an init, without a final colon.
     ///
-    /// The error is the refusal of `url` for a URL, or that memory ran out.
+    /// Fails with `Error::Url` if `url` rejects a value for a URL.
     pub fn process_protocol(&self, value: &str, kind: &ProcessType) -> Result<String, Error>
         ensures { IsAnswer (processed_protocol kind.now (chars value.now)) (bytes_asked kind.now (length value.now)) result }
     {
@@ -24,9 +24,9 @@ impl Canonicalizer {
         }
     }
 
-    /// The user name of an init.
+    /// Returns the user name of an init.
     ///
-    /// The error is the refusal of `url` for a URL, or that memory ran out.
+    /// Fails with `Error::Url` if `url` rejects a value for a URL.
     pub fn process_username(&self, value: &str, kind: &ProcessType) -> Result<String, Error>
         ensures { IsAnswer (processed_username kind.now (chars value.now)) (bytes_asked kind.now (length value.now)) result }
     {
@@ -36,9 +36,9 @@ impl Canonicalizer {
         }
     }
 
-    /// The password of an init.
+    /// Returns the password of an init.
     ///
-    /// The error is the refusal of `url` for a URL, or that memory ran out.
+    /// Fails with `Error::Url` if `url` rejects a value for a URL.
     pub fn process_password(&self, value: &str, kind: &ProcessType) -> Result<String, Error>
         ensures { IsAnswer (processed_password kind.now (chars value.now)) (bytes_asked kind.now (length value.now)) result }
     {
@@ -48,9 +48,9 @@ impl Canonicalizer {
         }
     }
 
-    /// The hostname of an init.
+    /// Returns the hostname of an init.
     ///
-    /// The error is the refusal of `url` for a URL, or that memory ran out.
+    /// Fails with `Error::Url` if `url` rejects a value for a URL.
     pub fn process_hostname(&self, value: &str, kind: &ProcessType) -> Result<String, Error>
         ensures { IsAnswer (processed_hostname kind.now (chars value.now)) (bytes_asked kind.now (length value.now)) result }
     {
@@ -60,9 +60,9 @@ impl Canonicalizer {
         }
     }
 
-    /// The port of an init, under a protocol.
+    /// Returns the port of an init, under a protocol.
     ///
-    /// The error is the refusal of `url` for a URL, or that memory ran out.
+    /// Fails with `Error::Url` if `url` rejects a value for a URL.
     pub fn process_port(
         &self,
         value: &str,
@@ -77,9 +77,9 @@ impl Canonicalizer {
         }
     }
 
-    /// The pathname of an init, under a protocol.
+    /// Returns the pathname of an init, under a protocol.
     ///
-    /// The error is the refusal of `url` for a URL, or that memory ran out.
+    /// Fails with `Error::Url` if `url` rejects a value for a URL.
     pub fn process_pathname(
         &self,
         value: &str,
@@ -94,9 +94,9 @@ impl Canonicalizer {
         }
     }
 
-    /// The search of an init, without a question mark at its front.
+    /// Returns the search of an init, without an initial question mark.
     ///
-    /// The error is the refusal of `url` for a URL, or that memory ran out.
+    /// Fails with `Error::Url` if `url` rejects a value for a URL.
     pub fn process_search(&self, value: &str, kind: &ProcessType) -> Result<String, Error>
         ensures { IsAnswer (processed_search kind.now (chars value.now)) (bytes_asked kind.now (length value.now)) result }
     {
@@ -107,9 +107,9 @@ impl Canonicalizer {
         }
     }
 
-    /// The hash of an init, without a number sign at its front.
+    /// Returns the hash of an init, without an initial number sign.
     ///
-    /// The error is the refusal of `url` for a URL, or that memory ran out.
+    /// Fails with `Error::Url` if `url` rejects a value for a URL.
     pub fn process_hash(&self, value: &str, kind: &ProcessType) -> Result<String, Error>
         ensures { IsAnswer (processed_hash kind.now (chars value.now)) (bytes_asked kind.now (length value.now)) result }
     {
@@ -120,7 +120,7 @@ impl Canonicalizer {
         }
     }
 
-    /// The canonical path, by what the protocol says of it.
+    /// Returns the canonical path: of segments, or opaque.
     fn pathname_under(&self, value: &str, protocol: Option<&str>) -> Result<String, Error>
         ensures { IsPathnameAnswer ProcessType.Url value.now protocol.entry result }
     {
@@ -131,7 +131,7 @@ impl Canonicalizer {
         }
     }
 
-    /// A copy of the value.
+    /// Returns a copy of the value.
     fn kept(&self, value: &str) -> Result<String, Error>
         ensures ok { IfOk result (λ text. text_of text ≡ chars value.now) }
         ensures memory { OnlyOutOfMemory result }
@@ -140,7 +140,8 @@ impl Canonicalizer {
     }
 }
 
-/// Whether the path of a URL is a list of segments: its protocol is empty or special, or it begins with a slash.
+/// Whether a path is a list of segments: the protocol is empty or special, or the path begins with
+/// a slash.
 fn is_hierarchical(protocol: Option<&str>, pathname: &str) -> bool
     ensures { result ≡ is_hierarchical (option_text protocol.entry) (chars pathname.now) }
 {
@@ -150,7 +151,7 @@ fn is_hierarchical(protocol: Option<&str>, pathname: &str) -> bool
     }
 }
 
-/// Whether a path under this protocol is a list of segments whatever it begins with.
+/// Whether any path under this protocol is a list of segments.
 fn makes_hierarchical(protocol: &str) -> bool
     ensures { result ≡ is_hierarchical_under (Some (chars protocol.now)) }
 {

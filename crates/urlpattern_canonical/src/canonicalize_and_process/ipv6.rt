@@ -7,9 +7,10 @@ use std::alloc::Global;
 use url::ParseError;
 use urlpattern_syntax::Error;
 
-/// The canonical form of an IPv6 address in brackets, in lower case.
+/// Returns the canonical form of an IPv6 address in brackets: in lower case.
 ///
-/// The error is that a character stands in no such address, or that memory ran out.
+/// Fails with `Error::Url(ParseError::InvalidIpv6Address)` if the value has any other character
+/// than hexadecimal digits, colons and brackets.
 ///
 /// <https://urlpattern.spec.whatwg.org/#canonicalize-an-ipv6-hostname>
 pub fn canonicalize_ipv6_hostname(alloc: Global, value: &str) -> Result<String, Error>
@@ -21,14 +22,14 @@ pub fn canonicalize_ipv6_hostname(alloc: Global, value: &str) -> Result<String, 
     Ok(value.to_ascii_lowercase(alloc)?)
 }
 
-/// Whether each character may stand in an IPv6 address in brackets.
+/// Whether each character may occur in an IPv6 address in brackets.
 fn is_ipv6_text(value: &str) -> bool
     ensures { result ≡ list_all is_ipv6_character value.now }
 {
     value.as_bytes().iter().all(|&b| is_ipv6_byte(b))
 }
 
-/// Whether the character may stand in an IPv6 address in brackets.
+/// Whether the character may occur in an IPv6 address in brackets.
 fn is_ipv6_byte(b: u8) -> bool
     ensures { result ≡ is_ipv6_character b }
 {

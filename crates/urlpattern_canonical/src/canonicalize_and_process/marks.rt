@@ -13,7 +13,7 @@ pub fn begins_with_slash(text: &str) -> bool
     matches!(text.as_bytes(), [b'/', ..])
 }
 
-/// The text without this mark at its front. The mark is an ASCII character other than NUL.
+/// Returns the text without an initial `mark`, an ASCII character other than NUL.
 pub fn without_first(text: &str, mark: u8) -> &str
     requires { (0 < mark) × (mark < 128) }
     ensures value { chars result.now ≡ without_first mark (chars text.now) }
@@ -25,7 +25,7 @@ pub fn without_first(text: &str, mark: u8) -> &str
     }
 }
 
-/// The text without a colon at its end.
+/// Returns the text without a final colon.
 pub(super) fn without_colon(text: &str) -> &str
     ensures value { chars result.now ≡ without_last colon (chars text.now) }
     ensures shorter { length result.now ≤ length text.now }

@@ -1,4 +1,4 @@
-//! What a refusal by `url` is reported as.
+//! The errors by which rejections of `url` are reported.
 ghost use Rattle.std.specs.Prelude.{◌≡◌};
 ghost use Rattle.urlpattern_syntax.specs.Errors.{error_view};
 ghost use Rattle.urlpattern_canonical.specs.Asking.{IsRefusedAs};
@@ -7,13 +7,12 @@ ghost use Rattle.urlpattern_canonical.specs.Canonical.{IsReported, reported_erro
 use url::{ParseError, ParseResult};
 use urlpattern_syntax::Error;
 
-/// Texts of fewer bytes are never too long for `url`.
+/// The least number of bytes of a text that may be too long for `url`.
 const LONG_TEXT: usize = 1 << 24;
 
-/// What `url` answers to a question about texts of this many bytes at most.
+/// Converts a result of `url` for texts of at most `bytes` bytes.
 ///
-/// The error is the refusal of `url`. It is that memory ran out only where `url` says so, or says that a text is too long where
-/// none is.
+/// Fails with the error of `url`. An overflow is out of memory if no text is long.
 pub fn reported<T>(answer: ParseResult<T>, bytes: usize) -> Result<T, Error>
     ensures { IsReported answer bytes result }
 {
@@ -23,7 +22,8 @@ pub fn reported<T>(answer: ParseResult<T>, bytes: usize) -> Result<T, Error>
     }
 }
 
-/// The same, where each refusal is reported as this one.
+/// Converts a result of `url` for texts of at most `bytes` bytes, with `reason` for each error
+/// other than an overflow and out of memory.
 pub(super) fn refused_as(
     reason: ParseError,
     answer: ParseResult<()>,
@@ -38,7 +38,7 @@ pub(super) fn refused_as(
     }
 }
 
-/// The error for a refusal by `url` of a question about texts of this many bytes at most.
+/// Returns the error for an error of `url` on texts of at most `bytes` bytes.
 fn refusal(error: ParseError, bytes: usize) -> Error
     ensures { error_view result ≡ reported_error error bytes }
 {

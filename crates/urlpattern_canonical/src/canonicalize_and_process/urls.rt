@@ -13,18 +13,17 @@ use urlpattern_syntax::Error;
 /// The URL on which values are set.
 const DUMMY_URL: &str = "http://dummy.test";
 
-/// A URL with an opaque path.
+/// The URL on which opaque paths are set.
 const OPAQUE_URL: &str = "data:dummy,test";
 
 impl Canonicalizer {
-    /// For a single value: the URL is parsed when it is needed.
+    /// Makes a canonicalizer for a single value: the URL is parsed when needed.
     pub fn new(alloc: Global) -> Self {
         Self { alloc, dummy: None }
     }
 
-    /// For several values: the URL is parsed here, and copied for each value.
-    ///
-    /// The error is that memory ran out.
+    /// Makes a canonicalizer for several values: the URL is parsed at once, and copied for each
+    /// value.
     pub fn shared(alloc: Global) -> Result<Self, Error>
         ensures { OnlyOutOfMemory result }
     {
@@ -35,7 +34,7 @@ impl Canonicalizer {
         })
     }
 
-    /// The URL on which a value is set.
+    /// Returns the URL on which a value is set.
     pub(super) fn dummy(&self) -> Result<Url, Error>
         ensures ok { IfOk result (λ url. dummy_url ≡ Ok url) }
         ensures memory { OnlyOutOfMemory result }
@@ -46,7 +45,7 @@ impl Canonicalizer {
         }
     }
 
-    /// The URL on which values are set, with this path.
+    /// Returns the URL on which values are set, with this path.
     pub(super) fn dummy_with_path(&self, path: &str, bytes: usize) -> Result<Url, Error>
         ensures { MatchResult result (λ url. path_of dummy_url path.now ≡ Ok url.path)
             (MemoryOr (Reports (path_of dummy_url path.now) bytes)) }
@@ -73,7 +72,7 @@ fn parse_dummy(alloc: Global) -> Result<Url, Error>
     parse(alloc, DUMMY_URL, 0)
 }
 
-/// Parses a URL of the scheme, in a question about texts of this many bytes at most.
+/// Parses a URL of the scheme, for a value of at most `bytes` bytes.
 pub(super) fn parse_under(alloc: Global, scheme: &str, bytes: usize) -> Result<Url, Error>
     ensures ok { IfOk result (λ url. dummy_of_scheme scheme.now ≡ Ok url) }
     ensures err { IfErr result (MemoryOr (Reports (dummy_of_scheme scheme.now) bytes)) }
@@ -82,7 +81,7 @@ pub(super) fn parse_under(alloc: Global, scheme: &str, bytes: usize) -> Result<U
     parse(alloc, &text, bytes)
 }
 
-/// Parses a URL, in a question about texts of this many bytes at most.
+/// Parses a URL, for a value of at most `bytes` bytes.
 fn parse(alloc: Global, text: &str, bytes: usize) -> Result<Url, Error>
     ensures ok { IfOk result (λ url. parse_url None text.now ≡ Ok url) }
     ensures err { IfErr result (MemoryOr (Reports (parse_url None text.now) bytes)) }

@@ -1,4 +1,4 @@
-//! Canonical values of the components of a URL: what `url` answers once they are set.
+//! Canonical values of the components of a URL: each is set on a URL of `url` and read back.
 #![tactic(auto, using(crate::proofs::SettingLemmas::empty_answered))]
 
 ghost use Rattle.std.specs.Prelude.{◌≡◌, length, IsAscii};
@@ -15,9 +15,10 @@ use url::{ParseError, quirks};
 use urlpattern_syntax::Error;
 
 impl Canonicalizer {
-    /// The canonical protocol: the scheme of a URL. A special scheme is its own.
+    /// Returns the canonical protocol: the scheme of a URL. A special scheme is its own canonical
+    /// form.
     ///
-    /// The error is the refusal of `url`, or that memory ran out.
+    /// Fails with `Error::Url` if `url` rejects the value.
     pub fn protocol(&self, value: &str) -> Result<String, Error>
         ensures { IsAnswer (canonical_protocol (chars value.now)) (length value.now) result }
     {
@@ -31,9 +32,9 @@ impl Canonicalizer {
         Ok(String::from_str(self.alloc, url.scheme())?)
     }
 
-    /// The canonical user name.
+    /// Returns the canonical user name.
     ///
-    /// The error is the refusal of `url`, or that memory ran out.
+    /// Fails with `Error::Url` if `url` rejects the value.
     pub fn username(&self, value: &str) -> Result<String, Error>
         ensures { IsAnswer (canonical_username (chars value.now)) (length value.now) result }
     {
@@ -45,9 +46,9 @@ impl Canonicalizer {
         Ok(String::from_str(self.alloc, url.username())?)
     }
 
-    /// The canonical password.
+    /// Returns the canonical password.
     ///
-    /// The error is the refusal of `url`, or that memory ran out.
+    /// Fails with `Error::Url` if `url` rejects the value.
     pub fn password(&self, value: &str) -> Result<String, Error>
         ensures { IsAnswer (canonical_password (chars value.now)) (length value.now) result }
     {
@@ -59,9 +60,9 @@ impl Canonicalizer {
         Ok(String::from_str(self.alloc, quirks::password(&url))?)
     }
 
-    /// The canonical hostname.
+    /// Returns the canonical hostname.
     ///
-    /// The error is the refusal of `url`, or that memory ran out.
+    /// Fails with `Error::Url` if `url` rejects the value.
     pub fn hostname(&self, value: &str) -> Result<String, Error>
         ensures { IsAnswer (canonical_hostname (chars value.now)) (length value.now) result }
     {
@@ -74,9 +75,9 @@ impl Canonicalizer {
         Ok(String::from_str(self.alloc, quirks::hostname(&url))?)
     }
 
-    /// The canonical port under a protocol, empty if it is the protocol's default.
+    /// Returns the canonical port under a protocol, empty for the default port of the protocol.
     ///
-    /// The error is the refusal of `url`, or that memory ran out.
+    /// Fails with `Error::Url` if `url` rejects the value.
     pub fn port(&self, value: &str, protocol: Option<&str>) -> Result<String, Error>
         ensures { IsAnswer (canonical_port (option_text protocol.entry) (chars value.now)) (port_bytes value.now protocol.entry) result }
     {
@@ -94,9 +95,9 @@ impl Canonicalizer {
         Ok(String::from_str(self.alloc, quirks::port(&url))?)
     }
 
-    /// The canonical path of segments.
+    /// Returns the canonical path of segments.
     ///
-    /// The error is the refusal of `url`, or that memory ran out.
+    /// Fails with `Error::Url` if `url` rejects the value.
     pub fn pathname(&self, value: &str) -> Result<String, Error>
         ensures { IsAnswer (canonical_pathname (chars value.now)) (length value.now) result }
     {
@@ -112,9 +113,9 @@ impl Canonicalizer {
         Ok(String::from_str(self.alloc, without_guard(url.path()))?)
     }
 
-    /// The canonical opaque path.
+    /// Returns the canonical opaque path.
     ///
-    /// The error is the refusal of `url`, or that memory ran out.
+    /// Fails with `Error::Url` if `url` rejects the value.
     pub fn opaque_pathname(&self, value: &str) -> Result<String, Error>
         ensures { IsAnswer (canonical_opaque_pathname (chars value.now)) (length value.now) result }
     {
@@ -126,9 +127,9 @@ impl Canonicalizer {
         Ok(String::from_str(self.alloc, url.path())?)
     }
 
-    /// The canonical query.
+    /// Returns the canonical query.
     ///
-    /// The error is the refusal of `url`, or that memory ran out.
+    /// Fails with `Error::Url` if `url` rejects the value.
     pub fn search(&self, value: &str) -> Result<String, Error>
         ensures { IsAnswer (canonical_search (chars value.now)) (length value.now) result }
     {
@@ -140,9 +141,9 @@ impl Canonicalizer {
         Ok(String::from_str(self.alloc, url.query().unwrap_or(""))?)
     }
 
-    /// The canonical fragment.
+    /// Returns the canonical fragment.
     ///
-    /// The error is the refusal of `url`, or that memory ran out.
+    /// Fails with `Error::Url` if `url` rejects the value.
     pub fn hash(&self, value: &str) -> Result<String, Error>
         ensures { IsAnswer (canonical_hash (chars value.now)) (length value.now) result }
     {
@@ -155,7 +156,7 @@ impl Canonicalizer {
     }
 }
 
-/// The scheme that a port is read under.
+/// Returns the scheme under which a port is parsed.
 fn scheme_for_port(protocol: &str) -> &str
     ensures { chars result.now ≡ scheme_for_port (chars protocol.now) }
 {
@@ -166,7 +167,7 @@ fn scheme_for_port(protocol: &str) -> &str
     }
 }
 
-/// The path without `/-` at its front.
+/// Returns the path without an initial `/-`.
 fn without_guard(path: &str) -> &str
     requires { IsAscii path.now }
     ensures { result.now ≡ without_guard path.now }

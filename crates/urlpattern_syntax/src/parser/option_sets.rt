@@ -1,4 +1,4 @@
-//! The options of the components, and the texts that go by them.
+//! The standard's options, and the regular expression texts that depend on options.
 ghost use Rattle.std.specs.Prelude.{◌≡◌, IfOk};
 ghost use Rattle.std.specs.Str.{chars};
 ghost use Rattle.urlpattern_syntax.specs.{Errors.OnlyOutOfMemory, Text.text_of};
@@ -12,7 +12,7 @@ use crate::writing::written;
 use std::alloc::Global;
 
 impl Options {
-    /// The options of most components: no delimiter and no prefix code point.
+    /// Returns the options of most components: no delimiter and no prefix code point.
     ///
     /// <https://urlpattern.spec.whatwg.org/#default-options>
     pub fn default(alloc: Global) -> Self
@@ -26,7 +26,7 @@ impl Options {
         }
     }
 
-    /// The options of a hostname, whose segments end at a dot.
+    /// Returns the options of a hostname, whose segments end at a dot.
     ///
     /// <https://urlpattern.spec.whatwg.org/#hostname-options>
     pub fn hostname(alloc: Global) -> Self
@@ -38,9 +38,7 @@ impl Options {
         }
     }
 
-    /// The options of a pathname, whose segments begin and end at a slash.
-    ///
-    /// The error is that memory ran out.
+    /// Returns the options of a pathname, whose segments begin and end at a slash.
     ///
     /// <https://urlpattern.spec.whatwg.org/#pathname-options>
     pub fn pathname(alloc: Global) -> Result<Self, Error>
@@ -55,9 +53,7 @@ impl Options {
         })
     }
 
-    /// The text, with a backslash before each character that means more than itself in a regular expression.
-    ///
-    /// The error is that memory ran out.
+    /// Escapes a text for a regular expression, with a backslash before each special character.
     ///
     /// <https://urlpattern.spec.whatwg.org/#escape-a-regexp-string>
     pub fn escape_regexp_string(&self, alloc: Global, input: &str) -> Result<String, Error>
@@ -67,9 +63,8 @@ impl Options {
         Ok(written(alloc, &Escaped::regexp(input, self))?)
     }
 
-    /// The regular expression of a segment: some characters that are no delimiter.
-    ///
-    /// The error is that memory ran out.
+    /// Returns the regular expression of a segment: one or more characters other than the
+    /// delimiter.
     ///
     /// <https://urlpattern.spec.whatwg.org/#generate-a-segment-wildcard-regexp>
     pub fn generate_segment_wildcard_regexp(&self, alloc: Global) -> Result<String, Error>

@@ -10,7 +10,7 @@ use Rattle.urlpattern_laws.proofs.OutcomesOne.{first_ways_decide, init_refusal_o
 use Rattle.urlpattern_laws.specs.Outcomes.{TakesOrRefusesGenerated}
 use Rattle.urlpattern_laws.proofs.laws.inits_have_one_outcome.Goals as goal
 
--- the regular expression of such parts is never refused
+-- The regular expression of parts without a custom one is never rejected.
 takes_generated : TakesOrRefusesGenerated pattern_engine
 takes_generated manner none = record {
   whole = λ parts reads value error taken refused. elim refused [
