@@ -86,8 +86,8 @@ pub record FollowsOn (old new : Attempt) (is_taken : Bool) (found : Option Captu
   pub more : is_taken ≡ false → Extends old.captures.items new.captures.items
   pub whole : new.failed ≡ old.failed
 
--- With the captures before them, the steps have the same captures in the text as the remaining
--- steps in the rest.
+-- The remaining steps have, with the captures before them, the same captures in the rest as the
+-- steps in the text.
 abbrev pub LeavesWalk : (ignore_case : Bool) (old new : KeptVec) → (steps : List Step) → (text : List ℕ) → (left : List Step) → (rest : List ℕ) → Type 0
 LeavesWalk ignore_case old new steps text left rest =
     with_captures old.items (walk ignore_case steps (chars text)) ≡ with_captures new.items (walk ignore_case left (chars rest))

@@ -21,7 +21,8 @@ IsWithoutLast n text front = (end : List ℕ) × IsUtf8 end × (text ≡ front +
 
 -- ---- runs of characters
 
--- The end of a run that continues with the first character; None if this is `end`.
+-- The end of a run that continues with the first character; None if this is `end`, or there is
+-- none.
 abbrev pub going_on : (ignore_case : Bool) (end : ℕ) → (later : Option ℕ) → (text : List ℕ) → Option ℕ
 going_on ignore_case end later [] = None
 going_on ignore_case end later (c ∷ text) = if is_same_character ignore_case c end then None else later
