@@ -104,7 +104,7 @@ module _ (tree : Items) (h : AreItems tree) where
       group_refused 1 text (2 * length text + 2) n (omega arith) (branch_refused large n (omega arith)) in
       rw (read, none)
 
-  -- A text that is read has no more groups.
+  -- A text that is read has at most 2 ^ 32 groups, the whole match among them.
   pub few_groups : (found : Nested Re × Names) → read default_config (codes "^" ++ items_text tree ++ codes "$") ≡ Some found → suc (group_count tree) ≤ 2 ^ 32
   few_groups found e =
       ⊎_elim (λ (few : suc (group_count tree) ≤ 2 ^ 32). few) (λ (large : 2 ^ 32 < suc (group_count tree)). absurd (none-some found (sym (tree_is_refused large) ∙ e)))

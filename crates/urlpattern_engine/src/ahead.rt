@@ -184,7 +184,7 @@ impl Trial<'_> {
         }
     }
 
-    /// Skips states that save a position, as far as they are looked past.
+    /// Returns the state after those that save a position, at most `AHEAD` of them.
     #[inline(always)]
     fn after_writes(&self, id: StateId) -> StateId
         requires { IsState self.now id }
@@ -228,7 +228,7 @@ impl Trial<'_> {
     }
 }
 
-/// The least span that contains both, or the nonempty one.
+/// The least span that contains both.
 #[inline(always)]
 fn either(one: Span, other: Span) -> Span
     ensures one { (b : ℕ) → HasByte one b → HasByte result b }

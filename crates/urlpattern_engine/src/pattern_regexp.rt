@@ -66,8 +66,8 @@ enum Expression {
     Custom(String),
 }
 
-/// Case is ignored if the flags have an `i`; other flags have no effect. Each text is read at once.
-/// An expression that is generated from parts without custom ones is never rejected; others are
+/// Case is ignored if the flags have an `i`; other flags, and `force_eval`, have no effect. An
+/// expression that is generated from parts without custom ones is never rejected; others are
 /// rejected only if the grammar of `regex` does not read them, or if they are nested too deep or
 /// too large.
 ///
