@@ -1,4 +1,4 @@
--- Two values that were made of one expression answer alike.
+-- Two values of one expression return the same.
 use Rattle.std.proofs.Common.{◌≡◌, ℕ, Bool, false, List, ap, inl, inr, subst, sym, ◌∙◌}
 use Rattle.std.specs.Prelude.{IsSome, IsTrue}
 use Rattle.std.specs.Str.{all_scalars}

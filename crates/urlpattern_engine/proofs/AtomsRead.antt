@@ -1,4 +1,4 @@
--- As what the crate `regex` reads the text of an atom: a character, a dot or a class.
+-- How the crate `regex` reads the text of an atom: a character, a dot or a class.
 use Rattle.std.proofs.Common.{◌≡◌, ℕ, ◌+◌, ◌-◌, ◌*◌, ◌≤◌, ◌<◌, List, [], ◌∷◌, ◌++◌, map, length, Some, None, true, false, not, ◌&&◌, ◌||◌, ◌==◌, refl, sym, ap, ◌∙◌, subst, arith, ne_eqb, eqb-true, ⊎_elim, ◌⊎◌, encode_utf8, codes, IsTrue}
 use Rattle.std.proofs.lemmas.Bool.{both_ways, cases_Bool, and_right, false_from_ne_true}
 use Rattle.std.proofs.lemmas.Bool.Decides.{nat_tests}
@@ -103,7 +103,7 @@ read_dot rest = refl
 abbrev pub any_but : ℕ → Nested Re
 any_but c = record { value = one_of default_config (negate default_config (λ d. (d == c) || false)); depth = 1 }
 
--- a class with this text after its caret is read as having one member, the character
+-- A class with this text after its caret is read with one member, the character.
 abbrev Inside : ℕ → Text → Text → Type 0
 Inside c t rest = (n : ℕ) → 2 < n →
     (leading after : Text) × (bracket_start default_config (0x5E ∷ t) ≡ (true, leading, after))
@@ -119,7 +119,7 @@ unfolding bracket_start take_run take_up_to first skip operator
 bracket_inside rest n le =
     (93 ∷ [], 93 ∷ rest, refl, union_ends default_config n (n - 1) (flat (λ d. d == 93) ∷ []) (93 ∷ rest) (93 ∷ rest) (omega arith) refl refl)
 
--- a member that is no hyphen and no bracket
+-- A member that is neither a hyphen nor a bracket.
 item_inside : (c : ℕ) (t rest : Text) → is_at "-" t ≡ false → is_at "]" t ≡ false → operator t ≡ None → posix t ≡ None → is_at "[" t ≡ false
     → set_item default_config t ≡ Some ((λ d. d == c), 93 ∷ rest) → Inside c t rest
 unfolding bracket_start take_run skip first item_or operator

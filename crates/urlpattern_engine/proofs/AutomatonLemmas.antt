@@ -1,4 +1,4 @@
--- What an automaton answers is what its tree does.
+-- An automaton returns what its tree does.
 use Rattle.std.proofs.Common.{◌≡◌, ℕ, zero, suc, ◌+◌, ◌-◌, ◌*◌, ◌/◌, ◌<◌, ◌≤◌, Bool, true, cond, nat_le, ◌&&◌, ◌==◌, inl, inr, List, ◌∷◌, map, length, Option, Some, None, option_map, is_some, false, true≢false, IsUtf8, IsCharBoundary, slice_index, take, ext_get_or, get_or-take, length-take-le, refl, sym, ap, ap₂, ◌∙◌, subst, ⊎_elim, arith, ne_eqb, le-leb}
 use Rattle.std.proofs.lemmas.Bool.{and_from, and_parts, cases_Bool, cond-true, cond-false, leb-true}
 use Rattle.std.proofs.lemmas.List.FromFn.{get_or-map-range_with_len, length-map-range_with_len}
@@ -59,7 +59,7 @@ module _ (nfa : Nfa) (re : Re) (implements : Implements nfa re) (anchored : IsAn
       (cond-true (is_boundary hay 0) _ None (test_of_IsCharBoundary hay 0 (IsCharBoundary-start hay utf8)) ∙ found.1)))
       (option_cases (attempt hay re accept 0))
 
--- ---- what groups capture
+-- ---- the captures of groups
 
 slot_after : (m : Match) (slot : ℕ) → 2 ≤ slot → slot_of m slot ≡ last_write m.trace.writes slot
 unfolding slot_of
@@ -88,7 +88,7 @@ text_is_not_cut hay first last never = elim (cases_Bool (nat_le first last && (i
   | inr refused ↦ cond-false _ _ None refused
 ]
 
--- the span is in order, between characters
+-- The span is in order and at character boundaries.
 abbrev Fits : List ℕ → ℕ × ℕ → Type 0
 Fits hay s = (s.0 ≤ s.1) × IsCharBoundary hay s.0 × IsCharBoundary hay s.1
 
@@ -142,11 +142,11 @@ module _ (ignore_case : Bool) (source : List ℕ) (nfa : Nfa) (made : IsNfaOf ig
       ap₂ (λ n o. option_map (match_captures bytes n) o) count (first_is_found nfa re made.implements made.is_anchored bytes spelled)
       ∙ option_map_same (find_str re bytes 0) _ _ (λ m found. captures_are_texts bytes re m _ spelled (text_parts made.tree made.is_formed) found)
 
-  -- an automaton answers what the grammar reads in its text
+  -- An automaton returns the first match of what the grammar reads in its text.
   pub automaton_as_read : automaton_answer nfa text ≡ read_answer ignore_case (chars source) text
   automaton_as_read = answers_as_tree ∙ tree_as_read ignore_case source made.tree made.names made.is_read text fine
 
--- what is known of an automaton as a fact with one proof is enough
+-- The truncated fact about an automaton is enough.
 pub automaton_as_read_once : (ignore_case : Bool) (source : List ℕ) (nfa : Nfa) → ∥ IsNfaOf ignore_case source nfa ∥₁ → (text : List ℕ) → IsTrue (all_scalars text)
     → automaton_answer nfa text ≡ read_answer ignore_case (chars source) text
 automaton_as_read_once ignore_case source nfa made text fine =
@@ -176,7 +176,7 @@ cells_show hay m width count fits =
     (ap₂ both (cell_at m width (2 * n - 2) (2 * n) (omega arith) (omega arith) (omega arith))
     (cell_at m width (2 * n - 1) (2 * n + 1) (omega arith) (omega arith) (omega arith))))
 
--- the cells of a match that was found, and no match
+-- The result for the cells of a match, or for none.
 pub answer_of_cells : (nfa : Nfa) (bytes cells : List ℕ) (width : ℕ) (texts : Captures) → IsUtf8 bytes → width ≡ nfa.slot_count - 2 → length cells ≡ width
     → true ≡ is_some (match_at_start nfa bytes) → IfSome (match_at_start nfa bytes) (λ m. cells ≡ group_cells m width)
     → texts ≡ cell_texts bytes cells (length cells / 2) → Some texts ≡ automaton_answer nfa (chars bytes)
@@ -218,7 +218,7 @@ few_cells m count width fits =
     ∙ get_or-map-range_with_len at 0 width k k 0 (omega arith) (omega arith)
     ∙ sym (get_or-map-range_with_len at 0 count k k 0 below (omega arith)))
 
--- the cells that a search finds, if it finds any
+-- The cells of a match, if there is one.
 pub cells_of_some : (o : Option Match) (cells : List ℕ) (count width : ℕ) → count ≤ width → Some cells ≡ option_map (λ m. group_cells m width) o
     → (true ≡ is_some o) × IfSome o (λ m. take count cells ≡ group_cells m count) × (length (take count cells) ≡ count)
 unfolding group_cells

@@ -1,4 +1,4 @@
--- A value of the engine answers the first way, and what `regex::Regex` answers.
+-- A value of the engine returns the first match in backtracking order, as `regex::Regex` does.
 use Rattle.std.proofs.Common.{◌≡◌, ◌⊎◌, ℕ, Bool, false, true, List, Option, Some, None, codes, is_some, refl, sym, ap, ◌∙◌, subst, inl, inr}
 use Rattle.std.proofs.lemmas.Str.{IsUtf8-string_bytes, scalars-chars}
 use Rattle.std.specs.Prelude.{⊤, IfSome, IsOk, IsSome, IsTrue, Ok, Err, Result, String, string_bytes}
@@ -36,15 +36,16 @@ use Rattle.urlpattern_meaning.proofs.FirstAnswers.{first_agrees, took_all}
 use Rattle.urlpattern_engine.proofs.AutomatonLemmas.{automaton_as_read}
 use Rattle.urlpattern_engine.proofs.ReadAnswers.{first_as_read, read_answer_is, read_by_default, reads_some, regex_as_read, regex_some}
 
--- ---- how a value answers
+-- ---- the result of a value
 
--- by the first way of a tree of its expression
+-- The result is the first match of a tree of the expression.
 pub record AnswersByTree (ignore_case : Bool) (regexp : List ℕ) (expression : Expression) : Type 0 where
   pub tree : Items
   pub is_tree : IsTreeOf regexp tree
   pub answers : (text : List ℕ) → expression_answer ignore_case expression text ≡ first_way_by ignore_case tree text
 
--- by what the grammar reads in it, and no parts without a custom one generate it
+-- The result is the first match of what the grammar reads in the expression, which is not
+-- generated.
 pub record AnswersAsRead (ignore_case : Bool) (regexp : List ℕ) (expression : Expression) : Type 0 where
   pub is_custom : ¬ IsGenerated regexp
   pub is_read : IsSome (read (config_for ignore_case) regexp)
@@ -79,7 +80,7 @@ form_of ignore_case regexp (Custom own) made = inr (record {
 pub text_good : (source : String Global) (regexp : List ℕ) → text_of source ≡ regexp → scalars regexp ≡ true
 text_good source regexp of_text = ap scalars (sym of_text) ∙ scalars-chars (string_bytes source) (IsUtf8-string_bytes source)
 
--- the expression is of characters
+-- The expression consists of characters.
 pub expression_good : (ignore_case : Bool) (regexp : List ℕ) (expression : Expression) → IsExpressionOf ignore_case regexp expression → scalars regexp ≡ true
 expression_good ignore_case regexp (Own own) made = text_good own.value.text regexp made.0
 expression_good ignore_case regexp (Generated own) made = text_good own.text regexp made
@@ -88,7 +89,8 @@ expression_good ignore_case regexp (Other regex) made = text_good regex.value.pa
 expression_good ignore_case regexp (Custom own) made = text_good own regexp made.0
 
 module _ (ignore_case : Bool) (regexp : List ℕ) (expression : Expression) (made : IsExpressionOf ignore_case regexp expression) (text : List ℕ) where
-  -- a value that was made of the regular expression of parts without a custom one answers the first way of its tree
+  -- A value of the regular expression of parts without custom ones returns the first match of its
+  -- tree.
   pub expression_generated : IsGenerated regexp → (tree : Items) → IsTreeOf regexp tree → expression_answer ignore_case expression text ≡ first_way_by ignore_case tree text
   expression_generated generated tree is = elim (form_of ignore_case regexp expression made) [
     | inl own ↦ own.answers text ∙ ap (λ t. first_way_by ignore_case t text) (trees_are_one regexp own.tree tree own.is_tree is)
@@ -96,7 +98,7 @@ module _ (ignore_case : Bool) (regexp : List ℕ) (expression : Expression) (mad
   ]
 
   module _ (kept : ignore_case ≡ false) (fine : IsTrue (all_scalars text)) where
-    -- if case is kept, a value answers what the grammar reads
+    -- If case is kept, a value returns the first match of what the grammar reads.
     pub expression_as_read : IsSome (read default_config regexp) → expression_answer ignore_case expression text ≡ read_answer false regexp text
     expression_as_read some = elim (form_of ignore_case regexp expression made) [
       | inl own ↦
@@ -105,7 +107,7 @@ module _ (ignore_case : Bool) (regexp : List ℕ) (expression : Expression) (mad
       | inr read ↦ read.answers text fine ∙ ap (λ b. read_answer b regexp text) kept
     ]
 
-    -- and the first way of a tree
+    -- If case is kept, a value returns the first match of a tree of its text.
     pub expression_first : (tree : Items) → IsTreeOf regexp tree → expression_answer ignore_case expression text ≡ first_way tree text
     expression_first tree is = elim (form_of ignore_case regexp expression made) [
       | inl own ↦
@@ -122,7 +124,7 @@ pub pattern_regexp_first : (regexp flags : List ℕ) (tree : Items) (value : Pat
 unfolding pattern_answer
 pattern_regexp_first regexp flags tree value text keeps is made fine = expression_first value.ignore_case regexp value.expression made.of_text text (made.by_flags ∙ keeps) fine tree is
 
--- a value that was made of a text answers the first way of its tree, if case is kept, and so it follows the text
+-- If case is kept, a value returns the first match of the tree of its text, and follows the text.
 pub answers_first_of : (regexp flags : List ℕ) (value : PatternRegexp) → ignores_case flags ≡ false → IsPatternRegexpOf regexp flags value → AnswersFirst regexp (pattern_answer value)
 answers_first_of regexp flags value keeps made = λ tree text is fine. pattern_regexp_first regexp flags tree value text keeps is made fine
 
@@ -135,7 +137,7 @@ values_by_flags options flags parts tree value generated is made = λ text.
     expression_generated value.ignore_case (regexp_text options parts) value.expression made.of_text text (options, parts, generated, refl) tree is
     ∙ ap (λ b. first_way_by b tree text) made.by_flags
 
--- so it answers what such parts mean, if case is kept
+-- If case is kept, a value returns what parts without custom ones mean.
 pub values_agree : ValuesAgreeWithParts pattern_engine.IsMade pattern_engine.answer
 values_agree options parts value generated made text =
     let is = is_tree_of options parts generated in
@@ -173,7 +175,7 @@ regex_values_read regexp flags regex any made =
 
 -- ---- matchers
 
--- no value is missing for a text of parts of which none is custom
+-- The text of parts without custom ones is not rejected.
 takes_generated : (force_eval : Bool) (flags : List ℕ) (options : OptionsView) (parts : List PartView) (error : ErrorView) → AreGenerated parts → ¬ IsEngineOf pattern_engine force_eval flags (regexp_text options parts) (Err error)
 takes_generated force_eval flags options parts error generated (of_regexp, may) = may.0 (options, parts, generated, refl)
 
@@ -189,7 +191,8 @@ engine_taken has flags options parts (Err error) generated syntax is = elim is [
   | inr asked ↦ absurd (takes_generated true flags options parts error generated asked.1)
 ]
 
--- so a component of such parts has a value of the engine, and so has its matcher where it needs one
+-- A component of parts without custom ones has a value of the engine, and so has its matcher if it
+-- needs one.
 pub component_takes : (syntax : RegexSyntax) → ComponentsTakeGenerated (record pattern_engine { syntax_of = syntax })
 component_takes syntax options parts component is generated = (
   engine_taken (has_regexp parts) (engine_flags options) options parts component.regexp generated syntax is.has_engine,

@@ -1,4 +1,4 @@
--- What the slots that an attempt wrote show of the captures.
+-- The captures, by the slots that an attempt wrote.
 use Rattle.std.proofs.Common.{◌≡◌, ℕ, zero, suc, ◌+◌, ◌-◌, ◌*◌, ◌≤◌, ◌<◌, List, [], ◌∷◌, ◌++◌, replicate, length, take, Option, Some, None, option_map, true, false, cond, ◌==◌, refl, sym, ap, ap₂, ◌∙◌, subst, append_assoc, append-nil, length-append, inl, inr, ◌⊎◌, ⊎_elim, arith, eq-eqb, ne_eqb, chars, slice_range, take_at}
 use Rattle.std.proofs.lemmas.Bool.{cond-true, cond-false, and_parts, and_from}
 use Rattle.std.proofs.lemmas.List.{drop_at}
@@ -25,7 +25,7 @@ absent slot (w ∷ ws) every =
     let differs : (w.0 == slot) ≡ false = ne_eqb w.0 slot (λ e. ⊎_elim (λ (l : w.0 < slot). omega arith) (λ (m : slot < w.0). omega arith) every.0) in
     ap₂ option_or (absent slot ws every.1) (cond-false (w.0 == slot) (Some w.1) None differs)
 
--- a write to none of the slots of n groups, the first of which is g
+-- A write to none of the slots of n groups, the first of which is g.
 abbrev Outside : ℕ → ℕ → ℕ × ℕ → Type 0
 Outside g n w = (w.0 < 2 * g) ⊎ (2 * (g + n) ≤ w.0)
 
@@ -41,7 +41,7 @@ module _ (hay : List ℕ) where
   abbrev pub group_text : Writes → ℕ → Option (List ℕ)
   group_text ws n = option_map text_at (both (last_write ws (2 * n)) (last_write ws (2 * n + 1)))
 
-  -- the groups span these captures, the first of which is that of group g
+  -- The groups have these captures, the first of which is that of group g.
   abbrev pub Spans : ℕ → Captures → Writes → Type 0
   Spans g [] ws = Unit {0}
   Spans g (c ∷ captures) ws = (group_text ws g ≡ c) × Spans (suc g) captures ws
@@ -49,7 +49,7 @@ module _ (hay : List ℕ) where
   abbrev pub Shown : ℕ → Captures → Writes → Type 0
   Shown g captures own = Every (λ w. (2 * g ≤ w.0) × (w.0 < 2 * (g + length captures))) own × Spans g captures own
 
-  -- writes to other slots, before and after, change none of them
+  -- Writes to other slots, before and after, change no capture.
   spans-around : (g : ℕ) (captures : Captures) (front own back : Writes) → Every (Outside g (length captures)) front → Every (Outside g (length captures)) back
       → Spans g captures own → Spans g captures (front ++ (own ++ back))
   spans-around g [] front own back p q s = tt

@@ -1,4 +1,4 @@
--- The text of a tree with more groups than the crate `regex` counts is not read.
+-- The text of a tree with more groups than the crate `regex` can count is not read.
 use Rattle.std.proofs.Common.{◌≡◌, ℕ, suc, ◌+◌, ◌-◌, ◌*◌, ◌^◌, ◌≤◌, ◌<◌, List, [], ◌∷◌, ◌++◌, length, replicate, Option, Some, None, true, refl, sym, ap, ◌∙◌, subst, arith, append_assoc, le-ltb, ⊎_elim, ◌⊎◌, codes}
 use Rattle.std.proofs.lemmas.Option.{none-some, same_Some}
 use Rattle.std.proofs.lemmas.List.{length-replicate}
@@ -95,7 +95,7 @@ module _ (tree : Items) (h : AreItems tree) where
       leaf_passes n (n - 1) [] 1 94 inside first_line (omega arith) refl (rw (full 94 inside)) refl (free_items tree h (36 ∷ []) refl)
       ∙ items-refused tree h 1 (omega arith) (omega arith) (36 ∷ []) refl (n - 1) (omega arith) (first_line ∷ [])
 
-  -- from 2 ^ 32 groups on, that of the whole match among them, nothing is read
+  -- With more than 2 ^ 32 groups, the whole match among them, nothing is read.
   pub tree_is_refused : 2 ^ 32 < suc (group_count tree) → read default_config (codes "^" ++ items_text tree ++ codes "$") ≡ None
   unfolding read
   tree_is_refused large =
@@ -104,13 +104,13 @@ module _ (tree : Items) (h : AreItems tree) where
       group_refused 1 text (2 * length text + 2) n (omega arith) (branch_refused large n (omega arith)) in
       rw (read, none)
 
-  -- what is read has fewer
+  -- A text that is read has at most 2 ^ 32 groups, the whole match among them.
   pub few_groups : (found : Nested Re × Names) → read default_config (codes "^" ++ items_text tree ++ codes "$") ≡ Some found → suc (group_count tree) ≤ 2 ^ 32
   few_groups found e =
       ⊎_elim (λ (few : suc (group_count tree) ≤ 2 ^ 32). few) (λ (large : 2 ^ 32 < suc (group_count tree)). absurd (none-some found (sym (tree_is_refused large) ∙ e)))
       (within (suc (group_count tree)) (2 ^ 32))
 
--- So what is read, is read as the pattern of the tree, with groups that have no names.
+-- A text that is read is read as the pattern of the tree, with groups without names.
 pub tree_reads : (tree : Items) → AreItems tree → scalars (items_text tree) ≡ true → (found : Nested Re × Names)
     → read default_config (codes "^" ++ items_text tree ++ codes "$") ≡ Some found
     → (found ≡ (whole tree, replicate (suc (group_count tree)) None)) × SameTree found.0.value (re_of tree)

@@ -1,4 +1,4 @@
--- As what the crate `regex` reads the text of items, with their quantifiers and groups.
+-- How the crate `regex` reads the text of items, with their quantifiers and groups.
 use Rattle.std.proofs.Common.{◌≡◌, ℕ, suc, ◌+◌, ◌-◌, ◌*◌, ◌^◌, ◌≤◌, ◌<◌, List, [], ◌∷◌, ◌++◌, length, replicate, Option, Some, None, Bool, true, false, ◌||◌, ◌==◌, refl, sym, ap, ◌∙◌, subst, arith, ne_eqb, lt-ltb, append_assoc, append-nil, length-append, nat_eq}
 use Rattle.std.proofs.lemmas.Bool.{and_left, both_ways}
 use Rattle.std.proofs.lemmas.List.{length-replicate, replicate_more}
@@ -15,11 +15,11 @@ use Rattle.urlpattern_meaning.specs.Dialect.{Character, Plain, Escaped, characte
 use Rattle.urlpattern_engine.proofs.TreeAttempts.{re_taken}
 use Rattle.urlpattern_engine.proofs.AtomsRead.{differs, itself, any_character, any_but, read_character, read_dot, read_class, full}
 
--- where the text is left to read, after groups with these names
+-- The place before a text, after groups with these names.
 abbrev pub at_text : Names → Text → Place
 at_text names t = record { config = default_config; names = names; text = t }
 
--- after so many groups that have no names
+-- The place before a text, after g groups without names.
 abbrev pub place : ℕ → Text → Place
 place g t = at_text (replicate g None) t
 
@@ -44,7 +44,7 @@ unfolding first
 free_lazy [] h = refl
 free_lazy (c ∷ t) h = left_false (c == 63) _ h
 
--- one mark
+-- A quantifier of a single mark.
 marked : (q : Quantifier) (mark : ℕ) (sub : Nested Re) (names : Names) (rest : Text) → Free rest → is_at "?*+{" (mark ∷ rest) ≡ true
     → (bounds default_config (mark ∷ rest) >>= more_repetitions default_config (length (mark ∷ rest)) sub) ≡ repetitions default_config (length (mark ∷ rest)) (repeated_as q sub) rest
     → with_repetitions sub (at_text names (mark ∷ rest)) ≡ Some (repeated_as q sub, at_text names rest)
@@ -72,7 +72,7 @@ quantified LazyOneOrMore sub names rest free =
       repetitions_end default_config (length (43 ∷ 63 ∷ rest)) (length (63 ∷ rest)) (repeated_as LazyOneOrMore sub) rest rest (omega arith) refl free,
     )
 
--- an atom that is no group, and its quantifier
+-- An atom that is not a group, and its quantifier.
 pub item_of_atom : (inner : Place → Read (Nested Re)) (t : Text) (q : Quantifier) (rest : Text) (sub : Nested Re) (g : ℕ) → is_at "(" t ≡ false
     → atom default_config t ≡ Some (sub, quantifier_text q ++ rest) → Free rest → item inner (place g t) ≡ Some (repeated_as q sub, place g rest)
 unfolding item
@@ -80,7 +80,7 @@ item_of_atom inner t q rest sub g no_group reads free = rw (item, no_group, read
 
 -- ---- what begins a text
 
--- a text that is free begins with no word that begins with a question mark
+-- A free text does not begin with a word that begins with a question mark.
 pub begins_no : (word : List ℕ) (t : Text) → Free t → starts_with nat_eq t (63 ∷ word) ≡ false
 unfolding first
 begins_no word [] h = refl
@@ -104,7 +104,7 @@ opens_item (Grouped items) h more = (refl, rw (full 40 (63 ∷ 58 ∷ (items_tex
 pub item_length : (a : Atom) (q : Quantifier) (more : Text) → length (atom_text a ++ (quantifier_text q ++ more)) ≡ length (atom_text a) + (length (quantifier_text q) + length more)
 item_length a q more = length-append (atom_text a) (quantifier_text q ++ more) ∙ ap (λ l. length (atom_text a) + l) (length-append (quantifier_text q) more)
 
--- how long a text is from its first item on, and after that item
+-- Bounds for the length of a text from its first item, and after that item.
 pub record FirstItem (a : Atom) (q : Quantifier) (more : Text) (n : ℕ) : Type 0 where
   pub whole : 2 * length (atom_text a ++ (quantifier_text q ++ more)) < n
   pub behind : 2 * length more < n - 1
@@ -155,7 +155,7 @@ abbrev mutual
   part g (Captured items) = level (group g) (alone_in (parts (suc g) items))
   part g (Grouped items) = level (λ re. re) (alone_in (parts g items))
 
--- brackets that capture are read as such
+-- A capturing group is opened.
 pub opens_as : (names : Names) (t : Text) → Free t → opening (at_text names (40 ∷ t)) ≡ capture (at_text names (40 ∷ t)) None t
 unfolding opening first skip
 opens_as names t free = rw (opening, begins_no (80 ∷ 60 ∷ []) t free, begins_no (60 ∷ []) t free, free_lazy t free)
@@ -175,14 +175,14 @@ pub opens_grouped : (g : ℕ) (t : Text) → opening (place g (40 ∷ 63 ∷ 58 
 unfolding opening set_flags first skip
 opens_grouped g t = refl
 
--- what closes a group, and its quantifier
+-- The end of a group, and its quantifier.
 closed : (sub : Nested Re) (make : Re → Re) (g : ℕ) (q : Quantifier) (more : Text) (inner : Place → Read (Nested Re)) (inside : Place) → Free more
     → inner inside ≡ Some (sub, place g (41 ∷ (quantifier_text q ++ more)))
     → rest_of_group inner default_config (opens make) inside ≡ Some (repeated_as q (level make sub), place g more)
 unfolding first
 closed sub make g q more inner inside free reads = rw (rest_of_group, reads) (quantified q (level make sub) (replicate g None) more free)
 
--- what is in a group
+-- The body of a group.
 branch_read : (tree : Items) (g h : ℕ) (rest : Text) (top n m : ℕ) → top ≡ suc n
     → join_after cat_all [] (items n (place g (items_text tree ++ 41 ∷ rest))) ≡ join_after cat_all (parts g tree) (items m (place h (41 ∷ rest)))
     → 0 < m → group_inside top (place g (items_text tree ++ 41 ∷ rest)) ≡ Some (alone_in (parts g tree), place h (41 ∷ rest))
@@ -192,7 +192,7 @@ branch_read tree g h rest top n m e same le =
     ∙ ap (λ o. o >>= more_branches n []) (join_parts_is cat_all _ ∙ same ∙ branch_ends m (m - 1) (parts g tree) (place h (41 ∷ rest)) (41 ∷ rest) (omega arith) refl (rw (full 41 rest)))
     ∙ join_ends alt_all (join cat_all (parts g tree) ∷ []) _
 
--- a group with its quantifier
+-- A group with its quantifier.
 group_item : (sub : Nested Re) (make : Re → Re) (g h k : ℕ) {inside : Text} (t : Text) (q : Quantifier) (more : Text) (m : ℕ)
     → opening (place g (40 ∷ t)) ≡ Some (opens make, place h inside) → Free more → group_inside m (place h inside) ≡ Some (sub, place k (41 ∷ (quantifier_text q ++ more)))
     → item (group_inside m) (place g (40 ∷ t)) ≡ Some (repeated_as q (level make sub), place k more)
@@ -214,7 +214,7 @@ AreRead g tree rest n earlier =
     (m : ℕ) × (2 * length rest < m)
     × (join_after cat_all earlier (items n (place g (items_text tree ++ rest))) ≡ join_after cat_all (earlier ++ parts g tree) (items m (place (g + group_count tree) rest)))
 
--- the first item, and the others
+-- The first item, and the others.
 goes_on : (a : Atom) (q : Quantifier) (tree : Items) (g : ℕ) (rest : Text) (n : ℕ) (earlier : List (Nested Re))
     → join_after cat_all earlier (items n (place g (items_text (Item a q tree) ++ rest)))
     ≡ join_after cat_all (earlier ++ repeated_as q (part g a) ∷ []) (items (n - 1) (place (g + atom_group_count a) (items_text tree ++ rest)))

@@ -1,4 +1,4 @@
--- Attempts at a character and at a loop try their ways in order.
+-- Attempts at a character and at a loop try their matches in order.
 use Rattle.std.proofs.Common.{◌≡◌, ℕ, zero, suc, ◌+◌, ◌-◌, ◌≤◌, ◌<◌, List, [], ◌∷◌, ◌++◌, length, drop, Option, Some, None, Bool, true, false, cond, if◌then◌else◌, nat_lt, option_and_then, refl, sym, ap, ◌∙◌, subst, append_assoc, append-nil, length-append, inl, inr, arith, lt-ltb, le-ltb, encode_utf8}
 use Rattle.std.proofs.lemmas.Bool.{and_parts}
 use Rattle.std.proofs.lemmas.List.{drop_at, nil_from_length}
@@ -33,7 +33,7 @@ module _ (Shown : ℕ → Captures → Writes → Type 0)
   abbrev Shows : ℕ → List ℕ → Rest → List Way → Option Trace → Type 0
   Shows = Gave Shown shown-append shown-idle
 
-  -- what is attempted tries the ways of this choice, at each place of the text
+  -- An attempt tries the matches of this choice at each place of the text.
   abbrev pub Suits : ℕ → Choice → (Rest → Rest) → Type 0
   Suits g choice body = (before text : List ℕ) → before ++ text ≡ whole → (k : Rest) → Shows g before k (choice text) (body k (at before))
 
@@ -71,7 +71,7 @@ module _ (Shown : ℕ → Captures → Writes → Type 0)
     abbrev more : Rest
     more = trace_more_rounds hay greedy (attempt hay a) k
 
-    -- a round is followed by another where it took something
+    -- A nonempty round is followed by another.
     further : (before text taken rest : List ℕ) (ways : List Way) (o : Rest) → text ≡ taken ++ rest → (none : List Way) (leave : Rest)
         → (taken ≡ [] → Shows g (before ++ taken) k none (leave (at (before ++ taken))))
         → (length rest < length text → Shows g (before ++ taken) k ways (o (at (before ++ taken))))

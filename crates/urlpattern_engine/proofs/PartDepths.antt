@@ -1,4 +1,4 @@
--- The tree of parts is not deep, so that `regex` refuses its text for no syntax.
+-- The tree of parts is not deep, so `regex` does not reject its text for its syntax.
 use Rattle.std.proofs.Common.{◌≡◌, ℕ, suc, ◌-◌, ◌^◌, ◌≤◌, ◌<◌, List, [], ◌∷◌, Option, Some, None, Bool, true, false, ◌&&◌, ◌⊎◌, inl, inr, refl, sym, ap, ◌∙◌, subst, arith, codes}
 use Rattle.std.specs.Prelude.{All, IsTrue, encode_utf8_all}
 use Rattle.std.specs.Str.{all_scalars}
@@ -95,7 +95,7 @@ part_depth options Regexp part items le = grouped_depth options Regexp part item
 part_depth options SegmentWildcard part items le = grouped_depth options SegmentWildcard part items le
 part_depth options FullWildcard part items le = grouped_depth options FullWildcard part items le
 
--- no list of parts has a deep tree
+-- No list of parts has a deep tree.
 tree_depth : (options : OptionsView) (parts : List PartView) → items_depth (tree_of options parts) ≤ 20
 tree_depth options [] = omega arith
 tree_depth options (part ∷ parts) = part_depth options part.kind part (tree_of options parts) (tree_depth options parts)

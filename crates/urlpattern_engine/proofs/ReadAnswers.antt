@@ -1,4 +1,5 @@
--- What trees, values of `regex` and first ways answer is what the grammar reads.
+-- The results of trees, of values of `regex`, and of the dialect are those of what the grammar
+-- reads.
 use Rattle.std.proofs.Common.{◌≡◌, ℕ, ◌+◌, ◌-◌, ◌*◌, List, map, length, Option, Some, None, IsSome, IsSomeAnd, is_some, option_map, true, Bool, false, true≢false, refl, sym, ap, subst, suc, arith, codes, ◌∙◌, ◌++◌}
 use Rattle.std.specs.List.{range_with_len}
 use Rattle.std.specs.Prelude.{IsTrue, encode_utf8_all, option_and_then}
@@ -31,7 +32,7 @@ use Rattle.urlpattern_meaning.specs.Ways.{first_way}
 use Rattle.urlpattern_engine.specs.Automatons.{IsRegexReadAs, config_for, read_answer}
 use Rattle.urlpattern_engine.specs.Readings.{re_answer}
 
--- what the groups of the first match of a tree with these names of groups span
+-- The captures of the first match of a tree with these names of groups.
 abbrev pub tree_answer : Hir → Names → List ℕ → Option Captures
 tree_answer hir names text = re_answer (meaning hir) (length names) text
 
@@ -63,7 +64,7 @@ module _ (a b : Re) (alike : SameCaptures a b) (text : List ℕ) (fine : IsTrue 
 
 -- ---- what the grammar reads
 
--- the answer of a tree that matches as what is read does
+-- The result of a tree with the matches of what is read.
 if_read : (o : Option (Nested Re × Names)) (P : Nested Re × Names → Type 0) (hir : Hir) (names : Names) (text : List ℕ) → IsTrue (all_scalars text)
     → ((found : Nested Re × Names) → P found → SameCaptures (meaning hir) found.0.value × (names ≡ found.1)) → IsSomeAnd o P
     → tree_answer hir names text ≡ option_and_then (λ (pattern, others). re_answer pattern.value (length others) text) o
@@ -72,7 +73,7 @@ if_read (Some found) P hir names text fine same p =
     let known = same found p in
     ap (λ (all : Names). re_answer (meaning hir) (length all) text) known.1 ∙ answers_alike (meaning hir) found.0.value known.0 text fine (length found.1)
 
--- a tree that it reads in a text answers so
+-- The result of a tree that the grammar reads in a text.
 pub tree_as_read : (ignore_case : Bool) (source : List ℕ) (hir : Hir) (names : Names) → Reads (config_for ignore_case) source hir names → (text : List ℕ) → IsTrue (all_scalars text)
     → tree_answer hir names text ≡ read_answer ignore_case (chars source) text
 unfolding Reads
@@ -83,17 +84,17 @@ some_of : {A : Type 0} (o : Option A) (P : A → Type 0) → IsSomeAnd o P → I
 some_of None P p = absurd p
 some_of (Some a) P p = refl
 
--- it reads something where it reads a tree
+-- The grammar reads a pattern in each text in which it reads a tree.
 pub reads_some : (config : Config) (source : List ℕ) (hir : Hir) (names : Names) → Reads config source hir names → IsSome (read config (chars source))
 unfolding Reads
 reads_some config source hir names is_read = some_of (read config (chars source)) _ is_read
 
--- the answer, where what is read is known
+-- The result, if what is read is known.
 pub read_answer_is : (ignore_case : Bool) (regexp : List ℕ) (found : Nested Re × Names) → read (config_for ignore_case) regexp ≡ Some found → (text : List ℕ)
     → read_answer ignore_case regexp text ≡ re_answer found.0.value (length found.1) text
 read_answer_is ignore_case regexp found e text = ap (option_and_then (λ (pattern, names). re_answer pattern.value (length names) text)) e
 
--- the first way of a tree of the dialect is what is read in its text
+-- The first match of a tree of the dialect is that of what is read in its text.
 pub first_as_read : (regexp : List ℕ) (tree : Items) → IsTreeOf regexp tree → scalars regexp ≡ true → IsSome (read default_config regexp)
     → (text : List ℕ) → IsTrue (all_scalars text) → first_way tree text ≡ read_answer false regexp text
 first_as_read regexp tree is all some text fine =
@@ -113,7 +114,7 @@ first_as_read regexp tree is all some text fine =
 
 -- ---- values of the crate `regex`
 
--- a value that was read by default
+-- A value that was read with the default options.
 pub read_by_default : (regexp : List ℕ) (regex : Regex) → IsRegexOf regexp regex → IsRegexReadAs false regexp regex
 read_by_default regexp regex made = record { of_text = made.of_text; by_case = made.by_default; is_read = made.is_read }
 
@@ -124,7 +125,7 @@ module _ (ignore_case : Bool) (regexp : List ℕ) (regex : Regex) (made : IsRege
   pub regex_some : IsSome (read (config_for ignore_case) regexp)
   regex_some = subst (λ t. IsSome (read (config_for ignore_case) t)) made.of_text (reads_some (config_for ignore_case) (regex_source regex) _ _ reads)
 
-  -- it answers what the grammar reads in its text
+  -- A value of `regex` returns the first match of what the grammar reads in its text.
   pub regex_as_read : (text : List ℕ) → IsTrue (all_scalars text) → regex_answer regex text ≡ read_answer ignore_case regexp text
   unfolding regex_answer
   regex_as_read text fine =

@@ -1,4 +1,4 @@
--- Lemmas on why an expression is refused.
+-- Lemmas on why an expression is rejected.
 use Rattle.std.proofs.Common.{◌≢◌, ◌<◌, ℕ, Bool, List, inl, inr, sym, subst}
 use Rattle.std.specs.Prelude.{IfSome}
 use Rattle.std.specs.Str.{chars}
@@ -8,7 +8,7 @@ use Rattle.regex_syntax.specs.declared.error.ErrorKind.TheVariants.{OutOfMemory}
 use Rattle.urlpattern_engine.specs.Automatons.{config_for}
 use Rattle.urlpattern_engine.specs.Refusals.{IsUnreadable}
 
--- what the grammar refuses for another reason than memory
+-- An expression is unreadable that the grammar rejects for another reason than memory.
 pub unreadable_of_refused : (ignore_case : Bool) (source : List ℕ) (kind : ErrorKind) → Refuses (config_for ignore_case) source kind → kind ≢ OutOfMemory → IsUnreadable ignore_case (chars source)
 unfolding Refuses
 unreadable_of_refused ignore_case source kind (inl memory) other = absurd (other memory)

@@ -1,4 +1,4 @@
--- Matchers that `regex::Regex` made answer the first way of their parts.
+-- Matchers by `regex::Regex` return the first match of their parts.
 use Rattle.std.specs.Prelude.{⊤}
 use Rattle.urlpattern_matcher.specs.Regexes.{regex_engine}
 use Rattle.urlpattern_matcher.specs.FirstWays.{AllAnswerAlike, EachAnswersFirst, ValuesAnswerFirst}

@@ -1,4 +1,5 @@
--- What `regex` reads in the text of a tree answers the first way, and so does a `Regex` that was made of it.
+-- The first match of what `regex` reads in the text of a tree, and of a `Regex` of that text, is
+-- that of the tree.
 use Rattle.std.proofs.Common.{◌≡◌, ℕ, suc, ◌+◌, ◌-◌, ◌*◌, List, ◌++◌, map, length, replicate, Option, Some, None, IsSomeAnd, is_some, option_map, true, true≢false, refl, sym, ap, ◌∙◌, codes, arith}
 use Rattle.std.proofs.lemmas.List.{length-replicate}
 use Rattle.std.proofs.lemmas.Str.{IsUtf8-string_bytes, scalars-chars}
@@ -37,10 +38,10 @@ value_of (Some x) P p = (x, refl, p)
 abbrev text_of_tree : Items → List ℕ
 text_of_tree tree = codes "^" ++ items_text tree ++ codes "$"
 
--- the grammar reads this tree in the text of a tree of the dialect, with these names of groups
+-- The grammar reads `hir` in the text of a tree of the dialect, with these names of groups.
 module _ (tree : Items) (h : AreItems tree) (source : List ℕ) (hir : Hir) (names : Names) (utf8 : IsUtf8 source) (of_text : chars source ≡ text_of_tree tree)
     (is_read : Reads default_config source hir names) where
-  -- its text is of characters, so the tree's is
+  -- The text of the tree consists of characters.
   good : scalars (items_text tree) ≡ true
   good =
       let all : scalars (text_of_tree tree) ≡ true = ap scalars (sym of_text) ∙ scalars-chars source utf8 in
@@ -85,7 +86,7 @@ module _ (tree : Items) (h : AreItems tree) (source : List ℕ) (hir : Hir) (nam
 
 -- ---- texts of the dialect
 
--- what is read in such a text answers the first way
+-- The first match of what is read in a text of the dialect is that of the text's tree.
 pub read_answers_first : (regexp : List ℕ) (tree : Items) (source : List ℕ) (hir : Hir) (names : Names) (text : List ℕ) → IsTreeOf regexp tree → IsUtf8 source → chars source ≡ regexp
     → Reads default_config source hir names → IsTrue (all_scalars text)
     → option_map (λ m. group_texts (encode_utf8_all text) (length names - 1) (group_of m)) (find_str (meaning hir) (encode_utf8_all text) 0) ≡ first_way tree text
@@ -99,7 +100,7 @@ regex_answers_first regexp tree regex text is made fine =
     read_answers_first regexp tree (regex_source regex) regex.pattern.program.hir (regex_names regex) text is (IsUtf8-string_bytes regex.pattern.source) made.of_text
     (rw (made.by_default) at made.is_read) fine
 
--- a value that was made of a text answers the first way of its tree, and so it follows the text
+-- A value returns the first match of the tree of its text, and follows the text.
 pub answers_first_of : (regexp : List ℕ) (regex : Regex) → IsRegexOf regexp regex → AnswersFirst regexp (regex_answer regex)
 answers_first_of regexp regex made = λ tree text is scalars. regex_answers_first regexp tree regex text is made scalars
 

@@ -1,4 +1,4 @@
--- What the parser reads for text, reads whole characters.
+-- A tree that is parsed for text matches whole characters.
 use Rattle.std.proofs.Common.{true, [], map, refl, sym, ap, ◌∙◌, subst}
 use Rattle.std.proofs.lemmas.List.Elements.{All-nil}
 use Rattle.regex_hir.specs.Re.{Re}

@@ -1,4 +1,4 @@
--- The pattern of a tree, and that attempts at it try the ways of the tree in order.
+-- The pattern of a tree, and attempts at it, which try the matches of the tree in order.
 use Rattle.std.proofs.Common.{◌≡◌, ℕ, suc, ◌+◌, ◌*◌, ◌<◌, List, [], ◌∷◌, ◌++◌, length, Option, Some, Bool, true, false, not, ◌&&◌, ◌==◌, sym, ap, ◌∙◌, subst, append_assoc, arith, lt-ltb}
 use Rattle.std.specs.Char.{IsScalar}
 use lib.Utf8.{scalars, encodes}

@@ -1,4 +1,4 @@
--- How deep the crate `regex` finds the text of a tree nested, and why it may refuse it.
+-- How deep the text of a tree is nested for the crate `regex`, and why it may be rejected.
 use Rattle.std.proofs.Common.{◌≡◌, ℕ, suc, ◌+◌, ◌^◌, ◌≤◌, ◌<◌, ◌⊎◌, max, List, [], ◌∷◌, ◌++◌, length, replicate, Some, None, refl, sym, ap, ◌∙◌, arith, codes, chars, nat_lt, if◌then◌else◌, true, inl, inr, ⊎_elim}
 use Rattle.std.proofs.lemmas.Bool.{cond_both}
 use Rattle.std.proofs.lemmas.Option.{none-some}
@@ -61,7 +61,8 @@ mutual
 pub whole_depth : (tree : Items) → (whole tree).depth ≤ items_depth tree + 1
 whole_depth tree = omega (arith, deepest_push (parts 1 tree) last_line, one_at_most ((first_line ∷ parts 1 tree) ++ last_line ∷ []), parts_depth tree 1)
 
--- It is refused where memory ran out, where it has too many groups, or where it is nested too deep, and for nothing else.
+-- The text of a tree is rejected only if memory ran out, it has too many groups, or it is nested
+-- too deep.
 pub refused_tree : (tree : Items) → AreItems tree → scalars (items_text tree) ≡ true → (kind : ErrorKind)
     → Refuses default_config (encodes (codes "^" ++ items_text tree ++ codes "$")) kind
     → (kind ≡ OutOfMemory) ⊎ ((2 ^ 32 < suc (group_count tree)) ⊎ (250 ≤ items_depth tree))

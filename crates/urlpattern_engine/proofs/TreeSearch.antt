@@ -1,4 +1,4 @@
--- A search for the pattern of a tree, between `^` and `$`, finds what the first way captures.
+-- A search for the pattern of a tree, between `^` and `$`, has the captures of the first match.
 use Rattle.std.proofs.Common.{◌≡◌, ℕ, zero, suc, ◌+◌, ◌*◌, ◌≤◌, ◌<◌, List, [], ◌∷◌, ◌++◌, map, find, length, Option, Some, None, option_map, true, false, cond, if◌then◌else◌, ◌==◌, refl, sym, ap, ap₂, ◌∙◌, subst, append-nil, length-append, inl, inr, arith, ne_eqb}
 use Rattle.std.proofs.lemmas.Bool.{cond-true, cond-false, cond_both}
 use Rattle.std.proofs.lemmas.Option.{none-some, same_Some, slice_get_past, slice_get-get_or}
@@ -26,7 +26,7 @@ use Rattle.urlpattern_engine.proofs.WayAnswers.{at, Gave}
 use Rattle.urlpattern_engine.proofs.GroupSlots.{Shown, Spans, text_at, shown-append, shown-idle, shown-capturing}
 use Rattle.urlpattern_engine.proofs.TreeAttempts.{re_items, items-fit}
 
--- the texts of n groups in a match, the first of which is g
+-- The texts of n groups in a match, the first of which is g.
 abbrev pub texts_from : List ℕ → Match → ℕ → ℕ → Captures
 texts_from hay m g n = map (λ k. option_map (text_at hay) (group_of m k)) (range_with_len g n)
 
@@ -45,7 +45,7 @@ texts-shown hay m g (c ∷ captures) some s =
     (ap₂ (λ a b. option_map (text_at hay) (both a b)) (slot m (2 * g) (omega arith)) (slot m (2 * g + 1) (omega arith)) ∙ s.0)
     (texts-shown hay m (g + 1) captures (omega arith) (subst (λ n. Spans hay n captures m.trace.writes) (omega arith) s.1))
 
--- ---- the lines
+-- ---- anchors
 
 pub starts : (hay : List ℕ) → holds Start hay 0 ≡ true
 unfolding holds holds_between
@@ -75,7 +75,7 @@ at_end hay i le = cond-true (holds End hay i) (accept i) None (ends hay i le)
 goes_on : (hay : List ℕ) (i : ℕ) → i < length hay → to_end hay i ≡ None
 goes_on hay i less = cond-false (holds End hay i) (accept i) None (not_end hay i less)
 
--- ---- the first of several ways
+-- ---- the first of several matches
 
 abbrev pub Shows : List ℕ → List Way → Option Trace → Type 0
 Shows hay = Gave (Shown hay) (shown-append hay) (shown-idle hay) 1 [] (to_end hay)
@@ -83,7 +83,8 @@ Shows hay = Gave (Shown hay) (shown-append hay) (shown-idle hay) 1 [] (to_end ha
 abbrev pub answer : List ℕ → ℕ → Option Trace → Option Captures
 answer hay count = option_map (λ t. texts_from hay (record { start = 0; trace = t }) 1 count)
 
--- what an attempt shows of ways with so many captures is what the first of them captures that takes the whole text
+-- An attempt that tries matches with this number of captures has the captures of the first that
+-- matches the whole text.
 module _ (text : List ℕ) (Is : List ℕ → Captures → Type 0) (count : ℕ) (counted : (taken : List ℕ) (captures : Captures) → Is taken captures → length captures ≡ count) where
   pub first_shown : (all : List Way) (o : Option Trace) → Every (IsSound text Is) all → Shows (encodes text) all o → answer (encodes text) count o ≡ first_of all
   first_shown [] o every e = ap (answer (encodes text) count) e
@@ -111,7 +112,7 @@ module _ (text : List ℕ) (Is : List ℕ → Captures → Type 0) (count : ℕ)
           omega (arith, ap at cut, ap length (encodes-append way.taken (c ∷ rest)), length-append (encodes way.taken) (encodes (c ∷ rest)), length-le-encodes (c ∷ rest)) in
           absurd (none-some _ (sym (goes_on (encodes text) (at way.taken) inside) ∙ there))
 
--- where nothing is found later on, what is found is what is at the start
+-- The result is that at the start, if there is none later on.
 pub found_at_start : (hay : List ℕ) (count : ℕ) (at_place : Rest) (o : Option Trace) → at_place 0 ≡ o → ((i : ℕ) → 0 < i → i ≤ length hay → at_place i ≡ None)
     → option_map (λ m. texts_from hay m 1 count) (first_between at_place 0 (length hay)) ≡ answer hay count o
 found_at_start hay count at_place None e later = ap (option_map (λ m. texts_from hay m 1 count)) (first_between_none at_place 0 (length hay) nowhere)
@@ -130,7 +131,7 @@ module _ (tree : Items) (h : AreItems tree) (text : List ℕ) (good : scalars te
   abbrev pattern : Re
   pattern = cat (look Start) (cat (re_items 1 tree) (look End))
 
-  -- what is found of the items, and the line at the end
+  -- The result for the items and the anchor at the end.
   abbrev inside_lines : Option Trace
   inside_lines = attempt hay (re_items 1 tree) (to_end hay) 0
 
@@ -145,7 +146,7 @@ module _ (tree : Items) (h : AreItems tree) (text : List ℕ) (good : scalars te
   unfolding attempt
   later_on i p le = cond_both (is_boundary hay i) _ None (λ (o : Option Trace). o ≡ None) (λ _. cond-false (holds Start hay i) _ None (not_start hay i p le)) (λ _. refl)
 
-  -- the groups of what is found are the captures of the first way
+  -- The groups of the result are the captures of the first match.
   pub found_is_first : option_map (λ m. texts_from hay m 1 (group_count tree)) (find_str pattern hay 0) ≡ first_way tree text
   unfolding first_way_by find_str
   found_is_first =

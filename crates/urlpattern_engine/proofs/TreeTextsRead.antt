@@ -1,4 +1,4 @@
--- As what the crate `regex` reads the text of a whole tree, from `^` to `$`.
+-- How the crate `regex` reads the text of a whole tree, from `^` to `$`.
 use Rattle.std.proofs.Common.{◌≡◌, ℕ, zero, suc, ◌+◌, ◌-◌, ◌*◌, ◌^◌, ◌≤◌, ◌<◌, max, List, [], ◌∷◌, ◌++◌, length, replicate, Option, Some, None, false, refl, ap, ◌∙◌, arith, if◌then◌else◌, codes, slice_index_or}
 use Rattle.std.proofs.lemmas.Bool.{cond_both}
 use Rattle.std.proofs.lemmas.List.{replicate_more}
@@ -21,11 +21,11 @@ first_line = flat (look Start)
 abbrev pub last_line : Nested Re
 last_line = flat (look End)
 
--- the pattern as the grammar builds it, joint by joint
+-- The pattern as the grammar builds it.
 abbrev pub whole : Items → Nested Re
 whole tree = alone_in ((first_line ∷ parts 1 tree) ++ last_line ∷ [])
 
--- one character that is an item by itself, without a quantifier
+-- A single character that is an item by itself, without a quantifier.
 pub leaf_passes : (n m : ℕ) (earlier : List (Nested Re)) (g c : ℕ) (rest : Text) (sub : Nested Re) → n ≡ suc m → is_at "(" (c ∷ rest) ≡ false
     → ends_branch (c ∷ rest) ≡ false → atom default_config (c ∷ rest) ≡ Some (sub, rest) → Free rest
     → join_after cat_all earlier (items n (place g (c ∷ rest))) ≡ join_after cat_all (earlier ++ sub ∷ []) (items m (place g rest))

@@ -1,4 +1,4 @@
--- What the text of a tree is read as is the pattern of the tree, and it has as many groups.
+-- The text of a tree is read as the pattern of the tree, with as many groups.
 use Rattle.std.proofs.Common.{◌≡◌, ℕ, suc, ◌+◌, ◌^◌, replicate, ◌≤◌, max, List, [], ◌∷◌, ◌++◌, map, Some, None, true, false, not, ◌&&◌, ◌==◌, refl, sym, ap, ◌∙◌, arith, codes, chars, encode_utf8, nat_lt, nat_le, lt-ltb, eqb-true, ⊎_elim}
 use Rattle.std.proofs.lemmas.Bool.{and_parts, and_right, and_from, cases_Bool}
 use Rattle.std.proofs.lemmas.Bool.Decides.{nat_tests}
@@ -129,7 +129,7 @@ whole_count tree h = omega (arith, (same_whole tree h).groups.count, items_count
 
 -- ---- whole trees
 
--- the text is read, in the form that the grammar builds, with groups that have no names
+-- The text is read, in the form that the grammar builds, with groups without names.
 pub tree_is_read : (tree : Items) → AreItems tree → scalars (items_text tree) ≡ true → suc (group_count tree) ≤ 2 ^ 32
     → read default_config (codes "^" ++ items_text tree ++ codes "$") ≡ Some (whole tree, replicate (suc (group_count tree)) None)
 tree_is_read tree h good small =

@@ -1,4 +1,4 @@
--- What a search that goes back finds from a state on, by what it finds from the next.
+-- What a backtracking search finds from a state, by what it finds from the next one.
 use Rattle.std.proofs.Common.{◌≡◌, ℕ, zero, suc, ◌+◌, ◌<◌, ◌≤◌, ◌∷◌, Bool, true, false, cond, List, length, Option, Some, None, inl, inr, nat_lt, not, is_some, slice_get, slice_index, slice_index_or, slice_range, replicate, refl, sym, ap, ◌∙◌, subst, arith, le-leb, lt-ltb, le-ltb, true≢false}
 use Rattle.std.proofs.lemmas.Bool.{and_from, cases_Bool, cases_lt, cond-true, cond-false}
 use Rattle.std.proofs.lemmas.Option.{none-some, same_Some, slice_get-get_or, slice_get_past}
@@ -28,7 +28,7 @@ use Rattle.urlpattern_engine.specs.Trials.{Chooses, GoesOn, GoesRound, HasByte, 
 use Rattle.urlpattern_engine.specs.declared.ahead.Span.{Span}
 use Rattle.urlpattern_engine.specs.declared.trial.Trial.{Trial}
 
--- ---- of one trace
+-- ---- a trace
 
 pub found_first : (a b : Option Trace) (cells : List ℕ) (f : Found) → Some f ≡ found_from_trace 0 cells a → Some f ≡ found_from_trace 0 cells (option_or a b)
 found_first None b cells f e = absurd (none-some f (sym e))
@@ -42,10 +42,10 @@ found_written slot i (Some t) cells = refl
 pub found_second : (a b : Option Trace) (cells : List ℕ) → None ≡ found_from_trace 0 cells a → found_from_trace 0 cells b ≡ found_from_trace 0 cells (option_or a b)
 found_second a b cells e = ap (λ o. found_from_trace 0 cells (option_or o b)) (sym (none_of_found_from_trace 0 cells a e))
 
--- ---- of a state
+-- ---- a state
 
 module _ (trial : Trial) (q i : ℕ) where
-  -- a choice
+  -- A choice.
 
   module _ (first second : ℕ) (is : state_in trial q ≡ Split first second) where
     pub chosen : run_in trial q i ≡ option_or (run_in trial first i) (run_in trial second i)
@@ -60,7 +60,7 @@ module _ (trial : Trial) (q i : ℕ) where
     pub none_of_both : run_in trial first i ≡ None → run_in trial second i ≡ None → run_in trial q i ≡ None
     none_of_both one other = run_by_second one ∙ other
 
-  -- a write
+  -- A write.
 
   module _ (slot next : ℕ) (is : state_in trial q ≡ Save slot next) where
     written : run_in trial q i ≡ write slot i (run_in trial next i)
@@ -72,7 +72,7 @@ module _ (trial : Trial) (q i : ℕ) where
     pub none_by_write : run_in trial next i ≡ None → run_in trial q i ≡ None
     none_by_write none = written ∙ ap (write slot i) none
 
-  -- an assertion
+  -- An assertion.
 
   module _ (l : look.Look) (next : ℕ) (is : state_in trial q ≡ Look l next) where
     asserted : run_in trial q i ≡ cond (holds l trial.bytes.now i) (run_in trial next i) None
@@ -84,14 +84,14 @@ module _ (trial : Trial) (q i : ℕ) where
     pub none_by_look : false ≡ holds l trial.bytes.now i → run_in trial q i ≡ None
     none_by_look failed = asserted ∙ cond-false (holds l trial.bytes.now i) _ None (sym failed)
 
-  -- the end
+  -- The end.
 
   pub found_here : (cells : List ℕ) → state_in trial q ≡ Match → Some (record { start = 0; end = i; groups = cells }) ≡ found_in trial cells q i
   unfolding apply
   found_here cells is =
       ap (found_from_trace 0 cells) (sym (run_at trial.nfa.now trial.bytes.now (length trial.bytes.now) q i Match is))
 
-  -- a byte
+  -- A byte.
 
   module _ (state : State) (is : state ≡ state_in trial q) (resting : IsResting state) (other : state ≡ Match → ⊥) (next : Option ℕ)
       (read : next ≡ next_in trial state i) where
@@ -106,22 +106,22 @@ module _ (trial : Trial) (q i : ℕ) where
     pub none_by_byte : next ≡ None → run_in trial q i ≡ None
     none_by_byte e = reads ∙ ap (option_and_then (λ r. run_in trial r (i + 1))) e
 
--- what is tested to be none is none
+-- An option that is tested to be None is None.
 pub none_by_test : {A : Type 0} (o : Option A) (none : Bool) → none ≡ true → is_some o ≡ not none → o ≡ None
 none_by_test None none is test = refl
 none_by_test (Some x) none is test = absurd (true≢false (test ∙ ap not is))
 
--- a state that reads, and goes on nowhere
+-- A state that reads bytes, but not the next one.
 pub none_by_no_byte : (trial : Trial) (q i : ℕ) (state : State) → state ≡ state_in trial q → IsResting state → (state ≡ Match → ⊥) → (next : Option ℕ)
     → next ≡ next_in trial state i → (none : Bool) → none ≡ true → is_some next ≡ not none → run_in trial q i ≡ None
 none_by_no_byte trial q i state is resting other next read none tested test =
     none_by_byte trial q i state is resting other next read (none_by_test next none tested test)
 
--- what is preferred from another place is found there
+-- A match that is preferred from another position is found there.
 pub same_found : (trial : Trial) (cells : List ℕ) (q i r j : ℕ) → run_in trial q i ≡ run_in trial r j → found_in trial cells r j ≡ found_in trial cells q i
 same_found trial cells q i r j e = ap (found_from_trace 0 cells) (sym e)
 
--- a choice that was come back to up to a place
+-- A choice with the same match at a later position.
 module _ (trial : Trial) (id first second at place : ℕ) (choice : state_in trial id ≡ Split first second) (states : IsState trial first × IsState trial second)
     (within : IsPlace trial place) (same : run_in trial id at ≡ run_in trial id place) (cells : List ℕ) where
   pub goes_on_first : run_in trial second place ≡ None → GoesOn trial (found_in trial cells id at) cells first place
@@ -146,7 +146,7 @@ module _ (trial : Trial) (id first second at place : ℕ) (choice : state_in tri
     same = ap (found_from_trace 0 cells) (sym (same ∙ chosen trial id place first second choice));
   }
 
--- no match is nothing found
+-- Nothing is found without a match.
 pub nothing_found : (trial : Trial) (cells : List ℕ) (q i : ℕ) → run_in trial q i ≡ None → None ≡ found_in trial cells q i
 nothing_found trial cells q i none = ap (found_from_trace 0 cells) (sym none)
 
@@ -162,7 +162,7 @@ pub next_past : (trial : Trial) (state : State) (i : ℕ) → length trial.bytes
 next_past trial state i past =
     ap (option_and_then (next_on trial.nfa.now.transitions.items state)) (byte_below_past trial.bytes.now (length trial.bytes.now) i past)
 
--- the end is not before a byte
+-- The end assertion does not hold before a byte.
 pub end_is_after : (bytes : List ℕ) (i : ℕ) → i < length bytes → false ≡ holds End bytes i
 unfolding holds holds_between
 end_is_after bytes i inside = rw (slice_get-get_or bytes i 0 inside) refl
@@ -177,19 +177,19 @@ byte_is_there bytes i = elim (cases_lt i (length bytes)) [
   | inr past ↦ ap is_some (slice_get_past bytes i past) ∙ sym (le-ltb i (length bytes) past)
 ]
 
--- whether no byte follows is whether the end does
+-- The end assertion holds exactly where no byte follows.
 pub end_holds : (bytes : List ℕ) (i : ℕ) (some none : Bool) → some ≡ nat_lt i (length bytes) → some ≡ not none → none ≡ holds End bytes i
 unfolding holds holds_between
 end_holds bytes i some none there is = none_is some none is ∙ ap not (there ∙ sym (byte_is_there bytes i))
 
--- before all bytes the start holds
+-- The start assertion holds before all bytes.
 pub start_holds : (bytes : List ℕ) (i : ℕ) → i ≡ 0 → true ≡ holds Start bytes i
 unfolding holds holds_between byte_before
 start_holds bytes i first = subst (λ (at : ℕ). true ≡ holds Start bytes at) (sym first) refl
 
 -- ---- ranges of bytes
 
--- the state is not the one where a match ends
+-- The state is not the one in which a match ends.
 abbrev IsOther : State → Type 0
 IsOther (ByteRange t) = Unit {0}
 IsOther (Sparse from to) = Unit {0}
@@ -199,7 +199,7 @@ IsOther (Look l next) = Unit {0}
 IsOther Match = ⊥
 IsOther Fail = Unit {0}
 
--- the transition is the one that is taken on each of its bytes
+-- A transition is taken on each of its bytes.
 pub target_in_span : (ts : List Transition) (to k b : ℕ) (t : Transition) → k < to → to ≤ length ts → slice_index_or ts k t ≡ t → t.start ≤ b → b ≤ t.end
     → (n from : ℕ) → from + n ≡ k → ((j : ℕ) → from ≤ j → j < k → (slice_index_or ts j t).end < t.start) → target_in (slice_range ts from to) b ≡ Some t.next
 target_in_span ts to k b t below within is low high zero from e before =
@@ -254,7 +254,7 @@ module _ (trial : Trial) (q i : ℕ) where
       run_by_byte trial q i (Sparse from to) is tt (sparse_is_no_match from to) (next_in trial (Sparse from to) i) refl other
       (next_inside trial (Sparse from to) i inside ∙ leads)
 
--- what needs a byte of one span or of another needs one of a span with both
+-- A choice needs a byte of a span that contains the spans of both states.
 pub needs_either : (trial : Trial) (q first second : ℕ) (one other both : Span) → state_in trial q ≡ Split first second
     → NeedsByte trial first one → NeedsByte trial second other
     → ((b : ℕ) → HasByte one b → HasByte both b) → ((b : ℕ) → HasByte other b → HasByte both b) → NeedsByte trial q both
@@ -263,14 +263,15 @@ needs_either trial q first second one other both is by_one by_other of_one of_ot
     (by_one at inside (λ within. outside (record { inside = inside; has = of_one _ within.has })))
     (by_other at inside (λ within. outside (record { inside = inside; has = of_other _ within.has })))
 
--- a loop that reads all bytes after this one, and is left nowhere after them
+-- The body of a loop has no match, if it reads all remaining bytes and the exit has no match after
+-- them.
 pub none_to_end : (trial : Trial) (q body exit place last : ℕ) → state_in trial q ≡ Split body exit → run_in trial body place ≡ run_in trial q (place + 1)
     → run_in trial q (place + 1) ≡ run_in trial q last → last ≡ length trial.bytes.now → run_in trial body (length trial.bytes.now) ≡ None
     → run_in trial exit last ≡ None → run_in trial body place ≡ None
 none_to_end trial q body exit place last is goes same ends none left =
     goes ∙ same ∙ none_of_both trial q last body exit is (subst (λ (i : ℕ). run_in trial body i ≡ None) (sym ends) none) left
 
--- the end of all bytes leads nowhere, if there is such a span
+-- A state with such a span has no match at the end of all bytes.
 pub ends_with_spans : (trial : Trial) (q from to : ℕ) (found : Option Span) → Sparse from to ≡ state_in trial q
     → IfSome found (λ _. run_in trial q (length trial.bytes.now) ≡ None)
 ends_with_spans trial q from to None is = tt

@@ -1,4 +1,4 @@
--- What an attempt of the crate `regex` gives, where it tries the ways of a tree in their order.
+-- The result of an attempt of the crate `regex` that tries the matches of a tree in order.
 use Rattle.std.proofs.Common.{◌≡◌, ℕ, suc, ◌+◌, ◌*◌, List, [], ◌∷◌, ◌++◌, map, length, Option, Some, None, Bool, true, false, refl, sym, ap, ap₂, ◌∙◌, subst, append_assoc, append-nil, inl, inr, ◌⊎◌}
 use Rattle.std.proofs.lemmas.Option.{none-some, same_Some}
 use Rattle.std.specs.Option.{option_or}
@@ -12,19 +12,19 @@ use Rattle.urlpattern_meaning.proofs.WayLists.{Every}
 abbrev pub Writes : Type 0
 Writes = List (ℕ × ℕ)
 
--- how many bytes a text has
+-- The number of bytes of a text.
 abbrev pub at : List ℕ → ℕ
 at before = length (encodes before)
 
--- a trace with writes put before its own
+-- A trace with further writes before its own.
 abbrev pub after_writes : Writes → Trace → Trace
 after_writes own rest = record { end = rest.end; writes = own ++ rest.writes }
 
 module _ (Shown : ℕ → Captures → Writes → Type 0)
     (shown-append : (g : ℕ) (c d : Captures) (own more : Writes) → Shown g c own → Shown (g + length c) d more → Shown g (c ++ d) (own ++ more))
     (shown-idle : (g n : ℕ) (text : List ℕ) → Shown g (idle n text).captures []) where
-  -- The continuation is asked at the end of each way in turn, and its first answer is taken, with writes that show what the
-  -- way captures put before it. Where it has none at any end, there is none.
+  -- The continuation is called at the end of each match in turn, and its first result is returned,
+  -- after writes that show the captures of the match. Without any result there is none.
   abbrev pub Gave : (g : ℕ) → (before : List ℕ) → Rest → List Way → Option Trace → Type 0
   Gave g before k [] o = o ≡ None
   Gave g before k (way ∷ ways) o =
@@ -36,7 +36,7 @@ module _ (Shown : ℕ → Captures → Writes → Type 0)
   gave-append g before k (way ∷ xs) ys o p (inl h) q = inl (h.0, gave-append g before k xs ys o p h.1 q)
   gave-append g before k (way ∷ xs) ys o p (inr (own, rest, e, f, s)) q = inr (own, rest, e, ap (λ x. option_or x p) f, s)
 
-  -- a way that nothing continues is passed over
+  -- A match that nothing continues is skipped.
   skipped : (g h : ℕ) (before : List ℕ) (k : Rest) (way : Way) (ms ys : List Way) (o : Option Trace) → Gave h (before ++ way.taken) k ms None → Gave g before k ys o
       → Gave g before k (map (joined_way way) ms ++ ys) o
   skipped g h before k way [] ys o p q = q
@@ -44,7 +44,7 @@ module _ (Shown : ℕ → Captures → Writes → Type 0)
       inl (ap (λ t. k (at t)) (sym (append_assoc before way.taken m.taken)) ∙ p.0, skipped g h before k way ms ys o p.1 q)
   skipped g h before k way (m ∷ ms) ys o (inr (own, rest, e, f, s)) q = absurd (none-some _ f)
 
-  -- a way that something continues is taken
+  -- A match that something continues is returned.
   hit : (g : ℕ) (before : List ℕ) (k : Rest) (way : Way) (ms ys : List Way) (o : Option Trace) (own : Writes) (rest : Trace)
       → Gave (g + length way.captures) (before ++ way.taken) k ms (Some rest) → Shown g way.captures own → o ≡ Some (after_writes own rest)
       → Gave g before k (map (joined_way way) ms ++ ys) o
@@ -84,7 +84,7 @@ module _ (Shown : ℕ → Captures → Writes → Type 0)
   gave-ordered g before k true xs ys o p h q = gave-append g before k xs ys o p h q
   gave-ordered g before k false xs ys o p h q = gave-append g before k ys xs p o q h
 
-  -- ---- what captures
+  -- ---- captures
   none_of_write : (slot i : ℕ) (o : Option Trace) → write slot i o ≡ None → o ≡ None
   none_of_write slot i None e = refl
   none_of_write slot i (Some t) e = absurd (none-some _ (sym e))

@@ -1,4 +1,4 @@
--- What an automaton is made of, and what it answers.
+-- What an automaton is made of, and what it returns.
 use Rattle.std.specs.Prelude.{◌≡◌, ℕ, ◌-◌, ◌*◌, ◌/◌, ◌&&◌, ◌==◌, Bool, true, List, map, length, Option, Some, None, nat_le, if◌then◌else◌, option_and_then, option_map, encode_utf8_all, slice_index, String, string_bytes}
 use Rattle.std.specs.declared.alloc.Global.{Global}
 use Rattle.std.specs.List.{range_with_len}
@@ -21,45 +21,47 @@ use Rattle.urlpattern_matcher.specs.Regexes.{regex_text, text_between}
 use Rattle.urlpattern_engine.specs.Readings.{re_answer}
 use Rattle.urlpattern_meaning.specs.PartMeaning.{Captures}
 
--- the characters from one byte place to another, if these are in order and between characters
+-- The characters between two byte positions, if these are in order and at character boundaries.
 abbrev pub text_cut : (bytes : List ℕ) → ℕ × ℕ → Option (List ℕ)
 text_cut bytes span =
     if nat_le span.0 span.1 && (is_cut_at true bytes span.0 && is_cut_at true bytes span.1) then Some (text_between bytes span) else None
 
--- what so many groups of a match capture, from group 1 on
+-- The captures of the first `count` groups of a match, from group 1 on.
 abbrev pub match_captures : (bytes : List ℕ) → (count : ℕ) → Match → Captures
 match_captures bytes count found = map (λ n. option_and_then (text_cut bytes) (group_of found n)) (range_with_len 1 count)
 
--- the match at the start of the bytes
+-- The match at the start of the bytes.
 abbrev pub match_at_start : Nfa → (bytes : List ℕ) → Option Match
 match_at_start nfa bytes = first_match nfa bytes (length bytes) 0 0
 
--- what the groups of the match at the start of the text capture, without group 0, which is the match; None without a match
+-- The captures of the match at the start of the text, without group 0, the whole match. None: no
+-- match.
 unfoldable pub automaton_answer : Nfa → List ℕ → Option Captures
 automaton_answer nfa text =
     let bytes = encode_utf8_all text in
     option_map (match_captures bytes (nfa.slot_count / 2 - 1)) (match_at_start nfa bytes)
 
--- how the grammar reads an expression: by its default options, but that case may be ignored
+-- The default options of the grammar, except that case may be ignored.
 abbrev pub config_for : (ignore_case : Bool) → Config
 config_for ignore_case = record default_config { flags = record default_flags { case_insensitive = ignore_case } }
 
--- it was built from the text, as `regex` reads that with its default options, but that case may be ignored
+-- The `Regex` was built from the text with the default options, except that case may be ignored.
 pub record IsRegexReadAs (ignore_case : Bool) (regexp : List ℕ) (regex : Regex) : Type 0 where
   pub of_text : regex_text regex ≡ regexp
   pub by_case : regex_config regex ≡ config_for ignore_case
   pub is_read : IsReadFromSource regex
 
--- what the first match of the pattern captures that the grammar reads in the text
+-- The captures of the first match of the pattern that the grammar reads in the text.
 abbrev pub read_answer : (ignore_case : Bool) → (regexp : List ℕ) → List ℕ → Option Captures
 read_answer ignore_case regexp text =
     option_and_then (λ (pattern, names). re_answer pattern.value (length names) text) (read (config_for ignore_case) regexp)
 
--- the names of groups, as UTF-8
+-- The names of groups, as UTF-8.
 abbrev pub names_of : List (Option (String Global)) → Names
 names_of names = map (option_map string_bytes) names
 
--- The automaton was made of the text: it gives the matches of the tree that the grammar reads there, which begin at the start.
+-- The automaton has the matches of the tree that the grammar reads in the text, all of which begin
+-- at the start.
 pub record IsNfaOf (ignore_case : Bool) (source : List ℕ) (nfa : Nfa) : Type 0 where
   pub tree : Hir
   pub names : Names
@@ -69,13 +71,13 @@ pub record IsNfaOf (ignore_case : Bool) (source : List ℕ) (nfa : Nfa) : Type 0
   pub implements : Implements nfa (meaning tree)
   pub slots : nfa.slot_count ≡ 2 * length names
 
--- ---- cells, as a search writes them
+-- ---- the cells of a search
 
--- the place that a cell holds
+-- The position that a cell holds.
 abbrev pub place_of : (cell : ℕ) → Option ℕ
 place_of cell = if cell == 0 then None else Some (cell - 1)
 
--- what so many groups capture, by their cells
+-- The captures of the first `count` groups, by their cells.
 abbrev pub cell_texts : (bytes cells : List ℕ) → (count : ℕ) → Captures
 cell_texts bytes cells count =
     map (λ n. option_and_then (text_cut bytes) (both (place_of (slice_index cells (2 * n - 2))) (place_of (slice_index cells (2 * n - 1)))))

@@ -1,4 +1,4 @@
--- What an `EcmaRegexp` is made of, and what it answers.
+-- What an `EcmaRegexp` is made of, and what it returns.
 use Rattle.std.specs.Prelude.{◌≡◌, ℕ, List, Option, IfSome, IsTrue, is_some, option_and_then}
 use Rattle.urlpattern_engine.specs.declared.ecma_regexp.EcmaRegexp.{EcmaRegexp}
 use Rattle.urlpattern_matcher.specs.declared.regexp.RegExp.{Ghosts as Engine}
@@ -7,21 +7,21 @@ use Rattle.urlpattern_meaning.specs.PartMeaning.{Captures}
 use Rattle.urlpattern_syntax.specs.declared.parser.RegexSyntax.TheVariants.{EcmaScript}
 use Rattle.urlpattern_syntax.specs.Text.{text_of}
 
--- the text of its regular expression
+-- The text of the regular expression.
 abbrev pub ecma_regexp_text : EcmaRegexp → List ℕ
 ecma_regexp_text ecma = text_of ecma.0
 
--- It holds the text and the flags, and the value of `regex`, where one is kept, was built from the text.
+-- The value holds the text and the flags. A `Regex`, if it keeps one, was built from the text.
 pub record IsEcmaRegexpOf (regexp flags : List ℕ) (ecma : EcmaRegexp) : Type 0 where
   pub has_text : text_of ecma.0 ≡ regexp
   pub has_flags : text_of ecma.1 ≡ flags
   pub has_read : IfSome ecma.2 (IsRegexOf regexp)
 
--- what the kept value answers, or None where none is kept
+-- The result of the kept `Regex`, or None if none is kept.
 abbrev pub ecma_regexp_answer : EcmaRegexp → List ℕ → Option Captures
 ecma_regexp_answer ecma text = option_and_then (λ regex. regex_answer regex text) ecma.2
 
--- What the engine means: it may refuse a text only with `force_eval`.
+-- The ghosts of the engine, which may reject a text only with `force_eval`.
 abbrev pub ecma_engine : Engine EcmaRegexp
 ecma_engine = record {
   syntax_of = EcmaScript;
@@ -31,6 +31,6 @@ ecma_engine = record {
   text_made_of = ecma_regexp_text;
 }
 
--- a value of `regex` is kept
+-- A `Regex` is kept.
 abbrev pub KeepsRegex : EcmaRegexp → Type 0
 KeepsRegex ecma = IsTrue (is_some ecma.2)

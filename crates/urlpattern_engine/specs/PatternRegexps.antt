@@ -1,4 +1,4 @@
--- What a value of the engine is made of, and what it answers.
+-- What a value of the engine is made of, and what it returns.
 use Rattle.std.specs.Prelude.{◌≡◌, ℕ, Bool, List, Option, IsSome, string_bytes}
 use Rattle.regex_syntax.specs.Grammar.{read}
 use Rattle.urlpattern_matcher.specs.declared.regexp.RegExp.{Ghosts as Engine}
@@ -17,7 +17,7 @@ use Rattle.urlpattern_meaning.specs.Ways.{first_way_by}
 use Rattle.urlpattern_syntax.specs.declared.parser.RegexSyntax.TheVariants.{Rust}
 use Rattle.urlpattern_syntax.specs.Text.{text_of}
 
--- the text that it was made of
+-- The text that an expression was made of.
 abbrev pub expression_text : Expression → List ℕ
 expression_text (Own own) = text_of own.value.text
 expression_text (Generated generated) = text_of generated.text
@@ -25,7 +25,7 @@ expression_text (Compiled automaton) = text_of automaton.value.text
 expression_text (Other regex) = regex_text regex.value
 expression_text (Custom text) = text_of text
 
--- what it answers
+-- The result of an expression for a text.
 abbrev pub expression_answer : (ignore_case : Bool) → Expression → List ℕ → Option Captures
 expression_answer ignore_case (Own own) text = walk ignore_case own.value.steps.items text
 expression_answer ignore_case (Generated generated) text = first_way_by ignore_case generated.tree.0 text
@@ -33,8 +33,9 @@ expression_answer ignore_case (Compiled automaton) text = automaton_answer autom
 expression_answer ignore_case (Other regex) text = regex_answer regex.value text
 expression_answer ignore_case (Custom regexp) text = read_answer ignore_case (text_of regexp) text
 
--- It was made of the text: steps of it, or the text alone, if parts without a custom one generate it; and if they do not, an
--- automaton, a value of `regex`, or the text alone, in which the grammar reads a pattern.
+-- The expression was made of the text: steps of the text; or the text alone, if it is generated
+-- from parts without custom ones; or otherwise an automaton, a `Regex`, or the text alone, in which
+-- the grammar reads a pattern.
 abbrev pub IsExpressionOf : (ignore_case : Bool) → (regexp : List ℕ) → Expression → Type 0
 IsExpressionOf ignore_case regexp (Own own) = (text_of own.value.text ≡ regexp) × AreStepsOf regexp own.value.steps.items
 IsExpressionOf ignore_case regexp (Generated generated) = text_of generated.text ≡ regexp
@@ -43,18 +44,21 @@ IsExpressionOf ignore_case regexp (Compiled automaton) =
 IsExpressionOf ignore_case regexp (Other regex) = IsRegexReadAs ignore_case regexp regex.value × ¬ IsGenerated regexp
 IsExpressionOf ignore_case regexp (Custom text) = (text_of text ≡ regexp) × IsSome (read (config_for ignore_case) regexp) × ¬ IsGenerated regexp
 
+-- The text that a value was made of.
 abbrev pub pattern_regexp_text : PatternRegexp → List ℕ
 pattern_regexp_text value = expression_text value.expression
 
+-- The result of a value for a text.
 unfoldable pub pattern_answer : PatternRegexp → List ℕ → Option Captures
 pattern_answer value text = expression_answer value.ignore_case value.expression text
 
--- it was made of the text and flags
+-- The value was made of the text and the flags.
 pub record IsPatternRegexpOf (regexp flags : List ℕ) (value : PatternRegexp) : Type 0 where
   pub by_flags : value.ignore_case ≡ ignores_case flags
   pub of_text : IsExpressionOf value.ignore_case regexp value.expression
 
--- What the engine means: it ignores case where the flags have an `i`, and refuses no generated text, and others for a cause.
+-- The ghosts of the engine, which ignores case if the flags have an `i`, and rejects no generated
+-- text, and others only for a fault.
 abbrev pub pattern_engine : Engine PatternRegexp
 pattern_engine = record {
   syntax_of = Rust;

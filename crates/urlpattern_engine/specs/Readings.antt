@@ -1,4 +1,4 @@
--- What an engine answers of what the grammar of the crate `regex` reads in the text that a value was made of.
+-- What an engine returns, by what the grammar of the crate `regex` reads in the text of a value.
 use Rattle.std.specs.Prelude.{◌≡◌, ◌⊎◌, ℕ, ◌-◌, false, List, length, IsTrue, IfSome, Option, option_map, encode_utf8_all}
 use Rattle.std.specs.Str.{all_scalars}
 use Rattle.regex.specs.Writes.{group_of}
@@ -12,21 +12,23 @@ use Rattle.urlpattern_matcher.specs.declared.regexp.RegExp.{Ghosts as Engine}
 use Rattle.urlpattern_meaning.specs.PartMeaning.{AreGenerated, Captures}
 use Rattle.urlpattern_syntax.specs.{Options.OptionsView, Parts.PartView, RegexpText.regexp_text}
 
--- what the groups of the first match of the pattern span, of so many with the match itself; None without a match
+-- The captures of the first match of a pattern with this number of groups, the whole match among
+-- them. None: no match.
 abbrev pub re_answer : Re → (groups : ℕ) → (text : List ℕ) → Option Captures
 re_answer re groups text =
     let bytes = encode_utf8_all text in
     option_map (λ found. group_texts bytes (groups - 1) (group_of found)) (find_str re bytes 0)
 
--- Each value of the engine that was made with such flags answers what the grammar reads in the text that it was made of, custom or not.
+-- Each value that was made with such flags returns the first match of what the grammar reads in the
+-- value's text, custom or not.
 abbrev pub ValuesAnswerAsRead : {E : Type 0} → Engine E → (AreSuch : (flags : List ℕ) → Type 0) → Type 0
 ValuesAnswerAsRead {E} engine AreSuch =
     (regexp flags : List ℕ) (value : E) → AreSuch flags → engine.IsMade value regexp flags
     → IfSome (read default_config regexp) (λ (pattern, names).
     (text : List ℕ) → IsTrue (all_scalars text) → engine.answer value text ≡ re_answer pattern.value (length names) text)
 
--- Two values of the engine that were made of the regular expression of the same parts answer alike to each text of characters, if case
--- is kept or none of the parts is custom.
+-- Two values made of the regular expression of the same parts return the same for each text of
+-- characters, if case is kept or no part is custom.
 abbrev pub ExpressionsAnswerAlike : {E : Type 0} → Engine E → Type 0
 ExpressionsAnswerAlike {E} engine =
     (options : OptionsView) (parts : List PartView) (value other : E) (text : List ℕ) → (options.ignore_case ≡ false) ⊎ AreGenerated parts →

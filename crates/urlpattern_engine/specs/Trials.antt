@@ -1,4 +1,4 @@
--- What a search without marks finds.
+-- What a search without a visited set finds.
 use Rattle.std.specs.Prelude.{◌≡◌, ℕ, ◌+◌, ◌<◌, ◌≤◌, List, length, Option, Some, None, option_and_then, option_map, slice_index, vec_len}
 use Rattle.std.specs.Option.{option_or}
 use Rattle.regex_hir.specs.Re.{Trace}
@@ -11,51 +11,52 @@ use Rattle.urlpattern_engine.specs.declared.trial.Next.TheVariants.{Choice, Ends
 use Rattle.urlpattern_engine.specs.declared.ahead.Span.{Span}
 use Rattle.urlpattern_engine.specs.declared.trial.Trial.{Trial}
 
--- the automaton has this state
+-- The automaton has this state.
 abbrev pub IsState : Trial → ℕ → Type 0
 IsState trial id = id < vec_len trial.nfa.now.states
 
--- it is before one of the bytes, or after all
+-- The position is before a byte, or after all bytes.
 abbrev pub IsPlace : Trial → ℕ → Type 0
 IsPlace trial at = at ≤ length trial.bytes.now
 
+-- The state with this number.
 abbrev pub state_in : Trial → ℕ → State
 state_in trial id = state_of trial.nfa.now id
 
 abbrev pub IsReadableIn : Trial → State → Type 0
 IsReadableIn trial state = IsReadable trial.nfa.now.transitions.items (vec_len trial.nfa.now.states) state
 
--- where the state goes on the byte at this place
+-- The state that follows on the byte at this position.
 abbrev pub next_in : Trial → State → (at : ℕ) → Option ℕ
 next_in trial state at =
     option_and_then (next_on trial.nfa.now.transitions.items state) (byte_below trial.bytes.now (length trial.bytes.now) at)
 
--- the match that is preferred from the state on, at this place
+-- The preferred match from a state at this position.
 abbrev pub run_in : Trial → (id at : ℕ) → Option Trace
 run_in trial id at = run trial.nfa.now trial.bytes.now (length trial.bytes.now) id at
 
--- what is found there, where the groups before have these cells
+-- The preferred match from a state at this position, with the cells of the groups before.
 abbrev pub found_in : Trial → (cells : List ℕ) → (id at : ℕ) → Option Found
 found_in trial cells id at = found_from_trace 0 cells (run_in trial id at)
 
--- the match ends there, with these cells, or there is none
+-- The match ends at `end` with these cells, or there is none.
 abbrev pub IsFound : Option Found → (cells : List ℕ) → (end : Option ℕ) → Type 0
 IsFound found cells end = found_from_span (option_map (λ e. (0, e)) end) cells ≡ found
 
--- the same is found from this state on, at this place, with these cells
+-- A search from the state at this position, with these cells, has the same result.
 pub record GoesOn (trial : Trial) (found : Option Found) (cells : List ℕ) (next place : ℕ) : Type 0 where
   pub is_state : IsState trial next
   pub is_place : IsPlace trial place
   pub same : found_in trial cells next place ≡ found
 
--- the same is found from the first state on, or, where nothing is, from the second one
+-- A search from the first state, or from the second if the first has no match, has the same result.
 pub record Chooses (trial : Trial) (found : Option Found) (cells : List ℕ) (first second place : ℕ) : Type 0 where
   pub is_first : IsState trial first
   pub is_second : IsState trial second
   pub is_place : IsPlace trial place
   pub same : found_from_trace 0 cells (option_or (run_in trial first place) (run_in trial second place)) ≡ found
 
--- the step tells how to find what is found
+-- The move leads to the match that is found.
 abbrev pub Follows : Trial → Option Found → (cells : List ℕ) → Next → Type 0
 Follows trial found cells (On next place) = GoesOn trial found cells next place
 Follows trial found cells (OnByRest next place) = GoesOn trial found cells next place
@@ -65,18 +66,19 @@ Follows trial found cells Fails = IsFound found cells None
 
 -- ---- the bytes of a span
 
+-- The span contains the byte.
 abbrev pub HasByte : Span → ℕ → Type 0
 HasByte span b = (span.low ≤ b) × (b ≤ span.high)
 
--- the byte at this place is in it
+-- The span contains the byte at this position.
 pub record IsInSpan (trial : Trial) (span : Span) (at : ℕ) : Type 0 where
   pub inside : at < length trial.bytes.now
   pub has : HasByte span (slice_index trial.bytes.now at)
 
--- no match goes on with this state before a byte that is not in the span
+-- Before a byte outside of the span there is no match from the state.
 abbrev pub NeedsByte : Trial → ℕ → Span → Type 0
 NeedsByte trial id span = (at : ℕ) → at < length trial.bytes.now → ¬ IsInSpan trial span at → run_in trial id at ≡ None
 
--- the state goes on with the other one on each byte of the span
+-- On each byte of the span the state goes to the other one.
 abbrev pub GoesRound : Trial → (id other : ℕ) → Span → Type 0
 GoesRound trial id other span = (at : ℕ) → IsInSpan trial span at → run_in trial id at ≡ run_in trial other (at + 1)

@@ -1,4 +1,4 @@
-//! What the next byte says of a state.
+//! Lookahead: what the next byte decides about a state.
 
 ghost use Rattle.std.specs.Prelude.{◌≡◌, ◌⊎◌, ◌+◌, ◌<◌, ◌≤◌, ◌↔◌, ℕ, Some, None, length, slice_range, IfSome, IsTrue};
 ghost use Rattle.regex_hir.specs.Looks as looks;
@@ -10,10 +10,10 @@ use crate::trial::Trial;
 use regex_hir::Look;
 use regex_nfa::{State, StateId, holds};
 
-/// How many writes of cells are looked past at most.
+/// The greatest number of states that save a position to look past.
 const AHEAD: usize = 4;
 
-/// The bytes from one to another. There are none if the first is greater.
+/// A range of bytes, which is empty if `low` is greater than `high`.
 #[derive(Clone, Copy)]
 pub(crate) struct Span {
     low: u8,
@@ -32,7 +32,7 @@ impl Trial<'_> {
         )
     }
 
-    /// Whether the byte at a place is one of these. After all bytes it is not.
+    /// Whether there is a byte at a position, and the span contains it.
     #[inline(always)]
     pub(crate) fn is_byte_of(&self, span: Span, at: usize) -> bool
         ensures { IsTrue result → IsInSpan self.now span at }
@@ -44,7 +44,7 @@ impl Trial<'_> {
         }
     }
 
-    /// Whether a state reads a byte, but not the one at a place.
+    /// Whether a state reads a byte, but not the byte at a position.
     #[inline(always)]
     pub(crate) fn reads_not(&self, id: StateId, at: usize) -> bool
         requires { IsState self.now id }
@@ -58,7 +58,8 @@ impl Trial<'_> {
         }
     }
 
-    /// Bytes that lead from a state to another one, among them the byte at a place, if that does.
+    /// Returns a span of bytes on which a state goes to the other one. The span contains the byte
+    /// at the position, if the state goes to the other one on that byte.
     #[inline(always)]
     pub(crate) fn loop_bytes(&self, id: StateId, at: usize, other: StateId) -> Option<Span>
         requires { IsState self.now id }
@@ -86,7 +87,8 @@ impl Trial<'_> {
         }
     }
 
-    /// The bytes of the first of these transitions that does not end before a byte, if it leads to a state.
+    /// Returns the bytes of the first of the transitions that does not end before a byte, if the
+    /// transition leads to the other state.
     #[inline(always)]
     fn sparse_bytes(&self, from: usize, to: usize, byte: u8, other: StateId) -> Option<Span>
         requires { IsSparseRange self.now.nfa.now.transitions.items from to }
@@ -107,7 +109,8 @@ impl Trial<'_> {
         None
     }
 
-    /// Bytes among which are all with which a match may go on with a state. `None`: they are not known.
+    /// Returns a superset of the bytes with which a match from a state can begin, its first set.
+    /// `None`: unknown.
     #[inline(always)]
     pub(crate) fn first_bytes(&self, id: StateId) -> Option<Span>
         requires { IsState self.now id }
@@ -124,7 +127,8 @@ impl Trial<'_> {
         }
     }
 
-    /// The same, where those of a choice are not known.
+    /// Returns a superset of the first set of a state, without looking into a choice. `None`:
+    /// unknown.
     #[inline(always)]
     fn own_bytes(&self, id: StateId) -> Option<Span>
         requires { IsState self.now id }
@@ -144,7 +148,7 @@ impl Trial<'_> {
         }
     }
 
-    /// Whether no match goes on with a state at a place, as far as the next byte says.
+    /// Whether the next byte rules out a match from a state at a position.
     #[inline(never)]
     pub(crate) fn fails(&self, id: StateId, at: usize) -> bool
         requires { IsState self.now id }
@@ -162,7 +166,8 @@ impl Trial<'_> {
         }
     }
 
-    /// The same, where a choice is not looked into.
+    /// Whether the next byte rules out a match from a state at a position, without looking into a
+    /// choice.
     #[inline(always)]
     fn stops(&self, id: StateId, at: usize) -> bool
         requires { IsState self.now id }
@@ -179,7 +184,7 @@ impl Trial<'_> {
         }
     }
 
-    /// The state that follows the writes of cells at a state, as far as they are looked past.
+    /// Returns the state after those that save a position, at most `AHEAD` of them.
     #[inline(always)]
     fn after_writes(&self, id: StateId) -> StateId
         requires { IsState self.now id }
@@ -196,7 +201,7 @@ impl Trial<'_> {
         seen
     }
 
-    /// Whether an assertion holds at a place.
+    /// Whether an assertion holds at a position.
     #[inline(always)]
     pub(crate) fn holds(&self, look: Look, at: usize) -> bool
         ensures { result ≡ looks.holds look self.now.bytes.now at }
@@ -208,7 +213,7 @@ impl Trial<'_> {
         }
     }
 
-    /// Where a state goes on the byte at a place.
+    /// The state that follows on the byte at a position.
     #[inline(always)]
     pub(crate) fn next(&self, state: State, at: usize) -> Option<StateId>
         requires { IsReadableIn self.now state }
@@ -223,7 +228,7 @@ impl Trial<'_> {
     }
 }
 
-/// Bytes among which are those of both: those of one if the other has none, and else all from the least to the greatest.
+/// The least span that contains both.
 #[inline(always)]
 fn either(one: Span, other: Span) -> Span
     ensures one { (b : ℕ) → HasByte one b → HasByte result b }
@@ -242,7 +247,7 @@ fn either(one: Span, other: Span) -> Span
 }
 
 impl Span {
-    /// Whether a byte is one of them.
+    /// Whether the span contains a byte.
     #[inline(always)]
     pub(crate) fn contains(self, byte: u8) -> bool
         ensures { IsTrue result ↔ HasByte self byte }

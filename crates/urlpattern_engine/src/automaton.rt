@@ -27,14 +27,16 @@ use std::alloc::Global;
 use urlpattern_matcher::regexp::RegExp;
 use urlpattern_syntax::error::{OutOfMemory, RegExpError};
 
-/// The most bytes that the tables of an automaton may take, which is also the limit of `regex::Regex::new`.
+/// The greatest size in bytes of the tables of an automaton, which is also the limit of
+/// `regex::Regex::new`.
 pub(crate) const SIZE_LIMIT: usize = 10 << 20;
 
-/// From how many bytes on a text is matched by a `regex::Regex` that is made for it. The making then takes less time than a search
-/// state by state.
+/// The length in bytes from which a text is matched by a `regex::Regex` that is made for the one
+/// match, which then takes less time than a search state by state.
 const LONG: usize = 1 << 10;
 
-/// An expression that matches only at the start of a text, as the automaton that `regex` would make of it.
+/// An expression that matches only at the start of a text, as the automaton that `regex` would
+/// compile.
 #[derive(Drop)]
 pub(crate) struct Automaton {
     pub(crate) text: String,
@@ -45,9 +47,10 @@ pub(crate) struct Automaton {
 }
 
 impl Automaton {
-    /// The automaton of an expression. `None`: it may match elsewhere than at the start of a text.
+    /// Compiles an expression. `None`: the expression may match elsewhere than at the start of a
+    /// text.
     ///
-    /// The error says whether `regex` refuses the expression or memory ran out.
+    /// The error says whether `regex` rejects the expression or memory ran out.
     pub(crate) fn new(
         alloc: Global,
         regexp: &str,
@@ -70,11 +73,10 @@ impl Automaton {
         }))
     }
 
-    /// What the groups capture of a text that the expression matches. `None`: it does not match it.
+    /// Returns the captures of the groups, if the expression matches the text. `None`: no match.
     ///
-    /// It takes time in proportion to the product of the numbers of states and of bytes, and less for a long text.
-    ///
-    /// The error is that memory ran out.
+    /// Takes time proportional to the product of the numbers of states and of bytes, and less for a
+    /// long text.
     pub(crate) fn matches<'t>(
         &self,
         alloc: Global,
@@ -93,9 +95,8 @@ impl Automaton {
         }
     }
 
-    /// What the groups capture of a text, by a search without marks, or by another one if that is given up.
-    ///
-    /// The error is that memory ran out.
+    /// Returns the captures of the groups by a search without a visited set, or by one with a
+    /// visited set if the first is given up.
     fn matches_few<'t>(
         &self,
         alloc: Global,
@@ -116,9 +117,8 @@ impl Automaton {
         }
     }
 
-    /// The same, by a search that visits each state at most once at each place.
-    ///
-    /// The error is that memory ran out.
+    /// Returns the captures of the groups by a search that visits each state at most once at each
+    /// position.
     #[inline(never)]
     fn matches_each<'t>(
         &self,
@@ -133,9 +133,8 @@ impl Automaton {
         self.matches_in(alloc, text, &mut cells)
     }
 
-    /// What the groups capture of a text, by a search that writes into these cells, one for the start and the end of each group.
-    ///
-    /// The error is that memory ran out.
+    /// Returns the captures of the groups by a search that writes the cells, one for the start and
+    /// one for the end of each group.
     fn matches_in<'t>(
         &self,
         alloc: Global,
@@ -152,11 +151,10 @@ impl Automaton {
         }
     }
 
-    /// Whether the expression matches at the start of the bytes. Where it does, the cells are those of its groups.
+    /// Whether the expression matches at the start of the bytes. On a match the cells are those of
+    /// the groups.
     ///
-    /// Where marks would need too many bits, the bytes are searched in one pass.
-    ///
-    /// The error is that memory ran out.
+    /// If the visited set would need too many bits, the bytes are searched in one pass.
     fn search(&self, alloc: Global, bytes: &[u8], cells: &mut [usize]) -> Result<bool, OutOfMemory>
         requires { length cells.old ≤ self.now.nfa.slot_count - 2 }
         ensures found { IfOk result (λ is_match. is_match ≡ is_some (match_at_start self.now.nfa bytes.now)) }
@@ -173,9 +171,9 @@ impl Automaton {
     }
 }
 
-/// The tree that the grammar of `regex` reads in an expression, and the names of its groups.
+/// Parses an expression by the grammar of `regex`: the tree, and the names of the groups.
 ///
-/// The error says whether it reads none or memory ran out.
+/// The error says whether the grammar rejects the expression or memory ran out.
 pub(crate) fn read_expression(
     alloc: Global,
     regexp: &str,
@@ -195,7 +193,7 @@ pub(crate) fn read_expression(
     }
 }
 
-/// How `regex_syntax` is to read an expression: by its default options, but that case may be ignored.
+/// The default options of `regex_syntax`, except that case may be ignored.
 fn config_for(ignore_case: bool) -> Config
     ensures { result ≡ config_for ignore_case }
 {
@@ -204,9 +202,9 @@ fn config_for(ignore_case: bool) -> Config
     config
 }
 
-/// What `regex` makes of an expression, by its default options, but that case may be ignored.
+/// Compiles an expression with the default options of `regex`, except that case may be ignored.
 ///
-/// The error says whether `regex` refuses the expression or memory ran out.
+/// The error says whether `regex` rejects the expression or memory ran out.
 pub(crate) fn regex_of(alloc: Global, regexp: &str, ignore_case: bool) -> Result<Regex, RegExpError>
     ensures made { IfOk result (IsRegexReadAs ignore_case (chars regexp.now)) }
     ensures refused { result ≡ Err Pattern → HasFault ignore_case (chars regexp.now) }
@@ -220,10 +218,10 @@ pub(crate) fn regex_of(alloc: Global, regexp: &str, ignore_case: bool) -> Result
     }
 }
 
-/// What the groups of an expression capture of a text, by a `regex::Regex` that is made for it and
-/// refuses the expression only as memory runs out. `None`: the expression does not match it.
+/// Returns the captures of the groups of an expression, by a `regex::Regex` that is made for the
+/// one match. `None`: no match.
 ///
-/// The error is that memory ran out.
+/// A rejection of the expression is reported as memory that ran out.
 pub(crate) fn match_once<'t>(
     alloc: Global,
     regexp: &str,
@@ -239,9 +237,9 @@ pub(crate) fn match_once<'t>(
     }
 }
 
-/// The automaton of the tree of an expression with so many groups, the whole match among them.
+/// Compiles the tree of an expression with `groups` groups, the whole match among them.
 ///
-/// The error says whether it would be too large or memory ran out.
+/// The error says whether the automaton would be too large or memory ran out.
 fn nfa_of(alloc: Global, regexp: &str, hir: &Hir, groups: usize) -> Result<Nfa, RegExpError>
     ensures implements { IfOk result (λ nfa. Implements nfa (meaning hir.now)) }
     ensures slots { IfOk result (λ nfa. nfa.slot_count ≡ 2 * groups) }
@@ -257,8 +255,8 @@ fn nfa_of(alloc: Global, regexp: &str, hir: &Hir, groups: usize) -> Result<Nfa, 
     }
 }
 
-/// The error for an expression whose automaton has no room: it is refused if it is large. Of no
-/// other the compiler promises that it fits; there memory ran out.
+/// The error for an expression whose automaton exceeds the limit: a rejection if the expression is
+/// large, otherwise that memory ran out. The compiler promises no size for other expressions.
 fn past_limit(regexp: &str) -> RegExpError
     ensures { result ≡ Pattern → IsLarge (chars regexp.now) }
 {
@@ -269,9 +267,8 @@ fn past_limit(regexp: &str) -> RegExpError
     }
 }
 
-/// What groups captured of a text. Each has two cells, its start and its end, each a place plus one, or 0 if it took no part.
-///
-/// The error is that memory ran out.
+/// Returns the captures of the groups. Each group has two cells, for its start and its end, which
+/// hold the position plus one, or 0 if the group did not participate.
 fn groups<'t>(
     alloc: Global,
     text: &'t str,
@@ -287,7 +284,7 @@ fn groups<'t>(
     Ok(groups)
 }
 
-/// What a group captured of a text, whose cells are these.
+/// Returns the capture of a group by its two cells.
 fn group(text: &str, first: usize, last: usize) -> Option<&str>
     ensures { option_text result ≡ option_and_then (text_cut text.now) (both (place_of first) (place_of last)) }
 {
@@ -296,7 +293,8 @@ fn group(text: &str, first: usize, last: usize) -> Option<&str>
     cut(text, start, end)
 }
 
-/// A piece of a text. `None`: it ends before it begins, or it begins or ends within a character or past the text.
+/// Returns a piece of a text. `None`: the piece ends before it begins, or it begins or ends within
+/// a character or past the text.
 fn cut(text: &str, start: usize, end: usize) -> Option<&str>
     ensures { option_text result ≡ text_cut text.now (start, end) }
 {

@@ -1,4 +1,4 @@
-//! The engine of a browser, played by the crate `regex`.
+//! A stand-in for the engine of a browser, by the crate `regex`.
 
 use regex::Regex;
 use std::alloc::Global;
@@ -8,8 +8,8 @@ use urlpattern_syntax::error::{OutOfMemory, RegExpError};
 
 /// A regular expression in ECMAScript's syntax: its text and its flags, for a browser's own engine.
 ///
-/// The crate `regex` reads the text once, and what it made of it is kept. The value matches by that, and matches nothing
-/// if `regex` refused the text.
+/// The crate `regex` compiles the text once, and the value keeps the result. The value matches by
+/// that `Regex`, and matches nothing if `regex` rejected the text.
 ///
 /// Here `path_of` compiles the component of a path. The engine rejects its regular expression:
 ///
@@ -23,13 +23,14 @@ use urlpattern_syntax::error::{OutOfMemory, RegExpError};
 pub struct EcmaRegexp(String, String, Option<Regex>);
 
 impl Drop for EcmaRegexp {
-    /// Drops the fields. Where an engine goes out of scope, the prover handles one call in place of each of its fields.
+    /// Drops the fields. For an engine that goes out of scope, the prover then handles one call
+    /// instead of one for each field.
     fn drop(self) {
         let Self(_text, _rust, _regex) = self;
     }
 }
 
-/// The text is refused only with `force_eval`.
+/// A text is rejected only with `force_eval`.
 impl RegExp for EcmaRegexp {
     ghost use Rattle.urlpattern_engine.specs.EcmaRegexps.{ecma_engine};
 

@@ -1,4 +1,4 @@
-//! Matches by the text alone of an expression that is generated of parts.
+//! Matches an expression that is generated from parts, by its text alone.
 
 ghost use Rattle.std.specs.Prelude.{◌≡◌, IfOk};
 ghost use Rattle.std.specs.Str.{chars};
@@ -15,7 +15,7 @@ use urlpattern_steps::choices::strategy_of;
 use urlpattern_steps::reading::read_steps;
 use urlpattern_syntax::error::OutOfMemory;
 
-/// The text of an expression that is generated of parts, none of them custom.
+/// The text of an expression that is generated from parts without custom ones.
 #[derive(Drop)]
 pub(crate) struct GeneratedText {
     pub(crate) text: String,
@@ -24,7 +24,7 @@ pub(crate) struct GeneratedText {
 }
 
 impl GeneratedText {
-    /// The expression of a text.
+    /// Creates an expression from its text.
     pub(crate) fn new(text: String) -> GeneratedText
         requires { IsGenerated (text_of text) }
         ensures { result.text ≡ text }
@@ -32,10 +32,8 @@ impl GeneratedText {
         GeneratedText { text }
     }
 
-    /// What the groups capture of a text, by steps that are read for it. `None`: the expression
-    /// does not match it.
-    ///
-    /// The error is that memory ran out.
+    /// Returns the captures of the groups, by steps that are parsed for the one match. `None`: no
+    /// match.
     pub(crate) fn matches<'t>(
         &self,
         alloc: Global,

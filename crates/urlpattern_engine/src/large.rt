@@ -1,4 +1,4 @@
-//! Bounds the room that an expression takes.
+//! Bounds the size of an expression.
 
 ghost use Rattle.std.specs.Prelude.{◌≡◌, ◌≤◌, true, codes, map, sum};
 ghost use Rattle.std.specs.Str.{chars};
@@ -7,15 +7,15 @@ ghost use Rattle.urlpattern_engine.specs.Refusals.{IsLarge, copies_in, number_fr
 use crate::automaton::SIZE_LIMIT;
 use urlpattern_syntax::text::split_first;
 
-/// Whether an expression may take more room than an automaton has, by what its characters and
-/// numbers may take.
+/// Whether an expression may exceed the size limit of an automaton, by bounds for its characters
+/// and repetition counts.
 pub(crate) fn is_large(regexp: &str) -> bool
     ensures { result ≡ true → IsLarge (chars regexp.now) }
 {
     copies(regexp).saturating_mul(room(regexp)) > SIZE_LIMIT
 }
 
-/// How many bytes the characters of an expression may take, each of them once.
+/// A bound in bytes for the characters of an expression, each once.
 fn room(regexp: &str) -> usize
     ensures { result ≤ sum (map room_of (chars regexp.now)) }
 {
@@ -28,7 +28,7 @@ fn room(regexp: &str) -> usize
     room
 }
 
-/// How many copies of a piece the numbers of an expression make together.
+/// A bound for the copies of a piece: the product of the repetition counts of an expression.
 fn copies(regexp: &str) -> usize
     ensures { result ≤ copies_in (chars regexp.now) }
 {
@@ -43,7 +43,7 @@ fn copies(regexp: &str) -> usize
     copies
 }
 
-/// The number that a text begins with, or 0. A very large one may be returned as a smaller one.
+/// The number that a text begins with, or 0. A very large number may be returned as a smaller one.
 fn number(text: &str) -> usize
     ensures { result ≤ number_from 0 (chars text.now) }
 {

@@ -1,6 +1,6 @@
-//! What the engine promises of a whole expression.
+//! Laws of `PatternRegexp` for whole expressions.
 //!
-//! Each function here does nothing; what it promises is a theorem.
+//! Each function does nothing; what its contract promises is a theorem.
 
 ghost use Rattle.std.specs.Prelude.{⊤};
 ghost use Rattle.urlpattern_matcher.specs.Components.{FlagsAgree};
@@ -10,10 +10,11 @@ ghost use Rattle.urlpattern_engine.specs.PatternRegexps.{pattern_engine};
 ghost use Rattle.urlpattern_engine.specs.Readings.{ExpressionsAnswerAlike, ValuesAnswerAsRead};
 ghost use Rattle.urlpattern_syntax.specs.declared.parser.RegexSyntax.{RegexSyntax};
 
-/// A value of the engine that was made without the flag `i` answers the first way of the tree of the text it was made of, to each
-/// text of characters. So it follows that text; and for each list of parts, none of them custom, it follows their regular
-/// expression, in both syntaxes. With the flag it answers the first way in which ASCII letters are compared by their lower case, for
-/// each such list; its captures are as the text has them.
+/// A value made without the flag `i` returns, for each text of characters, the first match of the
+/// tree of its own text in backtracking order. The value therefore follows its text and, for each
+/// list of parts without custom ones, their regular expression in both syntaxes. With the flag, and
+/// for each such list, the first match compares ASCII letters by their lower case; captures keep
+/// the case of the text.
 pub fn pattern_regexps_answer_the_first_way()
     ensures first { ValuesAnswerFirst pattern_engine KeepsCase }
     ensures follows { ValuesFollowTexts pattern_engine KeepsCase }
@@ -21,35 +22,37 @@ pub fn pattern_regexps_answer_the_first_way()
     ensures by_flags { ValuesAnswerByFlags pattern_engine }
 {}
 
-/// A value of the engine and a `regex::Regex` that were made of the same text, without the flag `i`, answer the same to each text of
-/// characters, whatever the text they were made of.
+/// A value made without the flag `i` and a `regex::Regex` of the same text return the same for each
+/// text of characters, whatever their own text is.
 pub fn pattern_regexps_answer_as_regex_does()
     ensures { ValuesAnswerAlike pattern_engine regex_engine KeepsCase }
 {}
 
-/// A value of the engine that was made without the flag `i` answers the first match of what the grammar of `regex` reads in the text
-/// that it was made of, with the texts of its groups, whether the text is custom or not. So does a `regex::Regex`.
+/// A value made without the flag `i` returns the first match of what the grammar of `regex` reads
+/// in the value's own text, custom or not, with the texts of the groups. A `regex::Regex` does too.
 pub fn pattern_regexps_answer_what_the_grammar_reads()
     ensures own { ValuesAnswerAsRead pattern_engine KeepsCase }
     ensures regex { ValuesAnswerAsRead regex_engine (λ flags. ⊤) }
 {}
 
-/// Two values of the engine that were made of the regular expression of the same parts answer alike to each text of characters, custom
-/// parts or not, if case is kept. Where case is ignored they do if none of the parts is custom. Two values of `regex::Regex` do always.
+/// Two values made of the regular expression of the same parts, custom or not, return the same for
+/// each text of characters, if case is kept. If case is ignored, they do unless a part is custom.
+/// Two values of `regex::Regex` do too.
 pub fn values_of_one_expression_answer_alike()
     ensures own { ExpressionsAnswerAlike pattern_engine }
     ensures regex { ExpressionsAnswerAlike regex_engine }
 {}
 
-/// The engine takes each text that is generated of parts, none of them custom: a matcher of such parts has a value where it needs
-/// one, and a component that was compiled to such parts has one.
+/// The engine accepts each text that is generated from parts without custom ones: a matcher of such
+/// parts has a value if it needs one, and a component that was compiled to such parts has one.
 pub fn pattern_regexps_take_each_generated_text()
     ensures matcher { MatchersTakeGenerated pattern_engine }
     ensures component { (syntax : RegexSyntax) → ComponentsTakeGenerated (record pattern_engine { syntax_of = syntax }) }
 {}
 
-/// A matcher that the engine made with the flags of its options answers the first way of the tree of the parts, without any premise on the engine: a meaning of
-/// the parts, or `None` where they have none. Another matcher of the same parts answers nothing else.
+/// A matcher that the engine made with the flags of its options returns the first match of the tree
+/// of the parts in backtracking order: a meaning of the parts, or `None` if they have none. There
+/// is no premise on the engine. All matchers of the same parts return the same.
 pub fn matchers_by_pattern_regexp_answer_the_first_way()
     ensures first { EachAnswersFirst pattern_engine (λ options flags inner. FlagsAgree options flags) }
     ensures one { AllAnswerAlike pattern_engine (λ options flags inner. FlagsAgree options flags) }

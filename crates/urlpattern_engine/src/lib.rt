@@ -1,8 +1,8 @@
-//! Engines for the regular expressions that components are made of.
+//! Engines for the regular expressions of components.
 //!
-//! [`PatternRegexp`] matches by itself an expression of texts and their copies, of groups that capture a run of characters or such
-//! runs with a text between each two, and of groups that may be missing; by an automaton every other that matches only at the start
-//! of a text, as those of parts do; and leaves the rest to `regex::Regex`. It answers what `regex::Regex` answers.
+//! [`PatternRegexp`] matches expressions of the form that parts generate by steps, other
+//! expressions that are anchored at the start of a text by an automaton, and the rest by
+//! `regex::Regex`. The results are those of `regex::Regex`.
 //!
 //! [`EcmaRegexp`] holds an expression in ECMAScript's syntax for a browser.
 #![tactic(auto)]

@@ -1,4 +1,4 @@
-//! The engine.
+//! The engine `PatternRegexp`.
 
 ghost use Rattle.std.specs.Prelude.{◌≡◌, Err, IfOk, IsSome};
 ghost use Rattle.std.specs.Str.{chars};
@@ -44,7 +44,8 @@ pub struct PatternRegexp {
 }
 
 impl Drop for PatternRegexp {
-    /// Drops the fields. Where an engine goes out of scope, the prover handles one call in place of each kind of expression.
+    /// Drops the fields. For an engine that goes out of scope, the prover then handles one call
+    /// instead of one for each kind of expression.
     #[inline(always)]
     fn drop(self) {
         let Self {
@@ -65,12 +66,13 @@ enum Expression {
     Custom(String),
 }
 
-/// It ignores case where the flags have an `i`, takes no notice of others, and reads each text at
-/// once. It refuses none that is generated of parts, none of them custom; and another only if the
-/// grammar of `regex` does not read it, or it is nested too deep or large.
+/// Case is ignored if the flags have an `i`; other flags, and `force_eval`, have no effect. An
+/// expression that is generated from parts without custom ones is never rejected; others are
+/// rejected only if the grammar of `regex` does not read them, or if they are nested too deep or
+/// too large.
 ///
-/// Where case is ignored, its own steps compare ASCII letters by their lower case, and any other character as it is. What the
-/// crate `regex` matches ignores case as that does, by Unicode.
+/// With case ignored, steps compare ASCII letters by their lower case and other characters exactly;
+/// the crate `regex` ignores case by Unicode.
 impl RegExp for PatternRegexp {
     ghost syntax_of = { pattern_engine.syntax_of };
 
@@ -210,7 +212,7 @@ fn check(alloc: Global, pattern: &str, ignore_case: bool) -> Result<(), RegExpEr
     Ok(())
 }
 
-/// A value on the heap.
+/// Moves a value to the heap.
 fn boxed<T: Drop>(alloc: Global, value: T) -> Result<Box<T>, AllocError>
     ensures { IfOk result (λ boxed. boxed.value ≡ value) }
 {

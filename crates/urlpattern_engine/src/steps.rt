@@ -12,7 +12,7 @@ use urlpattern_steps::walk::walk;
 use urlpattern_steps::walk_by_table;
 use urlpattern_syntax::error::OutOfMemory;
 
-/// The text of an expression, its steps, and how a text is matched by them.
+/// The text of an expression, its steps, and the strategy of matching.
 #[derive(Drop)]
 pub(crate) struct Steps {
     pub(crate) text: String,
@@ -21,7 +21,7 @@ pub(crate) struct Steps {
 }
 
 impl Steps {
-    /// The expression of a text and its steps.
+    /// Creates an expression from its text and its steps.
     #[inline(always)]
     pub(crate) fn new(text: String, steps: Vec<Step>) -> Steps
         ensures text { result.text ≡ text }
@@ -34,9 +34,7 @@ impl Steps {
         }
     }
 
-    /// What the steps capture of a text that they take whole. `None`: they do not take it whole.
-    ///
-    /// The error is that memory ran out.
+    /// Returns the captures of the steps, if they match the whole text. `None`: no match.
     #[inline(always)]
     pub(crate) fn matches<'t>(
         &self,
@@ -51,9 +49,7 @@ impl Steps {
     }
 }
 
-/// What the steps capture of a text that they take whole. `None`: they do not take it whole.
-///
-/// The error is that memory ran out.
+/// Returns the captures of the steps, if they match the whole text. `None`: no match.
 #[inline(always)]
 pub(crate) fn match_steps<'t>(
     alloc: Global,

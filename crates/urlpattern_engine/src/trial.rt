@@ -1,4 +1,4 @@
-//! Searches an automaton state by state, and goes back where a way ends.
+//! Searches an automaton by backtracking, without a visited set.
 
 ghost use Rattle.std.specs.Prelude.{◌≡◌, ◌^◌, ◌<◌, ◌≤◌, option_map, IfNone, IfOk};
 ghost use Rattle.regex_vm.specs.Found.{group_cells, put};
@@ -7,42 +7,43 @@ ghost use Rattle.urlpattern_engine.specs.Trials.{Follows, IsFound, IsPlace, IsSt
 
 use regex_nfa::{Nfa, State, StateId};
 
-/// How many states a search may visit, apart from those for each byte. A choice that stays open, or that all remaining bytes decide, also
-/// uses up one for each remaining byte.
+/// The number of states that a search may visit, apart from those for each byte. A choice that
+/// stays open, or that all remaining bytes decide, costs one more for each remaining byte.
 const STATES: usize = 128;
 
-/// How many more for each byte.
+/// The number of further states for each byte.
 const STATES_PER_BYTE: usize = 16;
 
-/// How many choices are left open at most.
+/// The greatest number of open choices.
 const DEPTH: usize = 64;
 
-/// How many cells a search has, two for each group.
+/// The number of cells of a search, two for each group.
 pub(crate) const FEW: usize = 8;
 
-/// A search that would visit too many states, or leave too many choices open.
+/// The error of a search that would visit too many states, or leave too many choices open.
 #[derive(Clone, Copy)]
 pub(crate) struct GivenUp;
 
-/// What follows a state at a place.
+/// The next move of a search from a state at a position.
 #[derive(Clone, Copy)]
 pub(crate) enum Next {
-    /// Go on with this state at this place.
+    /// Continue with a state at a position.
     On(StateId, usize),
-    /// The same, where all remaining bytes were looked at.
+    /// Continue with a state at a position, after a look at all remaining bytes.
     OnByRest(StateId, usize),
-    /// Try the first of these states at this place, and go on with the second one if no match goes on with the first.
+    /// Try the first state at a position, and backtrack to the second if there is no match from the
+    /// first.
     Choice(StateId, StateId, usize),
-    /// A match ends here.
+    /// A match ends at a position.
     Ends(usize),
-    /// There is no match.
+    /// No match.
     Fails,
 }
 
-/// An automaton and the bytes that are searched, at their start.
+/// An automaton and bytes, to be matched from their start.
 ///
-/// A choice stays open only where no byte was seen to decide it. No state is marked as visited, so that a search may take long, and is given
-/// up then.
+/// A choice stays open only if no byte was found to decide it. Visited states are not marked, so a
+/// search may be slow, and is then given up.
 #[derive(Clone, Copy)]
 pub(crate) struct Trial<'a> {
     pub(crate) nfa: &'a Nfa,
@@ -50,7 +51,7 @@ pub(crate) struct Trial<'a> {
 }
 
 impl Trial<'_> {
-    /// The cells of the first groups, if the automaton matches at the start of the bytes.
+    /// Returns the cells of the first groups, if the automaton matches at the start of the bytes.
     ///
     /// The error is that the search was given up.
     pub(crate) fn find(&self) -> Result<Option<[usize; FEW]>, GivenUp>
@@ -68,7 +69,8 @@ impl Trial<'_> {
         }
     }
 
-    /// Where the match ends that is preferred from a state on, at a place. The cells are those of its groups. `None`: there is none.
+    /// Returns the end of the preferred match from a state at a position, and writes the cells of
+    /// its groups. `None`: no match.
     ///
     /// The error is that the search was given up.
     #[inline(never)]
@@ -117,7 +119,8 @@ impl Trial<'_> {
         Err(GivenUp)
     }
 
-    /// The same, where the cells are kept if there is no match.
+    /// Returns the end of the preferred match from a state at a position, and writes the cells of
+    /// its groups. `None`: no match, and the cells are unchanged.
     ///
     /// The error is that the search was given up.
     #[inline(never)]
@@ -149,7 +152,8 @@ impl Trial<'_> {
         }
     }
 
-    /// What follows a state at a place. A state that writes a cell writes it.
+    /// Returns the next move from a state at a position. A state that saves a position writes its
+    /// cell.
     #[inline(always)]
     fn step(&self, id: StateId, at: usize, cells: &mut [usize; FEW]) -> Next
         requires state { IsState self.now id }
@@ -179,7 +183,7 @@ impl Trial<'_> {
     }
 }
 
-/// Writes a place to the cell of a slot, if it has one.
+/// Writes a position to the cell of a slot, if the slot has one.
 #[inline(always)]
 fn write(slot: u32, at: usize, cells: &mut [usize; FEW])
     requires { at < 2 ^ 63 }

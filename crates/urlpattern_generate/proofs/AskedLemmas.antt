@@ -1,4 +1,4 @@
--- What the groups of parts are to capture, part by part.
+-- The captures that are requested of the groups of parts, part by part.
 use Rattle.std.proofs.Common.{◌≡◌, ◌⊎◌, ◌∙◌, ℕ, Bool, true, false, List, [], ◌∷◌, ◌++◌, append-nil, append_assoc, ap, inl, inr, refl, sym, subst, Option, Some, None}
 use Rattle.std.specs.Prelude.{◌&&◌}
 use Rattle.urlpattern_generate.specs.Asked.{capture_by_modifier, capture_not_given, empty_if, is_nameless}
@@ -13,7 +13,7 @@ use Rattle.urlpattern_syntax.specs.Parts.{PartView}
 use Rattle.urlpattern_syntax.specs.Text.{begins_with}
 use Rattle.urlpattern_syntax.specs.RegexpText.{is_empty}
 
--- ---- one part more
+-- ---- one more part
 
 after_more : (kind : PartType) (part : PartView) (Is : PartView → Option (List ℕ) → Type 0) (captures more : Captures) → OfFirst Is kind part captures →
     captures_after kind (captures ++ more) ≡ captures_after kind captures ++ more
@@ -34,7 +34,7 @@ first_more SegmentWildcard part Is (capture ∷ captures) more first = first
 first_more FullWildcard part Is [] more first = absurd first
 first_more FullWildcard part Is (capture ∷ captures) more first = first
 
--- what is said of parts and of others is said of both
+-- A fact about two lists of parts holds of their concatenation.
 pub each_joined : (Is : PartView → Option (List ℕ) → Type 0) (parts others : List PartView) (captures more : Captures) → OfEachGroup Is parts captures → OfEachGroup Is others more →
     OfEachGroup Is (parts ++ others) (captures ++ more)
 each_joined Is [] others captures more h also = subst (λ own. OfEachGroup Is others (own ++ more)) (sym h) also
@@ -53,7 +53,7 @@ own_more SegmentWildcard part Is (capture ∷ captures) more first = refl
 own_more FullWildcard part Is [] more first = absurd first
 own_more FullWildcard part Is (capture ∷ captures) more first = refl
 
--- their texts stand end to end
+-- The texts of two lists of parts are concatenated.
 pub texts_joined : (Is : PartView → Option (List ℕ) → Type 0) (parts others : List PartView) (captures more : Captures) → OfEachGroup Is parts captures →
     text_of_parts (parts ++ others) (captures ++ more) ≡ text_of_parts parts captures ++ text_of_parts others more
 texts_joined Is [] others captures more h = ap (λ own. text_of_parts others (own ++ more)) h
@@ -90,7 +90,7 @@ fixed_alone Is kind part e = subst (λ k. OfFirst Is k part [] × (captures_afte
 pub fixed_text_alone : (part : PartView) → part.kind ≡ FixedText → text_of_parts (part ∷ []) [] ≡ fewest_copies part.modifier part.value
 fixed_text_alone part e = append-nil _ ∙ ap (λ kind. text_of_part kind part []) e
 
--- ---- what is not given
+-- ---- groups without a value
 
 pub zero_or_more : (part : PartView) (bare : Bool) → part.modifier ≡ modifiers.ZeroOrMore → bare ≡ (is_empty part.prefix && is_empty part.suffix) → empty_if bare ≡ capture_not_given part
 zero_or_more part bare e f =
@@ -108,7 +108,7 @@ none_or_more modifier part (inr e) = sym (ap (λ m. capture_by_modifier m part) 
 pub other_modifier : (part : PartView) → (part.modifier ≡ modifiers.None) ⊎ (part.modifier ≡ modifiers.OneOrMore) → empty_if (is_nameless part.kind part.name) ≡ capture_not_given part
 other_modifier part e = none_or_more part.modifier part e
 
--- where something is captured that is not given, it is empty
+-- A capture of a group without a value is empty.
 pub empty_by : (is : Bool) (text : List ℕ) → empty_if is ≡ Some text → text ≡ []
 empty_by true text e = cc
 empty_by false text e = cc
@@ -129,7 +129,7 @@ not_given_by modifiers.OneOrMore part text e = empty_by (is_nameless part.kind p
 pub not_given_empty : (part : PartView) (text : List ℕ) → capture_not_given part ≡ Some text → text ≡ []
 not_given_empty part text e = not_given_by part.modifier part text e
 
--- ---- wildcards without name
+-- ---- unnamed wildcards
 
 pub full_nameless : (kind : PartType) (name : List ℕ) (digit : Bool) → kind ≡ FullWildcard → digit ≡ begins_with is_ascii_digit name → digit ≡ is_nameless kind name
 full_nameless kind name digit e is = is ∙ sym (ap (λ k. is_nameless k name) e)

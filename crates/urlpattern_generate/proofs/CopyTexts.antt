@@ -1,9 +1,9 @@
--- What the copies of a group capture, by their texts.
+-- The capture of several copies of a group, by their texts.
 use Rattle.std.proofs.Common.{◌≡◌, ℕ, zero, suc, List, ◌++◌, append_assoc, ap, refl, sym, ◌∙◌}
 use Rattle.urlpattern_generate.specs.Links.{AreTextsWith}
 use Rattle.urlpattern_meaning.proofs.Copies.{IsCore, core_one, one_core}
 
--- where further copies stand after the first
+-- The text between the first copy and further ones.
 first_between : (first suffix prefix piece behind : List ℕ) → first ++ ((suffix ++ prefix ++ piece) ++ behind) ≡ first ++ ((suffix ++ prefix) ++ (piece ++ behind))
 first_between first suffix prefix piece behind = simp append_assoc
 

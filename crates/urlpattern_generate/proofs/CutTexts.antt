@@ -1,4 +1,4 @@
--- Where a text is cut, by its characters.
+-- Texts that are split, by their characters.
 use Rattle.std.proofs.Common.{◌≡◌, ℕ, ◌+◌, ◌≤◌, ◌-◌, false, List, ◌∷◌, ◌++◌, length, take, drop, refl, sym, ap, ◌∙◌, subst, arith, IsTrue, Some, None, Option}
 use Rattle.std.proofs.lemmas.List.{take-append-drop}
 use Rattle.std.proofs.lemmas.Str.{IsCharBoundary-from_drop, IsUtf8-append, IsUtf8-drop, IsUtf8-encode, IsUtf8-take, chars-append, encodes-append, encodes-chars, len_utf8_bounds}
@@ -44,7 +44,7 @@ lacks_where_none mark text u none = (lacks-searched mark text false u none).0 re
 pub front_cut : (text front rest : List ℕ) → IsUtf8 front → StripsPrefix (FindsTextPrefix front) text rest → chars text ≡ chars front ++ chars rest
 front_cut text front rest u (n, (is_len, whole, boundary), is_rest, len) = ap chars (whole ∙ ap (λ t. front ++ t) (sym is_rest)) ∙ chars-append front rest u
 
--- texts in UTF-8 are these bytes where their characters are cut
+-- A UTF-8 text is the encoding of the parts into which its characters are split.
 bytes_cut : (text front : List ℕ) (cs ds : List ℕ) → IsUtf8 text → chars text ≡ cs ++ ds → text ≡ encode_utf8_all cs ++ encode_utf8_all ds
 bytes_cut text front cs ds u e = sym (encodes-chars text u) ∙ ap encode_utf8_all e ∙ encodes-append cs ds
 
@@ -59,7 +59,7 @@ back_cut text back rest u (n, (is_len, whole, boundary), is_rest, len) =
 pub no_back : (text back : List ℕ) → IsUtf8 text → IsUtf8 back → FindsTextSuffix back text None → (rest : List ℕ) → ¬ (chars text ≡ rest ++ chars back)
 no_back text back u v none rest e = none (encode_utf8_all rest) (bytes_cut text back rest (chars back) u e ∙ ap (λ t. encode_utf8_all rest ++ t) (encodes-chars back v))
 
--- ---- by what the calls return
+-- ---- by the results of calls
 
 pub cut_some : (mark : ℕ) (text : List ℕ) (r : Option (Bor (List ℕ) × Bor (List ℕ))) → IsUtf8 text → IsScalar mark →
     MatchOption r (FindsChar mark text None) (λ x. SplitsAroundMatch (FindsChar mark) text x.0.now x.1.now) → IfSome r (λ x. IsCutAtFirst mark text x.0.now x.1.now)

@@ -1,4 +1,4 @@
--- Whether captures are what is asked, part by part.
+-- Whether captures are the requested ones, part by part.
 use Rattle.std.proofs.Common.{◌≡◌, ◌+◌, ◌∙◌, ◌<◌, ◌≤◌, ◌-◌, ℕ, suc, Bool, true, false, List, [], ◌∷◌, add-one, ap, arith, drop, get_or, length, map, refl, sym, subst, Option, Some, None}
 use Rattle.std.proofs.Math.Seq.{drop-cons}
 use Rattle.std.proofs.lemmas.Bool.{false≢true}
@@ -52,7 +52,7 @@ module _ (manner : WritingManner) (part : PartView) (found : Found) (i : ℕ) (o
       false≢true (sym e ∙ tested.1 (asked_of manner part.kind part (option_text (get_or found i other)) (drop (i + 1) (map option_text found)) group
       (subst (OfFirst (IsAsked manner) part.kind part) (left_from found i other within) first)))
 
--- ---- the captures that are left at the end
+-- ---- the remaining captures at the end
 
 none_left : (all : Captures) (next : ℕ) → next ≤ length all → IsTrue (next == length all) ↔ (drop next all ≡ [])
 none_left all next within = (

@@ -1,4 +1,4 @@
--- Whether a text that is written is canonical, and what a matcher finds in it.
+-- Whether a written text is canonical, and what a matcher finds in it.
 use Rattle.std.proofs.Common.{◌≡◌, ◌≢◌, ℕ, Bool, true, false, List, Result, Ok, Err, Option, Some, None, inl, inr, refl, subst, sym}
 use Rattle.std.proofs.lemmas.Bool.{false≢true}
 use Rattle.std.specs.Prelude.{◌↔◌, IfOk, IsTrue}
@@ -17,7 +17,7 @@ use Rattle.urlpattern_meaning.specs.PartMeaning.{Captures}
 use Rattle.urlpattern_syntax.specs.Errors.{ErrorView}
 use Rattle.urlpattern_syntax.specs.Parts.{PartView}
 
--- by the test of these bytes
+-- A text is canonical by a test of its bytes.
 pub told_canonical : (canonical : List ℕ → Parsed (List ℕ)) (is : Bool) (bytes text : List ℕ) → is ≡ true → chars bytes ≡ text → TellsCanonical is canonical bytes → canonical text ≡ Ok text
 told_canonical canonical true bytes text e same told = subst (λ of. canonical of ≡ Ok of) same told
 told_canonical canonical false bytes text e same told = absurd (false≢true e)
@@ -29,7 +29,7 @@ told_other canonical false bytes e told = told
 -- ---- what a matcher finds
 
 module _ {E : Type 0} (answer : E → List ℕ → Option Captures) (matcher : MatcherView E) (manner : WritingManner) (parts : List PartView) (text : List ℕ) where
-  -- by a test of what it finds
+  -- A matcher finds the requested captures by a test of those it finds.
   pub found_told : {Fault : Type 0} (captures : Captures) (r : Result Bool Fault) → Answers answer matcher text (Some captures) → IfOk r (λ are. IsTrue are ↔ AreAsked manner parts captures) →
       IfOk r (λ is. TellsFound is answer matcher manner parts text)
   found_told captures (Err fault) answers tested = tt
@@ -42,7 +42,7 @@ module _ {E : Type 0} (answer : E → List ℕ → Option Captures) (matcher : M
   pub nothing_found : Answers answer matcher text None → FindsOther answer matcher manner parts text
   nothing_found answers = (None, answers, (λ captures are same. absurd (let never : None ≡ Some captures = same in cc never)))
 
-  -- what is written is found by a matcher that is sure to find it
+  -- A matcher that always finds what was written finds it.
   pub written_found : (IsEngine : (regexp : List ℕ) → Result E ErrorView → Type 0) → IsMadeOf IsEngine manner.options parts matcher → ReadsWritten matcher.ignore_case matcher.inner →
       IsWritten manner parts text → FindsAsked answer matcher manner parts text
   written_found IsEngine made reads written = (
@@ -51,7 +51,7 @@ module _ {E : Type 0} (answer : E → List ℕ → Option Captures) (matcher : M
     subst (λ t. Answers answer matcher t (Some written.captures)) (sym written.is_text) (made_finds answer IsEngine manner.options parts matcher written.captures made reads written.may_capture),
   )
 
-  -- by whether it is found
+  -- A matcher finds the requested captures by the result of the test.
   pub told_found : (is : Bool) → is ≡ true → TellsFound is answer matcher manner parts text → FindsAsked answer matcher manner parts text
   told_found true e told = told
   told_found false e told = absurd (false≢true e)
@@ -60,7 +60,7 @@ module _ {E : Type 0} (answer : E → List ℕ → Option Captures) (matcher : M
   told_other_found true e told = absurd (false≢true (sym e))
   told_other_found false e told = told
 
--- what is refused when it is written is refused
+-- An error of writing is an error of generating.
 pub cannot_write : {E : Type 0} (answer : E → List ℕ → Option Captures) (matcher : MatcherView E) (component : ComponentName) (manner : WritingManner) (parts : List PartView) (error : GenerateError) →
     CannotWrite component manner parts error → LacksText answer matcher component manner parts error
 cannot_write answer matcher component manner parts (ReadOtherwise of) (inl never) = cc never

@@ -1,4 +1,4 @@
--- The first text that is given for a group, by the steps of a search.
+-- The first value for a group, by the steps of a search.
 use Rattle.std.proofs.Common.{◌≡◌, ◌+◌, ◌<◌, ◌≤◌, ℕ, Bool, true, false, List, ◌∷◌, add-one, ap, bytes_eq, drop, get_or, length, refl, sym, ◌∙◌, Some, None}
 use Rattle.std.proofs.Math.Seq.{drop-cons}
 use Rattle.std.proofs.lemmas.Bool.Decides.{same_from_decides}
@@ -15,7 +15,7 @@ use Rattle.urlpattern_components.specs.declared.eight.ComponentName.TheVariants.
 abbrev pub Group : Type 0
 Group = ComponentName × Bor (List ℕ) × Bor (List ℕ)
 
--- the groups from here on begin with the one here
+-- The remaining groups begin with the current one.
 begins_here : (groups : List Group) (i : ℕ) (other : Group) → i < length groups → drop i groups ≡ get_or groups i other ∷ drop (i + 1) groups
 begins_here groups i other within = drop-cons groups i other within ∙ ap (λ n. get_or groups i other ∷ drop n groups) (sym (add-one i))
 
@@ -38,7 +38,7 @@ given_never groups i component name past = ap (λ list. text_given (given_groups
 
 -- ---- components by their names
 
--- the component of a name
+-- The component of a name.
 named : (text : List ℕ) → ComponentName
 named text =
     if bytes_eq text (codes "protocol") then Protocol
@@ -54,7 +54,7 @@ named_by_name : (component : ComponentName) → named (name_text component) ≡ 
 unfolding named
 named_by_name = by_name (λ component. named (name_text component) ≡ component) refl refl refl refl refl refl refl refl
 
--- whether two are the same by a test of their names
+-- Two components are equal by a test of their names.
 pub names_tested : (one other : ComponentName) (is : Bool) → (IsTrue is → one ≡ other) → (one ≡ other → IsTrue is) → is ≡ bytes_eq (name_text one) (name_text other)
 names_tested one other is to from =
     sym (same_from_decides (bytes_eq (name_text one) (name_text other)) is (bytes_eq-Decides (name_text one) (name_text other))

@@ -27,18 +27,18 @@ pub long_enough : (may_be_empty : Bool) (text : List ℕ) → IsUtf8 text → ma
 long_enough true text u e = absurd (false≢true (sym e))
 long_enough false text u e = subst (λ b. IsTrue (not b) ↔ (¬ (chars text ≡ []))) (is_empty-str text u) (some_chars (chars text))
 
--- what is known holds beside what is tested
+-- A known fact and a tested one hold together.
 pub beside : {P Q : Type 0} (r : Bool) → P → IsTrue r ↔ Q → IsTrue r ↔ (P × Q)
 beside r p tested = (λ t. (p, tested.0 t), λ both. tested.1 both.1)
 
--- ---- no copies
+-- ---- zero copies
 
 none_by : (bare : Bool) (text : List ℕ) → IsTrue (bare && is_empty text) ↔ (Unit {0} × (Some text ≡ capture_of_none modifiers.ZeroOrMore bare))
 none_by true [] = (λ h. (tt, refl), λ h. refl)
 none_by true (c ∷ text) = (λ h. absurd (false≢true h), λ h. cc h.1)
 none_by false text = (λ h. absurd (false≢true h), λ h. cc h.1)
 
--- the test for the capture of no copies
+-- The test for the capture of zero copies.
 pub none_tested : (modifier : PartModifier) (bare found : Bool) (text : List ℕ) (r : Bool) → modifier ≡ modifiers.ZeroOrMore → found ≡ bare → r ≡ (found && is_empty text) →
     IsTrue r ↔ (Allows modifier 0 × (Some text ≡ capture_of_none modifier bare))
 none_tested modifier bare found text r e f g =
@@ -64,7 +64,7 @@ allows_more : (modifier : PartModifier) (n : ℕ) → IsRepeatedBy modifier → 
 allows_more modifier n (inl e) = subst (λ m. Allows m (suc n)) (sym e) tt
 allows_more modifier n (inr e) = subst (λ m. Allows m (suc n)) (sym e) (omega arith)
 
--- a repeated group may capture any number of texts
+-- A repeated group may capture any number of texts.
 pub copies_tested : (Is : List ℕ → Type 0) (part : PartView) (between text : List ℕ) (r : Bool) → IsRepeatedBy part.modifier → between ≡ part.suffix ++ part.prefix →
     IsTrue r ↔ AreSomeWith Is between text → IsTrue r ↔ IsOfCopies Is part (Some text)
 copies_tested Is part between text r repeated e tested = (
@@ -82,7 +82,7 @@ copies_same Is Also part text same = (
   λ are. (are.0, are.1, texts_weaker Also Is (part.suffix ++ part.prefix) (λ t. (same t).1) are.0 text are.2),
 )
 
--- this is said of an answer, by what is said of it in other words
+-- A result that decides a fact also decides an equivalent one.
 answer_weaker : {Fault : Type 0} (r : Result Bool Fault) (P Q : Type 0) → P ↔ Q → IfOk r (λ are. IsTrue are ↔ P) → IfOk r (λ are. IsTrue are ↔ Q)
 answer_weaker (Ok are) P Q same h = (λ t. same.0 (h.0 t), λ q. h.1 (same.1 q))
 answer_weaker (Err fault) P Q same h = tt

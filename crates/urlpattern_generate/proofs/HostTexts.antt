@@ -1,4 +1,4 @@
--- Hosts that stay as they are where they are set on the URL of the questions about them.
+-- Hosts that are unchanged when they are set on the dummy URL.
 use Rattle.std.proofs.Common.{◌≡◌, ◌∙◌, ℕ, Bool, false, not, ◌&&◌, ◌==◌, leb, ltb, List, [], ◌∷◌, ◌++◌, length, All, None, Some, Ok, Err, ap, arith, inl, length-append, refl, subst, take_at}
 use Rattle.std.proofs.lemmas.Bool.{and_right, cond-false, cond-true}
 use Rattle.std.proofs.lemmas.Bool.Decides.{nat_tests}
@@ -27,7 +27,7 @@ use Rattle.urlpattern_canonical.proofs.CanonicalLemmas.{after-ok}
 use Rattle.urlpattern_canonical.specs.Canonical.{dummy_url, hostname_of, refused_as}
 use Rattle.urlpattern_generate.proofs.SetTexts.{AreVisible, dummy, dummy_is, is_visible, stripped}
 
--- ---- bytes that are taken
+-- ---- bytes that pass a test
 
 pub taken : (test : ℕ → Bool) (bytes : List ℕ) → All (Passes test) bytes → take_while test bytes ≡ bytes
 taken test [] all = refl
@@ -39,7 +39,7 @@ taken test (b ∷ bytes) all =
 abbrev stays_in_host : ℕ → Bool
 stays_in_host b = not (is_slash SpecialNotFile b) && not (b == question_mark) && not (b == number_sign)
 
--- visible, and nothing that ends a host
+-- A visible byte that does not end a host.
 abbrev is_own_byte : ℕ → Bool
 is_own_byte b = is_visible b && stays_in_host b
 
@@ -67,7 +67,7 @@ split_host host valid =
     let whole : split_port (text ++ []) ≡ (text, None) = rw (len, short) (λ i. (take_at text [] _ refl i, None)) in
     subst (λ bytes. split_port bytes ≡ (text, None)) (append-nil text) whole
 
--- what is made of a host and a port that are cut
+-- The result of setting a host and a port that are split.
 abbrev set_cut : List ℕ × Option (List ℕ) → Parsed Parts
 set_cut cut =
     if quirks.refuses_host SpecialNotFile cut.0 cut.1 false then Err CannotSet

@@ -1,4 +1,4 @@
--- Values that are canonical as they are.
+-- Values that are already canonical.
 use Rattle.std.proofs.Common.{◌≡◌, ◌∙◌, ◌+◌, ◌<◌, ◌≤◌, ℕ, add-one, drop, get_or, Bool, true, false, not, ◌&&◌, ◌==◌, List, [], ◌∷◌, ◌++◌, append_assoc, ◌⊎◌, length, All, None, Some, Ok, ap, arith, inl, inr, refl, subst, sym}
 use Rattle.std.proofs.lemmas.Bool.{and_from, and_parts, cond-false, eqb-true, false≢true, not-true}
 use Rattle.std.proofs.lemmas.Bool.Decides.{nat_tests}
@@ -57,7 +57,7 @@ are_kept set outside = All-weaker (Passes is_kept_character) (IsKept set) (λ b 
 
 -- ---- paths
 
--- a character of a segment
+-- A character of a segment.
 abbrev is_of_segment : ℕ → Bool
 is_of_segment b = is_kept_character b && not (b == slash)
 
@@ -67,7 +67,8 @@ of_segment_kept b passes = (and_parts (is_kept_character b) (not (b == slash)) p
 no_slash : (b : ℕ) → Passes is_of_segment b → is_slash SpecialNotFile b ≡ false
 no_slash b passes = grind (arith, nat_tests)
 
--- what is known of a segment that is read up to here: nothing is read of it, or its first character may not begin a dot segment
+-- A segment that is read up to here: empty, or with a first character that cannot begin a dot
+-- segment.
 abbrev First : (begins : Bool) → List ℕ → Type 0
 First true segment = segment ≡ []
 First false [] = ⊥
@@ -127,7 +128,7 @@ path_characters begins (b ∷ bytes) kept =
     let parts = and_parts (is_kept_character b && not (begins && is_dot_mark b)) (is_kept_path (b == slash) bytes) kept in
     All-cons (Passes is_kept_character) b bytes (and_parts (is_kept_character b) (not (begins && is_dot_mark b)) parts.0).0 (path_characters (b == slash) bytes parts.1)
 
--- a path that does not begin with a slash stands behind a guard
+-- A path that does not begin with a slash is set with the prefix `/-`, which is then removed.
 guarded_kept : (bytes : List ℕ) → (slice_index bytes 0 == slash) ≡ false → is_kept_path false bytes ≡ true → pathname_of bytes ≡ Ok bytes
 guarded_kept bytes bare kept =
     let visible = All-cons (Passes is_visible) 47 (45 ∷ bytes) refl (All-cons (Passes is_visible) 45 bytes refl (are_visible bytes (path_characters false bytes kept))) in
@@ -169,7 +170,7 @@ host_characters dotted (b ∷ bytes) kept =
     let both = and_parts (is_host_character b) (is_kept_host (b == dot) bytes) kept in
     All-cons (Passes is_host_character) b bytes both.0 (host_characters (b == dot) bytes both.1)
 
--- what tells a number, of the last label
+-- The last label is a number.
 abbrev is_last_number : List ℕ → Bool
 is_last_number last = (not (is_empty last) && list_all is_ascii_digit last) || is_number (parse_number last)
 
@@ -286,7 +287,7 @@ opaque_kept bytes e =
     let parts = and_parts (not (slice_index bytes 0 == slash)) (list_all is_kept_character bytes) e in
     path_canonical bytes (are_kept OPAQUE_PATH refl bytes (All_from_list_all is_kept_character bytes parts.1)) (not-true (slice_index bytes 0 == slash) parts.0)
 
--- ---- protocols that are often used
+-- ---- common protocols
 
 pub nothing_kept : canonical_protocol (chars []) ≡ Ok (chars [])
 unfolding chars
@@ -296,7 +297,7 @@ pub nothing_line : IsTrue (lacks line_feed (chars []))
 unfolding chars
 nothing_line = refl
 
--- one of these
+-- A common protocol.
 abbrev IsOftenUsed : List ℕ → Type 0
 IsOftenUsed text = text ≡ codes "https" ⊎ (text ≡ codes "http" ⊎ (text ≡ codes "data" ⊎ text ≡ codes "mailto"))
 

@@ -23,12 +23,12 @@ users_text = refl
 users_may : MayCaptureAll pathname_options users (Some (codes "42") ∷ [])
 users_may = (tt, (inr (0, refl, (λ e. cc e, refl)), refl))
 
--- the group may not be left out
+-- The group is not optional.
 id_missing : ¬ MayCapture pathname_options id_part None
 id_missing (inl (allowed, e)) = absurd (omega (arith, allowed))
 id_missing (inr never) = never
 
--- nor may it capture a slash
+-- The group may not capture a slash.
 id_slash : ¬ MayCapture pathname_options id_part (Some (codes "4/2"))
 id_slash (inl (allowed, e)) = absurd (omega (arith, allowed))
 id_slash (inr (zero, allowed, (some, lacks))) = cc lacks
@@ -50,7 +50,7 @@ joined_text = refl
 joined_may : MayCaptureAll pathname_options (joined_part ∷ []) (Some (codes "1/ba/2") ∷ [])
 joined_may = (inr (1, omega arith, (codes "1", codes "2", refl, (λ e. cc e, refl), (λ e. cc e, refl))), refl)
 
--- ---- `:x*`: the empty text is that of no copies
+-- ---- `:x*`: the empty text is that of zero copies
 
 starred_text : text_of_parts (starred_part ∷ []) (Some [] ∷ []) ≡ []
 starred_text = refl
@@ -58,7 +58,7 @@ starred_text = refl
 starred_may : MayCaptureAll default_options (starred_part ∷ []) (Some [] ∷ [])
 starred_may = (inl (tt, refl), refl)
 
--- it has to capture something, if only the empty text
+-- The group has to capture something, if only the empty text.
 starred_missing : ¬ MayCapture default_options starred_part None
 starred_missing (inl (allowed, e)) = cc e
 starred_missing (inr never) = never

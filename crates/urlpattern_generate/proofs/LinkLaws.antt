@@ -20,7 +20,7 @@ use Rattle.urlpattern_syntax.specs.RegexpText.{is_empty}
 
 -- ---- groups
 
--- no copies have no text
+-- Zero copies have no text.
 no_copies_text : (kind : PartType) (modifier : PartModifier) (value name prefix suffix : List ℕ) →
     text_of_group (part_of kind modifier value name prefix suffix) (capture_of_none modifier (is_empty prefix && is_empty suffix)) ≡ []
 no_copies_text kind modifiers.ZeroOrMore value name [] [] = refl
@@ -30,11 +30,11 @@ no_copies_text kind modifiers.None value name prefix suffix = refl
 no_copies_text kind modifiers.Optional value name prefix suffix = refl
 no_copies_text kind modifiers.OneOrMore value name prefix suffix = refl
 
--- what a group may capture whose copies may capture texts of this kind
+-- The captures of a group whose copies may capture texts of this kind.
 abbrev MayCaptureBy : (List ℕ → Type 0) → PartView → Option (List ℕ) → Type 0
 MayCaptureBy Is part capture = IsOfNoCopies part capture ⊎ IsOfCopies Is part capture
 
--- such a group means what is written of it
+-- A group means the text that is written from it.
 group_written : (Is : List ℕ → Type 0) (kind : PartType) (modifier : PartModifier) (value name prefix suffix : List ℕ) (capture : Option (List ℕ)) →
     MayCaptureBy Is (part_of kind modifier value name prefix suffix) capture →
     GroupMeans Is (is_empty prefix && is_empty suffix) modifier prefix suffix (text_of_group (part_of kind modifier value name prefix suffix) capture) (capture ∷ [])
@@ -47,7 +47,8 @@ group_written Is kind modifier value name prefix suffix None (inr never) = absur
 group_written Is kind modifier value name prefix suffix (Some text) (inr (n, allowed, are)) =
     inr (n, text, allowed, refl, texts_core Is prefix suffix n text are, refl)
 
--- What a group captures of a text: one capture, which it may have, and the text is written of it.
+-- The captures of a group in a text: a single one, which the group may have, and with which the
+-- text is written.
 record IsCaptured (Is : List ℕ → Type 0) (part : PartView) (text : List ℕ) (captures : Captures) : Type 0 where
   capture : Option (List ℕ)
   is_one : captures ≡ capture ∷ []
@@ -83,7 +84,7 @@ fixed_written options modifiers.OneOrMore value name prefix suffix =
 
 -- ---- lists of parts
 
--- a part before others
+-- A part before others.
 before : (options : OptionsView) (part : PartView) (parts : List PartView) (first rest : List ℕ) (own others : Captures) →
     PartMeans options part first own → PartsMean options parts rest others → PartsMean options (part ∷ parts) (first ++ rest) (own ++ others)
 before options part parts first rest own others mean means = (first, rest, own, others, refl, refl, mean, means)

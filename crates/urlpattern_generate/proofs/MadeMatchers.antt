@@ -1,4 +1,5 @@
--- A matcher without an engine finds in the text of the parts that it was made of what was asked of them.
+-- A matcher without an engine finds the requested captures in the text of the parts that it was
+-- made of.
 use Rattle.std.proofs.Common.{◌≡◌, ◌⊎◌, ◌∙◌, ℕ, zero, suc, Bool, true, false, not, ◌==◌, List, [], ◌∷◌, ◌++◌, append-nil, append_assoc, ap, arith, inl, inr, refl, sym, subst, Option, Some, None, Result}
 use Rattle.std.proofs.lemmas.Bool.{and_from, and_parts}
 use Rattle.std.proofs.lemmas.Bool.Decides.{nat_tests}
@@ -62,7 +63,7 @@ back_alone options None IsThere captures removed may = (may, refl)
 back_alone options (Some part) IsThere captures removed may =
     let after = plain_after options part [] captures removed may in (after.0, after.1 ∙ append-nil part.value)
 
--- ---- what stands between them
+-- ---- the parts between the ends
 
 -- The first capture is that of a part, and the others are those of the parts after it.
 record IsFirstCut (options : OptionsView) (part : PartView) (parts : List PartView) (captures : Captures) (text : List ℕ) : Type 0 where
@@ -85,7 +86,7 @@ first_cut options part parts SegmentWildcard (capture ∷ more) e may = record {
 first_cut options part parts FullWildcard [] e may = absurd may.0
 first_cut options part parts FullWildcard (capture ∷ more) e may = record { capture = capture; more = more; is_cut = refl; may_capture = may.0; may_more = may.1; is_text = refl }
 
--- a wildcard without modifier captures one text
+-- A wildcard without modifier captures one text.
 one_text : (options : OptionsView) (kind : PartType) (part : PartView) (capture : Option (List ℕ)) → part.kind ≡ kind → part.modifier ≡ modifiers.None → MayCapture options part capture →
     (text : List ℕ) × (capture ≡ Some text) × IsCopyText options kind text
 one_text options kind part capture e f (inl (allowed, is)) =
@@ -104,7 +105,7 @@ cut_out front prefix text suffix back = simp append_assoc
 
 -- ---- a filter where case is ignored
 
--- a character is no other where case is ignored, if it is no letter
+-- Characters that differ also differ when case is ignored, if one is not a letter.
 other_folded : (c d : ℕ) → not (is_ascii_alphabetic c) ≡ true → not (d == c) ≡ true → not (to_ascii_lowercase d == to_ascii_lowercase c) ≡ true
 other_folded c d one other = grind (arith, nat_tests)
 
@@ -120,7 +121,7 @@ passes_folded true None text one lacking = tt
 passes_folded true (Some c) text one lacking = lacks_folded c text one lacking
 
 module _ {E : Type 0} (answer : E → List ℕ → Option Captures) (IsEngine : (regexp : List ℕ) → Result E ErrorView → Type 0) (options : OptionsView) where
-  -- one capture is found
+  -- A single capture is found.
   capture_found : (filter : Option ℕ) (allow_empty : Bool) (part : PartView) (front back text : List ℕ) (matcher : MatcherView E) →
       matcher ≡ single_capture_matcher options front part back filter allow_empty → IsTrue (not options.ignore_case || has_one_case filter) → MayBeEmpty allow_empty text → PassesFilter false filter text →
       Answers answer matcher (front ++ ((part.prefix ++ text ++ part.suffix) ++ back)) (Some (Some text ∷ []))
@@ -135,11 +136,11 @@ module _ {E : Type 0} (answer : E → List ℕ → Option Captures) (IsEngine : 
   engine_made prefix suffix parts matcher (engine, is, e) reads = subst (λ m. ReadsWritten m.ignore_case m.inner) e reads
 
   module _ (front : List ℕ) (part : PartView) (back : Option PartView) (IsThere : Type 0) (removed : IsRemoved back IsThere) (matcher : MatcherView E) (captures : Captures) where
-    -- it finds the captures
+    -- The matcher finds the captures.
     abbrev Found : Type 0
     Found = Answers answer matcher (front ++ text_of_parts (part ∷ option_to_list back) captures) (Some captures)
 
-    -- of a capture of the part and others
+    -- The matcher finds the capture of the part and those after it.
     with_capture : (filter : Option ℕ) (allow_empty : Bool) (capture : Option (List ℕ)) (text : List ℕ) (more : Captures) → captures ≡ capture ∷ more → capture ≡ Some text →
         text_of_parts (part ∷ option_to_list back) captures ≡ text_of_group part capture ++ text_of_parts (option_to_list back) more → MayCaptureAll options (option_to_list back) more →
         matcher ≡ single_capture_matcher options front part (end_text back) filter allow_empty → IsTrue (not options.ignore_case || has_one_case filter) → MayBeEmpty allow_empty text → PassesFilter false filter text → Found
@@ -170,7 +171,7 @@ module _ {E : Type 0} (answer : E → List ℕ → Option Captures) (IsEngine : 
         IsTrue (not options.ignore_case || has_one_case filter)
     one_case filter allow_empty e reads = subst (λ m. ReadsWritten m.ignore_case m.inner) e reads
 
-    -- the parts that are left by their kind and modifier
+    -- The remaining parts, by kind and modifier.
     one_found : (kind : PartType) (modifier : PartModifier) → part.kind ≡ kind → part.modifier ≡ modifier → IsMadeOfOne IsEngine kind modifier options front part (end_text back) matcher →
         ReadsWritten matcher.ignore_case matcher.inner → MayCaptureAll options (part ∷ option_to_list back) captures → Found
     one_found FullWildcard modifiers.None e f made reads may = full_found e f may made (one_case None true made reads)
@@ -184,7 +185,7 @@ module _ {E : Type 0} (answer : E → List ℕ → Option Captures) (IsEngine : 
     one_found FixedText modifier e f made reads may = absurd (engine_made front (end_text back) (part ∷ []) matcher made reads)
     one_found Regexp modifier e f made reads may = absurd (engine_made front (end_text back) (part ∷ []) matcher made reads)
 
-  -- the parts between two texts
+  -- The parts between two texts.
   between_found : (front : List ℕ) (middle : List PartView) (back : Option PartView) (IsThere : Type 0) (matcher : MatcherView E) (captures : Captures) → IsRemoved back IsThere →
       IsMadeBetween IsEngine options front middle (end_text back) matcher → ReadsWritten matcher.ignore_case matcher.inner → MayCaptureAll options (middle ++ option_to_list back) captures →
       Answers answer matcher (front ++ text_of_parts (middle ++ option_to_list back) captures) (Some captures)

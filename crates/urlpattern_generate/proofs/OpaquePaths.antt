@@ -1,4 +1,4 @@
--- Opaque paths, which stay as they are where they are set on the URL of the questions about them.
+-- Opaque paths, which are unchanged when they are set on the dummy URL.
 use Rattle.std.proofs.Common.{◌≡◌, ◌∙◌, ℕ, Bool, false, not, ◌&&◌, ◌==◌, List, [], ◌∷◌, ◌++◌, All, None, Ok, ap, refl, subst, sym}
 use Rattle.std.proofs.lemmas.Bool.{and_from}
 use Rattle.std.proofs.lemmas.List.Elements.{All-cons, All-head, All-nil, All-tail}
@@ -48,7 +48,7 @@ path_stripped : (path : List ℕ) → All (IsKept OPAQUE_PATH) path → strip_ta
 unfolding strip_tabs_and_new_lines
 path_stripped path kept = filter_all _ path (All_kept (λ b. not (is_tab_or_new_line b)) OPAQUE_PATH refl path kept)
 
--- kept, and no slash
+-- A character that is kept and is not a slash.
 abbrev begins : ℕ → Bool
 begins b = not (contains OPAQUE_PATH b) && not (b == slash)
 
@@ -67,7 +67,7 @@ path_set (b ∷ path) kept bare =
     (percent_encode_unchanged OPAQUE_PATH_START (b ∷ []) (All-cons (IsKept OPAQUE_PATH_START) b [] first (All-nil (IsKept OPAQUE_PATH_START))))
     ∙ ap (λ text. b ∷ text) (percent_encode_unchanged OPAQUE_PATH path (All-tail (IsKept OPAQUE_PATH) b path kept))
 
--- an opaque path stays as it is where it is set
+-- An opaque path is unchanged when it is set.
 pub path_canonical : (path : List ℕ) → All (IsKept OPAQUE_PATH) path → (slice_index path 0 == slash) ≡ false → canonical_opaque_pathname (chars path) ≡ Ok (chars path)
 path_canonical path kept bare =
     by_kept (path_of opaque_url) path kept

@@ -1,4 +1,4 @@
--- Ports, which stay as they are where they are set on the URL of the questions about them.
+-- Ports, which are unchanged when they are set on the dummy URL.
 use Rattle.std.proofs.Common.{◌≡◌, ◌∙◌, ◌<◌, ◌≤◌, ◌^◌, ℕ, Bool, true, false, not, ◌&&◌, ◌==◌, leb, ltb, List, [], ◌∷◌, length, All, None, Some, Ok, Err, ap, append-nil, arith, get_or, refl, sym}
 use Rattle.std.proofs.lemmas.Bool.{and_from, and_parts, cond-false, cond-true, false≢true, leb-true, lt-ltb, not-true}
 use Rattle.std.proofs.lemmas.Bool.Decides.{nat_tests}
@@ -29,7 +29,7 @@ use Rattle.urlpattern_generate.proofs.HostTexts.{taken}
 use Rattle.urlpattern_generate.proofs.SetTexts.{AreVisible, by_bytes, is_visible, stripped}
 use Rattle.urlpattern_generate.specs.Kept.{is_kept_port}
 
--- the scheme under which a port is read that no protocol is known of
+-- The scheme under which a port is parsed if the protocol is unknown.
 abbrev scheme : List ℕ
 scheme = encode_utf8_all (codes "dummy")
 
@@ -91,7 +91,7 @@ module _ (bytes : List ℕ) (short : IsShort bytes) where
       cond-false _ _ _ (is_empty_nonempty bytes short.some)
       ∙ cond-true _ _ _ (and_from (list_all is_ascii_digit bytes) (ltb (digits_value 10 bytes) (2 ^ 16)) short.are_digits (lt-ltb (digits_value 10 bytes) (2 ^ 16) (omega (arith, small))))
 
-  -- what is set of these digits
+  -- The result of setting these digits.
   abbrev set_digits : List ℕ → Parsed Parts
   set_digits digits = if is_empty digits && not (is_empty bytes) then Err InvalidPort else and_then (parse_port (codes "dummy") digits) (setters.set_port unset)
 

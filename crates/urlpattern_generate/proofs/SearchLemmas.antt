@@ -1,4 +1,5 @@
--- The search for the copies in a capture: the text is cut where the character stands that no copy's text has.
+-- The search for the copies in a capture: the text is split where the character occurs that no
+-- copy's text has.
 use Rattle.std.proofs.lemmas.Bool.{false≢true}
 use Rattle.std.proofs.lemmas.Bool.Decides.{nat_tests}
 use Rattle.std.proofs.Common.{◌≡◌, ◌↔◌, ℕ, zero, suc, Bool, true, false, List, [], ◌∷◌, ◌++◌, append_assoc, arith, refl, sym, ap, ◌∙◌, subst, IsTrue}
@@ -30,7 +31,7 @@ lacks_right c text more h = and_right (lacks c text) (lacks c more) (sym (list_a
 eqb_self : (c : ℕ) → (c == c) ≡ true
 eqb_self c = grind (arith, nat_tests)
 
--- the text does not lack its first character
+-- A text with this first character does not lack the character.
 stands_first : (c : ℕ) (text : List ℕ) → ¬ IsTrue (lacks c (c ∷ text))
 stands_first c text h = false≢true (sym (ap not (eqb_self c)) ∙ and_left (not (c == c)) (lacks c text) h)
 
@@ -43,7 +44,7 @@ same_head c d text other e = cc e
 same_tail : (c d : ℕ) (text other : List ℕ) → c ∷ text ≡ d ∷ other → text ≡ other
 same_tail c d text other e = cc e
 
--- a text has one cut at the first such character
+-- A text has one split at the first such character.
 cut_once : (c : ℕ) (a b p q : List ℕ) → IsTrue (lacks c a) → IsTrue (lacks c p) → a ++ c ∷ b ≡ p ++ c ∷ q → (a ≡ p) × (b ≡ q)
 cut_once c [] b [] q h k e = (refl, same_tail c c b q e)
 cut_once c [] b (d ∷ p) q h k e = absurd (stands_first c p (subst (λ x. IsTrue (lacks c (x ∷ p))) (sym (same_head c d b (p ++ c ∷ q) e)) k))
@@ -52,7 +53,7 @@ cut_once c (d ∷ a) b (x ∷ p) q h k e =
     let more = cut_once c a b p q (and_right (not (d == c)) (lacks c a) h) (and_right (not (x == c)) (lacks c p) k) (same_tail d x (a ++ c ∷ b) (p ++ c ∷ q) e) in
     (ap (λ y. y ∷ a) (same_head d x (a ++ c ∷ b) (p ++ c ∷ q) e) ∙ ap (λ t. x ∷ t) more.0, more.1)
 
--- ---- a text between copies that lacks the character too
+-- ---- a separator that lacks the character too
 
 longer_left : (may_be_empty : Bool) (text more : List ℕ) → MayBeEmpty may_be_empty text → MayBeEmpty may_be_empty (text ++ more)
 longer_left true text more h = tt
@@ -73,12 +74,12 @@ pub one_where_lacking : (mark : ℕ) (may_be_empty : Bool) (between text : List 
     IsTextWithout mark may_be_empty text ↔ AreSomeWith (IsTextWithout mark may_be_empty) between text
 one_where_lacking mark may_be_empty between text h = (λ is. (0, is), λ are. one_of mark may_be_empty between h are.0 text are.1)
 
--- ---- a text between copies that has the character
+-- ---- a separator with the character
 
 parts_of : (first before : List ℕ) (mark : ℕ) (after rest : List ℕ) → first ++ ((before ++ mark ∷ after) ++ rest) ≡ (first ++ before) ++ mark ∷ (after ++ rest)
 parts_of first before mark after rest = simp append_assoc
 
--- the last text
+-- The last text.
 pub one_where_last : (mark : ℕ) (may_be_empty : Bool) (before after between text : List ℕ) → between ≡ before ++ mark ∷ after → IsTrue (lacks mark text) →
     MayBeEmpty may_be_empty text ↔ AreSomeWith (IsTextWithout mark may_be_empty) between text
 one_where_last mark may_be_empty before after between text e h = (λ may. (0, (may, h)), λ are. by_count are.0 are.1)
@@ -89,7 +90,7 @@ one_where_last mark may_be_empty before after between text e h = (λ may. (0, (m
         absurd (stands_in mark (first ++ before) (after ++ rest)
         (subst (λ t. IsTrue (lacks mark t)) (cut ∙ ap (λ t. first ++ (t ++ rest)) e ∙ parts_of first before mark after rest) h))
 
--- Such texts, of which the first is cut off.
+-- The first of such texts is cut off.
 record IsFirstCut (mark : ℕ) (may_be_empty : Bool) (before after between front behind : List ℕ) : Type 0 where
   first : List ℕ
   later : List ℕ
@@ -98,7 +99,7 @@ record IsFirstCut (mark : ℕ) (may_be_empty : Bool) (before after between front
   may : MayBeEmpty may_be_empty first
   are : AreSomeWith (IsTextWithout mark may_be_empty) between later
 
--- where the text between copies and these texts are cut where the character stands first
+-- The separator and the texts are split at the first occurrence of the character.
 module _ {mark : ℕ} {between before after text front behind : List ℕ} (may_be_empty : Bool) (whole : IsCutAtFirst mark between before after) (here : IsCutAtFirst mark text front behind) where
   first_cut : AreSomeWith (IsTextWithout mark may_be_empty) (chars between) (chars text) → IsFirstCut mark may_be_empty (chars before) (chars after) (chars between) (chars front) (chars behind)
   first_cut (zero, is) = absurd (stands_in mark (chars front) (chars behind) (subst (λ t. IsTrue (lacks mark t)) here.cut is.1))
@@ -107,7 +108,7 @@ module _ {mark : ℕ} {between before after text front behind : List ℕ} (may_b
       (sym here.cut ∙ also ∙ ap (λ t. first ++ (t ++ rest)) whole.cut ∙ parts_of first (chars before) mark (chars after) rest) in
       record { first = first; later = rest; is_front = one.0; is_behind = one.1; may = is.0; are = (n, more) }
 
-  -- the first text is cut off
+  -- The first text is cut off.
   pub more_where_cut : (first later : List ℕ) → chars front ≡ first ++ chars before → chars behind ≡ chars after ++ later → MayBeEmpty may_be_empty first →
       AreSomeWith (IsTextWithout mark may_be_empty) (chars between) (chars text) ↔ AreSomeWith (IsTextWithout mark may_be_empty) (chars between) later
   more_where_cut first later is_front is_behind may = (
@@ -138,6 +139,6 @@ module _ {mark : ℕ} {between before after text front behind : List ℕ} (may_b
       let found = first_cut are in
       short (subst (MayBeEmpty may_be_empty) (append_cancel_right found.first first (chars before) (sym found.is_front ∙ is_front)) found.may)
 
--- what does not hold is tested to be false
+-- `false` decides a fact that does not hold.
 pub refuted : {Is : Type 0} → ¬ Is → IsTrue false ↔ Is
 refuted never = (λ t. absurd (false≢true t), λ is. absurd (never is))

@@ -7,7 +7,7 @@ use Rattle.percent_encoding.specs.declared.ascii_set.AsciiSet.{AsciiSet}
 use Rattle.url.proofs.InputLemmas.{Passes}
 use Rattle.url.proofs.SetLemmas.{kept_from_passes, outside_pass, passes_from_kept, passing_outside}
 
--- what is ASCII and outside the set passes a test, and nothing else does
+-- The ASCII characters outside of the set are those that pass a test.
 pub tested_by_set : (set : AsciiSet) (test : ℕ → Bool) → outside_pass set test ≡ true → passing_outside test set ≡ true → ((b : ℕ) → Passes test b → b < 128) → (b : ℕ) → not (should_percent_encode set b) ≡ test b
 tested_by_set set test outside passing ascii b = by_cases (should_percent_encode set b) (test b) refl refl
   where
@@ -17,7 +17,7 @@ tested_by_set set test outside passing ascii b = by_cases (should_percent_encode
     by_cases true true e f = absurd (false≢true (sym (kept_from_passes test set passing b (ascii b f) f) ∙ e))
     by_cases false false e f = absurd (false≢true (sym f ∙ passes_from_kept set test outside b e))
 
--- the same by two tests
+-- The ASCII characters outside of the set are those that pass a test, by two tests.
 pub ascii_outside : (set : AsciiSet) (test : ℕ → Bool) → outside_pass set test ≡ true → passing_outside test set ≡ true → ((b : ℕ) → Passes test b → b < 128) → (b : ℕ) → (is_ascii b && not (contains set b)) ≡ test b
 unfolding should_percent_encode
 ascii_outside set test outside passing ascii b = both (is_ascii b) (contains set b) ∙ tested_by_set set test outside passing ascii b

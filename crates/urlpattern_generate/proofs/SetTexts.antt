@@ -1,4 +1,4 @@
--- Values that stay as they are where they are set on the URL of the questions about them.
+-- Values that are unchanged when they are set on the dummy URL.
 use Rattle.std.proofs.Common.{◌≡◌, ◌∙◌, ◌<◌, ℕ, Bool, false, not, ◌&&◌, ◌==◌, ltb, List, [], ◌∷◌, length, All, None, Some, Ok, ap, arith, get_or, refl, subst, sym, ⊎_elim}
 use Rattle.std.proofs.lemmas.Bool.{and_right, cond-false}
 use Rattle.std.proofs.lemmas.Bool.Decides.{nat_tests}
@@ -44,7 +44,7 @@ pub stripped : (bytes : List ℕ) → AreVisible bytes → strip_tabs_and_new_li
 unfolding strip_tabs_and_new_lines
 stripped bytes visible = filter_all _ bytes (All-weaker (Passes is_visible) (Passes (λ c. not (is_tab_or_new_line c))) visible_kept bytes visible)
 
--- ---- texts that a question answers by themselves
+-- ---- texts that are their own canonical form
 
 pub by_text : (ask : List ℕ → Parsed (List ℕ)) (text : List ℕ) → ask (encode_utf8_all text) ≡ Ok (encode_utf8_all text) → chars (encode_utf8_all text) ≡ text → canonical ask text ≡ Ok text
 by_text ask [] asked kept = refl
@@ -55,7 +55,7 @@ by_bytes ask bytes visible asked =
     let same = encodes-chars bytes (IsUtf8-from_ascii bytes (IsAscii-from_all bytes (All-weaker (Passes is_visible) (λ b. b < 128) visible_ascii bytes visible))) in
     by_text ask (chars bytes) (subst (λ own. ask own ≡ Ok own) (sym same) asked) (ap chars same)
 
--- ---- the URL on which they are set
+-- ---- the dummy URL
 
 abbrev pub dummy : Parts
 dummy = record {

@@ -1,4 +1,4 @@
--- Texts that are compared.
+-- Comparisons of texts.
 use Rattle.std.proofs.Common.{◌≡◌, ℕ, Bool, List, ap, bytes_eq, ◌∙◌}
 use Rattle.std.proofs.lemmas.Bool.Decides.{Decides-at, same_from_decides}
 use Rattle.std.proofs.lemmas.Slice.Eq.{bytes_eq-Decides}
@@ -6,7 +6,7 @@ use Rattle.std.specs.Prelude.{◌↔◌, IsTrue}
 use Rattle.std.specs.Str.{IsUtf8, chars}
 use Rattle.urlpattern_syntax.proofs.TextLemmas.{bytes_same}
 
--- a test of bytes is one of characters
+-- A test of bytes is a test of characters.
 pub texts_tested : (bytes other : List ℕ) (r : Bool) → IsUtf8 bytes → IsUtf8 other → r ≡ bytes_eq bytes other → r ≡ bytes_eq (chars bytes) (chars other)
 texts_tested bytes other r u v e =
     let decides = bytes_eq-Decides (chars bytes) (chars other) in

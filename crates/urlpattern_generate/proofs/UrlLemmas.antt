@@ -24,7 +24,7 @@ use Rattle.urlpattern_generate.specs.declared.no_link.NoLink.TheVariants.{Compon
 encoded : (text : CowStr Global) (seen : Bor (List ℕ)) → IsSeenAs text seen → seen.now ≡ encode_utf8_all (cow_text text)
 encoded text seen (same, utf8) = sym (encodes-chars seen.now utf8) ∙ ap (λ bytes. encode_utf8_all (chars bytes)) same
 
--- the bytes that are put together are those of the texts
+-- The joined bytes are those of the texts.
 pub line_encoded : (texts : Eight (CowStr Global)) (seen : Eight (Bor (List ℕ))) → AreSeenAs texts seen → url_line (bytes_of_each seen) ≡ line_of (cow_texts texts)
 line_encoded texts seen are = ap url_line (λ i. record {
   protocol = encoded texts.protocol seen.protocol (are Protocol) i;
@@ -37,7 +37,7 @@ line_encoded texts seen are = ap url_line (λ i. record {
   hash = encoded texts.hash seen.hash (are Hash) i;
 })
 
--- what is seen are the characters of the texts
+-- The borrowed characters are those of the texts.
 pub seen_texts : (texts : Eight (CowStr Global)) (seen : Eight (Bor (List ℕ))) → AreSeenAs texts seen → texts_seen seen ≡ cow_texts texts
 seen_texts texts seen are =
     same_values (texts_seen seen) (cow_texts texts)
@@ -49,13 +49,13 @@ line_refused texts (Url reason) h = h
 line_refused texts (OtherText component) h = absurd h
 line_refused texts OutOfMemory h = h
 
--- ---- the texts of a URL beside those that are wanted
+-- ---- the texts of a URL and the requested ones
 
--- the URL has the text that is wanted for this component
+-- The URL has the requested text for this component.
 abbrev pub HasText : Parts → Eight (Bor (List ℕ)) → ComponentName → Type 0
 HasText url texts name = url_text name url ≡ at (texts_seen texts) name
 
--- it has where what is found there is the same as what was got
+-- A comparison decides whether the URL has the requested text.
 pub text_tested : (url : Parts) (texts : Eight (Bor (List ℕ))) (name : ComponentName) (found got : List ℕ) (same : Bool) →
     chars found ≡ url_text name url → got ≡ (at texts name).now → IsTrue same ↔ (chars found ≡ chars got) → IsTrue same ↔ HasText url texts name
 text_tested url texts name found got same is_text is_got tested =
@@ -68,7 +68,7 @@ texts_had url texts all =
 
 -- ---- the component at fault
 
--- the pathname is where it runs into the host
+-- The pathname is at fault if it runs into the host.
 pub path_at_fault : (url : Parts) (texts : Eight (Bor (List ℕ))) → runs_on (texts_seen texts) ≡ true → ¬ HasText url texts Pathname → IsAtFault url (texts_seen texts) Pathname
 path_at_fault url texts runs other = ([], components, ap compared runs, All-nil (HasText url texts), other)
 
@@ -76,7 +76,7 @@ cut_at : (i : ℕ) → i < length components → components ≡ take i component
 cut_at i within =
     sym (take-append-drop i components) ∙ ap (λ rest. take i components ++ rest) (drop-cons components i Protocol within ∙ ap (λ n. get_or components i Protocol ∷ drop n components) (sym (add-one i)))
 
--- otherwise it is the first that has another text
+-- The first component for which the URL has another text is at fault, unless the pathname is.
 pub first_at_fault : (url : Parts) (texts : Eight (Bor (List ℕ))) (i : ℕ) (runs : Bool) → runs_on (texts_seen texts) ≡ runs → (runs ≡ true → HasText url texts Pathname) → i < length components →
     All (HasText url texts) (take i components) → ¬ HasText url texts (get_or components i Protocol) → IsAtFault url (texts_seen texts) (get_or components i Protocol)
 first_at_fault url texts i true e path within all other = (

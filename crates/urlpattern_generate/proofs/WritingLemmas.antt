@@ -61,24 +61,24 @@ parts_cut list i part within is =
     ∙ ap (λ rest. parts_view (take i list) ++ parts_view rest) (drop-cons list i part within ∙ ap (λ n. get_or list i part ∷ drop n list) (sym (add-one i)))
     ∙ ap (λ p. parts_view (take i list) ++ part_view p ∷ parts_view (drop (i + 1) list)) (sym is)
 
--- the text of one part more
+-- The text with one more part.
 pub written_more : (manner : WritingManner) (list : List Part) (i : ℕ) (part : Part) (text more now : List ℕ) → i < length list → part ≡ get_or list i part → IsWritten manner (parts_view (take i list)) text →
     IsWritten manner (part_view part ∷ []) more → now ≡ text ++ more → IsWritten manner (parts_view (take (i + 1) list)) now
 written_more manner list i part text more now within is written also e =
     subst (IsWritten manner (parts_view (take (i + 1) list))) (sym e)
     (subst (λ parts. IsWritten manner parts (text ++ more)) (sym (parts_more list i part within is)) (written_joined manner (parts_view (take i list)) (part_view part ∷ []) text more written also))
 
--- all parts
+-- The text of all parts.
 pub all_written : (manner : WritingManner) (list : List Part) (i : ℕ) (text : List ℕ) → length list ≤ i → IsWritten manner (parts_view (take i list)) text → IsWritten manner (parts_view list) text
 all_written manner list i text past written = subst (λ parts. IsWritten manner (parts_view parts) text) (take_all i list past) written
 
--- a part that is refused after those before it were written
+-- A part cannot be written, after those before it were.
 pub refused_there : (component : ComponentName) (manner : WritingManner) (list : List Part) (i : ℕ) (part : Part) (text : List ℕ) (error : GenerateError) → i < length list → part ≡ get_or list i part →
     IsWritten manner (parts_view (take i list)) text → RefusesPart component manner (part_view part) error → CannotWrite component manner (parts_view list) error
 refused_there component manner list i part text error within is written refused =
     inr (parts_view (take i list), parts_view (drop (i + 1) list), part_view part, text, parts_cut list i part within is, written, refused)
 
--- ---- one part whose text need not be made
+-- ---- a single part whose text can be borrowed
 
 pub lent_written : (manner : WritingManner) (part : PartView) (text : List ℕ) → part.kind ≡ FullWildcard → part.modifier ≡ modifiers.None → (is_empty part.prefix && is_empty part.suffix) ≡ true → IsAsked manner part (Some text) →
     IsTrue (lacks line_feed text) → IsWritten manner (part ∷ []) text
@@ -94,13 +94,13 @@ lent_written manner part text e f bare asked line =
     both_nothing [] (c ∷ suffix) bare = cc bare
     both_nothing (c ∷ prefix) suffix bare = cc bare
 
--- the same of what may be borrowed
+-- The text of a single wildcard whose capture can be borrowed.
 pub lent_if : (manner : WritingManner) (part : PartView) (found : Option (Bor (List ℕ))) → part.kind ≡ FullWildcard → part.modifier ≡ modifiers.None → (is_empty part.prefix && is_empty part.suffix) ≡ true →
     IfSome found (λ text. IsAsked manner part (Some (chars text.now))) → IfSome found (λ text. IsTrue (lacks line_feed (chars text.now))) → IfSome found (λ text. IsWritten manner (part ∷ []) (chars text.now))
 lent_if manner part None e f bare asked line = tt
 lent_if manner part (Some text) e f bare asked line = lent_written manner part (chars text.now) e f bare asked line
 
--- ---- what is asked of a group to which a text is given
+-- ---- the requested capture of a group with a value
 
 pub asked_form : {Fault : Type 0} (manner : WritingManner) (part : PartView) (given value : List ℕ) (r : Result Bool Fault) → manner.given part.name ≡ Some given →
     IfOk r (λ has. IsTrue has ↔ (manner.canonical given ≡ Ok value)) → IfOk r (λ is. IsTrue is ↔ IsAsked manner part (Some value))

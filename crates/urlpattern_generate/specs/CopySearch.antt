@@ -1,4 +1,4 @@
--- What the search for the copies in a capture has to find.
+-- What the search for the copies in a capture finds.
 use Rattle.std.specs.Prelude.{◌≡◌, ◌<◌, ℕ, Bool, List, ◌∷◌, ◌++◌, length, IsTrue}
 use Rattle.std.specs.Str.{chars}
 use Rattle.urlpattern_generate.specs.Links.{AreTextsWith}
@@ -6,19 +6,19 @@ use Rattle.urlpattern_generate.specs.declared.pieces.CopyTexts.{CopyTexts}
 use Rattle.urlpattern_meaning.specs.Matching.{MayBeEmpty}
 use Rattle.urlpattern_syntax.specs.Text.{lacks}
 
--- the text lacks this character, and is not empty unless it may be
+-- The text lacks this character, and is not empty or may be empty.
 abbrev pub IsTextWithout : (mark : ℕ) → (may_be_empty : Bool) → List ℕ → Type 0
 IsTextWithout mark may_be_empty text = MayBeEmpty may_be_empty text × IsTrue (lacks mark text)
 
--- the text is one that these allow
+-- A single copy may capture the text.
 abbrev pub Allowed : CopyTexts → List ℕ → Type 0
 Allowed texts text = IsTextWithout texts.mark texts.may_be_empty text
 
--- some number of such texts, with this text between each two
+-- Any number of such texts, joined by `between`.
 abbrev pub AreSomeWith : (Is : List ℕ → Type 0) → (between text : List ℕ) → Type 0
 AreSomeWith Is between text = (n : ℕ) × AreTextsWith Is between n text
 
--- the bytes are cut at the first character that is this one
+-- The bytes are split at the first occurrence of the character.
 pub record IsCutAtFirst (mark : ℕ) (text front behind : List ℕ) : Type 0 where
   pub cut : chars text ≡ chars front ++ mark ∷ chars behind
   pub is_first : IsTrue (lacks mark (chars front))

@@ -4,7 +4,7 @@ use Rattle.urlpattern_components.specs.Eight.{name_text}
 use Rattle.urlpattern_generate.specs.declared.error.GenerateError.{GenerateError}
 use Rattle.urlpattern_generate.specs.declared.error.GenerateError.TheVariants as errors
 
--- a group has the name of its component before its own
+-- The text of an error. A group has the name of its component before its own.
 abbrev pub generate_error_text : GenerateError → List ℕ
 generate_error_text (errors.Missing component name) =
     codes "the group `" ++ name_text component ++ (codes "." ++ string_bytes name ++ codes "` is missing")

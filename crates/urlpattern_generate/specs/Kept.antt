@@ -1,4 +1,4 @@
--- Values that are canonical as they are.
+-- Values that are already canonical.
 use Rattle.std.specs.Prelude.{ℕ, Bool, List, [], ◌∷◌, false, true, not, ◌==◌, ◌&&◌, ◌||◌, codes, leb, length, slice_index}
 use Rattle.std.specs.Char.{is_ascii_alphanumeric, is_ascii_digit, is_ascii_lowercase}
 use Rattle.std.specs.List.{list_all}
@@ -7,41 +7,43 @@ use Rattle.urlpattern_components.specs.declared.eight.ComponentName.{ComponentNa
 use Rattle.urlpattern_components.specs.declared.eight.ComponentName.TheVariants.{Hostname, Pathname, Port, Search, Hash}
 use Rattle.urlpattern_syntax.specs.Text.{is_among}
 
--- no path, search or hash escapes the character
+-- No path, search or hash percent-encodes the character.
 abbrev pub is_kept_character : ℕ → Bool
 is_kept_character c = is_ascii_alphanumeric c || is_among (codes "-._~/!$%&()*+,:;=@") c
 
--- a dot segment may begin with the character: a dot or an escape
+-- The character, a dot or a percent sign, may begin a dot segment.
 abbrev pub is_dot_mark : ℕ → Bool
 is_dot_mark c = is_among (codes ".%") c
 
--- each character is kept, and no segment after a slash may be a dot segment; `begins`: the text follows a slash
+-- Each character is kept, and no segment after a slash can be a dot segment. `begins`: the text
+-- follows a slash.
 abbrev pub is_kept_path : (begins : Bool) → List ℕ → Bool
 is_kept_path begins [] = true
 is_kept_path begins (c ∷ text) = (is_kept_character c && not (begins && is_dot_mark c)) && is_kept_path (c == slash) text
 
--- a letter in lower case or a hyphen
+-- A lowercase letter or a hyphen.
 abbrev pub is_label_character : ℕ → Bool
 is_label_character c = is_ascii_lowercase c || is_among (codes "-") c
 
--- a character of a label, or a dot
+-- A character of a label, or a dot.
 abbrev pub is_host_character : ℕ → Bool
 is_host_character c = is_label_character c || c == dot
 
--- each character is one of those, and the last is no dot; `dotted`: the text follows a dot
+-- Each character is one of a host, and the last is not a dot. `dotted`: the text follows a dot.
 abbrev pub is_kept_host : (dotted : Bool) → List ℕ → Bool
 is_kept_host dotted [] = not dotted
 is_kept_host dotted (c ∷ text) = is_host_character c && is_kept_host (c == dot) text
 
--- each character is kept, and the first is no slash
+-- Each character is kept, and the first is not a slash.
 abbrev pub is_kept_opaque : List ℕ → Bool
 is_kept_opaque value = not (slice_index value 0 == slash) && list_all is_kept_character value
 
--- at most four digits, the first of which is not 0
+-- At most four digits, the first of which is not 0.
 abbrev pub is_kept_port : List ℕ → Bool
 is_kept_port value = not (slice_index value 0 == digit_zero) && (leb (length value) 4 && list_all is_ascii_digit value)
 
--- the value is known to be canonical in the component, where a pathname is a path of segments or opaque and a hostname is no IPv6 address
+-- The value is known to be canonical in the component. A pathname is a path of segments or opaque;
+-- a hostname is not an IPv6 address.
 abbrev pub is_kept_value : ComponentName → (hierarchical : Bool) → List ℕ → Bool
 is_kept_value Hostname hierarchical value = is_kept_host false value
 is_kept_value Pathname true value = is_kept_path false value

@@ -1,25 +1,26 @@
--- What the laws say of the text of parts with given captures.
+-- Laws of the text of parts with given captures.
 use Rattle.std.specs.Prelude.{◌≡◌, ℕ, All, List}
 use Rattle.urlpattern_generate.specs.Links.{MayCaptureAll, text_of_parts}
 use Rattle.urlpattern_meaning.specs.PartMeaning.{AreGenerated, Captures, PartsMean}
 use Rattle.urlpattern_syntax.specs.declared.parser.{PartModifier.PartModifier, PartType.PartType}
 use Rattle.urlpattern_syntax.specs.{Options.OptionsView, Parts.PartView}
 
--- the parts have no fixed text with a modifier
+-- The parts have no fixed text with a modifier.
 abbrev pub HavePlainTexts : List PartView → Type 0
 HavePlainTexts parts = All (λ part. part.kind ≡ PartType.FixedText → part.modifier ≡ PartModifier.None) parts
 
--- what is written is meant by the parts, with these captures
+-- The parts mean the text that is written from them, with the captures that it was written with.
 abbrev pub WrittenTextsAreMeant : Type 0
 WrittenTextsAreMeant = (options : OptionsView) (parts : List PartView) (captures : Captures) → AreGenerated parts →
     MayCaptureAll options parts captures → PartsMean options parts (text_of_parts parts captures) captures
 
--- captures that some text has may be captured
+-- Captures that the parts have in some text may be captured.
 abbrev pub MeantCapturesMayBeCaptured : Type 0
 MeantCapturesMayBeCaptured = (options : OptionsView) (parts : List PartView) (text : List ℕ) (captures : Captures) →
     PartsMean options parts text captures → MayCaptureAll options parts captures
 
--- where no fixed text has a modifier, what is written of what a text's groups capture is that text
+-- If no fixed text has a modifier, the text that is written with the captures of a text is that
+-- text.
 abbrev pub MatchingIsReadBackwards : Type 0
 MatchingIsReadBackwards = (options : OptionsView) (parts : List PartView) (text : List ℕ) (captures : Captures) →
     HavePlainTexts parts → PartsMean options parts text captures → text_of_parts parts captures ≡ text

@@ -1,4 +1,5 @@
--- How the text of a component is written: the groups that are given, the options of its parts, and canonical values.
+-- How the text of a component is written: the values of its groups, the options of its parts, and
+-- canonical values.
 use Rattle.std.specs.Prelude.{◌&&◌, ◌==◌, ℕ, Bool, false, List, [], ◌∷◌, bytes_eq, codes, map, slice_index, Option, Some, None, if◌then◌else◌}
 use Rattle.std.specs.{Borrow.Bor, Str.chars}
 use Rattle.url.specs.Ascii.{slash}
@@ -12,38 +13,42 @@ use Rattle.urlpattern_syntax.specs.Options.{OptionsView}
 use Rattle.urlpattern_syntax.specs.Parts.{PartView}
 use Rattle.urlpattern_syntax.specs.Text.{begins_with}
 
--- ---- the groups that are given
+-- ---- the values of groups
 
--- The text that is given for the group of a name in a component.
+-- A value for the group of a name in a component.
 pub record GivenView : Type 0 where
   pub component : ComponentName
   pub name : List ℕ
   pub text : List ℕ
 
+-- The view of a value.
 abbrev pub given_view : (ComponentName × Bor (List ℕ) × Bor (List ℕ)) → GivenView
 given_view given = record { component = given.0; name = chars given.1.now; text = chars given.2.now }
 
+-- The views of values.
 abbrev pub given_groups : List (ComponentName × Bor (List ℕ) × Bor (List ℕ)) → List GivenView
 given_groups groups = map given_view groups
 
--- it is given for this group
+-- The value is for this group.
 abbrev pub is_given_for : ComponentName → (name : List ℕ) → GivenView → Bool
 is_given_for component name given = bytes_eq (name_text given.component) (name_text component) && bytes_eq given.name name
 
--- the first text that is given for a group, or none
+-- The first value for a group, or None.
 abbrev pub text_given : List GivenView → ComponentName → (name : List ℕ) → Option (List ℕ)
 text_given [] component name = None
 text_given (given ∷ others) component name = if is_given_for component name given then Some given.text else text_given others component name
 
 -- ---- a component
 
--- The options of its parts, the canonical form of its values, and the texts that are given for its groups.
+-- The options of a component's parts, the canonical form of its values, and the values of its
+-- groups.
 pub record WritingManner : Type 0 where
   pub options : OptionsView
   pub canonical : List ℕ → Parsed (List ℕ)
   pub given : (name : List ℕ) → Option (List ℕ)
 
--- the canonical form of a value, where the pathname is hierarchical or not and the hostname is an IPv6 address or not
+-- The canonical form of a value. A pathname is hierarchical or not; a hostname is an IPv6 address
+-- or not.
 abbrev pub canonical_for : ComponentName → (hierarchical is_ipv6 : Bool) → List ℕ → Parsed (List ℕ)
 canonical_for Protocol hierarchical is_ipv6 text = canonical_protocol text
 canonical_for Username hierarchical is_ipv6 text = canonical_username text
@@ -54,27 +59,27 @@ canonical_for Pathname hierarchical is_ipv6 text = if hierarchical then canonica
 canonical_for Search hierarchical is_ipv6 text = canonical_search text
 canonical_for Hash hierarchical is_ipv6 text = canonical_hash text
 
--- the delimiter is a slash, as that of a path of segments
+-- The delimiter is a slash, as that of a path of segments.
 abbrev pub is_slash : (delimiter : Option ℕ) → Bool
 is_slash None = false
 is_slash (Some c) = c == slash
 
--- what a part of this kind begins with: its text if it is a fixed text, and else its prefix
+-- The text that a part of this kind begins with: a fixed text, or the prefix of a group.
 abbrev pub front_of : PartType → PartView → List ℕ
 front_of PartType.FixedText part = part.value
 front_of kind part = part.prefix
 
--- the first part begins with a bracket, as an IPv6 address does
+-- The first part begins with `[`, as an IPv6 address does.
 abbrev pub begins_ipv6 : List PartView → Bool
 begins_ipv6 [] = false
 begins_ipv6 (part ∷ parts) = begins_with (λ c. c == slice_index (codes "[") 0) (front_of part.kind part)
 
--- the component is a host that is an IPv6 address
+-- The component is a hostname that is an IPv6 address.
 abbrev pub is_ipv6_host : ComponentName → List PartView → Bool
 is_ipv6_host Hostname parts = begins_ipv6 parts
 is_ipv6_host component parts = false
 
--- the manner in which a component of these parts is written with these groups
+-- How a component of these parts is written with these values.
 abbrev pub manner_for : ComponentName → OptionsView → List PartView → List GivenView → WritingManner
 manner_for component options parts groups = record {
   options = options;

@@ -1,5 +1,5 @@
--- A text that is read as a URL with given texts, put together as in the URL Standard, section "URL serializing", but that an empty host
--- has no slashes. All are bytes here.
+-- The text of a URL, joined from the texts of its components as in the URL Standard, section "URL
+-- serializing", except that an empty host has no slashes. All texts are bytes.
 use Rattle.std.specs.Prelude.{ℕ, Bool, not, ◌&&◌, ◌||◌, ◌==◌, List, ◌++◌, codes, slice_index}
 use Rattle.std.specs.Borrow.{Bor}
 use Rattle.url.specs.Ascii.{slash}
@@ -7,29 +7,30 @@ use Rattle.url.specs.Input.{is_empty, when}
 use Rattle.urlpattern_components.specs.declared.eight.Eight.{Eight}
 use Rattle.urlpattern_components.specs.Eight.{at, each}
 
--- the bytes of texts
+-- The bytes of the texts.
 abbrev pub bytes_of_each : Eight (Bor (List ℕ)) → Eight (List ℕ)
 bytes_of_each texts = each (λ name. (at texts name).now)
 
--- a text after its mark, or nothing where it is empty
+-- A text after its mark, or nothing if the text is empty.
 abbrev pub marked : (mark text : List ℕ) → List ℕ
 marked mark text = when (not (is_empty text)) (mark ++ text)
 
--- the user name and the password, or nothing where both are empty
+-- The user name and the password, or nothing if both are empty.
 abbrev pub user_line : (username password : List ℕ) → List ℕ
 user_line username password = when (not (is_empty username && is_empty password)) (username ++ (marked (codes ":") password ++ codes "@"))
 
--- the URL has two slashes before its path: it has a host, or the path begins with two slashes itself
+-- The URL has two slashes before its path: it has a host, or the path itself begins with two
+-- slashes.
 abbrev pub has_authority : (hostname pathname : List ℕ) → Bool
 has_authority hostname pathname = not (is_empty hostname) || (slice_index pathname 0 == slash && slice_index pathname 1 == slash)
 
--- the two slashes, the user, the host and the port
+-- The two slashes, the user, the host and the port.
 abbrev pub authority_line : Eight (List ℕ) → List ℕ
 authority_line texts =
     when (has_authority texts.hostname texts.pathname)
     (codes "//" ++ (user_line texts.username texts.password ++ (texts.hostname ++ marked (codes ":") texts.port)))
 
--- the whole
+-- The whole text.
 abbrev pub url_line : Eight (List ℕ) → List ℕ
 url_line texts =
     texts.protocol ++ (codes ":" ++ (authority_line texts ++ (texts.pathname ++ (marked (codes "?") texts.search ++ marked (codes "#") texts.hash))))

@@ -1,4 +1,4 @@
--- The URL that has eight texts, and why there is none.
+-- The URL with eight given texts, and why there is none.
 use Rattle.std.specs.Prelude.{◌≡◌, ◌≢◌, ◌==◌, ◌&&◌, ◌++◌, All, ℕ, Bool, true, false, not, List, ◌∷◌, encode_utf8_all, length, None, Ok, String}
 use Rattle.std.specs.{Borrow.Bor, Cow.cow_str_bytes, Str.IsUtf8, Str.chars}
 use Rattle.std.specs.declared.borrow.CowStr.{CowStr}
@@ -20,61 +20,64 @@ use Rattle.urlpattern_generate.specs.UrlLines.{url_line}
 use Rattle.urlpattern_generate.specs.declared.no_link.NoLink.{NoLink}
 use Rattle.urlpattern_generate.specs.declared.no_link.NoLink.TheVariants.{OtherText, OutOfMemory, Url}
 
--- the characters of texts
+-- The characters of the texts.
 abbrev pub string_texts : Eight (String Global) → Texts
 string_texts texts = each (λ name. text_of (at texts name))
 
--- the same of texts that are borrowed or owned
+-- The characters of texts that are borrowed or owned.
 abbrev pub cow_texts : Eight (CowStr Global) → Texts
 cow_texts texts = each (λ name. cow_text (at texts name))
 
--- the bytes of a text, which are UTF-8
+-- The bytes of a text, which are UTF-8.
 abbrev pub IsSeenAs : CowStr Global → Bor (List ℕ) → Type 0
 IsSeenAs text seen = (seen.now ≡ cow_str_bytes text) × IsUtf8 seen.now
 
--- the bytes of each
+-- The bytes of each text.
 abbrev pub AreSeenAs : Eight (CowStr Global) → Eight (Bor (List ℕ)) → Type 0
 AreSeenAs texts seen = (name : ComponentName) → IsSeenAs (at texts name) (at seen name)
 
--- the characters of what is seen
+-- The characters of borrowed texts.
 abbrev pub texts_seen : Eight (Bor (List ℕ)) → Texts
 texts_seen seen = each (λ name. chars (at seen name).now)
 
--- the bytes of the text of a URL with these texts
+-- The bytes of the joined texts.
 abbrev pub line_of : Texts → List ℕ
 line_of texts = url_line (each (λ name. encode_utf8_all (at texts name)))
 
--- the URL is what the text of a URL with these texts is read as
+-- The URL is what the joined texts are parsed as.
 abbrev pub IsReadOfTexts : Texts → Parts → Type 0
 IsReadOfTexts texts url = parse_url None (line_of texts) ≡ Ok url
 
--- the URL has another text for this component
+-- The URL has another text for this component.
 abbrev pub HasOtherText : Parts → Texts → ComponentName → Type 0
 HasOtherText url texts component = url_text component url ≢ at texts component
 
--- the path runs into the host before it: neither is empty, and the path does not begin with a slash
+-- The path runs into the host before it: neither is empty, and the path does not begin with a
+-- slash.
 abbrev pub runs_on : Texts → Bool
 runs_on texts = not (is_empty texts.hostname) && begins_with (λ c. not (c == slash)) texts.pathname
 
--- the components in the order in which they are compared: the pathname first where it runs into the host
+-- The components in the order of comparison: the pathname is the first if it runs into the host.
 abbrev pub compared : (runs_on : Bool) → List ComponentName
 compared true = Pathname ∷ components
 compared false = components
 
--- the component is at fault: the first, as they are compared, for which the URL has another text
+-- The component at fault: the first, in the order of comparison, for which the URL has another
+-- text.
 abbrev pub IsAtFault : Parts → Texts → ComponentName → Type 0
 IsAtFault url texts component =
     (before after : List ComponentName) × (compared (runs_on texts) ≡ before ++ component ∷ after)
     × All (λ earlier. url_text earlier url ≡ at texts earlier) before
     × HasOtherText url texts component
 
--- `url` refuses the text of a URL, for this reason, or memory ran out
+-- The error says that `url` rejects the text, with its reason, or that memory ran out.
 abbrev pub RefusesLine : (bytes : List ℕ) → NoLink → Type 0
 RefusesLine bytes (Url reason) = Reports (parse_url None bytes) (length bytes) (views.Url reason)
 RefusesLine bytes OutOfMemory = Unit {0}
 RefusesLine bytes error = ⊥
 
--- there is no URL of these texts, for this reason: `url` refuses the text of it, or reads it as a URL with other texts; or memory ran out
+-- The error says why there is no URL with these texts: `url` rejects the joined texts, or parses
+-- them as a URL with other texts; or memory ran out.
 abbrev pub RefusesTexts : Texts → NoLink → Type 0
 RefusesTexts texts (OtherText component) = (url : Parts) × IsReadOfTexts texts url × IsAtFault url texts component
 RefusesTexts texts error = RefusesLine (line_of texts) error

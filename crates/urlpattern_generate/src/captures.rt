@@ -1,4 +1,4 @@
-//! What a group captures that is not given.
+//! The captures of groups without a value.
 
 ghost use Rattle.std.specs.Prelude.{◌≡◌};
 ghost use Rattle.std.specs.Char.{is_ascii_digit};
@@ -10,7 +10,7 @@ ghost use Rattle.urlpattern_syntax.specs.Text.{begins_with, option_text, text_of
 use crate::pieces::is_bare;
 use urlpattern_syntax::parser::{Part, PartModifier, PartType};
 
-/// What a group captures that is not given.
+/// The capture of a group without a value.
 pub(crate) fn capture_not_given(part: &Part) -> Option<&'static str>
     ensures { option_text result ≡ capture_not_given (part_view part.now) }
 {
@@ -28,7 +28,7 @@ fn empty_if(is: bool) -> Option<&'static str>
     if is { Some("") } else { None }
 }
 
-/// Whether a group is a wildcard without name, whose name is a number then.
+/// Whether a group is an unnamed wildcard, which is named by a number.
 fn is_nameless(part: &Part) -> bool
     ensures { result ≡ is_nameless part.now.kind (text_of part.now.name) }
 {

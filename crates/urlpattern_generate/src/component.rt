@@ -21,10 +21,12 @@ use urlpattern_matcher::matcher::Matcher;
 use urlpattern_matcher::regexp::RegExp;
 use urlpattern_syntax::parts::ComponentParts;
 
-/// The text of a component, of its parts and its matcher: the groups capture the canonical forms of what they are given.
+/// Generates the text of a component from its parts and its matcher. The groups capture the
+/// canonical forms of their values.
 ///
-/// A group that is not given takes no part if it may; otherwise a wildcard without name is empty. Texts for other components, and
-/// for groups that the component does not have, are ignored.
+/// A group without a value does not participate if it is optional; otherwise an unnamed wildcard
+/// captures the empty text. Values for other components, and for groups that the component does not
+/// have, are ignored.
 ///
 /// The error says why there is no such text, or that memory ran out.
 pub fn generate_component<R: RegExp>(
@@ -57,8 +59,9 @@ pub fn generate_component<R: RegExp>(
     }
 }
 
-/// The text of the parts of a component, whose groups are to capture the canonical forms of what they are given. It is borrowed where it
-/// is a fixed text, or what is given. The text need not be canonical, nor does a matcher have to find in it what is asked.
+/// Writes the text of the parts of a component, whose groups are to capture the canonical forms of
+/// their values. The text is borrowed if it is a fixed text or a value. Whether the text is
+/// canonical, and whether a matcher finds the requested captures, is not checked.
 ///
 /// The error says why there is no such text, or that memory ran out.
 #[inline(always)]
@@ -82,9 +85,8 @@ pub fn written_component<'d>(
     writer.text()
 }
 
-/// Whether the matcher of a component finds in a text that was written of its parts what is asked of the groups.
-///
-/// The error is that memory ran out.
+/// Whether the matcher of a component finds the requested captures in a text that was written from
+/// its parts.
 #[inline(always)]
 pub fn confirms<R: RegExp>(
     alloc: Global,

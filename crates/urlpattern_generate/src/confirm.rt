@@ -1,4 +1,4 @@
-//! Whether a matcher finds in a text what is asked of the groups.
+//! Checks that a matcher finds the requested captures in a text.
 
 ghost use Rattle.std.specs.Prelude.{◌≡◌, ◌↔◌, ◌≤◌, false, length, map, IfOk, IfSome, IsTrue, Ok};
 ghost use Rattle.std.specs.Str.{chars};
@@ -21,8 +21,8 @@ use urlpattern_matcher::regexp::RegExp;
 use urlpattern_syntax::parser::{Part, PartType};
 
 impl Writer<'_> {
-    /// Whether a matcher that was made of the parts finds in their text what is asked of the groups. It need not be looked at where it
-    /// has no engine.
+    /// Whether a matcher that was made of the parts finds the requested captures in their text. A
+    /// matcher that always finds what was written is not run.
     #[inline(always)]
     pub(crate) fn confirms<R: RegExp>(
         &self,
@@ -40,7 +40,7 @@ impl Writer<'_> {
         self.finds(matcher, text)
     }
 
-    /// Whether a matcher finds in a text what is asked of the groups.
+    /// Whether a matcher finds the requested captures in a text.
     #[inline(never)]
     fn finds<R: RegExp>(&self, matcher: &Matcher<R>, text: &str) -> Result<bool, AllocError>
         ensures { IfOk result (λ is. TellsFound is R.answer (matcher_view matcher.now) (manner_of_writer self.now) (kept_parts self.now.kept.now) (chars text.now)) }
@@ -54,7 +54,7 @@ impl Writer<'_> {
         }
     }
 
-    /// Whether these captures are what is asked of the groups.
+    /// Whether the captures are the requested ones.
     fn are_asked(&self, found: &[Option<&str>]) -> Result<bool, AllocError>
         ensures { IfOk result (λ are. IsTrue are ↔ AreAsked (manner_of_writer self.now) (kept_parts self.now.kept.now) (map option_text found.now)) }
     {
@@ -68,7 +68,8 @@ impl Writer<'_> {
         Ok(next == found.len())
     }
 
-    /// The index after the capture of a part, which is at this index and what is asked of the part. `None`: it is not.
+    /// Returns the index after the capture of a part, if the capture at `index` is the requested
+    /// one. A fixed text has no capture. `None`: the capture is another one, or missing.
     fn after_asked(
         &self,
         part: &Part,
@@ -92,7 +93,7 @@ impl Writer<'_> {
         }
     }
 
-    /// Whether a capture is what is asked of a group.
+    /// Whether a capture is the one that is requested of a group.
     fn is_asked(&self, part: &Part, capture: Option<&str>) -> Result<bool, AllocError>
         ensures { IfOk result (λ is. IsTrue is ↔ IsAsked (manner_of_writer self.now) (part_view part.now) (option_text capture.entry)) }
     {
@@ -105,8 +106,8 @@ impl Writer<'_> {
         }
     }
 
-    /// Whether the canonical form of a text is this. A refusal of `url` is reported as memory that ran out: what was written is not
-    /// refused.
+    /// Whether the canonical form of a text is `value`. A rejection by `url` is reported as memory
+    /// that ran out, since texts that were written are not rejected.
     fn has_form(&self, given: &str, value: &str) -> Result<bool, AllocError>
         ensures { IfOk result (λ has. IsTrue has ↔ ((manner_of_writer self.now).canonical (chars given.now) ≡ Ok (chars value.now))) }
     {
@@ -120,7 +121,8 @@ impl Writer<'_> {
     }
 }
 
-/// Whether a matcher finds what was written: it has no engine, and if case is ignored, its filter has one case.
+/// Whether a matcher always finds what was written: it has no engine and, if case is ignored, no
+/// filter that is an ASCII letter.
 fn reads_what_is_written<R>(matcher: &Matcher<R>) -> bool
     ensures { IsTrue result → ReadsWritten matcher.now.ignore_case (matcher_view matcher.now).inner }
 {
@@ -133,7 +135,7 @@ fn reads_what_is_written<R>(matcher: &Matcher<R>) -> bool
     }
 }
 
-/// Whether a filter's character, if it has one, is no ASCII letter.
+/// Whether a filter, if there is one, is not an ASCII letter.
 fn has_one_case(filter: Option<char>) -> bool
     ensures { result ≡ has_one_case filter }
 {
@@ -143,7 +145,7 @@ fn has_one_case(filter: Option<char>) -> bool
     }
 }
 
-/// Whether two captures are the same.
+/// Whether two captures are equal.
 fn is_same(capture: Option<&str>, other: Option<&str>) -> bool
     ensures { IsTrue result ↔ (option_text capture.entry ≡ option_text other.entry) }
 {

@@ -1,4 +1,4 @@
-//! Why a pattern has no text with the groups that are given.
+//! Why a pattern has no text with the values of its groups.
 
 ghost use Rattle.std.specs.Prelude.{◌≡◌, Some};
 ghost use Rattle.urlpattern_generate.specs.GenerateErrorText.{generate_error_text};
@@ -8,7 +8,7 @@ use std::alloc::AllocError;
 use std::{error, fmt};
 use urlpattern_components::ComponentName;
 
-/// Why a pattern has no text with the groups that are given.
+/// Why a pattern has no text with the values of its groups.
 ///
 /// A test compares an error with the recorded one:
 ///
@@ -24,19 +24,20 @@ use urlpattern_components::ComponentName;
 /// ```
 #[derive(Debug, PartialEq, Eq, Drop)]
 pub enum GenerateError {
-    /// The group of this name is not given, and may not be left out.
+    /// The group of this name has no value, and is not optional.
     Missing(ComponentName, String),
-    /// The group of this name may not capture what it is given.
+    /// The group of this name cannot capture its value.
     NotCaptured(ComponentName, String),
-    /// The text of the component would be read with other groups, or is not canonical, so that no URL has it.
+    /// The text of the component would be read with other groups, or is not canonical, so no URL
+    /// has it.
     ReadOtherwise(ComponentName),
-    /// The pattern was put together by hand, so that its parts are not known.
+    /// The pattern was put together by hand, so its parts are not known.
     NoParts,
-    /// The allocator had no memory.
+    /// Memory ran out.
     OutOfMemory,
 }
 
-/// Prints the component, the group and what is wrong with it.
+/// Prints the component, the group and the problem.
 impl fmt::Display for GenerateError {
     ghost output = { λ error. Some (generate_error_text error) };
 

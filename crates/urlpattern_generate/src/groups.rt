@@ -1,4 +1,4 @@
-//! The groups that are given.
+//! The values of groups.
 
 ghost use Rattle.std.specs.Prelude.{◌≡◌, ◌↔◌, IsTrue, bytes_eq};
 ghost use Rattle.std.specs.Str.{chars};
@@ -8,7 +8,7 @@ ghost use Rattle.urlpattern_syntax.specs.Text.{option_text};
 
 use urlpattern_components::ComponentName;
 
-/// The text that is given for a group: the component, the name of the group, and the text.
+/// A value for a group: the component, the name of the group, and the text.
 ///
 /// The text for the group `id` of the path:
 ///
@@ -23,7 +23,7 @@ use urlpattern_components::ComponentName;
 /// ```
 pub type GivenGroup<'g> = (ComponentName, &'g str, &'g str);
 
-/// The first text that is given for the group of a name. `None`: there is none.
+/// Returns the first value for a group. `None`: there is none.
 #[inline(always)]
 pub(crate) fn given_text<'g>(
     groups: &[GivenGroup<'g>],
@@ -40,7 +40,7 @@ pub(crate) fn given_text<'g>(
     None
 }
 
-/// Whether a text is given for this group.
+/// Whether a value is for this group.
 #[inline(always)]
 fn is_given_for(component: ComponentName, name: &str, given: &GivenGroup<'_>) -> bool
     ensures { result ≡ is_given_for component (chars name.now) (given_view given.now) }
@@ -48,7 +48,7 @@ fn is_given_for(component: ComponentName, name: &str, given: &GivenGroup<'_>) ->
     is_same_component(given.0, component) && is_same_text(given.1, name)
 }
 
-/// Whether two components are the same.
+/// Whether two components are equal.
 #[inline(always)]
 fn is_same_component(one: ComponentName, other: ComponentName) -> bool
     ensures { result ≡ bytes_eq (name_text one) (name_text other) }
@@ -56,7 +56,7 @@ fn is_same_component(one: ComponentName, other: ComponentName) -> bool
     one == other
 }
 
-/// Whether two texts are the same.
+/// Whether two texts are equal.
 #[inline(always)]
 pub(crate) fn is_same_text(text: &str, other: &str) -> bool
     ensures test { result ≡ bytes_eq (chars text.now) (chars other.now) }

@@ -1,4 +1,4 @@
-//! Values that are canonical as they are.
+//! Values that are already canonical.
 
 ghost use Rattle.std.specs.List.{list_all};
 ghost use Rattle.std.specs.Prelude.{◌≡◌, ◌&&◌, IsTrue, Ok, false, leb, length, not};
@@ -12,7 +12,7 @@ ghost use Rattle.urlpattern_syntax.specs.Text.{lacks, line_feed};
 use percent_encoding::{AsciiSet, CONTROLS, ascii_set};
 use urlpattern_components::ComponentName;
 
-/// The ASCII characters that a path, a search or a hash may escape.
+/// The ASCII characters that a path, a search or a hash may percent-encode.
 const ESCAPED: AsciiSet = ascii_set!(
     CONTROLS
         .add(b' ')
@@ -32,11 +32,11 @@ const ESCAPED: AsciiSet = ascii_set!(
         .add(b'}')
 );
 
-/// So many digits are a port whatever they are.
+/// The greatest number of digits for which every number is a port.
 const SHORT_PORT: usize = 4;
 
-/// Whether a text is known to be canonical in a component by its characters, where a pathname is hierarchical or not and a hostname is
-/// an IPv6 address or not.
+/// Whether the characters of a text show that it is canonical in a component. A pathname is
+/// hierarchical or not; a hostname is an IPv6 address or not.
 pub(crate) fn keeps(component: ComponentName, hierarchical: bool, is_ipv6: bool, text: &str) -> bool
     ensures canonical { IsTrue result → canonical_for component hierarchical is_ipv6 (chars text.now) ≡ Ok (chars text.now) }
     ensures line { IsTrue result → IsTrue (lacks line_feed (chars text.now)) }
@@ -50,7 +50,7 @@ pub(crate) fn keeps(component: ComponentName, hierarchical: bool, is_ipv6: bool,
     }
 }
 
-/// Whether a protocol is empty or one of those that are often used.
+/// Whether a protocol is empty or a common one.
 fn is_kept_protocol(text: &str) -> bool
     ensures canonical { IsTrue result → canonical_protocol (chars text.now) ≡ Ok (chars text.now) }
     ensures line { IsTrue result → IsTrue (lacks line_feed (chars text.now)) }
@@ -65,7 +65,8 @@ fn is_kept_protocol(text: &str) -> bool
     }
 }
 
-/// Whether a value is known to be canonical in a component, where a pathname is a path of segments or opaque and a hostname is no IPv6 address.
+/// Whether the characters of a value show that it is canonical in a component. A pathname is a path
+/// of segments or opaque; a hostname is not an IPv6 address.
 fn is_kept_value(component: ComponentName, hierarchical: bool, value: &[u8]) -> bool
     ensures { result ≡ is_kept_value component hierarchical value.now }
 {
@@ -88,28 +89,30 @@ fn is_kept_port(value: &[u8]) -> bool
     !matches!(value, [b'0', ..]) && is_short(value) && are_digits(value)
 }
 
-/// Whether a value is no longer than that.
+/// Whether a value has at most `SHORT_PORT` bytes.
 fn is_short(value: &[u8]) -> bool
     ensures { result ≡ leb (length value.now) 4 }
 {
     value.len() <= SHORT_PORT
 }
 
-/// Whether a value has no other characters than digits.
+/// Whether all characters of a value are digits.
 fn are_digits(value: &[u8]) -> bool
     ensures { result ≡ list_all is_ascii_digit value.now }
 {
     value.iter().all(|&b| b.is_ascii_digit())
 }
 
-/// Whether an opaque path escapes no character of a value, and the value does not begin with a slash.
+/// Whether an opaque path percent-encodes no character of a value, and the value does not begin
+/// with a slash.
 fn is_kept_opaque(value: &[u8]) -> bool
     ensures { result ≡ is_kept_opaque value.now }
 {
     !matches!(value, [b'/', ..]) && is_kept_text(value)
 }
 
-/// Whether a path escapes no character of a value, and no segment after a slash may be a dot segment.
+/// Whether a path percent-encodes no character of a value, and no segment after a slash can be a
+/// dot segment.
 fn is_kept_path(value: &[u8]) -> bool
     ensures { result ≡ is_kept_path false value.now }
 {
@@ -123,35 +126,36 @@ fn is_kept_path(value: &[u8]) -> bool
     true
 }
 
-/// Whether a path keeps a character that follows a slash or not.
+/// Whether a path keeps a character, which is the first after a slash if `begins`.
 fn goes_on(begins: bool, b: u8) -> bool
     ensures { result ≡ (is_kept_character b && not (begins && is_dot_mark b)) }
 {
     is_kept_byte(b) && !(begins && matches!(b, b'.' | b'%'))
 }
 
-/// Whether a search and a hash escape no character of a value.
+/// Whether a search and a hash percent-encode no character of a value.
 fn is_kept_text(value: &[u8]) -> bool
     ensures { result ≡ list_all is_kept_character value.now }
 {
     value.iter().all(|&b| is_kept_byte(b))
 }
 
-/// Whether no path, search or hash escapes a character.
+/// Whether no path, search or hash percent-encodes a character.
 fn is_kept_byte(b: u8) -> bool
     ensures { result ≡ is_kept_character b }
 {
     b.is_ascii_lowercase() || b.is_ascii_alphanumeric() || is_unescaped(b)
 }
 
-/// The same of any character by one test, which takes longer for letters and digits.
+/// Whether no path, search or hash percent-encodes a character, by one test that is slower for
+/// letters and digits.
 fn is_unescaped(b: u8) -> bool
     ensures { result ≡ is_kept_character b }
 {
     !ESCAPED.should_percent_encode(b)
 }
 
-/// Whether a value is a host of labels in lower case without digits, and does not end with a dot.
+/// Whether a value is a host of lowercase labels without digits, and does not end with a dot.
 fn is_kept_host(value: &[u8]) -> bool
     ensures { result ≡ is_kept_host false value.now }
 {
@@ -165,7 +169,7 @@ fn is_kept_host(value: &[u8]) -> bool
     !dotted
 }
 
-/// Whether a character is a letter in lower case, a hyphen or a dot.
+/// Whether a character is a lowercase letter, a hyphen or a dot.
 fn is_host_byte(b: u8) -> bool
     ensures { result ≡ is_host_character b }
 {

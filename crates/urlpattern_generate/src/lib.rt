@@ -1,4 +1,4 @@
-//! Texts and URLs made of a pattern and given groups: the inverse of what its parts mean.
+//! Generates texts and URLs from a pattern and values for its groups: the inverse of matching.
 //!
 //! [`generate_component`] writes the text of one component, and [`url_of_texts`] makes the URL with
 //! eight given texts.

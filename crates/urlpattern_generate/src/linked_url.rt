@@ -1,4 +1,4 @@
-//! The URL of eight texts.
+//! The URL with eight given texts.
 
 ghost use Rattle.std.specs.Prelude.{◌≡◌, ◌↔◌, ◌==◌, None, Ok, IfErr, IfNone, IfOk, IfSome, IsTrue, false, not, true};
 ghost use Rattle.std.specs.Str.{chars};
@@ -21,9 +21,10 @@ use urlpattern_components::{ComponentName, Eight};
 use urlpattern_init::url_text;
 use urlpattern_syntax::Error;
 
-/// The URL that has these texts: what they are read as, put together.
+/// Returns the URL with these texts, by parsing the joined texts.
 ///
-/// The error is that `url` refuses them, put together, or reads a URL with other texts, or that memory ran out.
+/// The error is that `url` rejects the joined texts, that the URL has other texts, or that memory
+/// ran out.
 pub fn url_of_texts(alloc: Global, texts: &Eight<CowStr<'_>>) -> Result<Url, NoLink>
     ensures has { IfOk result (λ url. texts_of_url url ≡ cow_texts texts.now) }
     ensures read { IfOk result (IsReadOfTexts (cow_texts texts.now)) }
@@ -41,7 +42,7 @@ pub fn url_of_texts(alloc: Global, texts: &Eight<CowStr<'_>>) -> Result<Url, NoL
     }
 }
 
-/// The texts, borrowed.
+/// Borrows the texts.
 fn seen<'t>(texts: &'t Eight<CowStr<'_>>) -> Eight<&'t str>
     ensures { AreSeenAs texts.now result }
 {
@@ -51,9 +52,9 @@ fn seen<'t>(texts: &'t Eight<CowStr<'_>>) -> Eight<&'t str>
     Eight::from_fn(text)
 }
 
-/// The URL of a text.
+/// Parses a URL.
 ///
-/// The error is the refusal of `url`, or that memory ran out.
+/// The error is that `url` rejects the text, or that memory ran out.
 fn read(alloc: Global, line: &str) -> Result<Url, NoLink>
     ensures read { IfOk result (λ url. parse_url None line.now ≡ Ok url) }
     ensures refused { IfErr result (RefusesLine line.now) }
@@ -65,7 +66,7 @@ fn read(alloc: Global, line: &str) -> Result<Url, NoLink>
     }
 }
 
-/// The component at fault where a URL has another text for one. `None`: it has these texts.
+/// Returns the component at fault, if the URL has other texts. `None`: the URL has these texts.
 fn other_text(url: &Url, texts: &Eight<&str>) -> Option<ComponentName>
     ensures same { IfNone result (texts_of_url url.now ≡ texts_seen texts.now) }
     ensures other { IfSome result (IsAtFault url.now (texts_seen texts.now)) }
@@ -81,7 +82,7 @@ fn other_text(url: &Url, texts: &Eight<&str>) -> Option<ComponentName>
     None
 }
 
-/// Whether the path runs into the host before it, and a URL has another one.
+/// Whether the path runs into the host before it, and the URL has another path.
 fn is_path_at_fault(url: &Url, texts: &Eight<&str>) -> bool
     ensures at_fault { IsTrue result → IsAtFault url.now (texts_seen texts.now) Pathname }
     ensures other { result ≡ false → runs_on (texts_seen texts.now) ≡ true → url_text Pathname url.now ≡ at (texts_seen texts.now) Pathname }
@@ -113,7 +114,7 @@ fn begins_without_slash(text: &str) -> bool
     }
 }
 
-/// Whether a URL has the text of a component.
+/// Whether a URL has the text for a component.
 #[inline(always)]
 fn has_text(url: &Url, texts: &Eight<&str>, name: ComponentName) -> bool
     ensures { IsTrue result ↔ (url_text name url.now ≡ at (texts_seen texts.now) name) }
@@ -121,7 +122,7 @@ fn has_text(url: &Url, texts: &Eight<&str>, name: ComponentName) -> bool
     is_same_text(url_text(url, name), texts.get(name))
 }
 
-/// Whether two texts are the same.
+/// Whether two texts are equal.
 #[inline(always)]
 fn is_same_text(text: &str, other: &str) -> bool
     ensures { IsTrue result ↔ (chars text.now ≡ chars other.now) }

@@ -1,4 +1,4 @@
-//! Why there is no URL.
+//! Why a pattern has no URL with the values of its groups.
 
 ghost use Rattle.std.specs.Prelude.{◌≡◌};
 ghost use Rattle.urlpattern_generate.specs.NoLinkText.{no_link_text};
@@ -10,7 +10,7 @@ use std::{error, fmt};
 use url::ParseError;
 use urlpattern_components::ComponentName;
 
-/// Why a pattern has no URL with the groups that are given.
+/// Why a pattern has no URL with the values of its groups.
 ///
 /// ```rust no_link
 /// match url {
@@ -21,18 +21,19 @@ use urlpattern_components::ComponentName;
 /// ```
 #[derive(Debug, PartialEq, Eq, Drop)]
 pub enum NoLink {
-    /// A component has no text with its groups.
+    /// A component has no text with the values of its groups.
     Component(GenerateError),
-    /// `url` refuses the texts of the components, put together.
+    /// `url` rejects the joined texts of the components.
     Url(ParseError),
-    /// Put together they are a URL that has another text for this component, as `https://example.com` has the path `/`. It is the
-    /// pathname where that runs into the host before it, and else the first such component.
+    /// The joined texts are a URL with another text for this component, as `https://example.com`
+    /// has the path `/`. The component is the pathname if that runs into the host before it, and
+    /// otherwise the first such component.
     OtherText(ComponentName),
-    /// The allocator had no memory.
+    /// Memory ran out.
     OutOfMemory,
 }
 
-/// Prints why there is no URL, in a line.
+/// Prints the reason, in one line.
 impl fmt::Display for NoLink {
     ghost output = { no_link_text };
 

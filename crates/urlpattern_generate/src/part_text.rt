@@ -13,8 +13,6 @@ use std::alloc::AllocError;
 use urlpattern_syntax::parser::{Options, Part, PartModifier};
 
 /// Appends a fixed text, in as few copies as its modifier allows.
-///
-/// The error is that memory ran out.
 pub fn push_fixed(text: &mut String, part: &Part) -> Result<(), AllocError>
     ensures { OnOk result (GetsText text.old text.new (fewest_copies part.now.modifier (text_of part.now.value))) }
 {
@@ -27,10 +25,8 @@ pub fn push_fixed(text: &mut String, part: &Part) -> Result<(), AllocError>
     }
 }
 
-/// Appends the text of a group that captures this, if it may. `None`: the group takes no part. Returns whether it may. What a
-/// custom regular expression matches is not looked at.
-///
-/// The error is that memory ran out.
+/// Appends the text of a group that captures `capture`, if it may, and returns whether it may.
+/// `None`: the group does not participate. A custom regular expression is not matched.
 pub fn push_group(
     text: &mut String,
     options: &Options,

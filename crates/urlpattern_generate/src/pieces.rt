@@ -1,4 +1,4 @@
-//! Which texts the copies of a group may capture.
+//! The texts that copies of a group may capture.
 
 ghost use Rattle.std.specs.Prelude.{◌≡◌, ◌↔◌, ◌≤◌, ◌++◌, ◌&&◌, List, length, IfNone, IfOk, IfSome, IsTrue, None, Some, ℕ};
 ghost use Rattle.std.specs.Str.{chars};
@@ -10,7 +10,7 @@ ghost use Rattle.urlpattern_syntax.specs.{Options.options_view, Parts.part_view,
 use std::alloc::{AllocError, Global};
 use urlpattern_syntax::parser::{Options, Part, PartModifier, PartType};
 
-/// Whether a group may be left out, so that it captures nothing.
+/// Whether a group may be omitted, and then captures nothing.
 pub(crate) fn may_be_missing(options: &Options, part: &Part) -> bool
     ensures { IsTrue result ↔ MayCapture (options_view options.now) (part_view part.now) None }
 {
@@ -21,9 +21,7 @@ pub(crate) fn may_be_missing(options: &Options, part: &Part) -> bool
     }
 }
 
-/// Whether a group may capture a text.
-///
-/// The error is that memory ran out. Only for a repeated group it allocates.
+/// Whether a group may capture a text. Allocates only for a repeated group.
 pub(crate) fn may_capture(
     alloc: Global,
     options: &Options,
@@ -35,7 +33,7 @@ pub(crate) fn may_capture(
     Ok(is_of_no_copies(part, text) || is_of_copies(alloc, options, part, text)?)
 }
 
-/// Whether no copies of a group capture a text, which is empty then.
+/// Whether zero copies of a group capture a text, which is then empty.
 fn is_of_no_copies(part: &Part, text: &str) -> bool
     ensures { IsTrue result ↔ IsOfNoCopies (part_view part.now) (Some (chars text.now)) }
 {
@@ -52,7 +50,7 @@ pub fn is_bare(part: &Part) -> bool
     part.prefix.is_empty() && part.suffix.is_empty()
 }
 
-/// Whether copies of a group, at least one, may capture a text.
+/// Whether one or more copies of a group may capture a text.
 fn is_of_copies(
     alloc: Global,
     options: &Options,
@@ -80,7 +78,7 @@ fn is_of_copies(
     }
 }
 
-/// The texts that one copy of a wildcard may capture: those that lack a character.
+/// The texts that one copy of a wildcard may capture: those without the character `mark`.
 #[derive(Clone, Copy)]
 struct CopyTexts {
     mark: char,
@@ -88,7 +86,7 @@ struct CopyTexts {
 }
 
 impl CopyTexts {
-    /// Whether copies of a group, as many as its modifier allows and one at least, capture a text.
+    /// Whether one or more copies of a group, as many as its modifier allows, capture a text.
     fn are_copies(self, alloc: Global, part: &Part, text: &str) -> Result<bool, AllocError>
         ensures { IfOk result (λ are. IsTrue are ↔ IsOfCopies (Allowed self) (part_view part.now) (Some (chars text.now))) }
     {
@@ -102,21 +100,22 @@ impl CopyTexts {
         }
     }
 
-    /// Whether a text is one of these.
+    /// Whether one copy may capture a text.
     fn is_one(self, text: &str) -> bool
         ensures { IsTrue result ↔ Allowed self (chars text.now) }
     {
         self.is_long_enough(text) && !text.contains(self.mark)
     }
 
-    /// Whether a text is not empty, unless it may be.
+    /// Whether a text is not empty, or may be empty.
     fn is_long_enough(self, text: &str) -> bool
         ensures { IsTrue result ↔ MayBeEmpty self.may_be_empty (chars text.now) }
     {
         self.may_be_empty || !text.is_empty()
     }
 
-    /// Whether a text is one of these or more, with a text between each two. One pass over the text.
+    /// Whether a text consists of one or more such texts, joined by `between`. Takes one pass over
+    /// the text.
     fn are_some(self, between: &str, text: &str) -> bool
         ensures { IsTrue result ↔ AreSomeWith (Allowed self) (chars between.now) (chars text.now) }
     {
@@ -140,7 +139,7 @@ impl CopyTexts {
     }
 }
 
-/// A text before and after a character, where that stands first. `None`: it does not stand in the text.
+/// Splits a text at the first occurrence of a character. `None`: the text lacks the character.
 fn split_at_first(text: &str, mark: char) -> Option<(&str, &str)>
     ensures cut { IfSome result (λ cut. IsCutAtFirst mark text.now cut.0.now cut.1.now) }
     ensures none { IfNone result (IsTrue (lacks mark (chars text.now))) }
@@ -148,7 +147,7 @@ fn split_at_first(text: &str, mark: char) -> Option<(&str, &str)>
     text.split_once(mark)
 }
 
-/// What follows a text in another that begins with it.
+/// Returns the text without the prefix `front`.
 fn without_front<'t>(text: &'t str, front: &str) -> Option<&'t str>
     ensures cut { IfSome result (λ rest. chars text.now ≡ chars front.now ++ chars rest.now) }
     ensures none { IfNone result ((rest : List ℕ) → ¬ (chars text.now ≡ chars front.now ++ rest)) }
@@ -157,7 +156,7 @@ fn without_front<'t>(text: &'t str, front: &str) -> Option<&'t str>
     text.strip_prefix(front)
 }
 
-/// What precedes a text in another that ends with it.
+/// Returns the text without the suffix `back`.
 fn without_back<'t>(text: &'t str, back: &str) -> Option<&'t str>
     ensures cut { IfSome result (λ rest. chars text.now ≡ chars rest.now ++ chars back.now) }
     ensures none { IfNone result ((rest : List ℕ) → ¬ (chars text.now ≡ rest ++ chars back.now)) }

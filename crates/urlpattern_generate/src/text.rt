@@ -19,11 +19,11 @@ use std::borrow::CowStr;
 use urlpattern_syntax::Error;
 use urlpattern_syntax::parser::{Part, PartModifier, PartType};
 
-/// The bytes for which room is made at first, as many as most texts need.
+/// The initial capacity in bytes, enough for most texts.
 const ROOM: usize = 64;
 
 impl<'d> Writer<'d> {
-    /// The text of the parts, borrowed if it need not be made.
+    /// Returns the text of the parts, borrowed if possible.
     ///
     /// The error is that of the first part that cannot be written, or that memory ran out.
     #[inline(always)]
@@ -40,7 +40,8 @@ impl<'d> Writer<'d> {
         }
     }
 
-    /// The text of no parts, or of one part whose text need not be made. `None`: the text has to be made.
+    /// Returns the text of no parts, or of a single part, if the text can be borrowed. `None`: the
+    /// text has to be built.
     #[inline(always)]
     fn lent_text(&self) -> Option<&'d str>
         ensures { IfSome result (λ text. IsWritten (manner_of_writer self.now) (kept_parts self.now.kept.now) (chars text.now)) }
@@ -52,7 +53,8 @@ impl<'d> Writer<'d> {
         }
     }
 
-    /// The text of a part that need not be made: a fixed text, or what a wildcard captures that has neither prefix nor suffix.
+    /// Returns the text of a part, if it can be borrowed: a fixed text, or the capture of a
+    /// wildcard without prefix and suffix.
     #[inline(always)]
     fn lent_part(&self, part: &'d Part) -> Option<&'d str>
         ensures { IfSome result (λ text. IsWritten (manner_of_writer self.now) (part_view part.now ∷ []) (chars text.now)) }
@@ -67,7 +69,8 @@ impl<'d> Writer<'d> {
         }
     }
 
-    /// What a group captures without having to be made canonical. `None`: it captures nothing, or has to be.
+    /// Returns the capture of a group, if its value needs no canonicalization. `None`: the group
+    /// captures nothing, or the value has to be made canonical.
     #[inline(always)]
     fn lent_capture(&self, part: &Part) -> Option<&'d str>
         ensures asked { IfSome result (λ text. IsAsked (manner_of_writer self.now) (part_view part.now) (Some (chars text.now))) }
@@ -80,7 +83,7 @@ impl<'d> Writer<'d> {
         }
     }
 
-    /// The text of the parts.
+    /// Builds the text of the parts.
     ///
     /// The error is that of the first part that cannot be written, or that memory ran out.
     #[inline(never)]
@@ -115,7 +118,7 @@ impl<'d> Writer<'d> {
         }
     }
 
-    /// Appends the text of a group that is to capture the canonical form of this.
+    /// Appends the text of a group that is to capture the canonical form of `given`.
     #[inline(never)]
     fn push_canonical(
         &self,
@@ -135,7 +138,8 @@ impl<'d> Writer<'d> {
         }
     }
 
-    /// Appends the text of a group that is to capture this. `None`: it takes no part.
+    /// Appends the text of a group that is to capture `capture`. `None`: the group does not
+    /// participate.
     fn push_capture(
         &self,
         text: &mut String,

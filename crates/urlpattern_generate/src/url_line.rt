@@ -1,4 +1,4 @@
-//! The text of a URL, put together from the texts of its components.
+//! The text of a URL, joined from the texts of its components.
 
 ghost use Rattle.std.specs.Prelude.{◌≡◌, ◌++◌, IfOk, OnOk, string_bytes};
 ghost use Rattle.urlpattern_generate.specs.UrlLines.{authority_line, bytes_of_each, has_authority, marked, url_line, user_line};
@@ -6,12 +6,10 @@ ghost use Rattle.urlpattern_generate.specs.UrlLines.{authority_line, bytes_of_ea
 use std::alloc::{AllocError, Global};
 use urlpattern_components::Eight;
 
-/// The bytes besides those of the path for which room is made at first, as many as most URLs need.
+/// The initial capacity in bytes in addition to that of the path, enough for most URLs.
 const ROOM: usize = 64;
 
-/// The text of a URL with these texts.
-///
-/// The error is that memory ran out.
+/// Joins the texts as the text of a URL.
 pub(crate) fn url_line(alloc: Global, texts: &Eight<&str>) -> Result<String, AllocError>
     ensures { IfOk result (λ line. string_bytes line ≡ url_line (bytes_of_each texts.now)) }
 {
@@ -38,7 +36,8 @@ fn push_authority(line: &mut String, texts: &Eight<&str>) -> Result<(), AllocErr
     push_marked(line, ":", texts.port)
 }
 
-/// Whether a URL has two slashes before its path: it has a host, or the path begins with two slashes itself.
+/// Whether a URL has two slashes before its path: it has a host, or the path itself begins with two
+/// slashes.
 fn has_authority(hostname: &str, pathname: &str) -> bool
     ensures { result ≡ has_authority hostname.now pathname.now }
 {

@@ -1,4 +1,4 @@
-//! How the text of a component is written.
+//! Writes the text of a component.
 
 ghost use Rattle.std.specs.Prelude.{◌≡◌, ◌==◌, codes, slice_index, IfOk, IsTrue, Ok, length};
 ghost use Rattle.std.specs.Str.{chars};
@@ -19,7 +19,7 @@ use urlpattern_syntax::Error;
 use urlpattern_syntax::parser::{Part, PartType};
 use urlpattern_syntax::parts::ComponentParts;
 
-/// The parts of a component and the groups that are given, of which its text is written.
+/// The parts of a component and the values of its groups, from which its text is written.
 #[derive(Drop)]
 pub(crate) struct Writer<'d> {
     pub(crate) alloc: Global,
@@ -42,9 +42,9 @@ impl Writer<'_> {
         )
     }
 
-    /// The canonical form of a value of the component, as `url` makes it.
+    /// Returns the canonical form of a value of the component, by `url`.
     ///
-    /// The error is the refusal of `url`, or that memory ran out.
+    /// The error is that `url` rejects the value, or that memory ran out.
     #[inline(never)]
     pub(crate) fn canonical(&self, text: &str) -> Result<String, Error>
         ensures { IsAnswer ((manner_of_writer self.now).canonical (chars text.now)) (length text.now) result }
@@ -67,8 +67,6 @@ impl Writer<'_> {
     }
 
     /// Whether a text is its own canonical form.
-    ///
-    /// The error is that memory ran out.
     pub(crate) fn is_canonical(&self, text: &str) -> Result<bool, AllocError>
         ensures { IfOk result (λ is. TellsCanonical is (manner_of_writer self.now).canonical text.now) }
     {
@@ -89,7 +87,7 @@ impl Writer<'_> {
         self.kept.options.delimiter_code_point == Some('/')
     }
 
-    /// Whether the component is a host that is an IPv6 address.
+    /// Whether the component is a hostname that is an IPv6 address.
     fn is_ipv6_host(&self) -> bool
         ensures { result ≡ is_ipv6_host self.now.component (kept_parts self.now.kept.now) }
     {
@@ -105,7 +103,7 @@ impl Writer<'_> {
         }
     }
 
-    /// Whether the first part begins with a bracket.
+    /// Whether the first part begins with `[`.
     fn is_ipv6(&self) -> bool
         ensures { result ≡ begins_ipv6 (parts_view self.now.kept.now.parts.items) }
     {
@@ -113,7 +111,7 @@ impl Writer<'_> {
     }
 }
 
-/// Whether the first of these parts begins with a bracket, as an IPv6 address does.
+/// Whether the first part begins with `[`, as an IPv6 address does.
 fn begins_ipv6(parts: &[Part]) -> bool
     ensures { result ≡ begins_ipv6 (parts_view parts.now) }
 {
@@ -124,7 +122,7 @@ fn begins_ipv6(parts: &[Part]) -> bool
     }
 }
 
-/// Whether a text begins with a bracket.
+/// Whether a text begins with `[`.
 fn begins_with_bracket(text: &str) -> bool
     ensures { result ≡ begins_with (λ c. c == slice_index (codes "[") 0) (chars text.now) }
 {

@@ -1,4 +1,4 @@
--- What an attempt has after steps were followed.
+-- An attempt after steps were tried.
 use Rattle.std.proofs.Common.{◌≡◌, ℕ, List, [], ◌∷◌, ◌++◌, length, drop, replicate, Option, Some, None, Result, Ok, Err, Bool, true, false, refl, sym, ap, ◌∙◌, subst, append-nil}
 use Rattle.std.proofs.lemmas.Bool.{false≢true}
 use denote.Text.{Utf8}
@@ -19,7 +19,7 @@ use Rattle.urlpattern_steps.specs.Taken.{Extends, FollowsSteps, FollowsOn, Untou
 use Rattle.urlpattern_steps.proofs.FailedLemmas.{place_within}
 use Rattle.urlpattern_steps.proofs.FollowLemmas.{plus, adds_none, end_taken, extends_more, front_shortened, plus_captured, plus_maybe, taken_adds}
 
--- ---- what was captured
+-- ---- captures
 
 pub untouched-same : (old : Attempt) → Untouched old old
 untouched-same old = record { same = refl; whole = refl }
@@ -27,15 +27,15 @@ untouched-same old = record { same = refl; whole = refl }
 pub untouched-then : (old now new : Attempt) → Untouched old now → Untouched now new → Untouched old new
 untouched-then old now new first second = record { same = second.same ∙ first.same; whole = second.whole ∙ first.whole }
 
--- steps that were followed, and do not take the text, give nothing
+-- Steps that were tried without a match have no captures.
 pub follows_none : (old new : Attempt) (is_taken : Bool) (found : Option Captures) → is_taken ≡ false → FollowsSteps old new is_taken found → found ≡ None
 follows_none old new is_taken found missed follows = adds_none old.captures.items new.captures.items is_taken found missed follows.adds
 
--- and nothing is captured then
+-- An attempt stays untouched by steps that were tried without a match.
 pub follows_untouched : (old now new : Attempt) (is_taken : Bool) (found : Option Captures) → Untouched old now → is_taken ≡ false → FollowsSteps now new is_taken found → Untouched old new
 follows_untouched old now new is_taken found before missed follows = untouched-then old now new before (record { same = follows.same missed; whole = follows.whole })
 
--- the steps take the text where a part of their work does that was tried
+-- The whole matches where a part of it that was tried does.
 pub follows_taken : (old now new : Attempt) (is_taken : Bool) (part whole : Option Captures) → Untouched old now → is_taken ≡ true → FollowsSteps now new is_taken part
     → ((found : Captures) → part ≡ Some found → whole ≡ Some found) → FollowsSteps old new true whole
 follows_taken old now new is_taken part whole before taken follows leads = record {
@@ -44,11 +44,11 @@ follows_taken old now new is_taken part whole before taken follows leads = recor
   whole = follows.whole ∙ before.whole;
 }
 
--- they do not where nothing leads on
+-- The whole does not match where no captures are found.
 pub follows_missed : (old now : Attempt) (found : Option Captures) → Untouched old now → found ≡ None → FollowsSteps old now false found
 follows_missed old now found before none = record { adds = sym (ap (plus old.captures.items) none); same = λ e. before.same; whole = before.whole }
 
--- what a call does is what is done in all
+-- The outcome of a call on a part is that of the whole.
 pub follows_later : {E : Type 0} (old now new : Attempt) (whole part : Option Captures) (result : Result Bool E) → Untouched old now → whole ≡ part
     → IfOk result (λ is_taken. FollowsSteps now new is_taken part) → IfOk result (λ is_taken. FollowsSteps old new is_taken whole)
 follows_later old now new whole part (Ok is_taken) before same follows = record {
@@ -58,7 +58,7 @@ follows_later old now new whole part (Ok is_taken) before same follows = record 
 }
 follows_later old now new whole part (Err error) before same follows = tt
 
--- ---- where some captures may be added though the text is not taken
+-- ---- captures that stay without a match
 
 pub follows_on : (old new : Attempt) (is_taken : Bool) (found : Option Captures) → FollowsSteps old new is_taken found → FollowsOn old new is_taken found
 follows_on old new is_taken found follows = record {
@@ -67,13 +67,13 @@ follows_on old new is_taken found follows = record {
   whole = follows.whole;
 }
 
--- a call that adds nothing where the text is not taken
+-- A call that adds nothing without a match.
 pub call_follows_on : {E : Type 0} (old new : Attempt) (whole part : Option Captures) (result : Result Bool E) → whole ≡ part
     → IfOk result (λ is_taken. FollowsSteps old new is_taken part) → IfOk result (λ is_taken. FollowsOn old new is_taken whole)
 call_follows_on old new whole part (Ok is_taken) same follows = subst (FollowsOn old new is_taken) (sym same) (follows_on old new is_taken part follows)
 call_follows_on old new whole part (Err error) same follows = tt
 
--- the steps of a group that may be missing do not lead on, and those after it are followed
+-- The steps of an optional group have no match, and those after the group are tried.
 pub maybe_left : (ignore_case : Bool) → {E : Type 0} (old now added new : Attempt) (group : Group) (others left : List Step) (text : List ℕ) (is_taken : Bool) (result : Result Bool E) → is_taken ≡ false
     → FollowsSteps old now is_taken (walk ignore_case others text) → added.captures.items ≡ now.captures.items ++ replicate group.captures None → added.failed ≡ now.failed → left ≡ drop group.steps others
     → IfOk result (λ is_left. FollowsOn added new is_left (walk ignore_case left text)) → IfOk result (λ is_left. FollowsOn old new is_left (walk ignore_case (Maybe group ∷ others) text))
@@ -90,9 +90,10 @@ maybe_left ignore_case old now added new group others left text is_taken (Ok is_
     }
 maybe_left ignore_case old now added new group others left text is_taken (Err error) missed follows missing whole passed later = tt
 
--- ---- the steps and the text that are left
+-- ---- the remaining steps and text
 
--- what the steps that are left capture of what is left is what the steps do of the text, with what was captured before each
+-- With the captures before them, the remaining steps have the same captures in the remaining text
+-- as the steps in the whole.
 pub record Leaves (ignore_case : Bool) (old now : Attempt) (steps left : List Step) (text rest : List ℕ) : Type 0 where
   pub place : IsStateOf ignore_case now.failed left rest
   pub so_far : with_captures old.captures.items (walk ignore_case steps text) ≡ with_captures now.captures.items (walk ignore_case left rest)
@@ -100,7 +101,7 @@ pub record Leaves (ignore_case : Bool) (old now : Attempt) (steps left : List St
   pub whole : now.failed ≡ old.failed
 
 module _ (ignore_case : Bool) (old now : Attempt) (steps left : List Step) (text rest : List ℕ) (leaves : Leaves ignore_case old now steps left text rest) where
-  -- a step takes a front of the rest, and may capture it
+  -- A step matches a prefix of the rest, and may capture it.
   pub leaves_passed : (new : Attempt) (step : Step) (others : List Step) (front remaining : List ℕ) → left ≡ step ∷ others → rest ≡ front ++ remaining
       → with_captures now.captures.items (walk ignore_case (step ∷ others) rest) ≡ with_captures new.captures.items (walk ignore_case others remaining)
       → Extends now.captures.items new.captures.items → new.failed ≡ now.failed → Leaves ignore_case old new steps others text remaining
@@ -111,7 +112,7 @@ module _ (ignore_case : Bool) (old now : Attempt) (steps left : List Step) (text
     whole = whole ∙ leaves.whole;
   }
 
-  -- a step captures the front
+  -- A step captures a prefix.
   pub leaves_captured : (new : Attempt) (step : Step) (others : List Step) (front : Bor (List ℕ)) (remaining : List ℕ) → left ≡ step ∷ others → rest ≡ chars front.now ++ remaining
       → walk ignore_case (step ∷ others) rest ≡ captured_front (walk ignore_case others) (chars front.now) remaining
       → new.captures.items ≡ now.captures.items ++ Some front ∷ [] → new.failed ≡ now.failed → Leaves ignore_case old new steps others text remaining
@@ -120,11 +121,11 @@ module _ (ignore_case : Bool) (old now : Attempt) (steps left : List Step) (text
       (ap (plus now.captures.items) found ∙ plus_captured now.captures.items front (walk ignore_case others remaining) ∙ ap (λ l. plus l (walk ignore_case others remaining)) (sym pushed))
       (Some front ∷ [], pushed) whole
 
-  -- the rest is not taken
+  -- The rest is not matched.
   pub leaves_missed : walk ignore_case left rest ≡ None → FollowsOn old now false (walk ignore_case steps text)
   leaves_missed none = record { adds = sym (leaves.so_far ∙ ap (plus now.captures.items) none); more = λ e. leaves.more; whole = leaves.whole }
 
-  -- no step is left
+  -- No step is left.
   pub leaves_end : (is_empty : Bool) → left ≡ [] → (is_empty ≡ true → rest ≡ []) → (is_empty ≡ false → ¬ (rest ≡ [])) → FollowsOn old now is_empty (walk ignore_case steps text)
   leaves_end is_empty none full some = record {
     adds = end_taken ignore_case now.captures.items left rest is_empty is_empty none full some refl ∙ sym leaves.so_far;
@@ -132,7 +133,7 @@ module _ (ignore_case : Bool) (old now : Attempt) (steps left : List Step) (text
     whole = leaves.whole;
   }
 
-  -- what a call does with the rest is what is done in all
+  -- The outcome of a call on the rest is that of the whole.
   pub leaves_later : {E : Type 0} (new : Attempt) (result : Result Bool E)
       → IfOk result (λ is_taken. FollowsOn now new is_taken (walk ignore_case left rest)) → IfOk result (λ is_taken. FollowsOn old new is_taken (walk ignore_case steps text))
   leaves_later new (Ok is_taken) follows = record {
@@ -144,30 +145,31 @@ module _ (ignore_case : Bool) (old now : Attempt) (steps left : List Step) (text
   }
   leaves_later new (Err error) follows = tt
 
--- ---- a text that is cut
+-- ---- a text that is split
 
--- the text is cut after the front, and this holds of the characters that follow
+-- The text is split after `front`, and `Holds` is true of the characters that follow.
 abbrev pub IsCut : (text front : List ℕ) → (Holds : List ℕ → Type 0) → Type 0
 IsCut text front Holds = (rest : List ℕ) × IsUtf8 rest × (text ≡ front ++ rest) × Holds (chars rest)
 
--- at the end of the text nothing follows
+-- At the end of the text nothing follows.
 pub cut_end : (text : List ℕ) (Holds : List ℕ → Type 0) → Holds [] → IsCut text text Holds
 cut_end text Holds holds = ([], ([], (refl, refl)), sym (append-nil text), subst Holds (sym (chars-empty [] refl)) holds)
 
--- the last character of the front goes to what follows
+-- The last character of a prefix is moved to the rest.
 pub cut_sooner : (text front shorter rest : List ℕ) (c : ℕ) (Holds : List ℕ → Type 0) → IsScalar c → IsUtf8 rest → text ≡ front ++ rest → front ≡ shorter ++ encode_utf8 c
     → Holds (chars (encode_utf8 c ++ rest)) → IsCut text shorter Holds
 cut_sooner text front shorter rest c Holds scalar u e f holds =
     let cut = front_shortened text front shorter rest c scalar u e f in
     (encode_utf8 c ++ rest, cut.0, cut.1, holds)
 
--- what follows an empty front is the whole text
+-- The rest after an empty prefix is the whole text.
 pub cut_whole : (text front rest : List ℕ) (Holds : (front text : List ℕ) → Type 0) → text ≡ front ++ rest → front ≡ [] → Holds (chars front) (chars rest) → Holds [] (chars text)
 cut_whole text front rest Holds e empty holds =
     subst (λ f. Holds f (chars text)) (chars-empty front (ap length empty))
     (subst (λ t. Holds (chars front) (chars t)) (sym (e ∙ ap (λ f. f ++ rest) empty)) holds)
 
--- the fronts of the text are tried in turn: nothing was captured so far, and this holds of the characters that follow the front
+-- Prefixes of the text are tried in turn: nothing was captured so far, and `Holds` is true of the
+-- characters after the prefix.
 pub record Tries (old now : Attempt) (text front : List ℕ) (Holds : List ℕ → Type 0) : Type 0 where
   pub is_text : shadow (Utf8 front)
   pub so_far : IsCut text front Holds

@@ -1,4 +1,4 @@
--- Copies of a text, found from the front and tried from the end.
+-- Copies of a literal, found from the start and tried from the end.
 use Rattle.std.proofs.Common.{◌≡◌, ℕ, zero, suc, ◌<◌, List, [], ◌∷◌, ◌++◌, length, take, drop, Option, Some, None, Bool, true, false, cond, ◌==◌, refl, sym, ap, ap₂, ◌∙◌, append-nil, append_assoc, length-append, arith, subst}
 use Rattle.std.proofs.lemmas.List.{append_cancel_left}
 use Rattle.std.proofs.lemmas.Str.{chars-append}
@@ -17,7 +17,7 @@ use Rattle.urlpattern_meaning.specs.Matching.{IsSame, is_same_character}
 use Rattle.urlpattern_meaning.proofs.Middles.{same-length}
 use Rattle.urlpattern_steps.proofs.SameLemmas.{begins_more, begins_none, no_same, none_same, same_less}
 
--- ---- a text at the front
+-- ---- a literal at the start
 
 pub after-found : (ignore_case : Bool) (characters text rest : List ℕ) (gives : Continuation) (front : List ℕ) (begins : BeginsAs ignore_case characters text rest)
     → after_text ignore_case characters gives front text ≡ gives (front ++ begins.0) rest
@@ -48,7 +48,7 @@ after-other ignore_case (c ∷ characters) (d ∷ text) gives front other =
     by true e later = later e
     by false e later = refl
 
--- another step has no character
+-- A step that is not literal has no character.
 pub literals_skip : (step : Step) (others : List Step) → ((c : ℕ) → ¬ (step ≡ Literal c)) → literals (step ∷ others) ≡ literals others
 literals_skip (Literal c) others other = absurd (other c refl)
 literals_skip (Segment end) others other = refl
@@ -58,7 +58,7 @@ literals_skip (Longest run) others other = refl
 literals_skip (Copies copies) others other = refl
 literals_skip (Segments segments) others other = refl
 
--- fronts do not matter where what is given does not depend on them
+-- The result after a literal does not depend on the prefix, if that of the continuation does not.
 after-fronts : (ignore_case : Bool) (characters : List ℕ) (f g : Continuation) → ((before other rest : List ℕ) → f before rest ≡ g other rest) → (front another text : List ℕ)
     → after_text ignore_case characters f front text ≡ after_text ignore_case characters g another text
 after-fronts ignore_case [] f g same front another text = same front another text
@@ -75,7 +75,7 @@ rounds-fronts ignore_case characters next (suc n) front another text =
 
 -- ---- copies
 
--- what is found after fewer and fewer copies, where this was found after all of them
+-- The result after fewer and fewer copies, if `found` is the result after all of them.
 abbrev pub led : Next → List (List ℕ) → (rest : List ℕ) → Option Captures → Option Captures
 led next [] rest found = found
 led next (last ∷ copies) rest found = led next copies (last ++ rest) (option_or found (next (last ++ rest)))
@@ -91,7 +91,7 @@ module _ (ignore_case : Bool) (c : ℕ) (literal : List ℕ) (next : Next) where
   abbrev going_on : Continuation
   going_on front rest = next rest
 
-  -- what is given after as many copies as lead on
+  -- The result after as many copies as have one.
   abbrev after_all : (front text : List ℕ) → Option Captures
   after_all front text = any_rounds (after_text ignore_case copy) going_on front text
 
@@ -115,14 +115,14 @@ module _ (ignore_case : Bool) (c : ℕ) (literal : List ℕ) (next : Next) where
       (any-unrolled (after_text ignore_case copy) (advances-after ignore_case c literal) going_on [] rest
       ∙ ap (λ o. option_or o (next rest)) (after-other ignore_case copy rest (any_rounds (after_text ignore_case copy) going_on) [] other))
 
-  -- both parts are the same where their ends are of one length
+  -- Equal concatenations with suffixes of equal length have equal parts.
   same_ends : (front end front' end' : List ℕ) → front ++ end ≡ front' ++ end' → length end ≡ length end' → (front ≡ front') × (end ≡ end')
   same_ends front end front' end' e same =
       let l : length front ≡ length front' = omega (arith, ap length e, length-append front end, length-append front' end') in
       let fronts : front ≡ front' = sym (take-append_seam front end) ∙ ap₂ take l e ∙ take-append_seam front' end' in
       (fronts, append_cancel_left front end end' (e ∙ ap (λ f. f ++ end') (sym fronts)))
 
-  -- the last copy goes to the rest
+  -- The last copy is moved to the rest.
   pub copy_shrinks : (copies : List (List ℕ)) (front shorter end rest : List ℕ) → IsUtf8 shorter → IsUtf8 end → front ≡ shorter ++ end → chars front ≡ in_turn copies → AreCopiesOf ignore_case copy copies
       → length (chars end) ≡ length copy → next (chars rest) ≡ None
       → (fewer : List (List ℕ)) × (chars shorter ≡ in_turn fewer) × AreCopiesOf ignore_case copy fewer
@@ -139,14 +139,14 @@ module _ (ignore_case : Bool) (c : ℕ) (literal : List ℕ) (next : Next) where
         ap (λ o. led next copies (last ++ chars rest) (option_or o (next (last ++ chars rest)))) none ∙ ap (λ t. led next copies t (next t)) longer,
       )
 
-  -- where the front is too short for a copy, none is left
+  -- No copy is left of a prefix that is shorter than a copy.
   pub no_copy_left : (copies : List (List ℕ)) (front rest : List ℕ) (found : Option Captures) → front ≡ in_turn copies → AreCopiesOf ignore_case copy copies → length front < length copy
       → led next copies rest found ≡ found
   no_copy_left [] front rest found e are lt = refl
   no_copy_left (last ∷ copies) front rest found e (is, are) lt =
       absurd (omega (arith, ap length e, length-append (in_turn copies) last, same-length ignore_case last copy is, lt))
 
-  -- one copy is taken at least
+  -- A repeat of one or more copies matches the first copy.
   pub copies_after : (text rest : List ℕ) → BeginsAs ignore_case copy text rest
       → some_rounds (after_text ignore_case copy) going_on [] text ≡ any_rounds (after_text ignore_case copy) going_on [] rest
   copies_after text rest begins =
@@ -154,7 +154,7 @@ module _ (ignore_case : Bool) (c : ℕ) (literal : List ℕ) (next : Next) where
 
 -- ---- the step
 
--- the step of copies, by its parts
+-- The step of a repeated literal, by its parts.
 pub copies_step : (ignore_case : Bool) (copies : Copied) (steps literal others : List Step) (text : List ℕ) → literal ≡ take copies.text.others steps → others ≡ drop copies.text.others steps
     → walk ignore_case (Copies copies ∷ steps) text ≡ repeated copies.may_be_missing (after_text ignore_case (copies.text.first ∷ literals literal)) (λ front rest. walk ignore_case others rest) [] text
 copies_step ignore_case copies steps literal others text e f =
@@ -171,7 +171,7 @@ copies_step ignore_case copies steps literal others text e f =
     by false = (keeps-some (after_text ignore_case (copies.text.first ∷ literals literal)) (advances-after ignore_case copies.text.first (literals literal))).same
         (λ front rest. walk_after ignore_case copies.text.others steps rest) (λ front rest. walk ignore_case others rest) [] text (λ before rest le. same before rest)
 
--- the same by whether there may be none
+-- The step of a repeated literal, by whether zero copies match.
 module _ (ignore_case : Bool) (copies : Copied) (steps literal others : List Step) (text : List ℕ) (own : literal ≡ take copies.text.others steps) (passed : others ≡ drop copies.text.others steps) where
   known : (b : Bool) → copies.may_be_missing ≡ b → walk ignore_case (Copies copies ∷ steps) text ≡ repeated b (after_text ignore_case (literal_text copies.text.first literal)) (λ front rest. walk ignore_case others rest) [] text
   known b is = copies_step ignore_case copies steps literal others text own passed ∙ ap (λ o. repeated o (after_text ignore_case (literal_text copies.text.first literal)) (λ front rest. walk ignore_case others rest) [] text) is
@@ -179,12 +179,12 @@ module _ (ignore_case : Bool) (copies : Copied) (steps literal others : List Ste
   pub copies_any : copies.may_be_missing ≡ true → walk ignore_case (Copies copies ∷ steps) text ≡ walk_copies ignore_case copies.text.first literal others text
   copies_any is = known true is
 
-  -- the text goes on with one
+  -- The text begins with a copy.
   pub copies_some : copies.may_be_missing ≡ false → (rest : List ℕ) → BeginsAs ignore_case (literal_text copies.text.first literal) text rest → walk ignore_case (Copies copies ∷ steps) text ≡ walk_copies ignore_case copies.text.first literal others rest
   copies_some is rest cut =
       known false is ∙ copies_after ignore_case copies.text.first (literals literal) (walk ignore_case others) text rest cut
 
-  -- it does not
+  -- The text does not begin with a copy.
   pub copies_none : copies.may_be_missing ≡ false → ((rest : List ℕ) → ¬ BeginsAs ignore_case (literal_text copies.text.first literal) text rest) → walk ignore_case (Copies copies ∷ steps) text ≡ None
   copies_none is other =
       known false is

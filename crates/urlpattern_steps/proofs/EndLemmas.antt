@@ -1,4 +1,4 @@
--- Where runs with a text between each two end, from the end of the text to its front.
+-- The ends of separated runs, from the end of the text on.
 use Rattle.std.proofs.Common.{◌≡◌, ℕ, ◌<◌, ◌⊎◌, inl, inr, List, [], ◌∷◌, ◌++◌, length, get_or, take, drop, Option, Some, None, option_map, Bool, true, false, cond, ◌==◌, refl, sym, ap, ap₂, ◌∙◌, subst, append_assoc, length-append, arith, eq-eqb, eqb-true}
 use Rattle.std.proofs.lemmas.Bool.{false≢true}
 use Rattle.std.proofs.Math.ListN.{get_or-append}
@@ -24,7 +24,7 @@ use Rattle.urlpattern_steps.proofs.Tried.{Next}
 use Rattle.urlpattern_meaning.specs.Matching.{IsSame, is_same_character}
 use Rattle.urlpattern_steps.proofs.SameLemmas.{begins_or_not, no_same}
 
--- what is first found is cut first
+-- The prefix of the first result comes first.
 pub cut-or : (gives : Continuation) (text : List ℕ) (n m : Option ℕ) (a b : Option Captures) → IsCutFor gives text n a → IsCutFor gives text m b → IsCutFor gives text (option_or n m) (option_or a b)
 cut-or gives text None m a b one two = subst (λ o. IsCutFor gives text m (option_or o b)) (sym one) two
 cut-or gives text (Some n) m None b (front, rest, u, v, e, f, g, some) two = absurd (some refl)
@@ -34,19 +34,19 @@ module _ (ignore_case : Bool) (c : ℕ) (literal : List ℕ) (is_greedy : Bool) 
   abbrev pub separator : List ℕ
   separator = c ∷ literal
 
-  -- what is given where a run may end here
+  -- The result if a run may end here.
   abbrev pub stops : Continuation
   stops front text = any_rounds (after_separator ignore_case separator (single_run ignore_case is_greedy end)) gives front text
 
-  -- where a run begins here
+  -- The result if a run begins here.
   abbrev pub begins : Continuation
   begins front text = segmented ignore_case separator (single_run ignore_case is_greedy end) gives front text
 
-  -- where a run may end here or later
+  -- The result if a run may end here or later.
   abbrev pub either : Continuation
   either front text = cond is_greedy (begins front text) (option_or (stops front text) (begins front text))
 
-  -- where a run goes on with the first character
+  -- The result if a run continues with the first character.
   abbrev pub onward : Continuation
   onward front [] = None
   onward front (d ∷ text) = cond (is_same_character ignore_case d end) None (either (front ++ d ∷ []) text)
@@ -54,7 +54,8 @@ module _ (ignore_case : Bool) (c : ℕ) (literal : List ℕ) (is_greedy : Bool) 
   pub stops_unrolled : (front text : List ℕ) → stops front text ≡ option_or (after_text ignore_case separator begins front text) (gives front text)
   stops_unrolled front text = any-unrolled (after_separator ignore_case separator (single_run ignore_case is_greedy end)) (advances-separator ignore_case c literal is_greedy end) gives front text
 
-  -- the table has where segments end that begin after the front at hand, and where a run ends that goes on
+  -- The table has the ends of separated runs that begin after the current prefix, and `later` is
+  -- the end of a run that continues.
   pub record IsTable (text front rest : List ℕ) (table : List (Option ℕ)) (later : Option ℕ) : Type 0 where
     pub count : length table ≡ length rest
     pub entries : (passed left : List ℕ) → rest ≡ passed ++ left → ¬ (passed ≡ []) → IsCutFor gives text (get_or table (length left) None) (begins (front ++ passed) left)
@@ -71,7 +72,7 @@ module _ (ignore_case : Bool) (c : ℕ) (literal : List ℕ) (is_greedy : Bool) 
       first_nil [] left e = refl
       first_nil (d ∷ passed) left e = let f : [] ≡ d ∷ (passed ++ left) = e in cc
 
-  -- where the segments end that begin after the text between two
+  -- The end of separated runs that begin after the separator.
   pub next_cut : (text front rest : List ℕ) (table : List (Option ℕ)) (later next : Option ℕ) → IsTable text front rest table later
       → ((left : List ℕ) → BeginsAs ignore_case separator rest left → length table ≡ length rest → next ≡ get_or table (length left) None)
       → (((left : List ℕ) → ¬ BeginsAs ignore_case separator rest left) → next ≡ None)
@@ -88,7 +89,7 @@ module _ (ignore_case : Bool) (c : ℕ) (literal : List ℕ) (is_greedy : Bool) 
           subst (λ o. IsCutFor gives text next o) (sym (after-other ignore_case separator rest begins front none))
           (subst (λ n. IsCutFor gives text n None) (sym (other none)) refl)
 
-  -- where the segments end of which a run may end here
+  -- The end of separated runs, one of which may end here.
   pub stop_cut : (text front rest : List ℕ) (next here : Option ℕ) → IsCutFor gives text next (after_text ignore_case separator begins front rest)
       → IsCutFor gives text here (gives front rest) → IsCutFor gives text (option_or next here) (stops front rest)
   stop_cut text front rest next here one two =
@@ -102,7 +103,7 @@ module _ (ignore_case : Bool) (c : ℕ) (literal : List ℕ) (is_greedy : Bool) 
       by true cut = refl
       by false cut = cut
 
--- the parts of a run, by its kind
+-- The results of a run, by its kind.
 pub begins_parts : (ignore_case : Bool) (c : ℕ) (literal : List ℕ) (is_greedy : Bool) (end : ℕ) (gives : Continuation) (front text : List ℕ)
     → begins ignore_case c literal is_greedy end gives front text
     ≡ cond is_greedy (option_or (onward ignore_case c literal is_greedy end gives front text) (stops ignore_case c literal is_greedy end gives front text)) (onward ignore_case c literal is_greedy end gives front text)
@@ -134,7 +135,7 @@ cut_beginning true gives text n m a b one two = cut-or gives text n m a b one tw
 cut_beginning false gives text n m a b one two = one
 
 module _ (ignore_case : Bool) (c : ℕ) (literal : List ℕ) (is_greedy : Bool) (end : ℕ) (gives : Continuation) (text : List ℕ) where
-  -- where segments end that begin here
+  -- The end of separated runs that begin here.
   pub beginning_cut : (front rest : List ℕ) (forward stopping beginning : Option ℕ)
       → IsCutFor gives text forward (onward ignore_case c literal is_greedy end gives front rest) → IsCutFor gives text stopping (stops ignore_case c literal is_greedy end gives front rest)
       → beginning ≡ cond is_greedy (option_or forward stopping) forward → IsCutFor gives text beginning (begins ignore_case c literal is_greedy end gives front rest)
@@ -151,7 +152,7 @@ module _ (ignore_case : Bool) (c : ℕ) (literal : List ℕ) (is_greedy : Bool) 
       (subst (λ o. IsCutFor gives text (cond is_greedy (option_or forward stopping) (option_or stopping forward)) o) (sym (either_parts ignore_case c literal is_greedy end gives front rest))
       (cut_either is_greedy gives text forward stopping (onward ignore_case c literal is_greedy end gives front rest) (stops ignore_case c literal is_greedy end gives front rest) one two))
 
-  -- an entry more, at a character before
+  -- The table with one more entry, at the previous character.
   pub table_more : (shorter rest : List ℕ) (d : ℕ) (table : List (Option ℕ)) (later beginning both : Option ℕ)
       → IsTable ignore_case c literal is_greedy end gives text (shorter ++ d ∷ []) rest table later
       → IsCutFor gives text beginning (begins ignore_case c literal is_greedy end gives (shorter ++ d ∷ []) rest)
@@ -192,7 +193,7 @@ module _ (ignore_case : Bool) (c : ℕ) (literal : List ℕ) (is_greedy : Bool) 
 
 -- ---- the end here
 
--- where a run may end, by where it ends here
+-- The end of separated runs, one of which may end here, by the end here.
 pub here_cut : (next : Next) (text front rest : List ℕ) (following end : Option ℕ) (n : ℕ) → IsUtf8 front → IsUtf8 rest → text ≡ front ++ rest → length front ≡ n
     → IsEndHere following n (next (chars rest)) end
     → (here : Option ℕ) × (end ≡ option_or following here) × IsCutFor (captured_front next) text here (captured_front next (chars front) (chars rest))
@@ -209,7 +210,8 @@ here_cut next text front rest None (Some m) n u v e same (is, some) =
     mapped_none None e = refl
     mapped_none (Some x) e = cc
 
--- what is known at a place: where segments end that begin here, and where a run ends that may end here
+-- The ends at a place: of separated runs that begin here, and of separated runs, one of which may
+-- end here.
 pub place_cuts : (ignore_case : Bool) (c : ℕ) (literal : List ℕ) (is_greedy : Bool) (end : ℕ) (next : Next) (text front rest : List ℕ) (table : List (Option ℕ)) (later following stopping forward beginning both : Option ℕ) (n : ℕ)
     → IsUtf8 front → IsUtf8 rest → text ≡ front ++ rest → length front ≡ n
     → IsTable ignore_case c literal is_greedy end (captured_front next) text (chars front) (chars rest) table later
@@ -235,7 +237,7 @@ place_cuts ignore_case c literal is_greedy end next text front rest table later 
       either_cut ignore_case c literal is_greedy end (captured_front next) text (chars front) (chars rest) forward stopping both went stopped two,
     )
 
--- the same with the table of the place, by the table that is kept and what is left
+-- The ends at a place, with the table as it is kept and the remaining text.
 pub place_ends : (ignore_case : Bool) (c : ℕ) (literal : List ℕ) (is_greedy : Bool) (end : ℕ) (next : Next) (text front rest left : List ℕ) (table kept : List (Option ℕ)) (later following stopping forward beginning both : Option ℕ)
     → IsUtf8 front → IsUtf8 left → text ≡ front ++ rest → text ≡ front ++ left
     → IsTable ignore_case c literal is_greedy end (captured_front next) text (chars front) (chars left) kept later → table ≡ kept
@@ -270,7 +272,7 @@ pub end_none : (next : Option ℕ) (here : ℕ) (found : Option Captures) → is
 end_none None here found e none = none
 end_none (Some n) here found e none = absurd (false≢true (sym e))
 
--- the step of segments, by its parts
+-- The step of separated runs, by its parts.
 pub segments_step : (ignore_case : Bool) (segments : Segmented) (steps literal others : List Step) (text : List ℕ) → literal ≡ take segments.separator.others steps → others ≡ drop segments.separator.others steps
     → walk ignore_case (Segments segments ∷ steps) text ≡ segmented ignore_case (segments.separator.first ∷ literals literal) (single_run ignore_case segments.is_greedy segments.end) (captured_front (walk ignore_case others)) [] text
 segments_step ignore_case segments steps literal others text e f =
@@ -281,13 +283,13 @@ segments_step ignore_case segments steps literal others text e f =
 
 -- ---- the whole text
 
--- both parts are the same where the fronts are of one length
+-- Equal concatenations with prefixes of equal length have equal parts.
 pub same_fronts : (front rest front' rest' : List ℕ) → front ++ rest ≡ front' ++ rest' → length front ≡ length front' → (front ≡ front') × (rest ≡ rest')
 same_fronts front rest front' rest' e n =
     let fronts : front ≡ front' = sym (take-append_seam front rest) ∙ ap₂ take n e ∙ take-append_seam front' rest' in
     (fronts, append_cancel_left front rest rest' (e ∙ ap (λ f. f ++ rest') (sym fronts)))
 
--- the steps of segments, by where these end
+-- The step of separated runs, by their end.
 module _ (ignore_case : Bool) (segments : Segmented) (steps literal others : List Step) (text : List ℕ) (own : literal ≡ take segments.separator.others steps) (passed : others ≡ drop segments.separator.others steps) where
   pub segments_some : (end : Option ℕ) (n : ℕ) (front rest : List ℕ) → IsEndOfSegments ignore_case segments literal others text end → end ≡ Some n → text ≡ front ++ rest → length front ≡ n
       → walk ignore_case (Segments segments ∷ steps) (chars text) ≡ captured_front (walk ignore_case others) (chars front) (chars rest)
@@ -304,7 +306,7 @@ module _ (ignore_case : Bool) (segments : Segmented) (steps literal others : Lis
       let nothing : found ≡ None = subst (λ o. IsCutFor (captured_front (walk ignore_case others)) text o found) none is in
       segments_step ignore_case segments steps literal others (chars text) own passed ∙ nothing
 
--- the table at the character before
+-- The table at the previous character.
 pub table_next : (ignore_case : Bool) (c : ℕ) (literal : List ℕ) (is_greedy : Bool) (end : ℕ) (gives : Continuation) (text front shorter rest : List ℕ) (d : ℕ) (table more : List (Option ℕ)) (later beginning both : Option ℕ)
     → IsUtf8 shorter → IsUtf8 rest → IsScalar d → IsUtf8 (encode_utf8 d) → front ≡ shorter ++ encode_utf8 d → more ≡ table ++ beginning ∷ []
     → IsTable ignore_case c literal is_greedy end gives text (chars front) (chars rest) table later

@@ -12,7 +12,7 @@ use Rattle.urlpattern_steps.specs.Walk.{walk}
 use Rattle.urlpattern_syntax.proofs.TextLemmas.{byte_len-append, length-le-byte_len}
 use Rattle.urlpattern_syntax.specs.Text.{byte_len}
 
--- ---- ends
+-- ---- suffixes
 
 pub ends_longer : {A : Type 0} (whole more end : List A) → EndsWith whole more → EndsWith more end → EndsWith whole end
 ends_longer whole more end first second = (first.0 ++ second.0, first.1 ∙ ap (λ l. first.0 ++ l) second.1 ∙ sym (append_assoc first.0 second.0 end))
@@ -23,7 +23,7 @@ ends_same whole = ([], refl)
 pub ends_drop : {A : Type 0} (n : ℕ) (whole : List A) → EndsWith whole (drop n whole)
 ends_drop n whole = (take n whole, sym (take-append-drop n whole))
 
--- less of both is left
+-- A suffix of the steps and one of the text are a state too.
 pub place_within : (ignore_case : Bool) (whole now : Whole) (steps others : List Step) (text rest : List ℕ) → now ≡ whole → IsStateOf ignore_case whole steps text → EndsWith steps others → EndsWith text rest → IsStateOf ignore_case now others rest
 place_within ignore_case whole now steps others text rest same place first second = subst (λ w. IsStateOf ignore_case w others rest) (sym same) (record {
   of_case = place.of_case;
@@ -31,13 +31,13 @@ place_within ignore_case whole now steps others text rest same place first secon
   of_text = ends_longer whole.text text rest place.of_text second;
 })
 
--- ends of one length are one
+-- Suffixes of equal length are equal.
 same_end : {A : Type 0} (front other end also : List A) → front ++ end ≡ other ++ also → length end ≡ length also → end ≡ also
 same_end front other end also e l =
     let fronts : length front ≡ length other = omega (arith, ap length e, length-append front end, length-append other also) in
     sym (drop-append_seam front end) ∙ ap (λ n. drop n (front ++ end)) fronts ∙ ap (drop (length other)) e ∙ drop-append_seam other also
 
--- ends of one length in bytes are one
+-- Suffixes of equal length in bytes are equal.
 same_text : (front other end also : List ℕ) → front ++ end ≡ other ++ also → byte_len end ≡ byte_len also → end ≡ also
 same_text [] [] end also e l = e
 same_text [] (c ∷ other) end also e l = absurd (omega (arith, ap byte_len e, byte_len-append (c ∷ other) also, length-le-byte_len (c ∷ other)))
@@ -56,7 +56,7 @@ dead_without whole bits zeros = λ steps text place has. absurd (no_bit bits zer
 short_text : (whole text : List ℕ) → EndsWith whole text → byte_len text < byte_len whole + 1
 short_text whole text end = omega (arith, ap byte_len end.1, byte_len-append end.0 text)
 
--- the state of a bit is one
+-- A bit belongs to one state.
 same_place : (ignore_case also_ignored : Bool) (whole : Whole) (steps others : List Step) (text other : List ℕ) → IsStateOf ignore_case whole steps text → IsStateOf also_ignored whole others other → bit_of whole.text steps text ≡ bit_of whole.text others other → (steps ≡ others) × (text ≡ other)
 same_place ignore_case also_ignored whole steps others text other place also e =
     let width : ℕ = byte_len whole.text + 1 in
@@ -68,7 +68,7 @@ same_place ignore_case also_ignored whole steps others text other place also e =
       same_text place.of_text.0 also.of_text.0 text other (sym place.of_text.1 ∙ also.of_text.1) (omega arith),
     )
 
--- a state more
+-- A failed state is added to the bits.
 pub dead_more : (ignore_case : Bool) (whole : Whole) (old new : List ℕ) (bit : ℕ) (steps : List Step) (text : List ℕ) → IsStateOf ignore_case whole steps text → walk ignore_case steps text ≡ None → bit ≡ bit_of whole.text steps text
     → ((other : ℕ) → HasBit new other → HasBit old other ⊎ (other ≡ bit)) → AreDead whole old → AreDead whole new
 dead_more ignore_case whole old new bit steps text place none is more dead = λ others other also has.
@@ -79,12 +79,12 @@ dead_more ignore_case whole old new bit steps text place none is more dead = λ 
           ap (λ i. walk i others other) place.of_case ∙ ap (λ s. walk ignore_case s other) one.0 ∙ ap (walk ignore_case steps) one.1 ∙ none
     ]
 
--- a bit of a word
+-- A bit of a word.
 pub bit_by_shift : (bits : List ℕ) (bit : ℕ) → bit_and (get_or bits (bit / 64) 0 / 2 ^ (bit % 64)) 1 ≡ 1 → HasBit bits bit
 unfolding HasBit
 bit_by_shift bits bit e = sym (shr_and_one (get_or bits (bit / 64) 0) (bit % 64)) ∙ e
 
--- the bits after one was set
+-- The bits after one was set.
 pub bit_set : (old : List ℕ) (bit word : ℕ) → bit / 64 < length old → get_or old (bit / 64) 0 ≡ word → (other : ℕ) → HasBit (set old (bit / 64) (bit_or word (1 * 2 ^ (bit % 64) % 2 ^ 64))) other → HasBit old other ⊎ (other ≡ bit)
 unfolding HasBit
 bit_set old bit word within is other has =
@@ -107,7 +107,7 @@ zeros zero k = refl
 zeros (suc n) zero = refl
 zeros (suc n) (suc k) = zeros n k
 
--- a slice that was written whole
+-- A slice that was overwritten.
 pub whole_written : (n : ℕ) (old new : List ℕ) → length new ≡ n → take n (new ++ drop (length new) old) ≡ new
 whole_written n old new e =
     take-append-le n new (drop (length new) old) (omega arith) ∙ ap (λ k. take k new) (sym e) ∙ take-length new

@@ -1,4 +1,4 @@
--- The longest front of a text that gives something, found from the end.
+-- The longest prefix with a result, found from the end.
 use Rattle.std.proofs.Common.{◌≡◌, ℕ, List, [], ◌∷◌, ◌++◌, Option, Some, None, Bool, true, false, cond, ◌==◌, refl, sym, ap, ap₂, ◌∙◌, append-nil, append_assoc}
 use Rattle.std.proofs.lemmas.Str.{chars-append, chars_past_char, IsUtf8-append}
 use Rattle.std.specs.Char.{IsScalar, encode_utf8}
@@ -11,7 +11,7 @@ use Rattle.urlpattern_steps.proofs.RunLemmas.{both_ends}
 use Rattle.urlpattern_steps.proofs.Tried.{option_or-assoc}
 use Rattle.urlpattern_meaning.specs.Matching.{is_same_character}
 
--- what the longest front of these characters gives that gives something
+-- The result of the longest prefix of these characters that has one.
 abbrev pub falling : Continuation → (taken front rest : List ℕ) → Option Captures
 falling gives taken [] rest = gives taken rest
 falling gives taken (c ∷ front) rest = option_or (falling gives (taken ++ c ∷ []) front rest) (gives taken (c ∷ (front ++ rest)))
@@ -26,7 +26,7 @@ longest_falling ignore_case end gives taken (c ∷ text) = by (is_same_character
     by true later = refl
     by false later = ap₂ option_or later (ap (λ t. gives taken (c ∷ t)) (sym (both_ends ignore_case end text)))
 
--- the longest of all comes first, and then those without its last character
+-- The whole comes first, and then the prefixes without the last character.
 pub falling-last : (gives : Continuation) (taken front : List ℕ) (c : ℕ) (rest : List ℕ)
     → falling gives taken (front ++ c ∷ []) rest ≡ option_or (gives (taken ++ (front ++ c ∷ [])) rest) (falling gives taken front (c ∷ rest))
 falling-last gives taken [] c rest = refl
@@ -37,13 +37,13 @@ falling-last gives taken (d ∷ front) c rest =
     ∙ option_or-assoc (gives ((taken ++ d ∷ []) ++ (front ++ c ∷ [])) rest) (falling gives (taken ++ d ∷ []) front (c ∷ rest)) (gives taken (d ∷ (front ++ c ∷ rest)))
     ∙ ap (λ f. option_or (gives f rest) (falling gives taken (d ∷ front) (c ∷ rest))) (append_assoc taken (d ∷ []) (front ++ c ∷ []))
 
--- what the longest of all gives comes first
+-- The result of the whole comes first.
 pub falling-found : (gives : Continuation) (taken front rest : List ℕ) (found : Captures) → gives (taken ++ front) rest ≡ Some found → falling gives taken front rest ≡ Some found
 falling-found gives taken [] rest found e = ap (λ f. gives f rest) (sym (append-nil taken)) ∙ e
 falling-found gives taken (c ∷ front) rest found e =
     ap (λ o. option_or o (gives taken (c ∷ (front ++ rest)))) (falling-found gives (taken ++ c ∷ []) front rest found (ap (λ f. gives f rest) (append_assoc taken (c ∷ []) front) ∙ e))
 
--- the last character of a front goes to the rest
+-- The last character of a prefix is moved to the rest.
 pub front_shrinks : (gives : Continuation) (front shorter rest : List ℕ) (c : ℕ) → IsUtf8 shorter → IsUtf8 rest → IsScalar c → IsUtf8 (encode_utf8 c) → front ≡ shorter ++ encode_utf8 c
     → gives (chars front) (chars rest) ≡ None → falling gives [] (chars front) (chars rest) ≡ falling gives [] (chars shorter) (chars (encode_utf8 c ++ rest))
 front_shrinks gives front shorter rest c u v scalar w e none =

@@ -1,4 +1,4 @@
--- What is added to captures, step by step.
+-- What each step adds to the captures.
 use Rattle.std.proofs.Common.{◌≡◌, ℕ, zero, suc, List, [], ◌∷◌, ◌++◌, map, drop, eq-eqb, replicate, Option, Some, None, option_map, Bool, true, false, cond, ◌==◌, ne_eqb, refl, sym, ap, ap₂, ◌∙◌, subst, append-nil, append_assoc}
 use Rattle.std.proofs.lemmas.List.{map-append, append_cancel_left, append_cancel_right}
 use Rattle.std.proofs.lemmas.Str.{chars-append, chars_past_char, encodes-append, encodes-chars, IsUtf8-append, IsUtf8-encode}
@@ -21,11 +21,11 @@ use Rattle.urlpattern_steps.proofs.StepLemmas.{maybe_missing}
 use Rattle.urlpattern_syntax.specs.Text.{line_feed, option_text}
 use Rattle.urlpattern_meaning.specs.Matching.{is_same_character}
 
--- what was captured before, and what is captured now
+-- The old captures, followed by those found.
 abbrev pub plus : Kept → Option Captures → Option Captures
 plus old found = option_map (λ others. map option_text old ++ others) found
 
--- ---- what was added
+-- ---- added captures
 
 none_added : (old new : Kept) (found : Option Captures) → AreAdded old new false found → found ≡ None
 none_added old new None e = refl
@@ -38,7 +38,7 @@ pub adds_some : (old new : Kept) (found : Option Captures) → AreAdded old new 
 adds_some old new None e = cc
 adds_some old new (Some x) e = (x, refl)
 
--- what a part adds to what was kept is what the whole does, where the whole is what the part is
+-- Captures that a part adds are those of the whole, if the whole has them.
 pub taken_adds : (old now new : Kept) (is_taken : Bool) (part whole : Option Captures) → now ≡ old → is_taken ≡ true → AreAdded now new is_taken part
     → ((found : Captures) → part ≡ Some found → whole ≡ Some found) → AreAdded old new true whole
 taken_adds old now new is_taken part whole same taken adds leads =
@@ -65,7 +65,7 @@ plus_missing now n (Some others) =
     ap Some (sym (append_assoc (map option_text now) (replicate n None) others)
     ∙ ap (λ l. l ++ others) (ap (λ l. map option_text now ++ l) (sym (map_missing n)) ∙ sym (map-append option_text now (replicate n None))))
 
--- a group that is missing, after it was tried
+-- An optional group is skipped, after it was tried.
 pub plus_maybe : (ignore_case : Bool) (now new more : Kept) (group : Group) (others : List Step) (rest : List ℕ) → walk ignore_case others rest ≡ None → new ≡ now → more ≡ new ++ replicate group.captures None
     → plus now (walk ignore_case (Maybe group ∷ others) rest) ≡ plus more (walk ignore_case (drop group.steps others) rest)
 plus_maybe ignore_case now new more group others rest none same missing =
@@ -73,11 +73,11 @@ plus_maybe ignore_case now new more group others rest none same missing =
     ∙ plus_missing now group.captures (walk ignore_case (drop group.steps others) rest)
     ∙ ap (λ l. plus l (walk ignore_case (drop group.steps others) rest)) (ap (λ l. l ++ replicate group.captures None) (sym same) ∙ sym missing)
 
--- a character that stands there
+-- A literal at the start of the text.
 pub literal_passed : (ignore_case : Bool) (c other : ℕ) (others : List Step) (rest remaining : List ℕ) → rest ≡ other ∷ remaining → is_same_character ignore_case other c ≡ true → walk ignore_case (Literal c ∷ others) rest ≡ walk ignore_case others remaining
 literal_passed ignore_case c other others rest remaining e one = ap (walk ignore_case (Literal c ∷ others)) e ∙ ap (λ b. cond b (walk ignore_case others remaining) None) one
 
--- another character stands there, or none
+-- A literal that the text does not begin with.
 pub literal_other : (ignore_case : Bool) (c : ℕ) (others : List Step) (text : List ℕ) → ((rest : List ℕ) → ¬ BeginsAs ignore_case (c ∷ []) text rest) → walk ignore_case (Literal c ∷ others) text ≡ None
 literal_other ignore_case c others [] other = refl
 literal_other ignore_case c others (d ∷ text) other = by (is_same_character ignore_case d c) refl
@@ -86,36 +86,36 @@ literal_other ignore_case c others (d ∷ text) other = by (is_same_character ig
     by true e = absurd (other text (one_begins ignore_case c d (d ∷ text) text refl e))
     by false e = refl
 
--- the end of the steps
+-- The end of the steps.
 end_adds : (ignore_case : Bool) (now : Kept) (rest : List ℕ) (is_empty : Bool) → (is_empty ≡ true → rest ≡ []) → (is_empty ≡ false → ¬ (rest ≡ [])) → AreAdded now now is_empty (walk ignore_case [] rest)
 end_adds ignore_case now [] true full some = ap Some (sym (append-nil (map option_text now)))
 end_adds ignore_case now (c ∷ rest) true full some = let e : (c ∷ rest) ≡ [] = full refl in cc
 end_adds ignore_case now [] false full some = absurd (some refl refl)
 end_adds ignore_case now (c ∷ rest) false full some = refl
 
--- the same where no step is left
+-- No step is left.
 pub end_taken : (ignore_case : Bool) (now : Kept) (left : List Step) (rest : List ℕ) (is_empty is_taken : Bool) → left ≡ [] → (is_empty ≡ true → rest ≡ []) → (is_empty ≡ false → ¬ (rest ≡ [])) → is_empty ≡ is_taken
     → AreAdded now now is_taken (walk ignore_case left rest)
 end_taken ignore_case now left rest is_empty is_taken none full some same =
     subst (λ b. AreAdded now now b (walk ignore_case [] rest)) same (end_adds ignore_case now rest is_empty full some) ∙ sym (ap (λ l. plus now (walk ignore_case l rest)) none)
 
--- ---- the shortest front
+-- ---- lazy runs
 
--- a character is passed, and then there is a front that ends here
+-- After one more character the run may end first.
 shortest_passed : (ignore_case : Bool) (end : ℕ) (gives : Continuation) (front : List ℕ) (c : ℕ) (rest : List ℕ) → (is_same_character ignore_case c end) ≡ false
     → shortest ignore_case end gives front (c ∷ rest) ≡ option_or (gives (front ++ c ∷ []) rest) (shortest ignore_case end gives (front ++ c ∷ []) rest)
 shortest_passed ignore_case end gives front c rest e = ap (λ b. cond b None (option_or (gives (front ++ c ∷ []) rest) (shortest ignore_case end gives (front ++ c ∷ []) rest))) e
 
--- what precedes the rest, with a character more
+-- The prefix before the rest, with one more character.
 front_grows : (text front before rest remaining : List ℕ) (c : ℕ) → text ≡ front ++ rest → rest ≡ c ∷ remaining → text ≡ before ++ remaining → before ≡ front ++ c ∷ []
 front_grows text front before rest remaining c e f g =
     append_cancel_right before (front ++ c ∷ []) remaining (sym g ∙ e ∙ ap (λ r. front ++ r) f ∙ sym (append_assoc front (c ∷ []) remaining))
 
--- the front with a character more
+-- The prefix with one more character.
 pub run_passed : (front text rest : List ℕ) (c : ℕ) (remaining : List ℕ) → text ≡ front ++ rest → rest ≡ c ∷ remaining → text ≡ (front ++ c ∷ []) ++ remaining
 run_passed front text rest c remaining e f = e ∙ ap (λ r. front ++ r) f ∙ sym (append_assoc front (c ∷ []) remaining)
 
--- a front with a character more is tried before those that are longer
+-- A prefix with one more character is tried before longer ones.
 pub shortest_grown : (ignore_case : Bool) (end : ℕ) (gives : Continuation) (text front before rest remaining : List ℕ) (c : ℕ) → text ≡ front ++ rest → rest ≡ c ∷ remaining → is_same_character ignore_case c end ≡ false → text ≡ before ++ remaining
     → shortest ignore_case end gives front rest ≡ option_or (gives before remaining) (shortest ignore_case end gives (front ++ c ∷ []) remaining)
 shortest_grown ignore_case end gives text front before rest remaining c e f other g =
@@ -123,17 +123,17 @@ shortest_grown ignore_case end gives text front before rest remaining c e f othe
     ∙ shortest_passed ignore_case end gives front c remaining other
     ∙ ap (λ b. option_or (gives b remaining) (shortest ignore_case end gives (front ++ c ∷ []) remaining)) (sym (front_grows text front before rest remaining c e f g))
 
--- where the run has ended, no longer front leads on
+-- After the run has ended, no longer prefix matches.
 pub run_ended : (ignore_case : Bool) (end : ℕ) (steps others : List Step) (front rest : List ℕ) → steps ≡ Segment end ∷ others → HasEnded ignore_case end steps rest → shortest ignore_case end (captured_front (walk ignore_case others)) front rest ≡ None
 run_ended ignore_case end steps others front rest first ended = shortest_ended ignore_case end (walk ignore_case others) front rest (subst (λ s. HasEnded ignore_case end s rest) first ended)
 
--- ---- the longest front
+-- ---- greedy runs
 
 pub bytes_join : (text front rest : List ℕ) → IsUtf8 text → IsUtf8 front → IsUtf8 rest → chars text ≡ chars front ++ chars rest → text ≡ front ++ rest
 bytes_join text front rest u v w e =
     sym (encodes-chars text u) ∙ ap encode_utf8_all e ∙ encodes-append (chars front) (chars rest) ∙ ap₂ (λ a b. a ++ b) (encodes-chars front v) (encodes-chars rest w)
 
--- the last character of a front goes to the rest
+-- The last character of a prefix is moved to the rest.
 pub last_passed : (front shorter rest : List ℕ) (c : ℕ) → IsUtf8 shorter → IsUtf8 rest → IsScalar c → IsUtf8 (encode_utf8 c) → front ≡ shorter ++ encode_utf8 c
     → (chars front ≡ chars shorter ++ c ∷ []) × (chars (encode_utf8 c ++ rest) ≡ c ∷ chars rest)
 last_passed front shorter rest c u v scalar w e = (
@@ -141,17 +141,17 @@ last_passed front shorter rest c u v scalar w e = (
   chars_past_char (encode_utf8 c ++ rest) rest c (IsUtf8-append (encode_utf8 c) rest w v) refl,
 )
 
--- the characters of an end
+-- The characters of a suffix.
 pub chars_end : (text front rest : List ℕ) → IsUtf8 front → text ≡ front ++ rest → EndsWith (chars text) (chars rest)
 chars_end text front rest u e = (chars front, ap chars e ∙ chars-append front rest u)
 
--- the last character of a front goes to the rest, by the bytes
+-- The last character of a prefix is moved to the rest, by bytes.
 pub front_shortened : (text front shorter rest : List ℕ) (c : ℕ) → IsScalar c → IsUtf8 rest → text ≡ front ++ rest → front ≡ shorter ++ encode_utf8 c
     → IsUtf8 (encode_utf8 c ++ rest) × (text ≡ shorter ++ (encode_utf8 c ++ rest))
 front_shortened text front shorter rest c scalar u e f =
     (IsUtf8-append (encode_utf8 c) rest (IsUtf8-encode c scalar) u, e ∙ ap (λ l. l ++ rest) f ∙ append_assoc shorter (encode_utf8 c) rest)
 
--- where no longer front leads on, and this one does not, none from this one on does
+-- No prefix of this length or longer has a match.
 pub longest_missed : (ignore_case : Bool) (others : List Step) (text front rest left : List ℕ) (old new : Kept) (is_taken : Bool) → text ≡ front ++ rest → text ≡ front ++ left
     → longest ignore_case line_feed (captured_front (walk ignore_case others)) (chars front) (chars left) ≡ captured_front (walk ignore_case others) (chars front) (chars left)
     → is_taken ≡ false → AreAdded old new is_taken (captured_front (walk ignore_case others) (chars front) (chars rest))
@@ -163,11 +163,11 @@ longest_missed ignore_case others text front rest left old new is_taken e f no_l
     ∙ adds_none old new is_taken (gives (chars front) (chars rest)) missed adds
 
 module _ (ignore_case : Bool) (steps others : List Step) (first : steps ≡ Anything ∷ others) where
-  -- no front from this one on leads on
+  -- No prefix that begins with this one has a match.
   pub longest_dead : (front rest : List ℕ) → longest ignore_case line_feed (captured_front (walk ignore_case others)) front rest ≡ None → walk ignore_case steps rest ≡ None
   longest_dead front rest none = ap (λ s. walk ignore_case s rest) first ∙ longest_no_more ignore_case line_feed (walk ignore_case others) front [] rest none
 
-  -- this front is the longest that leads on
+  -- The longest prefix with a match.
   pub longest_taken : (text front rest left : List ℕ) (found : Captures) → IsUtf8 front → text ≡ front ++ rest → text ≡ front ++ left → up_to_first ignore_case line_feed (chars front) ≡ chars front
       → longest ignore_case line_feed (captured_front (walk ignore_case others)) (chars front) (chars left) ≡ captured_front (walk ignore_case others) (chars front) (chars left)
       → captured_front (walk ignore_case others) (chars front) (chars rest) ≡ Some found → walk ignore_case steps (chars text) ≡ Some found

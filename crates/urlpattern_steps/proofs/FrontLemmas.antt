@@ -1,4 +1,4 @@
--- What stands at the front of a text is told by its first characters.
+-- The first characters of a text determine what it begins with.
 use Rattle.std.proofs.Common.{◌≡◌, ℕ, Bool, true, false, List, [], ◌∷◌, ◌++◌, Option, Some, None, Bor, refl, sym, ap, ◌∙◌, subst, inl, inr, append-nil, append_assoc, codes, ◌==◌}
 use Rattle.std.proofs.lemmas.Bool.{eqb-false}
 use Rattle.std.specs.Prelude.{◌≢◌, ◌⊎◌, IfNone, IfSome, IsTrue}
@@ -29,7 +29,7 @@ after_same c s t e = cc
 
 -- ---- characters
 
--- A character stands there as it is, or after a backslash.
+-- A character by itself, or after a backslash.
 abbrev pub ByItself : (Is : Character → Type 0) → (text : List ℕ) → (c : ℕ) → (rest : List ℕ) → Type 0
 ByItself Is text c rest = Is (Plain c) × (text ≡ c ∷ rest)
 
@@ -40,7 +40,7 @@ pub character_kind : (Is : Character → Type 0) (text : List ℕ) (c : ℕ) (re
 character_kind Is text c rest (Plain d, is, same, e) = inl (subst (λ x. Is (Plain x)) same is, e ∙ ap (λ x. x ∷ rest) same)
 character_kind Is text c rest (Escaped d, is, same, e) = inr (subst (λ x. Is (Escaped x)) same is, e ∙ ap (λ x. codes "\\" ++ x ∷ rest) same)
 
--- what follows a backslash is read
+-- An escaped character is read.
 pub escaped_read : (Is : Character → Type 0) (Allowed : ℕ → Type 0) (read : Option (ℕ × Bor (List ℕ))) (text behind : List ℕ) → text ≡ codes "\\" ++ behind → ¬ Is (Plain 92) → ((c : ℕ) → Is (Escaped c) → Allowed c)
     → IfNone read ((c : ℕ) (rest : List ℕ) → Allowed c → behind ≢ c ∷ rest) → IfSome read (λ found. behind ≡ found.0 ∷ chars found.1.now)
     → (c : ℕ) (rest : List ℕ) → BeginsWithCharacter Is text c rest → IsRead read c rest
@@ -54,11 +54,11 @@ escaped_read Is Allowed read text behind e plain allowed none some c rest begins
 
 -- ---- runs
 
--- what follows the dot of a run
+-- The text after the dot of a run.
 abbrev pub AfterDot : Step → (text rest : List ℕ) → Type 0
 AfterDot step text rest = ((step ≡ Anything) × (text ≡ codes "*" ++ rest)) ⊎ ((step ≡ Segment line_feed) × (text ≡ codes "+?" ++ rest))
 
--- what follows the two marks of the class of a run
+-- The text after the `[^` of a run.
 abbrev pub AfterClass : Step → (text rest : List ℕ) → Type 0
 AfterClass step text rest = (c : ℕ) × (step ≡ Segment c) × BeginsWithCharacter IsClassCharacter text c (codes "]" ++ (codes "+?" ++ rest))
 
@@ -105,14 +105,14 @@ class_after step text rest (inr (behind, e, after)) = let same : behind ≡ text
 pub class_begins : (end : ℕ) (is_greedy : Bool) (step : Step) (text rest : List ℕ) → IsRunStep end is_greedy step → BeginsWithCaptured (codes "[^" ++ text) step rest → AfterClass step text rest
 class_begins end is_greedy step text rest is begins = class_after step text rest (run_begins end is_greedy step (codes "[^" ++ text) rest is begins)
 
--- a run begins with neither bracket nor question mark
+-- A run begins with neither `(` nor `?`.
 run_plain : (step : Step) (text rest behind : List ℕ) (c : ℕ) → (c == 46) ≡ false → (c == 91) ≡ false → BeginsWithRun step text rest → ¬ (text ≡ c ∷ behind)
 run_plain step text rest behind c dot class (inl (own, e, after)) f = apart c 46 behind own dot (sym f ∙ e)
 run_plain step text rest behind c dot class (inr (own, e, after)) f = apart c 91 behind (codes "^" ++ own) class (sym f ∙ e)
 
--- ---- runs that are repeated
+-- ---- repeated runs
 
--- A group of runs, one after the other, stands after the bracket that captures them.
+-- The text after `(` is the body of a capturing group with a repeated run.
 pub record RepeatedRun (step : Step) (text rest : List ℕ) : Type 0 where
   pub end : ℕ
   pub is_greedy : Bool
@@ -171,7 +171,7 @@ repeated_by run items is_greedy Once text rest is may are e = absurd may
 repeated_by run items is_greedy Optional text rest is may are e = absurd may
 repeated_by run items is_greedy LazyOneOrMore text rest is may are e = absurd may
 
--- what is captured is a run, or runs that are repeated
+-- The body of a capturing group is a run or a repeated run.
 pub captured_kind : (step : Step) (text rest : List ℕ) → BeginsWithCaptured text step rest
     → ((end : ℕ) × (is_greedy : Bool) × IsRunStep end is_greedy step) ⊎ ((behind : List ℕ) × (text ≡ codes "(" ++ behind) × RepeatedRun step behind rest)
 captured_kind (Literal c) text rest (items, are, is, e) = absurd (captured_literal is.0 items is.2)
@@ -185,7 +185,7 @@ captured_kind (Longest run) text rest (items, are, (own, is_greedy, quantifier, 
 captured_kind (Copies copies) text rest (items, are, is, e) = absurd is
 captured_kind (Segments segments) text rest (items, are, is, e) = absurd is
 
--- after another character than an opening bracket it is a run
+-- A body that does not begin with `(` is a run.
 pub captured_run : (step : Step) (text rest : List ℕ) → ((behind : List ℕ) → text ≢ codes "(" ++ behind) → BeginsWithCaptured text step rest → (end : ℕ) × (is_greedy : Bool) × IsRunStep end is_greedy step
 captured_run step text rest other begins = by (captured_kind step text rest begins)
   where
@@ -194,7 +194,7 @@ captured_run step text rest other begins = by (captured_kind step text rest begi
     by (inl run) = run
     by (inr (behind, e, repeated)) = absurd (other behind e)
 
--- and after that bracket it is repeated
+-- A body that begins with `(` is a repeated run.
 pub captured_repeated : (step : Step) (text rest : List ℕ) → BeginsWithCaptured (codes "(" ++ text) step rest → RepeatedRun step text rest
 captured_repeated step text rest begins = by (captured_kind step (codes "(" ++ text) rest begins)
   where
@@ -209,9 +209,9 @@ captured_unasked step text rest behind begins f = by (captured_kind step text re
     by (inl (end, is_greedy, is)) = run_plain step text rest behind 63 refl refl (run_begins end is_greedy step text rest is begins) f
     by (inr (own, e, repeated)) = apart 63 40 behind own refl (sym f ∙ e)
 
--- ---- how often
+-- ---- quantifiers
 
--- how often is read in one way, where no quantifier follows
+-- A quantifier is read in one way, if no other quantifier follows.
 pub times_one : (a b : Times) (s t : List ℕ) → times_text a ++ s ≡ times_text b ++ t → (a ≡ often.Once → IsUnquantified s) → (b ≡ often.Once → IsUnquantified t) → (a ≡ b) × (s ≡ t)
 times_one often.Once often.Once s t e h g = (refl, e)
 times_one often.Once b s t e h g = absurd (subst IsUnquantified e (h refl) refl)
@@ -221,13 +221,13 @@ times_one often.ZeroOrMore often.ZeroOrMore s t e h g = (refl, cc)
 times_one often.OneOrMore often.OneOrMore s t e h g = (refl, cc)
 times_one a b s t e h g = absurd (eqb-false (first (times_text a ++ s)) (first (times_text b ++ t)) refl (ap first e))
 
--- what is repeated is not taken once
+-- The quantifier of a repeated run is a repeat.
 pub repeated_more : (is_greedy : Bool) (times : Times) (may_be_empty : Bool) → AllowsEmptyRun is_greedy (quantifier_of times) may_be_empty → ¬ (times ≡ often.Once)
 repeated_more is_greedy times may_be_empty may once = subst (λ t. AllowsEmptyRun is_greedy (quantifier_of t) may_be_empty) once may
 
--- ---- brackets
+-- ---- parentheses
 
--- segments begin with an opening group and a run
+-- Separated runs begin with `(?:` and a run.
 pub segments_opened : (end : ℕ) (is_greedy : Bool) (text rest : List ℕ) → BeginsWithRegexpToken (codes "(" ++ text) (FirstSegment end is_greedy) rest
     → (inner : List ℕ) × (run : Step) × (text ≡ codes "(?:" ++ inner) × IsRunStep end is_greedy run × BeginsWithCaptured inner run (codes ")" ++ (codes "(?:" ++ rest))
 segments_opened end is_greedy text rest (front, (items, are, is, same), e) =
@@ -236,7 +236,7 @@ segments_opened end is_greedy text rest (front, (items, are, is, same), e) =
     let spelled : codes "(" ++ text ≡ codes "(" ++ (codes "(?:" ++ inner) = e ∙ ap (λ t. t ++ rest) same ∙ ap (λ t. codes "((?:" ++ t) (append_assoc (items_text items) (codes ")(?:") rest) in
     (inner, run_step end is_greedy, after_same 40 text (codes "(?:" ++ inner) spelled, step.0, (items, are, step.1, refl))
 
--- what stands after the opening bracket of a token
+-- The text of a token after its `(`.
 abbrev pub InBracket : Token → (text rest : List ℕ) → Type 0
 InBracket Open text rest = text ≡ codes "?:" ++ rest
 InBracket (Close times) text rest = ⊥
@@ -269,7 +269,7 @@ bracket_in (MaybeStep step) text rest (front, (own, one, (atom, is, of, f), g), 
     atom_in step atom text (codes "?" ++ rest) is of (e ∙ ap (λ t. t ++ rest) (g ∙ ap (λ t. t ++ codes "?") f) ∙ append_assoc (atom_text atom) (codes "?") rest)
 bracket_in (FirstSegment end is_greedy) text rest begins = begins
 
--- what holds of a token after an opening bracket, by what it may be
+-- A fact about a token that begins with `(`, by cases of the token.
 pub by_bracket : (P : Token → List ℕ → Type 0) (text : List ℕ) → ((rest : List ℕ) → text ≡ codes "?:" ++ rest → P Open rest)
     → ((step : Step) (rest : List ℕ) → BeginsWithCaptured text step (codes ")" ++ rest) → P (One step) rest)
     → ((step : Step) (rest : List ℕ) → BeginsWithCaptured text step (codes ")" ++ (codes "?" ++ rest)) → P (MaybeStep step) rest)
@@ -299,7 +299,7 @@ step_opens (Longest run) atom text rest is (items, is_greedy, quantifier, is_run
 step_opens (Copies copies) atom text rest is of e = absurd of
 step_opens (Segments segments) atom text rest is of e = absurd of
 
--- what holds of a token, by its first character
+-- A fact about a token, by cases of its first character.
 pub by_token : (P : Token → List ℕ → Type 0) (text : List ℕ) → ((times : Times) (rest : List ℕ) → text ≡ codes ")" ++ (times_text times ++ rest) → P (Close times) rest)
     → ((c : ℕ) (rest : List ℕ) → BeginsWithCharacter IsCharacter text c rest → P (One (Literal c)) rest)
     → ((token : Token) (rest behind : List ℕ) → text ≡ codes "(" ++ behind → P token rest)
@@ -321,14 +321,14 @@ by_token P text close literal bracket (MaybeStep step) rest (front, (own, one, (
 by_token P text close literal bracket (FirstSegment end is_greedy) rest (front, (items, are, is, f), e) =
     bracket (FirstSegment end is_greedy) rest (codes "(?:" ++ (items_text items ++ codes ")(?:") ++ rest) (e ∙ ap (λ t. t ++ rest) f)
 
--- ---- what is read one after the other
+-- ---- several reads in turn
 
--- what reads a run at the front of a text
+-- `single` and `rest` are each run that the text begins with, and what follows it.
 abbrev pub ReadsRun : (text : List ℕ) → Step → (rest : List ℕ) → Type 0
 ReadsRun text single rest =
     (end : ℕ) (is_greedy : Bool) (step : Step) (behind : List ℕ) → IsRunStep end is_greedy step → BeginsWithCaptured text step behind → (single ≡ step) × (rest ≡ behind)
 
--- the first run of segments
+-- The first of separated runs.
 pub segments_run : (end : ℕ) (is_greedy : Bool) (text rest inner : List ℕ) → BeginsWithRegexpToken (codes "(" ++ text) (FirstSegment end is_greedy) rest → text ≡ codes "(?:" ++ inner
     → (run : Step) × IsRunStep end is_greedy run × BeginsWithCaptured inner run (codes ")" ++ (codes "(?:" ++ rest))
 segments_run end is_greedy text rest inner begins e = by (segments_opened end is_greedy text rest begins)
@@ -344,7 +344,7 @@ segments_read end is_greedy text rest inner single behind begins e reads =
     let same = reads end is_greedy found.0 (codes ")" ++ (codes "(?:" ++ rest)) found.1 found.2 in
     (subst (IsRunStep end is_greedy) (sym same.0) found.1, same.1)
 
--- the run that is repeated
+-- The body of a repeated run.
 pub repeated_run_in : (step : Step) (text rest inner : List ℕ) (repeated : RepeatedRun step text rest) → text ≡ codes "?:" ++ inner
     → BeginsWithCaptured inner repeated.run (codes ")" ++ (times_text repeated.times ++ rest))
 repeated_run_in step text rest inner repeated e =
@@ -365,7 +365,7 @@ repeated_times step text rest repeated behind remaining left times e f g longest
     times_one times repeated.times left rest (sym g ∙ same) longest
     (λ once. absurd (repeated_more repeated.is_greedy repeated.times repeated.may_be_empty repeated.may once))
 
--- the step that is made of runs, and what follows how often they are taken
+-- The step of a repeated run, and the rest after its quantifier.
 pub repeated_made : (step : Step) (text rest inner : List ℕ) (single : Step) (behind remaining left : List ℕ) (times : Times) (made : Option Step) → BeginsWithCaptured (codes "(" ++ text) step rest → text ≡ codes "?:" ++ inner
     → ReadsRun inner single behind → behind ≡ codes ")" ++ remaining → remaining ≡ times_text times ++ left → (times ≡ often.Once → IsUnquantified left) → RepeatsRuns single (quantifier_of times) made
     → (made ≡ Some step) × (left ≡ rest)
@@ -376,14 +376,14 @@ repeated_made step text rest inner single behind remaining left times made begin
     let may = subst (λ t. AllowsEmptyRun repeated.is_greedy (quantifier_of t) repeated.may_be_empty) (sym read.0) repeated.may in
     (repeats repeated.end repeated.is_greedy repeated.may_be_empty found.0 may ∙ ap Some (sym repeated.same), read.1)
 
--- how often does not begin with a bracket
+-- A quantifier does not begin with `(`.
 pub times_apart : (times : Times) (rest behind : List ℕ) → ¬ (times ≡ often.Once) → ¬ (times_text times ++ rest ≡ codes "(" ++ behind)
 times_apart often.Once rest behind more e = more refl
 times_apart often.Optional rest behind more e = apart 63 40 rest behind refl e
 times_apart often.ZeroOrMore rest behind more e = apart 42 40 rest behind refl e
 times_apart often.OneOrMore rest behind more e = apart 43 40 rest behind refl e
 
--- after runs that are repeated no group opens
+-- No group opens after a repeated run.
 pub repeated_no_segments : (step : Step) (text rest inner : List ℕ) (single : Step) (behind remaining left : List ℕ) → BeginsWithCaptured text step rest → text ≡ codes "(?:" ++ inner
     → ReadsRun inner single behind → behind ≡ codes ")" ++ remaining → remaining ≡ codes "(?:" ++ left → ⊥
 repeated_no_segments step text rest inner single behind remaining left begins e reads f g =

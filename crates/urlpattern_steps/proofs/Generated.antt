@@ -1,4 +1,4 @@
--- The trees of the expressions that are generated of parts have the forms that are read.
+-- The trees of expressions that are generated from parts have the forms that can be parsed.
 use Rattle.std.proofs.Common.{◌≡◌, ℕ, Bool, true, false, List, [], ◌∷◌, ◌++◌, Option, Some, None, refl, ap, inl, inr}
 use Rattle.std.proofs.lemmas.Bool.{true≢false}
 use Rattle.std.proofs.lemmas.List.Elements.{All-head, All-tail}
@@ -27,13 +27,13 @@ use Rattle.urlpattern_steps.proofs.TokenLemmas.{captures_one}
 
 -- ---- the forms
 
--- an atom of one step, taken so often
+-- An atom of one step, with its quantifier.
 abbrev pub IsStep : Quantifier → Atom → Type 0
 IsStep Once atom = (step : Step) × IsStepOf step atom
 IsStep Optional atom = (step : Step) × IsStepOf step atom × (capture_count (step ∷ []) ≡ 1)
 IsStep quantifier atom = ⊥
 
--- The atom captures runs with one character or more between each two.
+-- The atom captures runs with a separator of one or more characters.
 pub record IsSegmentGroup (atom : Atom) : Type 0 where
   pub end : ℕ
   pub is_greedy : Bool
@@ -45,26 +45,26 @@ pub record IsSegmentGroup (atom : Atom) : Type 0 where
   pub is_last : IsRunOf end is_greedy last
   pub same : atom ≡ Captured (segment_items first (character ∷ characters) last)
 
--- what stands in a group that is taken once at most
+-- The body of a group that is matched at most once.
 abbrev pub AreInside : Items → Type 0
 AreInside Nothing = Unit {0}
 AreInside (Item atom Once items) = (IsStep Once atom ⊎ IsSegmentGroup atom) × AreInside items
 AreInside (Item atom quantifier items) = ⊥
 
--- characters
+-- The items are literal characters.
 abbrev pub AreSingle : Items → Type 0
 AreSingle Nothing = Unit {0}
 AreSingle (Item (dialect.Literal character) Once items) = AreSingle items
 AreSingle (Item atom quantifier items) = ⊥
 
--- what stands in a group that is taken so often
+-- The body of a group with this quantifier.
 abbrev pub StandInside : Times → Items → Type 0
 StandInside often.Once items = AreInside items
 StandInside often.Optional items = AreInside items
 StandInside often.ZeroOrMore items = AreSingle items
 StandInside often.OneOrMore items = AreSingle items
 
--- The atom is a group that is taken so often.
+-- The atom is a group with its quantifier.
 pub record IsGroupAtom (quantifier : Quantifier) (atom : Atom) : Type 0 where
   pub times : Times
   pub inner : Items
@@ -72,7 +72,7 @@ pub record IsGroupAtom (quantifier : Quantifier) (atom : Atom) : Type 0 where
   pub same : atom ≡ Grouped inner
   pub inside : StandInside times inner
 
--- what stands in an expression
+-- The items of an expression.
 abbrev pub AreReadable : Items → Type 0
 AreReadable Nothing = Unit {0}
 AreReadable (Item atom quantifier items) = (IsStep quantifier atom ⊎ IsGroupAtom quantifier atom) × AreReadable items
@@ -130,7 +130,7 @@ bare_readable modifiers.ZeroOrMore piece run =
 bare_readable modifiers.OneOrMore piece run =
     (Longest (record { end = run.end; may_be_empty = run.is_greedy }), (piece, run.is_greedy, OneOrMore, run.is_run, refl, refl))
 
--- ---- runs with a text between each two
+-- ---- separated runs
 
 characters_of : (marks text : List ℕ) → List Character
 characters_of marks [] = []
@@ -199,7 +199,7 @@ part_readable options SegmentWildcard modifier value name prefix suffix items h 
 part_readable options FullWildcard modifier value name prefix suffix items h are =
     (group_readable (is_empty prefix && is_empty suffix) modifier (escaped_marks options.syntax) prefix _ suffix (wildcard_run options FullWildcard tt) refl, are)
 
--- the tree of parts, none of them custom, has these forms
+-- The tree of parts, none of them custom, has these forms.
 pub tree_readable : (options : OptionsView) (parts : List PartView) → All IsNotCustom parts → AreReadable (tree_of options parts)
 tree_readable options [] h = tt
 tree_readable options (part ∷ parts) h =

@@ -1,4 +1,4 @@
--- The steps from a place on, which are made a group.
+-- The steps from a place on, which become a group.
 use Rattle.std.proofs.Common.{◌≡◌, ℕ, zero, suc, ◌<◌, ◌≤◌, List, [], ◌∷◌, ◌++◌, ◌-◌, length, take, drop, Bool, sym, ap, ◌∙◌, inl, inr, arith}
 use Rattle.std.proofs.lemmas.List.{length-drop, set_split}
 use Rattle.std.proofs.Math.Seq.{take-length}
@@ -11,11 +11,11 @@ use Rattle.urlpattern_steps.specs.declared.step.Step.TheVariants.{Literal, Maybe
 use Rattle.urlpattern_steps.specs.ReadSteps.{AreCopySteps, IsGroup, IsSomeGroup, MakeUp}
 use Rattle.urlpattern_steps.specs.Walk.{capture_count}
 
--- as many of the steps from a place on as there are
+-- The steps from a place to the end.
 pub take_rest : (steps : List Step) (first : ℕ) → take (length steps - first) (drop first steps) ≡ drop first steps
 take_rest steps first = ap (λ n. take n (drop first steps)) (sym (length-drop first steps)) ∙ take-length (drop first steps)
 
--- the step before a group that may be missing is put where the group begins
+-- The step of an optional group is inserted where the group begins.
 pub inserted : (done now : List Step) (first : ℕ) (group : Group) → now ≡ done
     → group ≡ record { steps = length (take (length now - first) (drop first now)); captures = capture_count (take (length now - first) (drop first now)) }
     → insert done first (Maybe group) ≡ take first done ++ (Maybe (record { steps = length (drop first done); captures = capture_count (drop first done) }) ∷ drop first done)
@@ -25,13 +25,13 @@ inserted done now first group same is =
     is ∙ ap (λ (own : List Step). record { steps = length own; captures = capture_count own }) whole in
     ap (λ (g : Group). take first done ++ (Maybe g ∷ drop first done)) spelled
 
--- what follows the first of the steps that are left
+-- The steps after the first of the remaining ones.
 pub drop-one : (n : ℕ) (steps : List Step) (step : Step) (rest : List Step) → drop n steps ≡ step ∷ rest → drop (suc n) steps ≡ rest
 drop-one zero steps step rest e = ap (drop 1) e
 drop-one (suc n) [] step rest e = cc
 drop-one (suc n) (other ∷ steps) step rest e = drop-one n steps step rest e
 
--- the first of the steps of copies is put where the copies begin
+-- The step of a repeated literal replaces the first step of the literal.
 pub copies_set : (done now : List Step) (first : ℕ) (may_be_missing : Bool) (text : Stretch) → first ≤ length done → now ≡ done
     → MakeUp (take (length now - first) (drop first now)) text
     → (group : List Step) × AreCopySteps may_be_missing (drop first done) group × (set done first (Copies (record { text = text; may_be_missing = may_be_missing })) ≡ take first done ++ group)
@@ -45,7 +45,7 @@ copies_set done now first may_be_missing text le same (others, own, plain, count
       set_split done first copies lt ∙ ap (λ l. take first done ++ (copies ∷ l)) behind,
     )
 
--- where there are steps, the group is one of these
+-- A quantified group with steps in its body is `IsSomeGroup`.
 pub some_group : (done : List Step) (first : ℕ) (times : Times) (group : List Step) → first ≤ length done → ¬ (length done ≡ first) → IsGroup times (drop first done) group → IsSomeGroup times (drop first done) group
 some_group done first times group le more (inl (none, same)) = let no : length (drop first done) ≡ 0 = ap length none in absurd (more (omega (arith, no, length-drop first done, le)))
 some_group done first times group le more (inr some) = some

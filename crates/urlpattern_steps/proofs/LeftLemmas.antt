@@ -1,4 +1,4 @@
--- What is left of a generated expression begins with a token that is read, and goes on.
+-- The rest of a generated expression begins with a token that is read, and continues.
 use Rattle.std.proofs.Common.{◌≡◌, ℕ, suc, zero, Bool, true, false, List, [], ◌∷◌, ◌++◌, length, drop, Option, Some, None, refl, sym, ap, ◌∙◌, subst, inl, inr, append-nil, append_assoc, codes}
 use Rattle.std.proofs.Math.Seq.{drop-length}
 use Rattle.std.proofs.lemmas.Bool.{false≢true}
@@ -25,9 +25,9 @@ use Rattle.urlpattern_steps.proofs.Generated.{AreInside, AreReadable, AreSingle,
 use Rattle.urlpattern_steps.proofs.SegmentTextLemmas.{in_order_text, spelled_segments}
 use Rattle.urlpattern_steps.proofs.SegmentLemmas.{in_order}
 
--- ---- what is left
+-- ---- the rest of an expression
 
--- the steps of a group so far, where it is to be taken so often
+-- The steps so far of a group that is to have this quantifier.
 abbrev pub MayBeTaken : Times → List Step → Type 0
 MayBeTaken often.Once own = Unit {0}
 MayBeTaken often.Optional own = Unit {0}
@@ -37,7 +37,7 @@ MayBeTaken often.OneOrMore own = AreLiterals own
 abbrev pub IsLeftOutside : (rest : List ℕ) → Type 0
 IsLeftOutside rest = (tree : Items) × AreItems tree × AreReadable tree × (rest ≡ items_text tree ++ codes "$")
 
--- the rest of a group, its closing bracket, and what is left after it
+-- The rest of a group, its closing parenthesis, and the rest of the expression.
 pub record IsLeftInside (rest : List ℕ) (own : List Step) : Type 0 where
   pub inner : Items
   pub times : Times
@@ -48,12 +48,13 @@ pub record IsLeftInside (rest : List ℕ) (own : List Step) : Type 0 where
   pub left : IsLeftOutside outer
   pub spelled : rest ≡ items_text inner ++ (codes ")" ++ (times_text times ++ outer))
 
--- what is left of a generated expression, outside of a group or inside of one whose steps begin at a place
+-- The rest of a generated expression, outside of a group or inside of one whose steps begin at
+-- `first`.
 abbrev pub IsLeft : (opened : Option ℕ) → (rest : List ℕ) → List Step → Type 0
 IsLeft None rest done = IsLeftOutside rest
 IsLeft (Some first) rest done = IsLeftInside rest (drop first done)
 
--- how it goes on after a token
+-- The rest of a generated expression after a token.
 abbrev pub GoesOn : Token → (opened : Option ℕ) → (rest : List ℕ) → List Step → Type 0
 GoesOn (One step) opened rest done = IsLeft opened rest (done ++ step ∷ [])
 GoesOn (MaybeStep step) opened rest done = (own : List Step) → IsLeft opened rest (done ++ own)
@@ -63,7 +64,7 @@ GoesOn (Close times) opened rest done =
 GoesOn (FirstSegment end is_greedy) opened rest done =
     (own : List Step) × (behind : List ℕ) × EndsSegments end is_greedy own rest behind × ((own : List Step) → IsLeft opened behind (done ++ own))
 
--- A token stands at the front, and the rest goes on.
+-- The text begins with a token, and the rest continues the expression.
 pub record Comes (opened : Option ℕ) (rest : List ℕ) (done : List Step) : Type 0 where
   pub token : Token
   pub remaining : List ℕ
@@ -71,7 +72,7 @@ pub record Comes (opened : Option ℕ) (rest : List ℕ) (done : List Step) : Ty
   pub unquantified : IsUnquantified remaining
   pub goes_on : GoesOn token opened remaining done
 
--- ---- what follows begins with no quantifier
+-- ---- text that no quantifier begins
 
 free_unquantified : (text : List ℕ) → IsFree text → IsUnquantified text
 free_unquantified [] free is = false≢true is
@@ -86,7 +87,7 @@ character_unquantified (Escaped c) rest is among = false≢true among
 
 -- ---- steps
 
--- an item and what follows it
+-- An item and the items after it.
 item_text : (atom : Atom) (quantifier : Quantifier) (items : Items) (tail : List ℕ)
     → items_text (Item atom quantifier items) ++ tail ≡ (atom_text atom ++ quantifier_text quantifier) ++ (items_text items ++ tail)
 item_text atom quantifier items tail = append_assoc (atom_text atom ++ quantifier_text quantifier) (items_text items) tail
@@ -150,7 +151,7 @@ group_comes quantifier atom rest tail done is group e left =
       );
     }
 
--- ---- segments
+-- ---- separated runs
 
 characters_allowed : (characters : List Character) (items : Items) → AreItems (in_order characters items) → AreCharacters characters × AreItems items
 characters_allowed [] items are = (tt, are)
@@ -210,7 +211,7 @@ close_comes first rest outer times done may (tree, are, readable, e) f =
       goes_on = (first, group.0, refl, group.1, λ steps. (tree, are, readable, e));
     }
 
--- ---- what comes next
+-- ---- the next token
 
 literals_more : (first : ℕ) (done own : List Step) → AreLiterals (drop first done) → AreLiterals own → AreLiterals (drop first (done ++ own))
 literals_more zero [] own plain more = more
@@ -225,7 +226,7 @@ literals_more (suc first) [] own plain more = dropped first own more
     dropped first (step ∷ own) more = absurd more
 literals_more (suc first) (step ∷ done) own plain more = literals_more first done own plain more
 
--- inside of a group that is taken once at most
+-- The rest of a group that is matched at most once begins with a token.
 once_comes : (first : ℕ) (rest outer : List ℕ) (times : Times) (inner : Items) (done : List Step) → ((own : List Step) → MayBeTaken times own) → ((items : Items) → AreInside items → StandInside times items)
     → AreItems inner → AreInside inner → IsLeftOutside outer → rest ≡ items_text inner ++ (codes ")" ++ (times_text times ++ outer)) → Comes (Some first) rest done
 once_comes first rest outer times Nothing done may stands are inside left e = close_comes first rest outer times done (may (drop first done)) left e
@@ -240,7 +241,7 @@ once_comes first rest outer times (Item atom Once items) done may stands (is, al
     ]
 once_comes first rest outer times (Item atom quantifier items) done may stands are inside left e = absurd inside
 
--- inside of a group that may be taken more than once
+-- The rest of a group that may be matched more than once begins with a token.
 more_comes : (first : ℕ) (rest outer : List ℕ) (times : Times) (inner : Items) (done : List Step) → ((own : List Step) → MayBeTaken times own → AreLiterals own)
     → ((own : List Step) → AreLiterals own → MayBeTaken times own) → ((items : Items) → AreSingle items → StandInside times items)
     → AreItems inner → AreSingle inner → MayBeTaken times (drop first done) → IsLeftOutside outer → rest ≡ items_text inner ++ (codes ")" ++ (times_text times ++ outer)) → Comes (Some first) rest done
@@ -276,7 +277,7 @@ inside_comes first rest outer often.ZeroOrMore inner done are inside so_far left
 inside_comes first rest outer often.OneOrMore inner done are inside so_far left e =
     more_comes first rest outer often.OneOrMore inner done (λ own h. h) (λ own h. h) (λ items h. h) are inside so_far left e
 
--- where it is not at its end, a token comes
+-- The rest of an expression begins with a token, unless it is `$`.
 pub comes : (opened : Option ℕ) (rest : List ℕ) (done : List Step) → IsLeft opened rest done → ((opened ≡ None) × (rest ≡ codes "$")) ⊎ Comes opened rest done
 comes (Some first) rest done left = inr (inside_comes first rest left.outer left.times left.inner done left.are left.inside left.so_far left.left left.spelled)
 comes None rest done (Nothing, are, readable, e) = inl (refl, e)
@@ -289,7 +290,7 @@ comes None rest done (Item atom quantifier items, (is, allows, are), (captured, 
       | inr group ↦ inr (group_comes quantifier atom rest tail done is group whole left)
     ]
 
--- ---- what is read next
+-- ---- the next token that is read
 
 no_token : (token : Token) (remaining : List ℕ) → ¬ BeginsWithRegexpToken (codes "$") token remaining
 no_token token remaining begins =
@@ -303,7 +304,7 @@ no_token token remaining begins =
     by c rest (inl (is, e)) = let same : 36 ≡ c = cc in is (subst (λ d. is_among regexp_marks d ≡ true) same refl)
     by c rest (inr (is, e)) = apart 36 92 [] (c ∷ rest) refl e
 
--- the token that is read is the one that comes
+-- The token that is read is the next one.
 pub came : (opened : Option ℕ) (rest : List ℕ) (done : List Step) (token : Token) (remaining : List ℕ) → IsLeft opened rest done → BeginsWithRegexpToken rest token remaining
     → ((next : Token) (left : List ℕ) → BeginsWithRegexpToken rest next left → IsUnquantified left → (token ≡ next) × (remaining ≡ left)) → GoesOn token opened remaining done
 came opened rest done token remaining left begins reads = by (comes opened rest done left)
@@ -314,7 +315,7 @@ came opened rest done token remaining left begins reads = by (comes opened rest 
         let same = reads next.token next.remaining next.begins next.unquantified in
         subst (λ t. GoesOn t opened remaining done) (sym same.0) (subst (λ r. GoesOn next.token opened r done) (sym same.1) next.goes_on)
 
--- where no token is read, it is at its end
+-- The expression is at its end, if no token is read.
 pub ended : (opened : Option ℕ) (rest : List ℕ) (done : List Step) → IsLeft opened rest done → ((next : Token) (left : List ℕ) → BeginsWithRegexpToken rest next left → ¬ IsUnquantified left)
     → (opened ≡ None) × (rest ≡ codes "$")
 ended opened rest done left none = by (comes opened rest done left)
@@ -323,7 +324,7 @@ ended opened rest done left none = by (comes opened rest done left)
     by (inl end) = end
     by (inr next) = absurd (none next.token next.remaining next.begins next.unquantified)
 
--- a generated expression is left after its first character
+-- The rest of a generated expression after its first character.
 pub left_first : (regexp : List ℕ) → IsGenerated regexp → (rest : List ℕ) × (regexp ≡ codes "^" ++ rest) × IsLeftOutside rest
 left_first regexp (options, parts, plain, e) = (
   items_text (tree_of options parts) ++ codes "$",

@@ -1,4 +1,4 @@
--- Runs of characters that are one run of runs.
+-- Repeated runs are one run.
 use Rattle.std.proofs.Common.{◌≡◌, ℕ, zero, suc, ◌<◌, ◌≤◌, List, [], ◌∷◌, ◌++◌, length, map, Option, Some, None, option_map, Bool, true, false, cond, ◌==◌, refl, sym, ap, ap₂, ◌∙◌, subst, append-nil, append_assoc, length-append, arith, lt-ltb}
 use borrow.Author.Tests.{ltb-true}
 use Rattle.std.proofs.lemmas.List.{append_cancel_left}
@@ -42,7 +42,7 @@ keeps_longest ignore_case end f g front (c ∷ text) same =
 pub keeps-longest : (ignore_case : Bool) (end : ℕ) → Keeps (longest ignore_case end)
 keeps-longest ignore_case end = record { same = keeps_longest ignore_case end }
 
--- the same after a front
+-- A prefix is moved into the continuation.
 shortest-beyond : (ignore_case : Bool) (end : ℕ) (gives : Continuation) (before front text : List ℕ) → shortest ignore_case end (λ front rest. gives (before ++ front) rest) front text ≡ shortest ignore_case end gives (before ++ front) text
 shortest-beyond ignore_case end gives before front [] = refl
 shortest-beyond ignore_case end gives before front (c ∷ text) =
@@ -99,9 +99,9 @@ run_uncaptured end false items (atom, but, is) = ap group_count is ∙ by atom b
     by (Captured inner) but = absurd but
     by (Grouped inner) but = absurd but
 
--- ---- runs of runs
+-- ---- repeated runs
 
--- what the longest gives comes before what is given later
+-- The result of the longest run comes before that of the empty one.
 longest_before : (ignore_case : Bool) (end : ℕ) (gives : Continuation) (front text : List ℕ) → option_or (longest ignore_case end gives front text) (gives front text) ≡ longest ignore_case end gives front text
 longest_before ignore_case end gives front [] = twice (gives front [])
   where
@@ -117,7 +117,7 @@ longest_before ignore_case end gives front (c ∷ text) = by (is_same_character 
     by false None (Some x) = refl
     by false (Some x) p = refl
 
--- shorter ends of the first round give nothing more
+-- Shorter first rounds add no result.
 shortest_absorbed : (ignore_case : Bool) (end : ℕ) (gives : Continuation) (front text : List ℕ)
     → option_or (longest ignore_case end gives front text) (shortest ignore_case end (longest ignore_case end gives) front text) ≡ longest ignore_case end gives front text
 shortest_absorbed ignore_case end gives front [] = option_or-None _
@@ -141,7 +141,7 @@ longest_twice ignore_case end gives front (c ∷ text) =
     by false None p = refl
     by false (Some x) p = refl
 
--- rounds of shortest runs
+-- Rounds of lazy runs.
 shortest_rounds : (ignore_case : Bool) (end n : ℕ) (gives : Continuation) (front text : List ℕ) → length text ≤ n → rounds (shortest ignore_case end) n gives front text ≡ longest ignore_case end gives front text
 shortest_rounds ignore_case end zero gives front [] le = refl
 shortest_rounds ignore_case end zero gives front (c ∷ text) le = absurd (omega arith)
@@ -166,9 +166,9 @@ shortest_some ignore_case end gives front text =
     at [] = refl
     at (c ∷ text) = ap (λ o. cond (is_same_character ignore_case c end) None o) (shortest_absorbed ignore_case end gives (front ++ c ∷ []) text)
 
--- rounds of longest runs, of which the later take nothing: an empty round is not tried again
+-- Rounds of greedy runs: later rounds are empty, and an empty round is not repeated.
 module _ (ignore_case : Bool) (end : ℕ) (atom : Choice) (takes : Takes atom (longest ignore_case end)) where
-  -- what a round gives where the text that is left is shorter
+  -- The result of a round, from the results for shorter texts.
   longest_round : (gives f : Continuation) (front text : List ℕ)
       → ((before rest : List ℕ) → length rest < length text → f before rest ≡ longest ignore_case end gives before rest) → f front text ≡ None
       → option_or (longest ignore_case end f front text) (gives front text) ≡ longest ignore_case end gives front text
@@ -184,7 +184,7 @@ module _ (ignore_case : Bool) (end : ℕ) (atom : Choice) (takes : Takes atom (l
       by false None p = refl
       by false (Some x) p = refl
 
-  -- the same where a round that takes nothing is the last
+  -- The result of a round, if an empty round is the last.
   longest_first : (gives f : Continuation) (front text : List ℕ) → ((before rest : List ℕ) → length rest < length text → f before rest ≡ longest ignore_case end gives before rest)
       → f front text ≡ gives front text → longest ignore_case end f front text ≡ longest ignore_case end gives front text
   longest_first gives f front [] same stop = stop
@@ -239,7 +239,7 @@ module _ (ignore_case : Bool) (end : ℕ) (atom : Choice) (takes : Takes atom (l
         ∙ longest_before ignore_case end (bare h) front text;
   }
 
--- ---- a group of runs
+-- ---- a group of a run
 
 keeps-longest_run : (ignore_case : Bool) (may_be_empty : Bool) (end : ℕ) → Keeps (longest_run ignore_case may_be_empty end)
 keeps-longest_run ignore_case true end = keeps-longest ignore_case end
@@ -249,7 +249,7 @@ keeps-longest_run ignore_case false end = record { same = by }
     by f g front [] same = refl
     by f g front (c ∷ text) same = ap (λ o. cond (is_same_character ignore_case c end) None o) (keeps_longest ignore_case end f g (front ++ c ∷ []) text (λ before rest le. same before rest (omega (arith, le))))
 
--- the same choice, and what is the same after it
+-- A choice of matches, with an equal round.
 takes_as : (choice : Choice) (round other : Continuation → Continuation) → ((gives : Continuation) (front text : List ℕ) → round gives front text ≡ other gives front text) → Takes choice round → Takes choice other
 takes_as choice round other same takes = record { takes = λ h front text. takes.takes h front text ∙ same (bare h) front text }
 
@@ -276,7 +276,7 @@ takes-runs ignore_case end is_greedy items quantifier may_be_empty run is =
     (takes-then (quantified_ways quantifier 0 (ways_by ignore_case items)) (ways_by ignore_case Nothing) (longest_run ignore_case may_be_empty end) (after_text ignore_case []) (runs_take ignore_case end is_greedy items quantifier may_be_empty run is)
     (keeps-longest_run ignore_case may_be_empty end) (takes-nothing ignore_case))
 
--- what is captured of a choice that captures nothing itself
+-- The captures of a choice that captures nothing itself.
 abbrev capture_before : Next → Given
 capture_before next taken captures rest = option_map (λ others. (Some taken ∷ captures) ++ others) (next rest)
 
@@ -284,9 +284,9 @@ pub captured_takes : (choice : Choice) (round : Continuation → Continuation) �
     → tried (before_next next) (map capturing (choice text)) ≡ round (captured_front next) [] text
 captured_takes choice round takes next text = tried-map (before_next next) capturing (choice text) ∙ takes.takes (capture_before next) [] text
 
--- ---- one character at least
+-- ---- nonempty runs
 
--- what is given, but nothing of an empty front where there may be none
+-- The result, or None for an empty prefix if the run may not be empty.
 abbrev pub at_least : (may_be_empty : Bool) → Continuation → Continuation
 at_least true gives front rest = gives front rest
 at_least false gives [] rest = None
@@ -310,20 +310,20 @@ pub longest_run_falling : (ignore_case : Bool) (may_be_empty : Bool) (end : ℕ)
 longest_run_falling ignore_case true end gives text = longest_falling ignore_case end gives [] text
 longest_run_falling ignore_case false end gives text = longest_some_at_least ignore_case end gives text ∙ longest_falling ignore_case end (at_least false gives) [] text
 
--- a text with a last character is not empty
+-- A text with a last character is not empty.
 pub front_some : (front shorter : List ℕ) (c : ℕ) → IsUtf8 shorter → IsScalar c → front ≡ shorter ++ encode_utf8 c → ¬ (chars front ≡ [])
 front_some front shorter c u scalar e empty =
     let spelled : chars front ≡ chars shorter ++ c ∷ [] = ap chars e ∙ chars-append shorter (encode_utf8 c) u ∙ ap (λ l. chars shorter ++ l) (chars-encode c scalar) in
     absurd (omega (arith, ap length (sym empty ∙ spelled), length-append (chars shorter) (c ∷ [])))
 
--- a front that is not empty gives what it may give
+-- A nonempty prefix has the result of the continuation.
 pub front_given : (may_be_empty : Bool) (gives : Continuation) (text front shorter rest left : List ℕ) (c : ℕ) → IsUtf8 shorter → IsScalar c → front ≡ shorter ++ encode_utf8 c → text ≡ front ++ rest → text ≡ front ++ left
     → at_least may_be_empty gives (chars front) (chars left) ≡ gives (chars front) (chars rest)
 front_given may_be_empty gives text front shorter rest left c u scalar e f g =
     at_least_some may_be_empty gives (chars front) (chars left) (front_some front shorter c u scalar e)
     ∙ ap (λ r. gives (chars front) (chars r)) (append_cancel_left front left rest (sym g ∙ f))
 
--- where only the empty front is left
+-- Only the empty prefix is left.
 pub falling_empty : (gives : Continuation) (front rest : List ℕ) → front ≡ [] → falling (at_least true gives) [] front rest ≡ gives front rest
 falling_empty gives front rest e = ap (λ f. falling (at_least true gives) [] f rest) e ∙ ap (λ f. gives f rest) (sym e)
 

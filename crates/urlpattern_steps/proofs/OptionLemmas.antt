@@ -1,4 +1,4 @@
--- The second of two values, where it is none.
+-- The second of two options is None.
 use Rattle.std.specs.Prelude.{◌≡◌, refl, Option, Some, None}
 use Rattle.std.specs.Option.{option_or}
 

@@ -1,4 +1,4 @@
--- Which ends of a text a step and the others take, from the end of the text to its front.
+-- The suffixes of a text that a step and the others match, from the end of the text on.
 use Rattle.std.proofs.Common.{◌≡◌, ℕ, ◌<◌, ◌⊎◌, inl, inr, List, [], ◌∷◌, ◌++◌, length, get_or, take, Option, Some, None, option_map, Bool, true, false, cond, ◌==◌, refl, sym, ap, ◌∙◌, subst, append-nil, append_assoc, length-append, arith}
 use Rattle.std.proofs.Math.ListN.{get_or-append}
 use Rattle.std.proofs.Math.Seq.{get_or-append_seam}
@@ -21,9 +21,9 @@ use Rattle.urlpattern_steps.proofs.FollowLemmas.{chars_end}
 use Rattle.urlpattern_steps.proofs.TakenFronts.{after_own, begins, begins_is, begun_cut, goes, goes_is, later_cut, next_of, onward, onward_of, own_text, some_given, some_wholly, walk_wholly, whole_cut, wholly, wholly_is}
 use Rattle.urlpattern_meaning.specs.Matching.{IsSame, is_same_character}
 
--- ---- lists with an entry for each shorter end
+-- ---- lists with an entry for each shorter suffix
 
--- each end of the rest that is shorter has an entry, by how many characters it has
+-- Each shorter suffix of the rest has an entry, by its number of characters.
 pub record IsFilled {A : Type 0} (Entry : (before left : List ℕ) → A → Type 0) (default : A) (front rest : List ℕ) (entries : List A) : Type 0 where
   pub count : length entries ≡ length rest
   pub each : (passed left : List ℕ) → rest ≡ passed ++ left → ¬ (passed ≡ []) → Entry (front ++ passed) left (get_or entries (length left) default)
@@ -39,7 +39,7 @@ module _ {A : Type 0} (Entry : (before left : List ℕ) → A → Type 0) (defau
       first_nil [] left e = refl
       first_nil (d ∷ passed) left e = let f : [] ≡ d ∷ (passed ++ left) = e in cc
 
-  -- an entry more, and each end has one
+  -- With one more entry, each suffix has one.
   pub filled_all : (front rest : List ℕ) (entries : List A) (x : A) → IsFilled Entry default front rest entries → Entry front rest x
       → (passed left : List ℕ) → rest ≡ passed ++ left → Entry (front ++ passed) left (get_or (entries ++ x ∷ []) (length left) default)
   filled_all front rest entries x is one [] left e =
@@ -52,7 +52,7 @@ module _ {A : Type 0} (Entry : (before left : List ℕ) → A → Type 0) (defau
       subst (λ y. Entry (front ++ d ∷ passed) left y) (sym (get_or-append entries (x ∷ []) default (length left) lt))
       (is.each (d ∷ passed) left e (λ none. let f : (d ∷ passed) ≡ [] = none in cc))
 
-  -- the same at the character before
+  -- The list with one more entry, at the previous character.
   pub filled_more : (shorter rest : List ℕ) (d : ℕ) (entries : List A) (x : A) → IsFilled Entry default (shorter ++ d ∷ []) rest entries → Entry (shorter ++ d ∷ []) rest x
       → IsFilled Entry default shorter (d ∷ rest) (entries ++ x ∷ [])
   filled_more shorter rest d entries x is one = record {
@@ -69,14 +69,14 @@ module _ {A : Type 0} (Entry : (before left : List ℕ) → A → Type 0) (defau
           subst (λ l. Entry l left (get_or (entries ++ x ∷ []) (length left) default)) (append_assoc shorter (d ∷ []) passed ∙ ap (λ y. shorter ++ y ∷ passed) first)
           (filled_all (shorter ++ d ∷ []) rest entries x is one passed left others)
 
--- ---- what is known at a place
+-- ---- the ends at a place
 
 some_cut : (gives : Continuation) (text : List ℕ) (n : Option ℕ) (found : Option Captures) → IsCutFor gives text n found → is_some n ≡ is_some found
 some_cut gives text None found cut = ap is_some (sym cut)
 some_cut gives text (Some n) None cut = absurd (cut.7 refl)
 some_cut gives text (Some n) (Some x) cut = refl
 
--- the entry for what follows some characters
+-- The entry for the rest after some characters.
 next_cut : (ignore_case : Bool) (gives begun : Continuation) (text front rest : List ℕ) (entries : List (Option ℕ)) (own : Option Stretch) (literal : List ℕ) (next : Option ℕ)
     → IsFilled (λ before left n. IsCutFor gives text n (begun before left)) None front rest entries
     → IsEntryAfter ignore_case entries (option_map (λ (stretch : Stretch). stretch.first ∷ literal) own) rest next
@@ -97,7 +97,7 @@ next_cut ignore_case gives begun text front rest entries (Some own) literal next
         subst (λ o. IsCutFor gives text next o) (sym (after-other ignore_case characters rest begun front none))
         (subst (λ n. IsCutFor gives text n None) (sym (other none)) refl)
 
--- the end here
+-- The end here.
 here_cut : (gives : Continuation) (text front rest : List ℕ) (b : Bool) → IsUtf8 front → IsUtf8 rest → text ≡ front ++ rest
     → b ≡ is_some (gives (chars front) (chars rest)) → IsCutFor gives text (cond b (Some (length front)) None) (gives (chars front) (chars rest))
 here_cut gives text front rest true u v e is = (front, rest, u, v, e, refl, refl, λ none. false≢true (sym (is ∙ ap is_some none)))
@@ -123,7 +123,7 @@ module _ (ignore_case : Bool) (step : Step) (others : List Step) (text : List �
   abbrev pub Taken : List ℕ → List ℕ → Bool → Type 0
   Taken before left b = b ≡ is_some (walk ignore_case (step ∷ others) left)
 
-  -- what is known of the shorter ends
+  -- The entries for the shorter suffixes.
   pub record IsSoFar (front rest : List ℕ) (begun : List (Option ℕ)) (row : List Bool) (later : Option ℕ) : Type 0 where
     pub is_begun : IsFilled Begun None front rest begun
     pub is_row : IsFilled Taken false front rest row
@@ -136,7 +136,7 @@ module _ (ignore_case : Bool) (step : Step) (others : List Step) (text : List �
     is_later = λ d left e. let f : [] ≡ d ∷ left = e in cc;
   }
 
-  -- and of this end
+  -- The ends for this suffix.
   pub record IsPlaced (front rest : List ℕ) (begun later whole : Option ℕ) : Type 0 where
     pub begun_here : IsCutFor (given ignore_case step others) text begun (begins ignore_case step others front rest)
     pub later_here : IsCutFor (given ignore_case step others) text later (goes ignore_case step others front rest)
@@ -178,7 +178,7 @@ module _ (ignore_case : Bool) (step : Step) (others : List Step) (text : List �
       (subst (λ n. IsCutFor (given ignore_case step others) text n (onward_of ignore_case step others (chars front) (chars rest))) (sym goes_on)
       (onward_cut ignore_case (given ignore_case step others) (goes ignore_case step others) text (chars front) (chars rest) (run_end step) later so_far.is_later))
 
-  -- by what the calls answer
+  -- The ends for this suffix, by the results of the calls.
   pub placed_at : (front rest : List ℕ) (begun : List (Option ℕ)) (row after : List Bool) (literal : List Step) (stretch : Option Stretch) (later next here forward first run whole : Option ℕ)
       → IsSingle step → IsUtf8 front → IsUtf8 rest → text ≡ front ++ rest
       → IsSoFar (chars front) (chars rest) begun row later
@@ -198,7 +198,7 @@ module _ (ignore_case : Bool) (step : Step) (others : List Step) (text : List �
       (subst (λ n. IsPlaced (chars front) (chars rest) (begun_of step next here forward) n whole) (sym g)
       (subst (λ n. IsPlaced (chars front) (chars rest) (begun_of step next here forward) (later_of step next here forward) n) (sym h) is))
 
-  -- the same with what is known so far, by what is kept and what is left
+  -- The ends for this suffix, with the entries as they are kept and the remaining text.
   pub placed_now : (front rest left : List ℕ) (begun kept : List (Option ℕ)) (row after : List Bool) (literal : List Step) (stretch : Option Stretch) (count stop : ℕ) (later next here forward first run whole : Option ℕ)
       → IsSingle step → IsUtf8 front → IsUtf8 left → text ≡ front ++ rest → text ≡ front ++ left
       → IsSoFar (chars front) (chars left) kept row later → begun ≡ kept
@@ -222,7 +222,7 @@ module _ (ignore_case : Bool) (step : Step) (others : List Step) (text : List �
   taken_here front rest begun later whole is =
       some_cut (given ignore_case step others) text whole (wholly ignore_case step others front rest) is.whole_here ∙ some_wholly ignore_case step others front rest
 
-  -- at the character before
+  -- The entries at the previous character.
   so_far_more : (shorter rest : List ℕ) (d : ℕ) (begun : List (Option ℕ)) (row : List Bool) (later first run whole : Option ℕ)
       → IsSoFar (shorter ++ d ∷ []) rest begun row later → IsPlaced (shorter ++ d ∷ []) rest first run whole
       → IsSoFar shorter (d ∷ rest) (begun ++ first ∷ []) (row ++ is_some whole ∷ []) run
@@ -248,7 +248,7 @@ module _ (ignore_case : Bool) (step : Step) (others : List Step) (text : List �
       (subst (λ l. IsSoFar l (chars rest) begun row later) spelled is)
       (subst (λ l. IsPlaced l (chars rest) first run whole) spelled here))
 
-  -- where nothing is before
+  -- The row of the whole text.
   pub row_whole : (rest : List ℕ) (begun : List (Option ℕ)) (row : List Bool) (later first run whole : Option ℕ)
       → IsSoFar [] rest begun row later → IsPlaced [] rest first run whole → IsRow ignore_case rest (step ∷ others) (row ++ is_some whole ∷ [])
   row_whole rest begun row later first run whole is here = record {

@@ -20,24 +20,25 @@ use Rattle.urlpattern_steps.proofs.SegmentTextLemmas.{in_order_text, in_order_al
 
 -- ---- a tree and its steps
 
--- items stand before the text that remains, with their steps
+-- The text begins with items, followed by the remaining text, with their steps.
 abbrev pub StandBefore : (remaining text : List ℕ) → List Step → Type 0
 StandBefore remaining text steps = (tree : Items) × (text ≡ items_text tree ++ remaining) × AreItems tree × EitherWalks tree steps
 
--- the end of an expression, outside of brackets, with its steps
+-- The end of an expression outside of a group, with its steps.
 abbrev pub IsEnd : (text : List ℕ) → List Step → Type 0
 IsEnd text steps = StandBefore (codes "$") text steps
 
--- the same inside of brackets, which are closed then
+-- The end of an expression inside of a group, up to the closing parenthesis and after it, with its
+-- steps.
 abbrev pub IsInnerEnd : (text : List ℕ) → (own : List Step) → Times → (others : List Step) → Type 0
 IsInnerEnd text own times others = (outer : List ℕ) × StandBefore (codes ")" ++ (times_text times ++ outer)) text own × IsEnd outer others
 
--- a whole expression with its steps
+-- A whole expression with its steps.
 abbrev pub IsWhole : (regexp : List ℕ) → List Step → Type 0
 IsWhole regexp steps = (tree : Items) × IsTreeOf regexp tree × EitherWalks tree steps
 
--- whatever is read of the text that is left, the whole is read with what was read before; inside of brackets the steps of these
--- begin at a place
+-- However the rest is read, the whole is read with the steps so far. Inside of a group, the steps
+-- of the group begin at `first`.
 abbrev pub IsBegun : (regexp : List ℕ) → (opened : Option ℕ) → (rest : List ℕ) → List Step → Type 0
 IsBegun regexp None rest done = (steps : List Step) → IsEnd rest steps → IsWhole regexp (done ++ steps)
 IsBegun regexp (Some first) rest done =
@@ -45,7 +46,7 @@ IsBegun regexp (Some first) rest done =
     × ((own : List Step) (times : Times) (group others : List Step) → IsGroup times (drop first done ++ own) group → IsInnerEnd rest own times others
     → IsWhole regexp (take first done ++ (group ++ others)))
 
--- the text is that of an atom with a quantifier, with its steps
+-- The text spells an atom with its quantifier, with its steps.
 pub record SpellsAll (own : List Step) (front : List ℕ) : Type 0 where
   pub atom : Atom
   pub quantifier : Quantifier
@@ -85,11 +86,11 @@ spells-maybe step group front e f (inner, one, (atom, is, of, g), h) = record {
   walks = λ items others next ignore_case. walks-maybe ignore_case atom items group (step ∷ []) others (walks-step ignore_case step atom of) (next ignore_case) e f;
 }
 
--- the text of a group with its quantifier
+-- The text of a group with its quantifier.
 grouped_text : (inner others : List ℕ) → codes "(?:" ++ (inner ++ (codes ")" ++ others)) ≡ (codes "(?:" ++ (inner ++ codes ")")) ++ others
 grouped_text inner others = ap (λ t. codes "(?:" ++ t) (sym (append_assoc inner (codes ")") others))
 
--- a group that takes nothing has no steps
+-- A group that matches only the empty text has no steps.
 nothing-spells : (times : Times) (inner : Items) → AreItems inner → EitherWalks inner [] → SpellsAll [] (codes "(?:" ++ (items_text inner ++ (codes ")" ++ times_text times)))
 nothing-spells times inner are walks = record {
   atom = Grouped inner;
@@ -204,7 +205,7 @@ begun-ends regexp rest done so_far e =
     let whole : IsWhole regexp done = subst (IsWhole regexp) (append-nil done) (so_far [] (Nothing, e, tt, λ ignore_case. walks-nothing ignore_case)) in
     record { tree = whole.0; is_tree = whole.1; answers = λ ignore_case text. walk_is_first ignore_case whole.0 done (whole.2 ignore_case) text }
 
--- ---- segments
+-- ---- separated runs
 
 pub segments-spell : (end : ℕ) (is_greedy : Bool) (front : List ℕ) → BeginsSegments end is_greedy front → (own : List Step) (text rest : List ℕ) → EndsSegments end is_greedy own text rest
     → (whole : List ℕ) × SpellsAll own whole × (front ++ text ≡ whole ++ rest)

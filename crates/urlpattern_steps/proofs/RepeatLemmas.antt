@@ -1,4 +1,4 @@
--- What is repeated: its ways and its steps.
+-- Repeats: their matches and their steps.
 use Rattle.std.proofs.Common.{◌≡◌, ℕ, ◌+◌, List, [], ◌∷◌, ◌++◌, length, take, Option, Some, None, option_map, Bool, true, false, cond, refl, sym, ap, ap₂, ◌∙◌, subst, append_assoc, zero-add, arith}
 use Rattle.std.proofs.lemmas.Bool.{le-ltb}
 use Rattle.std.specs.Option.{option_or}
@@ -15,12 +15,12 @@ use Rattle.urlpattern_steps.proofs.Tried.{Next, Given, given, bare, tried, tried
 use Rattle.urlpattern_steps.proofs.Rounds.{Takes, Keeps, Advances, advances-after, beyond, keeps-after, keeps-any, keeps-some, takes-looped, takes-looped_or_not, takes-then, then, tried-then, tried_idle}
 use Rattle.urlpattern_steps.proofs.Walks.{AtomWalks, Walks, after_atom, capture_count-append, literals_uncaptured, walk_after-own}
 
--- how often copies are taken
+-- The quantifier of a repeated literal.
 abbrev pub copied : (may_be_missing : Bool) → Quantifier
 copied true = ZeroOrMore
 copied false = OneOrMore
 
--- what is given by the captures of a way and the rest
+-- The result, by the captures of a match and the rest.
 abbrev led_on : Next → Given
 led_on next taken captures rest = option_map (λ others. captures ++ others) (next rest)
 
@@ -37,7 +37,7 @@ keeps_repeated : (may_be_missing : Bool) (round : Continuation → Continuation)
 keeps_repeated true round advances = keeps-any round advances
 keeps_repeated false round advances = keeps-some round advances
 
--- where nothing is captured, the steps that follow go on with the rest
+-- A choice without captures is followed by the next steps on the rest.
 taken_next : (choice : Choice) (round : Continuation → Continuation) → Takes choice round → Keeps round → (next : Next) (text : List ℕ)
     → tried (before_next next) (choice text) ≡ round (λ front rest. next rest) [] text
 taken_next choice round takes keeps next text =
@@ -66,7 +66,7 @@ walks-copies ignore_case may_be_missing atom items c own others first plain next
           ∙ ap (λ l. repeated may_be_missing (after_text ignore_case (c ∷ literals l)) (λ front rest. walk_after ignore_case (length own) all rest) [] text) (sym left);
     }
 
--- ---- what takes nothing
+-- ---- groups that match only the empty text
 
 twice_one : {A : Type 0} (o : Option A) → option_or o o ≡ o
 twice_one None = refl
@@ -97,7 +97,7 @@ quantified_nothing ignore_case often.Optional atom takes = or_nothing ignore_cas
 quantified_nothing ignore_case often.ZeroOrMore atom takes = or_nothing ignore_case (looped true atom) (looped_nothing ignore_case atom takes)
 quantified_nothing ignore_case often.OneOrMore atom takes = looped_nothing ignore_case atom takes
 
--- a group that takes nothing adds no steps, however often it is taken
+-- A group that matches only the empty text adds no steps, whatever its quantifier.
 pub walks-nothing_grouped : (ignore_case : Bool) (times : Times) (inner items : Items) (others : List Step) → Walks ignore_case inner [] → Walks ignore_case items others → Walks ignore_case (Item (Grouped inner) (quantifier_of times) items) others
 walks-nothing_grouped ignore_case times inner items others first next =
     let takes : Takes (quantified_ways (quantifier_of times) (group_count inner) (ways_by ignore_case inner)) (after_text ignore_case []) =

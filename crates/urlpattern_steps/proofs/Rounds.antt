@@ -1,4 +1,4 @@
--- Choices that capture nothing, and rounds of them: what is given after their ways.
+-- Choices without captures, and rounds of them: the results after their matches.
 use Rattle.std.proofs.Common.{◌≡◌, ℕ, zero, suc, ◌<◌, ◌≤◌, List, [], ◌∷◌, ◌++◌, length, None, Bool, true, false, cond, ◌==◌, refl, sym, ap, ap₂, ◌∙◌, append-nil, append_assoc, arith, lt-ltb}
 use Rattle.std.specs.Option.{option_or}
 use Rattle.urlpattern_steps.proofs.OptionLemmas.{option_or-None}
@@ -8,19 +8,19 @@ use Rattle.urlpattern_steps.specs.Walk.{Continuation, after_text, rounds, any_ro
 use Rattle.urlpattern_steps.proofs.Tried.{Given, given, bare, tried, tried-append, tried-same, tried-continued}
 use Rattle.urlpattern_meaning.specs.Matching.{is_same_character}
 
--- the same after this front
+-- The result after this prefix.
 abbrev pub beyond : List ℕ → Given → Given
 beyond front h taken captures rest = h (front ++ taken) captures rest
 
--- What is given after the ways of the choice is what is given after a round.
+-- The result after the matches of the choice is the result after a round.
 pub record Takes (choice : Choice) (round : Continuation → Continuation) : Type 0 where
   pub takes : (h : Given) (front text : List ℕ) → tried (given (beyond front h)) (choice text) ≡ round (bare h) front text
 
--- What is given after a round is found out of what ends of the text give.
+-- The result after a round depends only on the results for suffixes of the text.
 pub record Keeps (round : Continuation → Continuation) : Type 0 where
   pub same : (f g : Continuation) (front text : List ℕ) → ((before rest : List ℕ) → length rest ≤ length text → f before rest ≡ g before rest) → round f front text ≡ round g front text
 
--- A round takes a character or more.
+-- A round matches one or more characters.
 pub record Advances (round : Continuation → Continuation) : Type 0 where
   pub same : (f g : Continuation) (front text : List ℕ) → ((before rest : List ℕ) → length rest < length text → f before rest ≡ g before rest) → round f front text ≡ round g front text
   pub none : (gives : Continuation) (front : List ℕ) → round gives front [] ≡ None
@@ -51,7 +51,7 @@ after-append ignore_case [] others gives front text = refl
 after-append ignore_case (c ∷ own) others gives front [] = refl
 after-append ignore_case (c ∷ own) others gives front (other ∷ text) = ap (λ o. cond (is_same_character ignore_case other c) o None) (after-append ignore_case own others gives (front ++ other ∷ []) text)
 
--- ---- one after the other
+-- ---- sequences
 
 pub keeps-then : (first second : Continuation → Continuation) → Keeps first → Keeps second → Keeps (λ gives. first (second gives))
 keeps-then first second one two = record {
@@ -66,7 +66,7 @@ advances-then first second one two = record {
   none = λ gives front. one.none (second gives) front;
 }
 
--- what is given after a way is tried for each way of the rest
+-- The result after a match is tried for each match in the rest.
 abbrev pub then : Choice → Given → Given
 then next h taken captures rest = tried (λ more. h (taken ++ more.taken) (captures ++ more.captures) more.rest) (next rest)
 
@@ -117,7 +117,7 @@ rounds-enough round advances (suc m) (suc n) gives front text below above =
     (advances.same (rounds round m gives) (rounds round n gives) front text
     (λ before rest lt. rounds-enough round advances m n gives before rest (omega (arith, lt)) (omega (arith, lt))))
 
--- a round and then any number of them, or none
+-- A round and any number of further ones, or none.
 pub any-unrolled : (round : Continuation → Continuation) → Advances round → (gives : Continuation) (front text : List ℕ)
     → any_rounds round gives front text ≡ option_or (some_rounds round gives front text) (gives front text)
 any-unrolled round advances gives front text =

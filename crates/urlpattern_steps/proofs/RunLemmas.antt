@@ -1,4 +1,5 @@
--- Runs of characters: where only one front gives something, the longest front, found from the end, and fronts that give nothing.
+-- Runs of characters: runs with one end, the longest prefix, found from the end, and prefixes
+-- without a result.
 use Rattle.std.proofs.Common.{◌≡◌, ℕ, List, [], ◌∷◌, ◌++◌, Option, Some, None, Bool, true, false, cond, ◌==◌, ◌⊎◌, inl, inr, option_map, refl, sym, ap, ap₂, ◌∙◌, append-nil, append_assoc}
 use Rattle.std.specs.Option.{option_or}
 use Rattle.urlpattern_steps.proofs.OptionLemmas.{option_or-None}
@@ -16,7 +17,7 @@ both_ends ignore_case c (other ∷ text) = by (is_same_character ignore_case oth
 
 -- ---- runs with one end
 
--- nothing is given before another character
+-- The continuation has no result before a character other than `end`.
 abbrev pub GivesAt : (ignore_case : Bool) (end : ℕ) → Continuation → Type 0
 GivesAt ignore_case end gives = (front : List ℕ) (c : ℕ) (rest : List ℕ) → (is_same_character ignore_case c end) ≡ false → gives front (c ∷ rest) ≡ None
 
@@ -34,7 +35,7 @@ module _ (ignore_case : Bool) (end : ℕ) (gives : Continuation) (at : GivesAt i
           ap (λ o. option_or o (option_or (gives (front ++ c ∷ []) text) (shortest ignore_case end gives (front ++ c ∷ []) text))) (at front c text e)
           ∙ later ∙ ap (λ f. gives f (from_first ignore_case end text)) (append_assoc front (c ∷ []) (up_to_first ignore_case end text))
 
-  -- no front gives anything where the first is empty
+  -- A lazy run that cannot begin has no result.
   pub shortest_none : (text : List ℕ) → up_to_first ignore_case end text ≡ [] → shortest ignore_case end gives [] text ≡ None
   shortest_none [] e = refl
   shortest_none (c ∷ text) e = by (is_same_character ignore_case c end) e
@@ -68,9 +69,9 @@ module _ (ignore_case : Bool) (end : ℕ) (gives : Continuation) (at : GivesAt i
   pub longest_ends : (text : List ℕ) → longest ignore_case end gives [] text ≡ gives (up_to_first ignore_case end text) (from_first ignore_case end text)
   longest_ends text = longest_one [] text
 
--- ---- fronts without a character
+-- ---- prefixes without a character
 
--- a front with another character more
+-- A prefix with one more character other than `end`.
 pub lacks_more : (ignore_case : Bool) (end : ℕ) (front : List ℕ) (c : ℕ) → up_to_first ignore_case end front ≡ front → (is_same_character ignore_case c end) ≡ false → up_to_first ignore_case end (front ++ c ∷ []) ≡ front ++ c ∷ []
 lacks_more ignore_case end [] c e f = ap (λ b. cond b [] (c ∷ [])) f
 lacks_more ignore_case end (d ∷ front) c e f = by (is_same_character ignore_case d end) e (λ g. lacks_more ignore_case end front c g f)
@@ -81,7 +82,7 @@ lacks_more ignore_case end (d ∷ front) c e f = by (is_same_character ignore_ca
     by true e later = cc
     by false e later = let g : up_to_first ignore_case end front ≡ front = cc in ap (λ t. d ∷ t) (later g)
 
--- a front without its last character
+-- A prefix without its last character.
 pub lacks_less : (ignore_case : Bool) (end : ℕ) (front : List ℕ) (c : ℕ) → up_to_first ignore_case end (front ++ c ∷ []) ≡ front ++ c ∷ [] → (up_to_first ignore_case end front ≡ front) × ((is_same_character ignore_case c end) ≡ false)
 lacks_less ignore_case end [] c e = (refl, by (is_same_character ignore_case c end) e)
   where
@@ -99,10 +100,10 @@ lacks_less ignore_case end (d ∷ front) c e = by (is_same_character ignore_case
         let less = later g in
         (ap (λ t. d ∷ t) less.0, less.1)
 
--- ---- the longest front from the end
+-- ---- the longest prefix from the end
 
 module _ (ignore_case : Bool) (end : ℕ) (gives : Continuation) where
-  -- what is found after a front, is found after its characters
+  -- A result after a prefix is found after its characters.
   pub longest_found : (taken front rest : List ℕ) (found : Captures) → up_to_first ignore_case end front ≡ front → longest ignore_case end gives (taken ++ front) rest ≡ Some found
       → longest ignore_case end gives taken (front ++ rest) ≡ Some found
   longest_found taken [] rest found lacks e = ap (λ t. longest ignore_case end gives t rest) (sym (append-nil taken)) ∙ e
@@ -115,14 +116,14 @@ module _ (ignore_case : Bool) (end : ℕ) (gives : Continuation) where
       by true lacks later = cc
       by false lacks later = let g : up_to_first ignore_case end front ≡ front = cc in ap (λ o. option_or o (gives taken (c ∷ (front ++ rest)))) (later g)
 
-  -- where no longer front gives anything, this one is the longest
+  -- The prefix is the longest with a result, if no longer one has one.
   pub longest_shorter : (front : List ℕ) (c : ℕ) (rest : List ℕ) → (is_same_character ignore_case c end) ≡ false → longest ignore_case end gives (front ++ c ∷ []) rest ≡ None
       → longest ignore_case end gives front (c ∷ rest) ≡ gives front (c ∷ rest)
   longest_shorter front c rest e none =
       ap (λ b. cond b (gives front (c ∷ rest)) (option_or (longest ignore_case end gives (front ++ c ∷ []) rest) (gives front (c ∷ rest)))) e
       ∙ ap (λ o. option_or o (gives front (c ∷ rest))) none
 
--- ---- what gives nothing, whatever was taken before
+-- ---- failures, whatever the prefix
 
 either_none : (o p : Option Captures) → option_or o p ≡ None → (o ≡ None) × (p ≡ None)
 either_none None p e = (refl, e)
@@ -160,7 +161,7 @@ module _ (ignore_case : Bool) (end : ℕ) (next : List ℕ → Option Captures) 
           let none = either_none (longest ignore_case end (captured_front next) (front ++ c ∷ []) text) (captured_front next front (c ∷ text)) e in
           ap₂ option_or (later none.0) (captured_none front other (c ∷ text) none.1)
 
-  -- nor does the front itself
+  -- The prefix itself has no result.
   longest_nor : (front text : List ℕ) → longest ignore_case end (captured_front next) front text ≡ None → captured_front next front text ≡ None
   longest_nor front [] e = e
   longest_nor front (c ∷ text) e = by (is_same_character ignore_case c end) e
@@ -179,7 +180,7 @@ module _ (ignore_case : Bool) (end : ℕ) (next : List ℕ → Option Captures) 
       by true e = refl
       by false e = cc
 
-  -- no longer front gives anything where the run has ended
+  -- No longer prefix has a result after the run has ended.
   pub longest_ended : (front text : List ℕ) → (up_to_first ignore_case end text ≡ []) ⊎ (longest ignore_case end (captured_front next) [] text ≡ None) → longest ignore_case end (captured_front next) front text ≡ captured_front next front text
   longest_ended front text (inl e) = longest_at_end front text e
   longest_ended front text (inr e) = let none = longest_no_more [] front text e in none ∙ sym (longest_nor front text none)
@@ -197,7 +198,7 @@ module _ (ignore_case : Bool) (end : ℕ) (next : List ℕ → Option Captures) 
   shortest_ended front text (inl e) = shortest_at_end front text e
   shortest_ended front text (inr e) = shortest_no_more [] front text e
 
-  -- a run that failed fails from its next character on
+  -- A run that failed also fails from its next character on.
   pub shortest_later : (c : ℕ) (text : List ℕ) → (is_same_character ignore_case c end) ≡ false → shortest ignore_case end (captured_front next) [] (c ∷ text) ≡ None → shortest ignore_case end (captured_front next) [] text ≡ None
   shortest_later c text e none =
       shortest_no_more (c ∷ []) [] text

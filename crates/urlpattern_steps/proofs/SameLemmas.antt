@@ -1,4 +1,4 @@
--- Texts as they are compared, one character after the other.
+-- Texts that are equal up to case, character by character.
 use Rattle.std.proofs.Common.{◌≡◌, ℕ, Bool, true, false, List, [], ◌∷◌, ◌++◌, ◌+◌, length, map, ◌⊎◌, inl, inr, Option, Some, None, eq-eqb, eqb-true, refl, sym, ap, ap₂, ◌∙◌, subst, length-append}
 use Rattle.std.specs.Prelude.{IfNone}
 use Rattle.urlpattern_meaning.proofs.Middles.{same-length}
@@ -37,7 +37,7 @@ same_less false d c front characters same =
     let others : front ≡ characters = cc in
     (eq-eqb d c first, others)
 
--- ---- texts at the front
+-- ---- texts at the start
 
 pub begins_more : (ignore_case : Bool) (c : ℕ) (characters : List ℕ) (d : ℕ) (text rest : List ℕ) → is_same_character ignore_case d c ≡ true → BeginsAs ignore_case characters text rest
     → BeginsAs ignore_case (c ∷ characters) (d ∷ text) rest
@@ -60,7 +60,7 @@ begins_none ignore_case c characters rest (e ∷ front, cut, same) = let whole :
 pub begins_nothing : (ignore_case : Bool) (text rest : List ℕ) → BeginsAs ignore_case [] text rest → text ≡ rest
 begins_nothing ignore_case text rest (front, cut, same) = cut ∙ ap (λ f. f ++ rest) (none_same ignore_case front same)
 
--- one character
+-- A single character.
 pub begins_one : (ignore_case : Bool) (c : ℕ) (text rest : List ℕ) → BeginsAs ignore_case (c ∷ []) text rest → (d : ℕ) × (text ≡ d ∷ rest) × (is_same_character ignore_case d c ≡ true)
 begins_one ignore_case c text rest ([], cut, same) = absurd (no_same ignore_case c [] same)
 begins_one ignore_case c text rest (d ∷ front, cut, same) =
@@ -70,13 +70,13 @@ begins_one ignore_case c text rest (d ∷ front, cut, same) =
 pub one_begins : (ignore_case : Bool) (c d : ℕ) (text rest : List ℕ) → text ≡ d ∷ rest → is_same_character ignore_case d c ≡ true → BeginsAs ignore_case (c ∷ []) text rest
 one_begins ignore_case c d text rest cut one = (d ∷ [], cut, same_more ignore_case d c [] [] one refl)
 
--- the first of some characters
+-- The first of several characters.
 pub begins_first : (ignore_case : Bool) (c : ℕ) (characters text end : List ℕ) → BeginsAs ignore_case (c ∷ characters) text end → (rest : List ℕ) × BeginsAs ignore_case (c ∷ []) text rest
 begins_first ignore_case c characters [] end begins = absurd (begins_none ignore_case c characters end begins)
 begins_first ignore_case c characters (d ∷ text) end begins =
     (text, one_begins ignore_case c d (d ∷ text) text refl (begins_less ignore_case c characters d text end begins).0)
 
--- a text begins with these characters, or not
+-- A text begins with these characters, or does not.
 pub begins_or_not : (ignore_case : Bool) (characters text : List ℕ) → ((rest : List ℕ) × BeginsAs ignore_case characters text rest) ⊎ ((rest : List ℕ) → ¬ BeginsAs ignore_case characters text rest)
 begins_or_not ignore_case [] text = inl (text, ([], refl, refl))
 begins_or_not ignore_case (c ∷ characters) [] = inr (λ rest begins. begins_none ignore_case c characters rest begins)
@@ -92,7 +92,7 @@ pub begins_length : (ignore_case : Bool) (characters text rest : List ℕ) → B
 begins_length ignore_case characters text rest (front, cut, same) =
     ap length cut ∙ length-append front rest ∙ ap (λ n. n + length rest) (same-length ignore_case front characters same)
 
--- what holds, holds of nothing
+-- A fact that is true holds if the option is None.
 pub if_none : {A : Type 0} (o : Option A) (P : Type 0) → P → IfNone o P
 if_none None P p = p
 if_none (Some x) P p = tt

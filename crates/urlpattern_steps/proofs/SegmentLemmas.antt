@@ -1,4 +1,4 @@
--- Runs of characters with a text between each two: their ways and their steps.
+-- Separated runs: their matches and their steps.
 use Rattle.std.proofs.Common.{◌≡◌, ℕ, List, [], ◌∷◌, ◌++◌, map, length, Some, option_map, Bool, ◌==◌, refl, sym, ap, ◌∙◌, subst, arith}
 use Rattle.std.proofs.Math.Seq.{take-append_seam}
 use Rattle.urlpattern_meaning.specs.Dialect.{Captured, Character, Grouped, Item, Items, Literal, Nothing, Once, ZeroOrMore, character_of, group_count}
@@ -11,9 +11,9 @@ use Rattle.urlpattern_steps.proofs.Rounds.{Advances, Keeps, Takes, advances-afte
 use Rattle.urlpattern_steps.proofs.Walks.{AtomWalks, literals_uncaptured, walk_after-own}
 use Rattle.urlpattern_meaning.specs.Matching.{is_same_character}
 
--- ---- characters one after the other
+-- ---- sequences of characters
 
--- items that are these characters, and then others
+-- The items of these characters, followed by others.
 abbrev pub in_order : List Character → Items → Items
 in_order [] items = items
 in_order (character ∷ characters) items = Item (Literal character) Once (in_order characters items)
@@ -39,7 +39,7 @@ takes-in_order ignore_case (character ∷ characters) items round takes =
     let both = takes-then (one_that (λ other. is_same_character ignore_case other c)) (ways_by ignore_case (in_order characters items)) (after_text ignore_case (c ∷ [])) others (takes-one ignore_case c) (keeps-after ignore_case (c ∷ [])) (takes-in_order ignore_case characters items round takes) in
     record { takes = λ h front text. both.takes h front text ∙ after-append ignore_case (c ∷ []) (map character_of characters) (round (λ front rest. h front [] rest)) front text }
 
--- ---- runs with a text between each two
+-- ---- separated runs
 
 pub advances-separator : (ignore_case : Bool) (c : ℕ) (literal : List ℕ) (is_greedy : Bool) (end : ℕ) → Advances (after_separator ignore_case (c ∷ literal) (single_run ignore_case is_greedy end))
 advances-separator ignore_case c literal is_greedy end = advances-then (after_text ignore_case (c ∷ literal)) (single_run ignore_case is_greedy end) (advances-after ignore_case c literal) (keeps-run ignore_case is_greedy end)
@@ -49,7 +49,7 @@ keeps-segmented ignore_case c literal is_greedy end =
     keeps-then (single_run ignore_case is_greedy end) (any_rounds (after_separator ignore_case (c ∷ literal) (single_run ignore_case is_greedy end))) (keeps-run ignore_case is_greedy end)
     (keeps-any (after_separator ignore_case (c ∷ literal) (single_run ignore_case is_greedy end)) (advances-separator ignore_case c literal is_greedy end))
 
--- a run, and then a text and a run as often as may be
+-- A run, followed by any number of separators and runs.
 abbrev pub segment_items : (first : Items) → List Character → (second : Items) → Items
 segment_items first characters second = Item (Grouped first) Once (Item (Grouped (in_order characters (Item (Grouped second) Once Nothing))) ZeroOrMore Nothing)
 

@@ -1,4 +1,4 @@
--- From the text of segments to their steps.
+-- From the text of separated runs to their steps.
 use Rattle.std.proofs.Common.{◌≡◌, ℕ, Bor, ◌<◌, List, [], ◌∷◌, ◌++◌, ◌-◌, length, take, drop, Option, Some, None, Bool, true, refl, sym, ap, ap₂, ◌∙◌, subst, inl, inr, append-nil, append_assoc, codes, arith}
 use Rattle.std.proofs.lemmas.List.{append_cancel_left, length-drop, set_split}
 use Rattle.std.proofs.Math.Seq.{take-append_seam, drop-append_seam}
@@ -15,7 +15,7 @@ use Rattle.urlpattern_steps.proofs.FrontLemmas.{ReadsRun, ByItself, IsEscapedAt,
 use Rattle.urlpattern_steps.proofs.SegmentLemmas.{in_order, literal_steps-plain}
 use Rattle.urlpattern_steps.proofs.GroupLemmas.{take_rest, drop-one}
 
--- ---- runs and what is between two
+-- ---- runs and separators
 
 characters_text-last : (characters : List Character) (character : Character) (rest : List ℕ)
     → characters_text characters ++ (character_text character ++ rest) ≡ characters_text (characters ++ character ∷ []) ++ rest
@@ -33,7 +33,7 @@ all-last : (characters : List Character) (character : Character) → AreCharacte
 all-last [] character all is = (is, tt)
 all-last (first ∷ characters) character all is = (all.0, all-last characters character all.1 is)
 
--- the characters that were read so far, with their steps
+-- The characters read so far, with their steps.
 abbrev pub AreRead : (old items : List Step) → (text rest : List ℕ) → Type 0
 AreRead old items text rest =
     (characters : List Character) × AreCharacters characters × (text ≡ characters_text characters ++ rest) × (items ≡ old ++ literal_steps characters)
@@ -48,7 +48,7 @@ read-more old items more text rest remaining c (characters, all, e, f) (characte
       ∙ ap (λ d. old ++ (literal_steps characters ++ Literal d ∷ [])) (sym same) ∙ ap (λ l. old ++ l) (sym (literal_steps-last characters character)),
 )
 
--- the first of the steps between two runs is put where they begin
+-- The step of separated runs replaces the first step of the separator.
 pub read-ends : (old items now : List Step) (first end : ℕ) (is_greedy : Bool) (separator : Stretch) (text rest remaining : List ℕ) → AreRead old items text rest → first ≡ length old → now ≡ items
     → MakeUp (take (length now - first) (drop first now)) separator
     → ClosesSegments end is_greedy rest remaining
@@ -87,21 +87,21 @@ pub in_order_allowed : (characters : List Character) (items : Items) → AreChar
 in_order_allowed [] items all are = are
 in_order_allowed (character ∷ characters) items all are = (all.0, tt, in_order_allowed characters items all.1 are)
 
--- how segments are written
+-- The spelling of separated runs.
 pub spelled_segments : (first between second rest : List ℕ)
     → (codes "((?:" ++ (first ++ codes ")(?:")) ++ (between ++ (codes "(?:" ++ (second ++ (codes "))*)" ++ rest))))
     ≡ ((codes "(" ++ ((((codes "(?:" ++ (first ++ codes ")")) ++ []) ++ (((codes "(?:" ++ ((between ++ (((codes "(?:" ++ (second ++ codes ")")) ++ []) ++ [])) ++ codes ")")) ++ codes "*") ++ [])) ++ codes ")")) ++ []) ++ rest
 spelled_segments first between second rest = simp (append_assoc, append-nil)
 
--- ---- what is left to read
+-- ---- the remaining text
 
--- what follows a front is read
+-- The text after a prefix is read.
 pub cut_read : (read : Option (Bor (List ℕ))) (front text rest : List ℕ) → IfSome read (λ found. text ≡ front ++ chars found.now) → IfNone read ((rest : List ℕ) → text ≢ front ++ rest)
     → text ≡ front ++ rest → IsSomeAnd read (λ found. chars found.now ≡ rest)
 cut_read None front text rest some none e = absurd (none rest e)
 cut_read (Some found) front text rest some none e = append_cancel_left front (chars found.now) rest (sym some ∙ e)
 
--- the characters before an opening bracket that are not yet read, and their steps
+-- The characters before a `(` that are not read yet, with their steps.
 abbrev pub AreLeft : (old items : List Step) → (text rest : List ℕ) → Type 0
 AreLeft old items text rest =
     (characters : List Character) (behind : List ℕ) → AreCharacters characters → text ≡ characters_text characters ++ (codes "(" ++ behind)
@@ -136,7 +136,7 @@ left-more old items more text rest remaining c left begins reads added character
               ∙ steps,
         )
 
--- where no character is read, none is left
+-- No character is left, if none is read.
 pub left-ended : (old items : List Step) (text rest : List ℕ) → AreLeft old items text rest → ((d : ℕ) (behind : List ℕ) → ¬ BeginsWithCharacter IsCharacter rest d behind)
     → (characters : List Character) (behind : List ℕ) → AreCharacters characters → text ≡ characters_text characters ++ (codes "(" ++ behind)
     → (rest ≡ codes "(" ++ behind) × (items ≡ old ++ literal_steps characters)
@@ -147,7 +147,7 @@ left-ended old items text rest left none characters behind all e = by (left char
     by ([], are, f, steps) = (f, sym (append-nil items) ∙ steps)
     by (character ∷ others, are, f, steps) = absurd (none (character_of character) _ (first_left character others rest (codes "(" ++ behind) are.0 f))
 
--- the steps between two runs
+-- The steps of a separator.
 pub steps_between : (old items now : List Step) (first end : ℕ) (is_greedy : Bool) (characters : List Character) (own : List Step) → items ≡ old ++ literal_steps characters → first ≡ length old
     → now ≡ items → AreSegments end is_greedy characters own → (c : ℕ) × (others : List Step) × (take (length now - first) (drop first now) ≡ Literal c ∷ others) × AreLiterals others
 steps_between old items now first end is_greedy characters own f place same (c, others, steps, is) = (
@@ -157,12 +157,12 @@ steps_between old items now first end is_greedy characters own f place same (c, 
   subst AreLiterals steps (literal_steps-plain characters),
 )
 
--- the run of the last segment
+-- The last of separated runs.
 pub last_run : (end : ℕ) (is_greedy : Bool) (items : Items) (text inner rest : List ℕ) → AreItems items → IsRunOf end is_greedy items
     → text ≡ last_text items rest → text ≡ codes "(?:" ++ inner → BeginsWithCaptured inner (run_step end is_greedy) (codes "))*)" ++ rest)
 last_run end is_greedy items text inner rest are is e f = (items, are, (run_step_is end is_greedy items is).1, cc)
 
--- that run is read, and what follows it
+-- The last of separated runs is read, with the rest.
 pub last_read : (end : ℕ) (is_greedy : Bool) (items : Items) (text inner rest : List ℕ) (single : Step) (behind : List ℕ) → AreItems items → IsRunOf end is_greedy items → text ≡ last_text items rest
     → text ≡ codes "(?:" ++ inner → ReadsRun inner single behind → IsRunStep end is_greedy single × (behind ≡ codes "))*)" ++ rest)
 last_read end is_greedy items text inner rest single behind are is e f reads =

@@ -1,4 +1,4 @@
--- What steps capture, by examples.
+-- Examples of what steps capture.
 use Rattle.std.proofs.Common.{Bool, ◌≡◌, [], ◌∷◌, Some, None, true, false, codes, refl}
 use Rattle.urlpattern_steps.specs.declared.step.Step.TheVariants.{Literal, Segment, Anything, Maybe, Longest, Copies, Segments}
 use Rattle.urlpattern_steps.specs.Walk.{walk}
@@ -101,17 +101,17 @@ fewer_segments = refl
 
 -- ---- where case is ignored
 
--- `^([^x]+?)x$`: the capture keeps its case, and a letter that may not be in it is not in either case
+-- `^([^x]+?)x$`: the capture keeps its case, and excludes `x` in either case.
 pub letter_of_either_case : walk true (Segment 120 ∷ Literal 120 ∷ []) (codes "AX") ≡ Some (Some (codes "A") ∷ [])
 letter_of_either_case = refl
 
 pub no_letter_of_either_case : walk true (Segment 120 ∷ []) (codes "aX") ≡ None
 no_letter_of_either_case = refl
 
--- `^(?:ab)*(.*)$`: copies of either case
+-- `^(?:ab)*(.*)$`: copies in either case.
 pub copies_of_either_case : walk true (Copies (record { text = record { first = 97; others = 1 }; may_be_missing = true }) ∷ Literal 98 ∷ Anything ∷ []) (codes "aBABc") ≡ Some (Some (codes "c") ∷ [])
 copies_of_either_case = refl
 
--- `^É$`: a letter outside of ASCII is compared as it is
+-- `^É$`: only ASCII letters match in either case.
 pub letter_outside : walk true (Literal 0xC9 ∷ []) (0xE9 ∷ []) ≡ None
 letter_outside = refl

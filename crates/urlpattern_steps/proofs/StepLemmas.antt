@@ -1,4 +1,4 @@
--- A group that may be missing, and steps that take no text that begins with another character.
+-- Optional groups, and steps that match no text with another first character.
 use Rattle.std.proofs.Common.{Bool, ◌≡◌, ℕ, zero, suc, List, [], ◌∷◌, ◌++◌, drop, replicate, Some, None, option_map, true, false, cond, ◌==◌, refl, ap, ◌∙◌}
 use Rattle.std.specs.Option.{option_or}
 use Rattle.urlpattern_steps.specs.declared.step.Group.{Group}
@@ -10,7 +10,7 @@ use Rattle.urlpattern_steps.proofs.Rounds.{advances-after, any-unrolled}
 use Rattle.urlpattern_steps.proofs.RunLemmas.{GivesAt}
 use Rattle.urlpattern_meaning.specs.Matching.{is_same_character}
 
--- ---- groups that may be missing
+-- ---- optional groups
 
 pub walk_after-drop : (ignore_case : Bool) (n : ℕ) (steps : List Step) (text : List ℕ) → walk_after ignore_case n steps text ≡ walk ignore_case (drop n steps) text
 walk_after-drop ignore_case zero steps text = refl
@@ -24,7 +24,7 @@ maybe_missing ignore_case group steps text e =
     ap (λ o. option_or o (option_map (λ others. replicate group.captures None ++ others) (walk_after ignore_case group.steps steps text))) e
     ∙ ap (option_map (λ others. replicate group.captures None ++ others)) (walk_after-drop ignore_case group.steps steps text)
 
--- ---- steps that stop
+-- ---- the first character
 
 pub stop-gives : (ignore_case : Bool) (end : ℕ) (steps : List Step) → StopAt end steps → GivesAt ignore_case end (captured_front (walk ignore_case steps))
 stop-gives ignore_case end steps stops front c rest e = ap (option_map (λ others. Some front ∷ others)) (stops ignore_case c rest e)
@@ -33,7 +33,7 @@ pub stop-maybe : (end : ℕ) (group : Group) (steps : List Step) → StopAt end 
 stop-maybe end group steps first other ignore_case c rest e =
     maybe_missing ignore_case group steps (c ∷ rest) (first ignore_case c rest e) ∙ ap (option_map (λ others. replicate group.captures None ++ others)) (other ignore_case c rest e)
 
--- copies do not begin with another character
+-- Copies do not begin with another character.
 some_stop : (ignore_case : Bool) (end first : ℕ) (literal : List ℕ) (gives : Continuation) (front : List ℕ) (c : ℕ) (rest : List ℕ) → first ≡ end → (is_same_character ignore_case c end) ≡ false
     → some_rounds (after_text ignore_case (first ∷ literal)) gives front (c ∷ rest) ≡ None
 some_stop ignore_case end first literal gives front c rest same other =

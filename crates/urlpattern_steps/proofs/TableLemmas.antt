@@ -1,4 +1,4 @@
--- Rows for the ends of the steps.
+-- The rows of the suffixes of the steps.
 use Rattle.std.proofs.Common.{◌≡◌, ℕ, zero, suc, ◌<◌, ◌≤◌, List, [], ◌∷◌, ◌++◌, map, replicate, length, get_or, drop, Option, Some, None, Result, Ok, Err, Bool, true, false, cond, ◌||◌, refl, sym, ap, ap₂, ◌∙◌, subst, length-append, arith, Vec, Global}
 use Rattle.std.proofs.Math.ListN.{get_or-append}
 use Rattle.std.proofs.Math.Seq.{get_or-append_seam}
@@ -19,7 +19,7 @@ use Rattle.urlpattern_steps.proofs.FailedLemmas.{ends_longer}
 use Rattle.urlpattern_steps.proofs.TakenFronts.{is_some-or, some_mapped}
 use Rattle.urlpattern_steps.proofs.StepLemmas.{walk_after-drop}
 
--- the row of an end of the text
+-- The row for a suffix of the text.
 pub row_end : (ignore_case : Bool) (text end : List ℕ) (steps : List Step) (row : List Bool) → EndsWith text end → IsRow ignore_case text steps row → IsRow ignore_case end steps row
 row_end ignore_case text end steps row ends is = record {
   long = omega (arith, is.long, ap length ends.1, length-append ends.0 end);
@@ -96,7 +96,7 @@ rows_more ignore_case text step others rows row are is = record {
         ap (λ l. get_or l (length end) []) all ∙ get_or-append (map items_of rows) (row.items ∷ []) [] (length end) lt in
         subst (λ l. IsRow ignore_case text end l) (sym earlier) (are.each end (front, rest))
 
--- the row for an end of the steps, as it is looked up
+-- The row of a suffix of the steps, as it is looked up.
 pub row_for_end : (ignore_case : Bool) (text : List ℕ) (steps end found : List Step) (rows : List (Vec Bool Global)) (row : List Bool) → AreRows ignore_case text steps rows → EndsWith steps end
     → found ≡ end → row ≡ row_at rows (length found) → IsRow ignore_case text end row
 row_for_end ignore_case text steps end found rows row are ends same e =
@@ -110,7 +110,7 @@ pub row_if_either : (ignore_case : Bool) → {E : Type 0} (text : List ℕ) (gro
 row_if_either ignore_case text group others one other (Ok row) first second len both = row_either ignore_case text group others one other row.items first second len both
 row_if_either ignore_case text group others one other (Err error) first second len both = tt
 
--- the same for an end of the text
+-- The row of a suffix of the steps for a suffix of the text.
 pub row_within : (ignore_case : Bool) (text rest : List ℕ) (steps end : List Step) (rows found : List (Vec Bool Global)) → AreRows ignore_case text steps rows → EndsWith steps end → EndsWith text rest
     → found ≡ rows → IsRow ignore_case rest end (row_at found (length end))
 row_within ignore_case text rest steps end rows found are ends texts e =
@@ -120,7 +120,7 @@ pub none_of : {A : Type 0} (o : Option A) → is_some o ≡ false → o ≡ None
 none_of None e = refl
 none_of (Some x) e = absurd (false≢true (sym e))
 
--- a front that a step takes, as it is added
+-- The prefix that a step matches is added, if the step captures.
 pub front_added : (ignore_case : Bool) (step : Step) (others : List Step) (old new : Kept) (front : Bor (List ℕ)) (rest : List ℕ)
     → new ≡ cond (is_capture step) (old ++ Some front ∷ []) old
     → with_captures old (given ignore_case step others (chars front.now) rest) ≡ with_captures new (walk ignore_case (following step others) rest)
@@ -132,7 +132,7 @@ front_added ignore_case step others old new front rest e = by (is_capture step) 
     by true e = plus_captured old front (walk ignore_case (following step others) rest) ∙ ap (λ k. with_captures k (walk ignore_case (following step others) rest)) (sym e)
     by false e = ap (λ k. with_captures k (walk ignore_case (following step others) rest)) (sym e)
 
--- a step of another kind than a group that may be missing
+-- A step other than an optional group.
 pub single_of : (step : Step) → ((group : Group) → ¬ (step ≡ Maybe group)) → IsSingle step
 single_of (Maybe group) other = other group refl
 single_of (Literal c) other = tt

@@ -1,4 +1,4 @@
--- The front that a step takes, by the fronts of shorter ends of the text.
+-- The prefix that a step matches, from the prefixes for shorter suffixes of the text.
 use Rattle.std.proofs.Common.{◌≡◌, ℕ, zero, suc, List, [], ◌∷◌, ◌++◌, length, take, drop, Option, Some, None, option_map, Bool, true, false, cond, ◌==◌, ◌||◌, refl, sym, ap, ap₂, ◌∙◌}
 use Rattle.std.specs.Option.{option_or}
 use Rattle.std.specs.Prelude.{is_some}
@@ -14,7 +14,7 @@ use Rattle.urlpattern_steps.proofs.Rounds.{advances-after, any-unrolled, keeps-a
 use Rattle.urlpattern_steps.proofs.StepLemmas.{walk_after-drop}
 use Rattle.urlpattern_meaning.specs.Matching.{is_same_character}
 
--- ---- whether something is given does not depend on the front
+-- ---- whether there is a result does not depend on the prefix
 
 abbrev pub Alike : Continuation → Type 0
 Alike gives = (front other text : List ℕ) → is_some (gives front text) ≡ is_some (gives other text)
@@ -57,7 +57,7 @@ alike-after ignore_case (c ∷ characters) gives alike front other [] = refl
 alike-after ignore_case (c ∷ characters) gives alike front other (d ∷ text) =
     some_cond (is_same_character ignore_case d c) _ _ None None (alike-after ignore_case characters gives alike (front ++ d ∷ []) (other ++ d ∷ []) text) refl
 
--- a round keeps it
+-- A round keeps `Alike`.
 abbrev AlikeRound : (Continuation → Continuation) → Type 0
 AlikeRound round = (gives : Continuation) → Alike gives → Alike (round gives)
 
@@ -87,7 +87,7 @@ alike-segmented ignore_case separator is_greedy end gives alike =
     alike-single ignore_case is_greedy end (any_rounds (after_separator ignore_case separator single) gives)
     (alike-any (after_separator ignore_case separator single) (λ g a. alike-after ignore_case separator (single g) (alike-single ignore_case is_greedy end g a)) gives alike)
 
--- ---- a step, where a front was taken before
+-- ---- a step after a prefix
 
 some_either : (b : Bool) (next : List ℕ → Option Captures) (front rest : List ℕ) → is_some ((cond b (captured_front next) (λ front rest. next rest)) front rest) ≡ is_some (next rest)
 some_either true next front rest = some_mapped (λ others. Some front ∷ others) (next rest)
@@ -99,7 +99,7 @@ some_given ignore_case step others front rest = some_either (is_capture step) (w
 alike-given : (ignore_case : Bool) (step : Step) (others : List Step) → Alike (given ignore_case step others)
 alike-given ignore_case step others front other text = some_given ignore_case step others front text ∙ sym (some_given ignore_case step others other text)
 
--- what is given where nothing is taken yet
+-- The result at the beginning of a step.
 abbrev pub wholly : (ignore_case : Bool) → Step → List Step → Continuation
 wholly ignore_case (Literal c) others = after_text ignore_case (c ∷ []) (given ignore_case (Literal c) others)
 wholly ignore_case (Segment end) others = shortest ignore_case end (given ignore_case (Segment end) others)
@@ -130,7 +130,7 @@ copies_wholly ignore_case true c characters n others text =
 copies_wholly ignore_case false c characters n others text =
     (keeps-some (after_text ignore_case (c ∷ characters)) (advances-after ignore_case c characters)).same _ _ [] text (λ before rest le. walk_after-drop ignore_case n others rest)
 
--- it is what the steps capture
+-- The result at the beginning of a step is that of the steps.
 pub walk_wholly : (ignore_case : Bool) (step : Step) (others : List Step) (text : List ℕ) → walk ignore_case (step ∷ others) text ≡ wholly ignore_case step others [] text
 walk_wholly ignore_case (Literal c) others [] = refl
 walk_wholly ignore_case (Literal c) others (d ∷ text) = refl
@@ -144,20 +144,20 @@ walk_wholly ignore_case (Segments segments) others text = ends.segments_step ign
 pub some_wholly : (ignore_case : Bool) (step : Step) (others : List Step) (front text : List ℕ) → is_some (wholly ignore_case step others front text) ≡ is_some (walk ignore_case (step ∷ others) text)
 some_wholly ignore_case step others front text = alike-wholly ignore_case step others front [] text ∙ ap is_some (sym (walk_wholly ignore_case step others text))
 
--- ---- by what is known after the text of the step, here, and where a run goes on
+-- ---- the results after the literal of a step, here, and if a run continues
 
--- the text of a step
+-- The literal of a step.
 abbrev pub own_text : Step → (literal : List ℕ) → Option (List ℕ)
 own_text step literal = option_map (λ (own : Stretch). own.first ∷ literal) (stretch_of step)
 
--- what is given where the text was taken just before
+-- The result after the literal of a step.
 abbrev pub begins : (ignore_case : Bool) → Step → List Step → Continuation
 begins ignore_case (Literal c) others = given ignore_case (Literal c) others
 begins ignore_case (Copies copies) others = any_rounds (after_text ignore_case (stretch_text copies.text others)) (given ignore_case (Copies copies) others)
 begins ignore_case (Segments segments) others = wholly ignore_case (Segments segments) others
 begins ignore_case step others = λ front text. None
 
--- what is given where a run has begun
+-- The result within a run.
 abbrev pub goes : (ignore_case : Bool) → Step → List Step → Continuation
 goes ignore_case (Segment end) others = λ front text. option_or (given ignore_case (Segment end) others front text) (shortest ignore_case end (given ignore_case (Segment end) others) front text)
 goes ignore_case Anything others = wholly ignore_case Anything others
@@ -166,12 +166,12 @@ goes ignore_case (Segments segments) others =
     ends.either ignore_case segments.separator.first (literals (take segments.separator.others others)) segments.is_greedy segments.end (given ignore_case (Segments segments) others)
 goes ignore_case step others = λ front text. None
 
--- what is given after a text that stands here, if there is one
+-- The result after a literal that begins here, if there is one.
 abbrev pub after_own : (ignore_case : Bool) → Option (List ℕ) → Continuation → Continuation
 after_own ignore_case None gives front text = None
 after_own ignore_case (Some characters) gives front text = after_text ignore_case characters gives front text
 
--- what is given where a run goes on with the first character
+-- The result if a run continues with the first character.
 abbrev pub onward : (ignore_case : Bool) (end : ℕ) → Continuation → Continuation
 onward ignore_case end gives front [] = None
 onward ignore_case end gives front (d ∷ text) = cond (is_same_character ignore_case d end) None (gives (front ++ d ∷ []) text)
@@ -270,7 +270,7 @@ wholly_is ignore_case (Copies copies) others single front text = copies_parts ig
 wholly_is ignore_case (Segments segments) others single front text =
     segments_begin ignore_case segments.separator.first _ segments.is_greedy segments.end (given ignore_case (Segments segments) others) front text
 
--- ---- where the front ends
+-- ---- the end of the prefix
 
 module _ (gives : Continuation) (text : List ℕ) (n h o : Option ℕ) (a b c : Option Captures) (one : IsCutFor gives text n a) (two : IsCutFor gives text h b) (three : IsCutFor gives text o c) where
   abbrev Cut : Option ℕ → Option Captures → Type 0

@@ -1,4 +1,4 @@
--- From the text of an expression to what stands in it.
+-- From the text of an expression to its tokens.
 use Rattle.std.proofs.Common.{◌≡◌, ℕ, List, [], ◌∷◌, ◌++◌, Option, Some, None, Bool, true, false, refl, sym, ap, ◌∙◌, append-nil, append_assoc, codes, ◌==◌, ne_eqb}
 use Rattle.std.proofs.lemmas.Bool.{false≢true}
 use Rattle.std.specs.Prelude.{◌≢◌, IfSome, is_some}
@@ -14,7 +14,7 @@ use Rattle.urlpattern_steps.specs.Walk.{capture_count}
 use Rattle.urlpattern_syntax.specs.Text.{line_feed}
 use Rattle.urlpattern_steps.proofs.LongestLemmas.{run_uncaptured}
 
--- what holds of what is there by two facts
+-- A fact about the value of an option follows from another.
 pub if_some : {A : Type 0} (P Q : A → Type 0) (o : Option A) → ((x : A) → P x → Q x) → IfSome o P → IfSome o Q
 if_some P Q None f p = p
 if_some P Q (Some x) f p = f x p
@@ -41,7 +41,7 @@ not_class c p q t =
     let other : (92 == c) ≡ false = ne_eqb 92 c (λ e. q (sym e)) in
     false≢true (rw (first, other) at t)
 
--- ---- groups that capture
+-- ---- capturing groups
 
 pub greedy_dot : (text rest : List ℕ) → text ≡ codes "*" ++ rest → BeginsWithCaptured (codes "." ++ text) Anything rest
 greedy_dot text rest e = (Item Dot ZeroOrMore Nothing, (tt, refl, tt), refl, ap (λ t. codes "." ++ t) e)
@@ -66,7 +66,7 @@ segment_run c items (one, but, e) = (one, but, cc)
 pub anything_run : (items : Items) → IsStepOf Anything (Captured items) → IsRunOf line_feed true items
 anything_run items e = (refl, cc)
 
--- runs of which each may be empty or not may be taken more than once
+-- Runs may be repeated, whether or not each of them may be empty.
 pub runs_allowed : (end : ℕ) (is_greedy : Bool) (items : Items) (quantifier : Quantifier) (may_be_empty : Bool) → IsRunOf end is_greedy items → AllowsEmptyRun is_greedy quantifier may_be_empty
     → AllowsGroups quantifier (group_count items)
 runs_allowed end is_greedy items ZeroOrMore may_be_empty run is = run_uncaptured end is_greedy items run

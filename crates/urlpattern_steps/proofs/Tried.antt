@@ -1,4 +1,4 @@
--- Ways that are tried one after the other: what the first that leads on gives.
+-- Matches that are tried in turn: the result of the first that has one.
 use Rattle.std.proofs.Common.{◌≡◌, ℕ, zero, suc, ◌≤◌, List, [], ◌∷◌, ◌++◌, map, length, Option, Some, None, option_map, Bool, true, false, cond, ◌==◌, not, refl, sym, ap, ap₂, ◌∙◌, append_assoc, arith, lt-ltb}
 use Rattle.std.specs.Option.{option_or}
 use Rattle.urlpattern_steps.proofs.OptionLemmas.{option_or-None}
@@ -10,12 +10,12 @@ use Rattle.urlpattern_meaning.specs.Matching.{is_same_character}
 abbrev pub Next : Type 0
 Next = List ℕ → Option Captures
 
--- what the first way gives that gives something
+-- The result of the first match that has one.
 abbrev pub tried : (Way → Option Captures) → List Way → Option Captures
 tried f [] = None
 tried f (way ∷ ways) = option_or (f way) (tried f ways)
 
--- the captures of a way, and then those of the rest
+-- The captures of a match, followed by those of the rest.
 abbrev pub before_next : Next → Way → Option Captures
 before_next next way = option_map (λ others. way.captures ++ others) (next way.rest)
 
@@ -54,7 +54,7 @@ tried-continued f next (x ∷ xs) =
     tried-append f (map (joined_way x) (next x.rest)) (continued next xs)
     ∙ ap₂ option_or (tried-map f (joined_way x) (next x.rest)) (tried-continued f next xs)
 
--- a way, and then what the ways of the rest give
+-- A match, followed by the results of the matches in the rest.
 tried-joined : (next : Next) (way : Way) (xs : List Way)
     → tried (λ more. before_next next (joined_way way more)) xs ≡ option_map (λ others. way.captures ++ others) (tried (before_next next) xs)
 tried-joined next way [] = refl
@@ -65,7 +65,7 @@ tried-joined next way (x ∷ xs) =
     (tried-joined next way xs)
     ∙ sym (option_map-or (λ others. way.captures ++ others) (before_next next x) (tried (before_next next) xs))
 
--- the ways of what follows are tried after each way
+-- The matches in the rest are tried after each match.
 pub tried-behind : (next : Next) (choice : Choice) (xs : List Way)
     → tried (before_next next) (continued choice xs) ≡ tried (before_next (λ rest. tried (before_next next) (choice rest))) xs
 tried-behind next choice xs =
@@ -80,18 +80,18 @@ tried-idle next text = option_or-None (before_next next (idle 0 text)) ∙ optio
 
 -- ---- loops of single characters
 
--- what is given, by the front, its captures and the rest
+-- The result, by the matched prefix, its captures and the rest.
 abbrev pub Given : Type 0
 Given = List ℕ → Captures → List ℕ → Option Captures
 
 abbrev pub given : Given → Way → Option Captures
 given h way = h way.taken way.captures way.rest
 
--- what is given where there are no captures
+-- The result without captures.
 abbrev pub bare : Given → Continuation
 bare h front rest = h front [] rest
 
--- the same after one character more
+-- The result after one more character.
 abbrev with_first : ℕ → Given → Given
 with_first c h taken captures rest = h (c ∷ taken) captures rest
 
@@ -102,7 +102,7 @@ module _ (ignore_case : Bool) (end : ℕ) where
   idle-given : (h : Given) (text : List ℕ) → tried (given h) (idle 0 text ∷ []) ≡ h [] [] text
   idle-given h text = option_or-None _
 
-  -- after one character the rounds that are left
+  -- The remaining rounds after one character.
   one_round : (h : Given) (c : ℕ) (text : List ℕ) (next : Choice)
       → tried (given h) (continued next (record { taken = c ∷ []; captures = []; rest = text } ∷ [])) ≡ tried (given (with_first c h)) (next text)
   one_round h c text next = tried-continued (given h) next (record { taken = c ∷ []; captures = []; rest = text } ∷ []) ∙ option_or-None (tried (given (with_first c h)) (next text))
@@ -138,7 +138,7 @@ module _ (ignore_case : Bool) (end : ℕ) where
           ∙ later
           ∙ ap (option_or (h (c ∷ []) [] text)) (shortest-first c h [] text))
 
-  -- a lazy loop
+  -- A lazy loop.
   pub lazy_loop : (h : Given) (text : List ℕ) → tried (given h) (looped false one text) ≡ shortest ignore_case end (bare h) [] text
   lazy_loop h [] = refl
   lazy_loop h (c ∷ text) = by (is_same_character ignore_case c end)
@@ -179,7 +179,7 @@ module _ (ignore_case : Bool) (end : ℕ) where
           ∙ longest-first c h [] text)
           (idle-given h (c ∷ text))
 
-  -- a greedy loop that may be missing
+  -- A greedy loop of any number of rounds.
   pub greedy_loop : (h : Given) (text : List ℕ) → tried (given h) (looped true one text ++ idle 0 text ∷ []) ≡ longest ignore_case end (bare h) [] text
   greedy_loop h [] = idle-given h []
   greedy_loop h (c ∷ text) =

@@ -1,4 +1,4 @@
--- What the ways of a tree give, one tried after the other, is what its steps capture.
+-- The first result among the matches of a tree is what its steps capture.
 use Rattle.std.proofs.Common.{◌≡◌, ℕ, ◌+◌, List, [], ◌∷◌, ◌++◌, map, length, replicate, Some, None, option_map, Bool, true, false, cond, ◌==◌, find, refl, sym, ap, ap₂, ◌∙◌, subst, append-nil, append_assoc, arith, ne_eqb}
 use Rattle.std.proofs.lemmas.Bool.{cond-false}
 use Rattle.std.specs.Option.{option_or}
@@ -20,17 +20,18 @@ use Rattle.urlpattern_meaning.specs.Matching.{is_same_character}
 
 -- ---- trees and atoms, and their steps
 
--- The ways of the tree lead on as its steps do, whatever steps follow. Where these are literal, the ways take their text.
+-- The matches of the tree have the results of its steps, whatever steps follow. If its steps are
+-- literal, the matches are those of their text.
 pub record Walks (ignore_case : Bool) (tree : Items) (steps : List Step) : Type 0 where
   pub count : group_count tree ≡ capture_count steps
   pub text : AreLiterals steps → Takes (ways_by ignore_case tree) (after_text ignore_case (literals steps))
   pub walks : (after : List Step) (text : List ℕ) → tried (before_next (walk ignore_case after)) (ways_by ignore_case tree text) ≡ walk ignore_case (steps ++ after) text
 
--- the same whether case counts or not
+-- `Walks`, whether case is ignored or not.
 abbrev pub EitherWalks : Items → List Step → Type 0
 EitherWalks tree steps = (ignore_case : Bool) → Walks ignore_case tree steps
 
--- The same of an atom.
+-- `Walks` of an atom.
 pub record AtomWalks (ignore_case : Bool) (atom : Atom) (steps : List Step) : Type 0 where
   pub count : atom_group_count atom ≡ capture_count steps
   pub text : AreLiterals steps → Takes (atom_ways_by ignore_case atom) (after_text ignore_case (literals steps))
@@ -50,7 +51,7 @@ pub walk_after-own : (ignore_case : Bool) (own after : List Step) (text : List �
 walk_after-own ignore_case [] after text = refl
 walk_after-own ignore_case (step ∷ own) after text = walk_after-own ignore_case own after text
 
--- ---- steps that are literal
+-- ---- literal steps
 
 literals_parts : (own others : List Step) → AreLiterals (own ++ others) → AreLiterals own × AreLiterals others
 literals_parts [] others plain = (tt, plain)
@@ -82,7 +83,7 @@ literals_uncaptured (Longest run ∷ steps) plain = absurd plain
 literals_uncaptured (Copies copies ∷ steps) plain = absurd plain
 literals_uncaptured (Segments segments ∷ steps) plain = absurd plain
 
--- the texts of both, one after the other
+-- The texts of both, concatenated.
 text_then : (ignore_case : Bool) (atom : Atom) (items : Items) (own others : List Step) → AtomWalks ignore_case atom own → Walks ignore_case items others → AreLiterals (own ++ others)
     → Takes (ways_by ignore_case (Item atom Once items)) (after_text ignore_case (literals (own ++ others)))
 text_then ignore_case atom items own others first next plain =
@@ -105,7 +106,7 @@ walks-nothing ignore_case = record { count = refl; text = λ plain. takes-nothin
 pub walks-inside : (ignore_case : Bool) (inner : Items) (steps : List Step) → Walks ignore_case inner steps → AtomWalks ignore_case (Grouped inner) steps
 walks-inside ignore_case inner steps walks = record { count = walks.count; text = walks.text; walks = walks.walks }
 
--- after the ways of an atom those of the items
+-- The matches of an atom are followed by those of the items.
 pub after_atom : (ignore_case : Bool) (items : Items) (steps : List Step) → Walks ignore_case items steps → (after : List Step) (front : List Way)
     → tried (before_next (walk ignore_case after)) (continued (ways_by ignore_case items) front) ≡ tried (before_next (walk ignore_case (steps ++ after))) front
 after_atom ignore_case items steps walks after front =
@@ -167,7 +168,7 @@ longest-same ignore_case end f g same front [] = same front []
 longest-same ignore_case end f g same front (c ∷ text) =
     ap₂ (λ o p. cond (is_same_character ignore_case c end) o p) (same front (c ∷ text)) (ap₂ option_or (longest-same ignore_case end f g same (front ++ c ∷ []) text) (same front (c ∷ text)))
 
--- a loop that is captured: by its front, captures and rest
+-- A captured loop, by its prefix, captures and rest.
 abbrev captured_loop : Next → Given
 captured_loop next taken captures rest =
     option_map (λ others. (Some (taken ++ []) ∷ (captures ++ [])) ++ others) (next rest)
@@ -179,7 +180,7 @@ captured_ways ignore_case next loop =
     ∙ tried-continued (λ way. before_next next (capturing way)) (ways_by ignore_case Nothing) loop
     ∙ tried-same _ (given (captured_loop next)) (λ way. option_or-None _) loop
 
--- the front of a loop as a capture
+-- The prefix of a loop as a capture.
 plain_capture : (next : Next) (front rest : List ℕ) → bare (captured_loop next) front rest ≡ captured_front next front rest
 plain_capture next front rest = ap (λ t. option_map (λ others. Some t ∷ others) (next rest)) (append-nil front)
 

@@ -1,4 +1,4 @@
--- Which steps the text of an expression is read as.
+-- How a regular expression is parsed into steps.
 use Rattle.std.specs.Prelude.{◌≡◌, ◌⊎◌, ℕ, Bool, true, false, length, List, [], ◌∷◌, ◌++◌, take, drop, codes, Option, Some, IfSome, IsSomeAnd}
 use Rattle.std.specs.Borrow.{Bor}
 use Rattle.std.specs.Global.{Global}
@@ -19,52 +19,53 @@ use Rattle.urlpattern_syntax.specs.Text.{is_among, line_feed, BeginsWith}
 
 -- ---- characters
 
--- the text begins with this character as it is written, by the rule, and the rest follows
+-- The text begins with a spelling of `c` that `Is` permits, followed by `rest`.
 abbrev pub BeginsWithCharacter : (Is : Character → Type 0) → (text : List ℕ) → (c : ℕ) → (rest : List ℕ) → Type 0
 BeginsWithCharacter Is text c rest =
     (character : Character) × Is character × (character_of character ≡ c) × (text ≡ character_text character ++ rest)
 
--- this is what was read at the front of a text, and the rest follows
+-- `read` has the value `it` and the remaining text `rest`.
 abbrev pub IsRead : {A : Type 0} → Option (A × Bor (List ℕ)) → A → (rest : List ℕ) → Type 0
 IsRead read it rest = IsSomeAnd read (λ found. (found.0 ≡ it) × (chars found.1.now ≡ rest))
 
--- this is left of a text, by what was read
+-- `read` has the remaining text `rest`.
 abbrev pub IsLeft : Option (Bor (List ℕ)) → (rest : List ℕ) → Type 0
 IsLeft read rest = IsSomeAnd read (λ remaining. chars remaining.now ≡ rest)
 
--- the text does not begin with a quantifier
+-- The text does not begin with a quantifier.
 abbrev pub IsUnquantified : List ℕ → Type 0
 IsUnquantified text = ¬ BeginsWith (is_among (codes "?*+")) text
 
 -- ---- steps
 
--- the atom is any one character but this
+-- The atom matches any one character except `c`.
 abbrev pub IsAllBut : ℕ → Atom → Type 0
 IsAllBut c Dot = c ≡ line_feed
 IsAllBut c (AnyBut character) = character_of character ≡ c
 IsAllBut c atom = ⊥
 
--- the items are one run of characters, none of them this: of any number, or of one or more that ends as early as it may
+-- The items are one run of characters without `end`: greedy and possibly empty, or lazy and not
+-- empty.
 abbrev pub IsRunOf : (end : ℕ) → (is_greedy : Bool) → Items → Type 0
 IsRunOf end true items = (end ≡ line_feed) × (items ≡ Item Dot ZeroOrMore Nothing)
 IsRunOf end false items = (one : Atom) × IsAllBut end one × (items ≡ Item one LazyOneOrMore Nothing)
 
--- the step of such a run that is captured
+-- The step of a captured run of this kind.
 abbrev pub IsRunStep : (end : ℕ) → (is_greedy : Bool) → Step → Type 0
 IsRunStep end true step = (end ≡ line_feed) × (step ≡ Anything)
 IsRunStep end false step = step ≡ Segment end
 
--- whichever run the step is of, it is found
+-- `found` is the run of the step, if the step is one of a run.
 abbrev pub FindsRun : Step → Option (ℕ × Bool) → Type 0
 FindsRun step found = (end : ℕ) (is_greedy : Bool) → IsRunStep end is_greedy step → IsSomeAnd found (λ run. (run.0 ≡ end) × (run.1 ≡ is_greedy))
 
--- whether such runs that are taken so often may take nothing
+-- Whether a repeated run may be empty.
 abbrev pub AllowsEmptyRun : (is_greedy : Bool) → Quantifier → (may_be_empty : Bool) → Type 0
 AllowsEmptyRun is_greedy ZeroOrMore may_be_empty = may_be_empty ≡ true
 AllowsEmptyRun is_greedy OneOrMore may_be_empty = may_be_empty ≡ is_greedy
 AllowsEmptyRun is_greedy quantifier may_be_empty = ⊥
 
--- the step takes what the atom takes
+-- The step matches what the atom matches.
 abbrev pub IsStepOf : Step → Atom → Type 0
 IsStepOf (Literal c) atom = (character : Character) × (character_of character ≡ c) × (atom ≡ dialect.Literal character)
 IsStepOf (Segment c) atom = (one : Atom) × IsAllBut c one × (atom ≡ Captured (Item one LazyOneOrMore Nothing))
@@ -76,50 +77,51 @@ IsStepOf (Longest run) atom =
 IsStepOf (Copies copies) atom = ⊥
 IsStepOf (Segments segments) atom = ⊥
 
--- the text is that of an atom that the step stands for
+-- The text spells an atom of the step.
 abbrev pub SpellsStep : Step → List ℕ → Type 0
 SpellsStep step text = (atom : Atom) × IsAtom atom × IsStepOf step atom × (text ≡ atom_text atom)
 
--- what a group captures stands at the front of the text, and the rest follows
+-- The text begins with the body of a capturing group of this step, followed by `rest`.
 abbrev pub BeginsWithCaptured : (text : List ℕ) → Step → (rest : List ℕ) → Type 0
 BeginsWithCaptured text step rest =
     (items : Items) × AreItems items × IsStepOf step (Captured items) × (text ≡ items_text items ++ rest)
 
--- whatever a group captures at the front of the text is read
+-- Each body of a capturing group that the text begins with is read.
 abbrev pub ReadsCaptured : (text : List ℕ) → Option (Step × Bor (List ℕ)) → Type 0
 ReadsCaptured text read = (step : Step) (rest : List ℕ) → BeginsWithCaptured text step rest → IsRead read step rest
 
--- whatever run stands at the front of the text is read
+-- Each run that the text begins with is read.
 abbrev pub ReadsRuns : (text : List ℕ) → Option (Step × Bor (List ℕ)) → Type 0
 ReadsRuns text read =
     (end : ℕ) (is_greedy : Bool) (step : Step) (rest : List ℕ) → IsRunStep end is_greedy step → BeginsWithCaptured text step rest → IsRead read step rest
 
--- the step stands for a group of what the run stands for, taken so often
+-- The step is that of a quantified group with the run as its body.
 abbrev pub IsRepeatOf : (run : Step) → Quantifier → (step : Step) → Type 0
 IsRepeatOf run quantifier step =
     (items : Items) → IsStepOf run (Captured items) → AllowsGroups quantifier (group_count items) × IsStepOf step (Captured (Item (Grouped items) quantifier Nothing))
 
--- whichever run it is, the step for such a group is made
+-- `made` is the step of a quantified group with the run as its body, for each kind of run.
 abbrev pub RepeatsRuns : (run : Step) → Quantifier → (made : Option Step) → Type 0
 RepeatsRuns run quantifier made =
     (end : ℕ) (is_greedy may_be_empty : Bool) → IsRunStep end is_greedy run → AllowsEmptyRun is_greedy quantifier may_be_empty
     → made ≡ Some (Longest (record { end = end; may_be_empty = may_be_empty }))
 
--- how often a group is taken, and how that is written
+-- The quantifier of a group.
 abbrev pub quantifier_of : Times → Quantifier
 quantifier_of times.Once = dialect.Once
 quantifier_of times.Optional = dialect.Optional
 quantifier_of times.ZeroOrMore = dialect.ZeroOrMore
 quantifier_of times.OneOrMore = dialect.OneOrMore
 
+-- The spelling of the quantifier of a group.
 abbrev pub times_text : Times → List ℕ
 times_text times = quantifier_text (quantifier_of times)
 
--- the text begins a group of runs with a text between each two, and the first run has ended
+-- The text begins separated runs: the first run and its closing parenthesis, up to the separator.
 abbrev pub BeginsSegments : (end : ℕ) → (is_greedy : Bool) → (text : List ℕ) → Type 0
 BeginsSegments end is_greedy text = (items : Items) × AreItems items × IsRunOf end is_greedy items × (text ≡ codes "((?:" ++ (items_text items ++ codes ")(?:"))
 
--- the text is that of the token
+-- The text spells the token.
 abbrev pub IsToken : Token → List ℕ → Type 0
 IsToken Open text = text ≡ codes "(?:"
 IsToken (Close times) text = text ≡ codes ")" ++ times_text times
@@ -127,15 +129,15 @@ IsToken (One step) text = SpellsStep step text
 IsToken (FirstSegment end is_greedy) text = BeginsSegments end is_greedy text
 IsToken (MaybeStep step) text = (front : List ℕ) × (capture_count (step ∷ []) ≡ 1) × SpellsStep step front × (text ≡ front ++ codes "?")
 
--- the token stands at the front of the text, and the rest follows
+-- The text begins with the token, followed by `rest`.
 abbrev pub BeginsWithRegexpToken : (text : List ℕ) → Token → (rest : List ℕ) → Type 0
 BeginsWithRegexpToken text token rest = (front : List ℕ) × IsToken token front × (text ≡ front ++ rest)
 
--- whatever token stands at the front of the text is read, where no quantifier follows
+-- Each token that the text begins with is read, if no quantifier follows it.
 abbrev pub ReadsRegexpTokens : (text : List ℕ) → Option (Token × Bor (List ℕ)) → Type 0
 ReadsRegexpTokens text read = (token : Token) (rest : List ℕ) → BeginsWithRegexpToken text token rest → IsUnquantified rest → IsRead read token rest
 
--- whatever first segment stands at the front of the text is read
+-- Each first of separated runs that the text begins with is read.
 abbrev pub ReadsFirstSegments : (text : List ℕ) → Option (Token × Bor (List ℕ)) → Type 0
 ReadsFirstSegments text read =
     (end : ℕ) (is_greedy : Bool) (rest : List ℕ) → BeginsWithRegexpToken text (FirstSegment end is_greedy) rest → IsRead read (FirstSegment end is_greedy) rest
@@ -147,34 +149,34 @@ AreLiterals [] = Unit {0}
 AreLiterals (Literal c ∷ steps) = AreLiterals steps
 AreLiterals (step ∷ steps) = ⊥
 
--- the steps are literal, and make up the text
+-- The steps are literal and spell the text.
 abbrev pub MakeUp : List Step → Stretch → Type 0
 MakeUp steps text = (others : List Step) × (steps ≡ Literal text.first ∷ others) × AreLiterals others × (text.others ≡ length others)
 
--- copies of the text that is made up of the steps
+-- `group` is the repeat of the literal that the steps spell.
 abbrev pub AreCopySteps : (may_be_missing : Bool) → (own group : List Step) → Type 0
 AreCopySteps may_be_missing own group =
     (c : ℕ) × (others : List Step) × (own ≡ Literal c ∷ others) × AreLiterals others
     × (group ≡ Copies (record { text = record { first = c; others = length others }; may_be_missing = may_be_missing }) ∷ others)
 
--- the steps of a group that is taken so often, by the steps within it, of which there are some
+-- The steps of a quantified group, by the steps of its body, which is not empty.
 abbrev pub IsSomeGroup : Times → (own group : List Step) → Type 0
 IsSomeGroup times.Once own group = group ≡ own
 IsSomeGroup times.Optional own group = group ≡ Maybe (record { steps = length own; captures = capture_count own }) ∷ own
 IsSomeGroup times.ZeroOrMore own group = AreCopySteps true own group
 IsSomeGroup times.OneOrMore own group = AreCopySteps false own group
 
--- the same where there may be none: then the group has none
+-- The steps of a quantified group, by the steps of its body; none if the body is empty.
 abbrev pub IsGroup : Times → (own group : List Step) → Type 0
 IsGroup times own group = ((own ≡ []) × (group ≡ [])) ⊎ IsSomeGroup times own group
 
--- the steps from the first on became such a group of them
+-- The steps from `first` on were replaced by a group of them.
 abbrev pub AreGrouped : (Is : (own group : List Step) → Type 0) → (first : ℕ) → (old new : Vec Step Global) → Type 0
 AreGrouped Is first old new = (group : List Step) × Is (drop first old.items) group × (new.items ≡ take first old.items ++ group)
 
 -- ---- segments
 
--- the characters as they are written, one after the other
+-- The spelling of the characters in turn.
 abbrev pub characters_text : List Character → List ℕ
 characters_text [] = []
 characters_text (character ∷ characters) = character_text character ++ characters_text characters
@@ -183,47 +185,51 @@ abbrev pub AreCharacters : List Character → Type 0
 AreCharacters [] = Unit {0}
 AreCharacters (character ∷ characters) = IsCharacter character × AreCharacters characters
 
+-- A literal step for each character.
 abbrev pub literal_steps : List Character → List Step
 literal_steps [] = []
 literal_steps (character ∷ characters) = Literal (character_of character) ∷ literal_steps characters
 
--- the steps of runs with these characters between each two
+-- The steps of runs separated by these characters.
 abbrev pub AreSegments : (end : ℕ) → (is_greedy : Bool) → List Character → (own : List Step) → Type 0
 AreSegments end is_greedy characters own =
     (c : ℕ) × (others : List Step) × (literal_steps characters ≡ Literal c ∷ others)
     × (own ≡ Segments (record { separator = record { first = c; others = length others }; end = end; is_greedy = is_greedy }) ∷ others)
 
--- the run that is the last, the closing brackets, and the rest
+-- The last of separated runs, the closing parentheses, and the rest.
 abbrev pub last_text : Items → (rest : List ℕ) → List ℕ
 last_text items rest = codes "(?:" ++ (items_text items ++ (codes "))*)" ++ rest))
 
--- the text begins with the last run of segments and what closes these, and the rest follows
+-- The text begins with the last of separated runs and the closing parentheses, followed by `rest`.
 abbrev pub ClosesSegments : (end : ℕ) → (is_greedy : Bool) → (text rest : List ℕ) → Type 0
 ClosesSegments end is_greedy text rest = (items : Items) × AreItems items × IsRunOf end is_greedy items × (text ≡ last_text items rest)
 
--- wherever the text does, that rest is left
+-- `read` has each rest that follows a last run and the closing parentheses at the start of the
+-- text.
 abbrev pub ReadsLast : (end : ℕ) → (is_greedy : Bool) → (text : List ℕ) → Option (Bor (List ℕ)) → Type 0
 ReadsLast end is_greedy text read =
     (items : Items) (rest : List ℕ) → AreItems items → IsRunOf end is_greedy items → text ≡ last_text items rest → IsLeft read rest
 
--- the text ends such a group with these steps: the characters between two runs, a run and the closing brackets; and the rest follows
+-- The text begins with the remainder of separated runs with these steps, followed by `rest`: the
+-- separator, the last run and the closing parentheses.
 abbrev pub EndsSegments : (end : ℕ) → (is_greedy : Bool) → (own : List Step) → (text rest : List ℕ) → Type 0
 EndsSegments end is_greedy own text rest =
     (characters : List Character) × (items : Items) × AreCharacters characters × AreItems items × IsRunOf end is_greedy items × AreSegments end is_greedy characters own
     × (text ≡ characters_text characters ++ last_text items rest)
 
--- the steps of segments that the text ends were added to others, if a rest is left
+-- If a rest is left, the steps of the separated runs before it were added.
 abbrev pub AddsSegments : (end : ℕ) → (is_greedy : Bool) → (old new : Vec Step Global) → (text : List ℕ) → (left : Option (Bor (List ℕ))) → Type 0
 AddsSegments end is_greedy old new text left =
     IfSome left (λ rest. (own : List Step) × EndsSegments end is_greedy own text (chars rest.now) × (new.items ≡ old.items ++ own))
 
--- whatever steps of segments the text ends, their rest is left
+-- `read` has each rest that follows a remainder of separated runs at the start of the text.
 abbrev pub ReadsSegments : (end : ℕ) → (is_greedy : Bool) → (text : List ℕ) → Option (Bor (List ℕ)) → Type 0
 ReadsSegments end is_greedy text read = (own : List Step) (rest : List ℕ) → EndsSegments end is_greedy own text rest → IsLeft read rest
 
 -- ---- expressions
 
--- The text is an expression of the dialect, and what these steps capture of any text is its first way, whether case counts or not.
+-- The text is an expression of the dialect, and on each text the steps capture what a backtracking
+-- engine finds first, whether case is ignored or not.
 pub record AreStepsOf (regexp : List ℕ) (steps : List Step) : Type 0 where
   pub tree : Items
   pub is_tree : IsTreeOf regexp tree

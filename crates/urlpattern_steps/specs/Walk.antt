@@ -1,4 +1,4 @@
--- What the steps of an expression capture of a text.
+-- What the steps of an expression capture in a text.
 use Rattle.std.specs.Prelude.{◌≡◌, ℕ, zero, suc, Bool, false, ◌==◌, length, List, [], ◌∷◌, ◌++◌, get_or, replicate, take, Option, Some, None, option_map, if◌then◌else◌}
 use Rattle.std.specs.Option.{option_or}
 use Rattle.std.specs.Str.{IsUtf8, chars}
@@ -9,133 +9,141 @@ use Rattle.urlpattern_meaning.specs.PartMeaning.{Captures}
 use Rattle.urlpattern_syntax.specs.Text.{line_feed}
 use Rattle.urlpattern_meaning.specs.Matching.{IsSame, is_same_character}
 
--- ---- texts that are compared
+-- ---- prefixes and suffixes
 
--- the text begins with these characters, as they are compared, and the rest follows
+-- The text begins with the characters, up to ASCII case if it is ignored, followed by `rest`.
 abbrev pub BeginsAs : (ignore_case : Bool) → (characters text rest : List ℕ) → Type 0
 BeginsAs ignore_case characters text rest = (front : List ℕ) × (text ≡ front ++ rest) × IsSame ignore_case front characters
 
--- the front is the text without its last n characters
+-- `front` is the text without its last n characters.
 abbrev pub IsWithoutLast : (n : ℕ) → (text front : List ℕ) → Type 0
 IsWithoutLast n text front = (end : List ℕ) × IsUtf8 end × (text ≡ front ++ end) × (length (chars end) ≡ n)
 
--- ---- fronts without a character
+-- ---- runs of characters
 
--- where a run that goes on with the first character ends; there it does not go on with this character
+-- The end of a run that continues with the first character; None if this is `end`, or there is
+-- none.
 abbrev pub going_on : (ignore_case : Bool) (end : ℕ) → (later : Option ℕ) → (text : List ℕ) → Option ℕ
 going_on ignore_case end later [] = None
 going_on ignore_case end later (c ∷ text) = if is_same_character ignore_case c end then None else later
 
--- the text up to the first such character
+-- The text before the first occurrence of the character.
 abbrev pub up_to_first : (ignore_case : Bool) → ℕ → List ℕ → List ℕ
 up_to_first ignore_case c [] = []
 up_to_first ignore_case c (other ∷ text) = if is_same_character ignore_case other c then [] else other ∷ up_to_first ignore_case c text
 
--- the text from the first such character on
+-- The text from the first occurrence of the character on.
 abbrev pub from_first : (ignore_case : Bool) → ℕ → List ℕ → List ℕ
 from_first ignore_case c [] = []
 from_first ignore_case c (other ∷ text) = if is_same_character ignore_case other c then other ∷ text else from_first ignore_case c text
 
--- what a front of a text and the rest give; None where they give nothing
+-- The captures after a prefix of a text, by the prefix and the rest. None: no match.
 abbrev pub Continuation : Type 0
 Continuation = (front rest : List ℕ) → Option Captures
 
--- what the shortest front gives that gives something: it has one character or more of the text, none of them `end`
+-- A lazy repeat of characters other than `end`, one or more: the result of the shortest that has
+-- one.
 abbrev pub shortest : (ignore_case : Bool) (end : ℕ) → Continuation → (front text : List ℕ) → Option Captures
 shortest ignore_case end gives front [] = None
 shortest ignore_case end gives front (c ∷ text) = if is_same_character ignore_case c end then None else option_or (gives (front ++ c ∷ []) text) (shortest ignore_case end gives (front ++ c ∷ []) text)
 
--- what the longest front gives that gives something: it has any number of characters of the text, none of them `end`
+-- A greedy repeat of characters other than `end`, any number: the result of the longest that has
+-- one.
 abbrev pub longest : (ignore_case : Bool) (end : ℕ) → Continuation → (front text : List ℕ) → Option Captures
 longest ignore_case end gives front [] = gives front []
 longest ignore_case end gives front (c ∷ text) = if is_same_character ignore_case c end then gives front (c ∷ text) else option_or (longest ignore_case end gives (front ++ c ∷ []) text) (gives front (c ∷ text))
 
--- the same where it has one character or more
+-- A greedy repeat of characters other than `end`, one or more.
 abbrev pub longest_some : (ignore_case : Bool) (end : ℕ) → Continuation → (front text : List ℕ) → Option Captures
 longest_some ignore_case end gives front [] = None
 longest_some ignore_case end gives front (c ∷ text) = if is_same_character ignore_case c end then None else longest ignore_case end gives (front ++ c ∷ []) text
 
+-- A greedy repeat of characters other than `end`, any number, or one or more.
 abbrev pub longest_run : (ignore_case : Bool) (may_be_empty : Bool) → (end : ℕ) → Continuation → Continuation
 longest_run ignore_case may_be_empty end = if may_be_empty then longest ignore_case end else longest_some ignore_case end
 
--- ---- rounds
+-- ---- repeats
 
--- what is given after this text, which the front goes on with
+-- The result after a literal, which is added to the prefix.
 abbrev pub after_text : (ignore_case : Bool) → List ℕ → Continuation → Continuation
 after_text ignore_case [] gives front text = gives front text
 after_text ignore_case (c ∷ characters) gives front [] = None
 after_text ignore_case (c ∷ characters) gives front (other ∷ text) = if is_same_character ignore_case other c then after_text ignore_case characters gives (front ++ other ∷ []) text else None
 
--- what is given after as many rounds as lead on, but no more than n
+-- A greedy repeat: the result after as many rounds as have one, at most n.
 abbrev pub rounds : (round : Continuation → Continuation) → (n : ℕ) → Continuation → Continuation
 rounds round zero gives front text = gives front text
 rounds round (suc n) gives front text = option_or (round (rounds round n gives) front text) (gives front text)
 
--- the same after any number of rounds: no more than there are characters, since each round takes one or more
+-- A greedy repeat of any number of rounds, at most one for each character, since each round matches
+-- one or more.
 abbrev pub any_rounds : (round : Continuation → Continuation) → Continuation → Continuation
 any_rounds round gives front text = rounds round (length text) gives front text
 
--- the same after one round or more
+-- A greedy repeat of one or more rounds.
 abbrev pub some_rounds : (round : Continuation → Continuation) → Continuation → Continuation
 some_rounds round gives front text = round (any_rounds round gives) front text
 
+-- A greedy repeat of any number of rounds, or of one or more.
 abbrev pub repeated : (may_be_missing : Bool) → (round : Continuation → Continuation) → Continuation → Continuation
 repeated may_be_missing round = if may_be_missing then any_rounds round else some_rounds round
 
--- what is given after a run: of any number of characters, as long as it may be, or of one or more, as short as it may be
+-- A run: greedy, of any number of characters, or lazy, of one or more.
 abbrev pub single_run : (ignore_case : Bool) (is_greedy : Bool) → (end : ℕ) → Continuation → Continuation
 single_run ignore_case is_greedy end = if is_greedy then longest ignore_case end else shortest ignore_case end
 
--- the same after a text and a run
+-- A separator and a run.
 abbrev pub after_separator : (ignore_case : Bool) (separator : List ℕ) → (single : Continuation → Continuation) → Continuation → Continuation
 after_separator ignore_case separator single gives front text = after_text ignore_case separator (single gives) front text
 
--- the same after a run and as many more as lead on, each after the text
+-- Separated runs: a run, and as many more as have a result, each after the separator.
 abbrev pub segmented : (ignore_case : Bool) (separator : List ℕ) → (single : Continuation → Continuation) → Continuation → Continuation
 segmented ignore_case separator single gives front text = single (any_rounds (after_separator ignore_case separator single) gives) front text
 
--- ---- texts
+-- ---- literals
 
--- the characters of the literal steps
+-- The characters of the literal steps.
 abbrev pub literals : List Step → List ℕ
 literals [] = []
 literals (Literal c ∷ steps) = c ∷ literals steps
 literals (step ∷ steps) = literals steps
 
--- the first character and those of the literal steps
+-- The first character and those of the literal steps.
 abbrev pub literal_text : (first : ℕ) → (literal : List Step) → List ℕ
 literal_text first literal = first ∷ literals literal
 
--- texts one after the other, of which the last is the first of the list
+-- The concatenation of the texts, from the last of the list to the first.
 abbrev pub in_turn : List (List ℕ) → List ℕ
 in_turn [] = []
 in_turn (last ∷ texts) = in_turn texts ++ last
 
--- each of them is a copy of the text, as they are compared
+-- Each text is a copy of `copy`, up to ASCII case if it is ignored.
 abbrev pub AreCopiesOf : (ignore_case : Bool) → (copy : List ℕ) → List (List ℕ) → Type 0
 AreCopiesOf ignore_case copy [] = Unit {0}
 AreCopiesOf ignore_case copy (last ∷ texts) = IsSame ignore_case last copy × AreCopiesOf ignore_case copy texts
 
--- the text begins with copies of that one, as they are compared, and the rest follows
+-- The text begins with copies of `copy`, up to ASCII case if it is ignored, followed by `rest`.
 abbrev pub BeginsWithCopies : (ignore_case : Bool) → (copy text rest : List ℕ) → Type 0
 BeginsWithCopies ignore_case copy text rest = (copies : List (List ℕ)) × (text ≡ in_turn copies ++ rest) × AreCopiesOf ignore_case copy copies
 
--- the entry is that for what follows these characters in the text, if the table has one for each shorter end of it
+-- `entry` is that for the rest after these characters, if the table has an entry for each shorter
+-- suffix of the text.
 abbrev pub IsEntryForRest : (ignore_case : Bool) → (characters text : List ℕ) → (table : List (Option ℕ)) → (entry : Option ℕ) → Type 0
 IsEntryForRest ignore_case characters text table entry =
     (rest : List ℕ) → BeginsAs ignore_case characters text rest → length table ≡ length text → entry ≡ get_or table (length rest) None
 
--- the text that is made up of these steps
+-- The text of a literal, by the steps that have its other characters.
 abbrev pub stretch_text : Stretch → List Step → List ℕ
 stretch_text stretch steps = literal_text stretch.first (take stretch.others steps)
 
 -- ---- steps
 
--- the front is captured, and then what is captured of the rest
+-- The prefix as a capture, followed by the captures in the rest.
 abbrev pub captured_front : (next : List ℕ → Option Captures) → Continuation
 captured_front next front rest = option_map (λ others. Some front ∷ others) (next rest)
 
--- what the steps after the first so many capture, one after the other, of a text that they take whole; None where they do not
+-- The captures of the steps after the first `passed`, in order, if they match the whole text. None:
+-- no match.
 abbrev pub walk_after : (ignore_case : Bool) → ℕ → List Step → List ℕ → Option Captures
 walk_after ignore_case passed [] [] = Some []
 walk_after ignore_case passed [] (c ∷ text) = None
@@ -152,14 +160,16 @@ walk_after ignore_case zero (Copies copies ∷ steps) text =
 walk_after ignore_case zero (Segments segments ∷ steps) text =
     segmented ignore_case (stretch_text segments.separator steps) (single_run ignore_case segments.is_greedy segments.end) (captured_front (walk_after ignore_case segments.separator.others steps)) [] text
 
+-- The captures of the steps, if they match the whole text. None: no match.
 abbrev pub walk : (ignore_case : Bool) → List Step → List ℕ → Option Captures
 walk ignore_case steps text = walk_after ignore_case zero steps text
 
--- what the other steps capture after as many copies as lead on, of the first character and those of the literal steps
+-- The captures of the other steps after as many copies as have a match, of the first character and
+-- those of the literal steps.
 abbrev pub walk_copies : (ignore_case : Bool) (first : ℕ) → (literal others : List Step) → List ℕ → Option Captures
 walk_copies ignore_case first literal others text = any_rounds (after_text ignore_case (literal_text first literal)) (λ front rest. walk ignore_case others rest) [] text
 
--- how many of the steps capture
+-- The number of steps that capture.
 abbrev pub capture_count : List Step → ℕ
 capture_count [] = 0
 capture_count (Literal c ∷ steps) = capture_count steps
@@ -170,6 +180,7 @@ capture_count (Longest run ∷ steps) = suc (capture_count steps)
 capture_count (Copies copies ∷ steps) = capture_count steps
 capture_count (Segments segments ∷ steps) = suc (capture_count steps)
 
--- the steps take no text that begins with another character than this, whether case counts or not
+-- The steps match no text that begins with a character other than `end`, whether case is ignored or
+-- not.
 abbrev pub StopAt : (end : ℕ) → List Step → Type 0
 StopAt end steps = (ignore_case : Bool) (c : ℕ) (rest : List ℕ) → is_same_character ignore_case c end ≡ false → walk ignore_case steps (c ∷ rest) ≡ None

@@ -1,4 +1,4 @@
-//! Matches a text by steps and a table of the ends of the text that they take.
+//! Matches a text without backtracking, by a table of the suffixes that steps match.
 
 ghost use Rattle.std.specs.Prelude.{◌≡◌, ◌∷◌, ◌++◌, [], None, Some, IfNone, IfOk, IfSome, OnOk, if◌then◌else◌};
 ghost use Rattle.std.specs.Str.{chars};
@@ -17,11 +17,9 @@ use crate::walk::add_missing;
 use std::alloc::Global;
 use urlpattern_syntax::error::OutOfMemory;
 
-/// What the steps capture of a text that they take whole. `None`: they do not take it whole.
+/// Returns the captures of the steps, if they match the whole text. `None`: no match.
 ///
-/// No choice is tried: a table has which ends of the text the ends of the steps take.
-///
-/// The error is that memory ran out.
+/// No choice is tried: a table has the suffixes of the text that each suffix of the steps matches.
 pub fn walk_by_table<'t>(
     alloc: Global,
     steps: &[Step],
@@ -70,9 +68,8 @@ pub fn walk_by_table<'t>(
     }
 }
 
-/// The steps that take the text, where the first is a group that may be missing: those of the group, or else those after it, and
-/// its captures are added as missing.
-///
+/// Returns the steps to match next: those of an optional group, if they and the steps after them
+/// match the text, and otherwise the steps after the group, whose captures are added as `None`.
 /// The error is that memory ran out.
 fn choose_group<'s>(
     captures: &mut Vec<Option<&str>>,
@@ -91,12 +88,10 @@ fn choose_group<'s>(
     Ok(pass(others, group.steps))
 }
 
-/// What is left of a text after the front that a step takes of it. If the step captures, the front is added. `None`: the step and
-/// the others do not take the text.
+/// Matches a step and returns the rest of the text. If the step captures, its prefix is added.
+/// `None`: the step and the others do not match the text.
 ///
-/// The row is that for the steps after those of this step.
-///
-/// The error is that memory ran out.
+/// `row` is the row of the steps after those of `step`.
 fn take_front<'t>(
     alloc: Global,
     captures: &mut Vec<Option<&'t str>>,
@@ -120,9 +115,7 @@ fn take_front<'t>(
     Ok(Some(rest))
 }
 
-/// Adds the front, if the step captures.
-///
-/// The error is that memory ran out.
+/// Adds the prefix to the captures, if the step captures.
 fn add_front<'t>(
     captures: &mut Vec<Option<&'t str>>,
     step: Step,

@@ -1,9 +1,9 @@
-//! How many choices the steps of an expression leave.
+//! Chooses between backtracking and a table, by the steps of an expression.
 
 use crate::step::Step;
 use crate::stops::stop_at;
 
-/// When the states of a match that failed are remembered.
+/// When the failed states of a match are memoized.
 #[derive(Clone, Copy)]
 pub enum Remembered {
     Never,
@@ -11,11 +11,11 @@ pub enum Remembered {
     Always,
 }
 
-/// How many bytes a text has at most that is not long.
+/// The greatest length in bytes of a short text.
 const SHORT_LENGTH: usize = 256;
 
 impl Remembered {
-    /// Whether they are remembered in a match of this text.
+    /// Whether failed states are memoized in a match of this text.
     pub fn is_for(self, text: &str) -> bool {
         match self {
             Remembered::Never => false,
@@ -25,14 +25,14 @@ impl Remembered {
     }
 }
 
-/// How many groups may be missing in an expression that leaves few choices.
+/// The number of optional groups up to which failed states need no memoization.
 const MAYBE_COUNT: usize = 4;
 
-/// When the states that failed are to be remembered in a match by these steps.
+/// Returns when failed states are memoized in a match by these steps.
 ///
-/// They need not be where at most one captured run may end at several places, and few groups may be missing: then a state is
-/// tried again a few times at most. If another run follows, that one is read again after each end of the first, which takes long
-/// only in a long text.
+/// Where at most one repeat can end at several places and few groups are optional, no state is
+/// tried more than a few times, and none is memoized. A further repeat with a single end is matched
+/// again after each end of the first, which is slow only in a long text.
 fn when_remembered(steps: &[Step]) -> Remembered {
     let mut remembered = Remembered::Never;
     let mut is_chosen = false;
@@ -66,7 +66,7 @@ fn when_remembered(steps: &[Step]) -> Remembered {
     }
 }
 
-/// Whether what the step takes may end at several places before the other steps.
+/// Whether the step is a repeat that may have several ends to try.
 fn has_choice(step: &Step, others: &[Step]) -> bool {
     match step {
         Step::Segment(end) => !stop_at(others, *end),
@@ -76,18 +76,19 @@ fn has_choice(step: &Step, others: &[Step]) -> bool {
     }
 }
 
-/// How a text is matched by steps.
+/// How steps match a text.
 #[derive(Clone, Copy)]
 pub enum Strategy {
-    /// Choices are tried one after the other.
+    /// By backtracking.
     ByChoices(Remembered),
-    /// A table says which choice leads on.
+    /// By a table of the suffixes of the text that each suffix of the steps matches.
     ByTable,
 }
 
-/// How a text is matched by these steps.
+/// Returns the strategy for these steps.
 ///
-/// Choices are tried where they are few, so that little of the stack is needed, and no repeated group is begun at many places.
+/// Backtracking is for steps with few choices, so that little stack is needed, and for repeated
+/// groups that are not tried at many places of a text.
 pub fn strategy_of(steps: &[Step]) -> Strategy {
     if is_shallow(steps) && begin_with_repeats(steps) {
         Strategy::ByChoices(when_remembered(steps))
@@ -96,8 +97,8 @@ pub fn strategy_of(steps: &[Step]) -> Strategy {
     }
 }
 
-/// Whether the repeated groups among the steps come before each other choice, so that none of them is begun at many places of a
-/// text.
+/// Whether no step with a choice comes before a repeated group, so that no group is tried at many
+/// places of a text.
 fn begin_with_repeats(steps: &[Step]) -> bool {
     let mut is_chosen = false;
     let mut rest = steps;
@@ -112,10 +113,11 @@ fn begin_with_repeats(steps: &[Step]) -> bool {
     true
 }
 
-/// How many steps with a choice there are at most where choices are tried. Each may be a call within a call.
+/// The number of steps other than literals up to which backtracking needs little stack. Each may be
+/// a nested call.
 const CHOICE_COUNT: usize = 1000;
 
-/// Whether so few of the steps may have a choice that trying them needs little of the stack.
+/// Whether backtracking over the steps needs little stack.
 fn is_shallow(steps: &[Step]) -> bool {
     let choices = steps
         .iter()
@@ -123,7 +125,7 @@ fn is_shallow(steps: &[Step]) -> bool {
     choices.count() <= CHOICE_COUNT || !leave_choices(steps)
 }
 
-/// Whether some step has a choice, or may be missing.
+/// Whether some step has a choice of ends, or is an optional group.
 fn leave_choices(steps: &[Step]) -> bool {
     let mut rest = steps;
     while let Some((step, others)) = rest.split_first() {

@@ -1,4 +1,4 @@
-//! States of a match from which no way leads on.
+//! Memoization of the failed states of a match.
 
 ghost use Rattle.std.specs.Prelude.{◌≡◌, ◌⊎◌, ℕ, false, IfOk, IfSome, IsTrue};
 ghost use Rattle.std.specs.Str.{chars};
@@ -8,15 +8,15 @@ use crate::step::Step;
 use std::alloc::{AllocError, Global};
 use std::marker::Model;
 
-/// States of a match in which the steps that are left are known not to take the text that is left.
+/// Failed states of a match, memoized: remaining steps that do not match the remaining text.
 ///
-/// Its value is the match: which states it remembers has no part in what is answered, only in how fast.
+/// In contracts the value is the match alone. Memoized states change no result, only the time.
 #[derive(Drop)]
 pub struct Failed<'s, 't> {
     ignore_case: bool,
     steps: &'s [Step],
     text: &'t str,
-    /// One bit for each state, or none.
+    /// A bit for each state; empty without memoization.
     bits: Vec<u64>,
 }
 
@@ -32,7 +32,7 @@ impl<'s, 't> Model for Failed<'s, 't> {
 }
 
 impl<'s, 't> Failed<'s, 't> {
-    /// No state, and room for each, if there is to be room.
+    /// Creates a memo without states, with room for all of them if `has_room`.
     pub fn new(
         alloc: Global,
         steps: &'s [Step],
@@ -51,12 +51,12 @@ impl<'s, 't> Failed<'s, 't> {
         })
     }
 
-    /// Whether there is room for states.
+    /// Whether states are memoized.
     pub fn has_room(&self) -> bool {
         !self.bits.is_empty()
     }
 
-    /// Whether the state is remembered.
+    /// Whether the state is memoized as failed.
     pub fn contains(&self, steps: &[Step], text: &str) -> bool
         ensures { RemembersDead self.now steps.now (chars text.now) result }
     {
@@ -69,7 +69,7 @@ impl<'s, 't> Failed<'s, 't> {
         }
     }
 
-    /// Remembers the state, if there is room.
+    /// Memoizes a failed state, if there is room.
     pub fn insert(&mut self, steps: &[Step], text: &str)
         requires { IsDeadState self.old steps.now (chars text.now) }
         ensures { self.new ≡ self.old }
@@ -83,7 +83,7 @@ impl<'s, 't> Failed<'s, 't> {
     }
 }
 
-/// The bit for a state.
+/// The index of the bit of a state.
 fn bit_of(whole: &str, steps: &[Step], text: &str) -> Option<usize>
     ensures { IfSome result (λ bit. bit ≡ bit_of (chars whole.now) steps.now (chars text.now)) }
 {
@@ -91,7 +91,7 @@ fn bit_of(whole: &str, steps: &[Step], text: &str) -> Option<usize>
     row.checked_add(text.len())
 }
 
-/// How many words have a bit for each state.
+/// The number of words that have a bit for each state.
 fn words(steps: &[Step], text: &str) -> usize {
     let rows = steps.len().saturating_add(1);
     rows.saturating_mul(text.len().saturating_add(1)) / 64 + 1
@@ -105,7 +105,7 @@ fn has_bit(bits: &[u64], bit: usize) -> bool
     word < bits.len() && (bits[word] >> (bit % 64)) & 1 == 1
 }
 
-/// Sets the bit, if it is there.
+/// Sets the bit, if it is in range.
 fn set_bit(bits: &mut [u64], bit: usize)
     ensures { (other : ℕ) → HasBit bits.new other → HasBit bits.old other ⊎ (other ≡ bit) }
 {

@@ -1,4 +1,4 @@
-//! The front of a text that a step takes, found from the end of the text to its front.
+//! The prefix of a text that a step matches, found from the end of the text on.
 
 ghost use Rattle.std.specs.Prelude.{◌≡◌, ◌∷◌, Option, Some, None, length, option_map, take, IfOk, if◌then◌else◌};
 ghost use Rattle.std.specs.Str.{chars};
@@ -12,20 +12,19 @@ use crate::texts::{after_front, without_last};
 use std::alloc::Global;
 use urlpattern_syntax::error::OutOfMemory;
 
-/// Which ends of a text a step and the others take, and what the step takes of the whole.
+/// The row of a step and the others, and the prefix that the step matches.
 #[derive(Drop)]
 pub struct Front {
-    /// Whether they take it, for each end of the text, from the shortest on.
+    /// For each suffix of the text, from the shortest, whether the steps match it.
     pub row: Vec<bool>,
-    /// Where the front of the text ends that the step takes, by the bytes before. `None`: they do not take the text.
+    /// The length in bytes of the prefix that the step matches. `None`: the steps do not match the
+    /// text.
     pub end: Option<usize>,
 }
 
-/// The front of a text that a step takes, so that the others take the rest: the first that they do, in the order of preference.
+/// Finds the preferred prefix that `step` matches and after which the other steps match the rest.
 ///
-/// The row says which ends of the text the steps after those of this step take.
-///
-/// The error is that memory ran out.
+/// `row_after` is the row of the steps after those of `step`.
 pub fn front_of(
     alloc: Global,
     step: Step,
@@ -64,7 +63,7 @@ pub fn front_of(
     }
 }
 
-/// The text that a step takes again and again, or once.
+/// The literal that a step matches, repeats, or has as a separator.
 fn stretch_of(step: Step) -> Option<Stretch>
     ensures { result ≡ stretch_of step }
 {
@@ -79,7 +78,7 @@ fn stretch_of(step: Step) -> Option<Stretch>
     }
 }
 
-/// How many of the steps after a step are of its text.
+/// The number of following steps that belong to the literal of a step.
 fn own_count(step: Step) -> usize
     ensures { result ≡ own_count (stretch_of step) }
 {
@@ -89,21 +88,21 @@ fn own_count(step: Step) -> usize
     }
 }
 
-/// The steps of the text of a step.
+/// The following steps that belong to the literal of a step.
 fn own_steps(step: Step, others: &[Step]) -> &[Step]
     ensures { result.now ≡ take (own_count (stretch_of step)) others.now }
 {
     first_steps(others, own_count(step))
 }
 
-/// The steps after those of a step.
+/// The steps after a step and the steps of its literal.
 pub fn following(step: Step, others: &[Step]) -> &[Step]
     ensures { result.now ≡ following step others.now }
 {
     pass(others, own_count(step))
 }
 
-/// The character at which a run ends.
+/// The character that ends a run of the step.
 fn end_of(step: Step) -> char
     ensures { result ≡ run_end step }
 {
@@ -115,7 +114,7 @@ fn end_of(step: Step) -> char
     }
 }
 
-/// Whether a step captures what it takes.
+/// Whether a step captures.
 pub fn is_capture(step: Step) -> bool
     ensures { result ≡ is_capture step }
 {
@@ -125,8 +124,10 @@ pub fn is_capture(step: Step) -> bool
     }
 }
 
-/// What the entries have for what follows the text of a step, if it stands at the front of a text. They are one for each end of the
-/// text that has fewer characters, from the shortest on.
+/// Looks up the rest of the text after the literal of a step. `None`: the text does not begin with
+/// the literal, or the entry is `None`.
+///
+/// `entries` has an entry for each shorter suffix of the text, from the shortest.
 fn entry_after(
     entries: &[Option<usize>],
     stretch: Option<Stretch>,
@@ -143,14 +144,14 @@ fn entry_after(
     }
 }
 
-/// The end here, where the row has the rest.
+/// Returns `here`, if the row has the suffix of `rest` characters.
 fn end_here(row: &[bool], rest: usize, here: usize) -> Option<usize>
     ensures { result ≡ (if has row.now rest then Some here else None) }
 {
     if has(row, rest) { Some(here) } else { None }
 }
 
-/// Whether the row has the end of a text with so many characters.
+/// Whether the row has the suffix of `count` characters.
 pub fn has(row: &[bool], count: usize) -> bool
     ensures { result ≡ has row.now count }
 {
@@ -160,18 +161,19 @@ pub fn has(row: &[bool], count: usize) -> bool
     }
 }
 
-/// Where a front ends.
+/// The end of the prefix that a step matches, by the state of the step.
 #[derive(Clone, Copy)]
 struct Ends {
-    /// If the text of the step was taken just before.
+    /// After the literal of the step.
     begun: Option<usize>,
-    /// If a run has begun.
+    /// Within a run.
     later: Option<usize>,
-    /// If nothing was taken yet.
+    /// At the beginning of the step.
     whole: Option<usize>,
 }
 
-/// Where a front ends, by where it ends after the text of the step, where it may end here, and where it ends if a run goes on.
+/// The ends, from the end after the literal of the step, the end at this place, and the end if a
+/// run continues.
 fn ends_of(step: Step, next: Option<usize>, here: Option<usize>, onward: Option<usize>) -> Ends
     ensures begun { result.begun ≡ begun_of step next here onward }
     ensures later { result.later ≡ later_of step next here onward }

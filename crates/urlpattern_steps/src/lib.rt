@@ -1,8 +1,8 @@
-//! Matches expressions of texts and groups as patterns have them, step by step.
+//! Matchers for the regular expressions that patterns generate.
 //!
-//! An expression is read as steps: texts and their copies, groups that capture a run of characters
-//! or such runs with a text between each two, and groups that may be missing. The steps match a
-//! text whole or not at all, and capture what the first way captures.
+//! An expression is parsed into steps: literals, repeated literals, captured runs of characters,
+//! captured runs joined by a separator, and optional groups. The steps match a whole text or
+//! nothing, and capture what a backtracking engine finds first.
 #![tactic(auto)]
 
 mod by_table;

@@ -1,4 +1,4 @@
-//! Reads the text of an expression as steps.
+//! Parses a regular expression into steps.
 
 ghost use Rattle.std.specs.Prelude.{◌≡◌, ◌↔◌, ◌∷◌, ℕ, ◌<◌, ◌≤◌, List, length, drop, codes, IfNone, IfOk, IfSome, IsTrue};
 ghost use Rattle.std.specs.Str.{chars};
@@ -13,7 +13,8 @@ use crate::tokens::{
 };
 use std::alloc::{AllocError, Global};
 
-/// The steps of an expression. `None`: it is not generated of parts of which none is custom.
+/// Parses an expression into steps. `None`: the expression is not generated from parts without
+/// custom expressions.
 pub fn read_steps(alloc: Global, regexp: &str) -> Result<Option<Vec<Step>>, AllocError>
     ensures steps { IfOk result (λ read. IfSome read (λ steps. AreStepsOf (chars regexp.now) steps.items)) }
     ensures none { IfOk result (λ read. IfNone read (¬ IsGenerated (chars regexp.now))) }
@@ -60,8 +61,8 @@ pub fn read_steps(alloc: Global, regexp: &str) -> Result<Option<Vec<Step>>, Allo
     }
 }
 
-/// Makes the steps from the first on the group of them that is taken so often, and adds none to none. Whether there is such a
-/// group.
+/// Applies a quantifier to the group of the steps from `first` on; an empty group stays empty.
+/// Returns whether steps can express the quantified group.
 fn close_group(steps: &mut Vec<Step>, first: usize, times: Times) -> Result<bool, AllocError>
     requires { first ≤ length steps.old.items }
     ensures group { IfOk result (λ is_group. IsTrue is_group → AreGrouped (IsGroup times) first steps.old steps.new) }
@@ -82,7 +83,8 @@ fn close_group(steps: &mut Vec<Step>, first: usize, times: Times) -> Result<bool
     }
 }
 
-/// Makes the steps from the first on copies of the text that is made up of them. Whether there is such a text.
+/// Turns the steps from `first` on into a repeated literal. Returns whether they are one or more
+/// literals.
 fn close_copies(steps: &mut Vec<Step>, first: usize, may_be_missing: bool) -> bool
     requires { first ≤ length steps.old.items }
     ensures group { IsTrue result → AreGrouped (AreCopySteps may_be_missing) first steps.old steps.new }
@@ -98,7 +100,7 @@ fn close_copies(steps: &mut Vec<Step>, first: usize, may_be_missing: bool) -> bo
     true
 }
 
-/// The text that is made up of the steps, where each of them is literal and there is one at least.
+/// The literal that the steps spell. `None`: some step is not literal, or there are no steps.
 fn stretch_of(steps: &[Step]) -> Option<Stretch>
     ensures text { IfSome result (λ text. MakeUp steps.now text) }
     ensures other { IfNone result ((first : ℕ) (others : List Step) → steps.now ≡ Step.Literal first ∷ others → ¬ AreLiterals others) }
@@ -132,7 +134,7 @@ const ONE_CAPTURE: Group = Group {
     captures: 1,
 };
 
-/// How many steps there are, and how many of them capture.
+/// Counts the steps and those that capture.
 fn group_of(steps: &[Step]) -> Group
     ensures { result ≡ record { steps = length steps.now; captures = capture_count steps.now } }
 {
@@ -152,7 +154,7 @@ fn group_of(steps: &[Step]) -> Group
     }
 }
 
-/// Whether the text is `$` alone.
+/// Whether the text is exactly `$`.
 fn is_end(text: &str) -> bool
     ensures { IsTrue result ↔ (chars text.now ≡ codes "$") }
 {
@@ -162,7 +164,8 @@ fn is_end(text: &str) -> bool
     }
 }
 
-/// Adds the steps for segments, and answers what follows them. The text is what follows the first of them. `None`: there are none.
+/// Parses the remainder of separated runs, after the first run, adds their steps and returns the
+/// rest. `None`: the text does not continue separated runs.
 fn read_segments<'a>(
     steps: &mut Vec<Step>,
     end: char,
@@ -193,7 +196,7 @@ fn read_segments<'a>(
     Ok(Some(remaining))
 }
 
-/// What follows a run of this kind in brackets, where these close the segments.
+/// Parses `(?:`, a run of this kind and `))*)`, which end separated runs, and returns the rest.
 fn read_last_segment(text: &str, end: char, is_greedy: bool) -> Option<&str>
     ensures cut { IfSome result (λ rest. ClosesSegments end is_greedy (chars text.now) (chars rest.now)) }
     ensures reads { ReadsLast end is_greedy (chars text.now) result }

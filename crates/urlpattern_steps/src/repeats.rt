@@ -1,4 +1,4 @@
-//! Texts that are repeated, by the steps that they are made up of.
+//! Repeated literals, as a first character and literal steps.
 
 ghost use Rattle.std.specs.Prelude.{◌≡◌, ℕ, suc, ◌<◌, List, length, None, IfNone, IfSome, drop, take, if◌then◌else◌};
 ghost use Rattle.std.specs.Option.{option_or};
@@ -9,21 +9,22 @@ use crate::step::Step;
 use crate::texts::{after_same, is_same, without_last};
 use urlpattern_syntax::text::split_first;
 
-/// The steps after the first so many, if there are more.
+/// The steps after the first `count`, or none if there are fewer.
 pub fn pass(steps: &[Step], count: usize) -> &[Step]
     ensures { result.now ≡ drop count steps.now }
 {
     steps.get(count..).unwrap_or(&[])
 }
 
-/// The first so many steps, or all where there are fewer.
+/// The first `count` steps, or all if there are fewer.
 pub fn first_steps(steps: &[Step], count: usize) -> &[Step]
     ensures { result.now ≡ take count steps.now }
 {
     steps.get(..count).unwrap_or(steps)
 }
 
-/// What follows a text, as it is compared, in another that begins with it: the first character and those of the literal steps.
+/// Strips a literal, `first` and the characters of the literal steps, from the start of a text.
+/// Characters are compared by `is_same`. `None`: the text does not begin with the literal.
 #[inline(always)]
 pub fn after_literals<'t>(
     text: &'t str,
@@ -49,8 +50,8 @@ pub fn after_literals<'t>(
     Some(rest)
 }
 
-/// What follows all copies of a text, as it is compared, at the front of another: of the first character and those of the literal
-/// steps.
+/// Strips all copies of a literal, `first` and the characters of the literal steps, from the start
+/// of a text. Characters are compared by `is_same`.
 pub fn skip_copies<'t>(text: &'t str, first: char, literal: &[Step], ignore_case: bool) -> &'t str
     ensures front { BeginsWithCopies ignore_case (literal_text first literal.now) (chars text.now) (chars result.now) }
     ensures all { (rest : List ℕ) → ¬ BeginsAs ignore_case (literal_text first literal.now) (chars result.now) rest }
@@ -62,7 +63,8 @@ pub fn skip_copies<'t>(text: &'t str, first: char, literal: &[Step], ignore_case
     rest
 }
 
-/// A text without its last characters, one and as many as there are literal steps. `None`: it has not so many.
+/// Returns the text without its last characters, one more than there are literal steps. `None`: the
+/// text has fewer characters.
 pub fn without_copy<'t>(text: &'t str, literal: &[Step]) -> Option<&'t str>
     ensures few { IfNone result (length (chars text.now) < suc (length (literals literal.now))) }
     ensures cut { IfSome result (λ front. IsWithoutLast (suc (length (literals literal.now))) text.now front.now) }
@@ -84,7 +86,7 @@ pub fn without_copy<'t>(text: &'t str, literal: &[Step]) -> Option<&'t str>
     Some(front)
 }
 
-/// How many of the steps are literal.
+/// Counts the literal steps.
 fn literal_count(literal: &[Step]) -> usize
     ensures { result ≡ length (literals literal.now) }
 {
@@ -99,8 +101,10 @@ fn literal_count(literal: &[Step]) -> usize
     count
 }
 
-/// What the table has for the text that follows the first character and those of the literal steps, as they are compared. The table has an entry for each
-/// end of the text that has fewer characters, from the shortest on.
+/// Looks up the rest of the text after a literal, `first` and the characters of the literal steps,
+/// compared by `is_same`. `None`: the text does not begin with the literal, or the entry is `None`.
+///
+/// `table` has an entry for each shorter suffix of the text, from the shortest.
 pub fn begun_after(
     table: &[Option<usize>],
     first: char,
@@ -122,7 +126,8 @@ pub fn begun_after(
     }
 }
 
-/// Where a run ends that goes on with the first character of a text, by where it ends later. `None`: it does not go on.
+/// Returns `later`, the end of a run that continues with the first character of the text. `None`:
+/// the run cannot continue.
 pub fn goes_on(text: &str, end: char, ignore_case: bool, later: Option<usize>) -> Option<usize>
     ensures { result ≡ going_on ignore_case end later (chars text.now) }
 {
@@ -132,7 +137,8 @@ pub fn goes_on(text: &str, end: char, ignore_case: bool, later: Option<usize>) -
     }
 }
 
-/// Where a run ends that begins here, and one that may end here, by where it ends if it goes on and if it stops here.
+/// The end of separated runs if a run begins here, and if a run may end here, from their ends if
+/// the run continues and if it stops.
 pub fn ends(
     is_greedy: bool,
     onward: Option<usize>,

@@ -13,15 +13,15 @@ use crate::stops::stop_at;
 use crate::texts::is_same;
 use urlpattern_syntax::text::{before, split_first};
 
-/// Whether a run before these steps can only end at this character, and nothing is to be remembered of it.
+/// Whether a run before these steps can end only at `end`, and failed states are not memoized.
 pub fn has_one_end(failed: &Failed<'_, '_>, steps: &[Step], end: char) -> bool
     ensures { IsTrue result → StopAt end steps.now }
 {
     !failed.has_room() && stop_at(steps, end)
 }
 
-/// The next character of the run that is the first of the steps, and what follows it. `None`: the run has ended, or is known to
-/// have failed from here on.
+/// Returns the next character of a run, the first of the steps, and the rest. `None`: the run has
+/// ended, or its state is memoized as failed.
 #[inline(always)]
 pub fn next_of_run<'t>(
     failed: &Failed<'_, '_>,
@@ -47,8 +47,8 @@ pub fn next_of_run<'t>(
     }
 }
 
-/// The longest front of a text for the run that is the first of the steps, or a shorter one after which the run is known to have
-/// failed.
+/// Returns the longest prefix for a run, the first of the steps, or a shorter one after which the
+/// state of the run is memoized as failed.
 pub fn longest_front<'t>(
     failed: &Failed<'_, '_>,
     ignore_case: bool,
@@ -65,7 +65,7 @@ pub fn longest_front<'t>(
     before(text, rest)
 }
 
-/// Remembers each state of a run, the first of the steps, that failed from the text on.
+/// Memoizes as failed each state of a run, the first of the steps, from `text` on.
 pub fn remember_run(
     failed: &mut Failed<'_, '_>,
     ignore_case: bool,

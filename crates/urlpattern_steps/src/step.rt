@@ -1,68 +1,68 @@
 //! The steps of an expression.
 
-/// A step takes a front of the text that is left.
+/// A step of an expression, which matches a prefix of the remaining text.
 #[derive(Clone, Copy)]
 pub enum Step {
-    /// This character.
+    /// A literal character.
     Literal(char),
-    /// One character or more, none of them this, captured: as few as the steps after it allow.
+    /// A captured lazy repeat: one or more characters other than the given one, as few as possible.
     Segment(char),
-    /// Any number of characters, none of them a line feed, captured: as many as the steps after it allow.
+    /// A captured greedy repeat: any number of characters other than a line feed, as many as
+    /// possible.
     Anything,
-    /// The steps of a group that may be missing, which follow.
+    /// An optional group, whose steps come next.
     Maybe(Group),
-    /// A run of characters, captured: as long as the steps after it allow.
+    /// A captured greedy run of characters.
     Longest(Run),
-    /// Copies of a text, one after the other: as many as the steps after it allow.
+    /// A greedy repeat of a literal.
     Copies(Copies),
-    /// Runs of characters with a text between each two, captured as a whole: as many as the steps after it allow.
+    /// Runs of characters joined by a separator, captured as a whole, as many as possible.
     Segments(Segments),
 }
 
-/// How many of the next steps stand and fall together.
+/// The size of an optional group.
 #[derive(Clone, Copy)]
 pub struct Group {
-    /// How many steps there are.
+    /// The number of steps.
     pub steps: usize,
-    /// How many of them capture.
+    /// The number of steps that capture.
     pub captures: usize,
 }
 
-/// A text: a character, and those of the next literal steps.
+/// A literal of one or more characters: the first, and those of the literal steps that come next.
 #[derive(Clone, Copy)]
 pub struct Stretch {
     /// The first character.
     pub first: char,
-    /// How many steps the other characters have.
+    /// The number of literal steps with the other characters.
     pub others: usize,
 }
 
-/// Copies of a text.
+/// A repeated literal.
 #[derive(Clone, Copy)]
 pub struct Copies {
-    /// The text.
+    /// The literal.
     pub text: Stretch,
-    /// Whether there may be none.
+    /// Whether zero copies match: `*` rather than `+`.
     pub may_be_missing: bool,
 }
 
 /// A run of characters.
 #[derive(Clone, Copy)]
 pub struct Run {
-    /// The character that is not among them.
+    /// The character that ends the run.
     pub end: char,
-    /// Whether there may be none.
+    /// Whether the run may be empty.
     pub may_be_empty: bool,
 }
 
-/// Runs of characters with a text between each two.
+/// Runs of characters joined by a separator.
 #[derive(Clone, Copy)]
 pub struct Segments {
-    /// The text between two runs.
+    /// The separator.
     pub separator: Stretch,
-    /// The character that is not in a run.
+    /// The character that ends a run.
     pub end: char,
-    /// Whether a run has any number of characters, as many as what follows allows; else it has one or more, as few as that
-    /// allows.
+    /// Whether a run is greedy and may be empty; otherwise it is lazy and not empty.
     pub is_greedy: bool,
 }

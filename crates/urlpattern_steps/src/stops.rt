@@ -1,4 +1,4 @@
-//! Which texts steps are seen not to take.
+//! The first characters of the texts that steps match.
 
 ghost use Rattle.std.specs.Prelude.{IsTrue};
 ghost use Rattle.urlpattern_steps.specs.Walk.{StopAt};
@@ -6,7 +6,8 @@ ghost use Rattle.urlpattern_steps.specs.Walk.{StopAt};
 use crate::repeats::pass;
 use crate::step::Step;
 
-/// Whether the steps are seen to take no text that begins with another character than this.
+/// Whether each nonempty text that the steps match is known to begin with `end`. `false` decides
+/// nothing.
 pub fn stop_at(steps: &[Step], end: char) -> bool
     ensures { IsTrue result → StopAt end steps.now }
 {
@@ -37,7 +38,7 @@ pub fn stop_at(steps: &[Step], end: char) -> bool
     true
 }
 
-/// Whether the first step takes this character and no other.
+/// Whether the first step is the literal `c`.
 fn begin_with(steps: &[Step], c: char) -> bool
     ensures { IsTrue result → StopAt c steps.now }
 {

@@ -1,4 +1,4 @@
-//! Which ends of a text the ends of the steps take: a row for each end of the steps.
+//! A table of the suffixes of a text that the steps match, with a row for each suffix of the steps.
 
 ghost use Rattle.std.specs.Prelude.{◌≡◌, ◌∷◌, ◌||◌, ℕ, ◌<◌, [], Bool, length, IfOk};
 ghost use Rattle.std.specs.Str.{chars};
@@ -11,9 +11,7 @@ use std::alloc::Global;
 use urlpattern_syntax::error::OutOfMemory;
 use urlpattern_syntax::text::split_first;
 
-/// The rows, from that of no steps to that of all.
-///
-/// The error is that memory ran out.
+/// Returns the rows, from the row of no steps to the row of all.
 pub fn rows_of(
     alloc: Global,
     steps: &[Step],
@@ -34,9 +32,7 @@ pub fn rows_of(
     Ok(rows)
 }
 
-/// The row of no steps, which take the empty end alone.
-///
-/// The error is that memory ran out.
+/// Returns the row of no steps, which match only the empty suffix.
 fn row_of_none(alloc: Global, text: &str) -> Result<Vec<bool>, OutOfMemory>
     ensures { IfOk result (λ row. (ignore_case : Bool) → IsRow ignore_case (chars text.now) [] row.items) }
 {
@@ -48,9 +44,7 @@ fn row_of_none(alloc: Global, text: &str) -> Result<Vec<bool>, OutOfMemory>
     Ok(row)
 }
 
-/// The row of a step and the others.
-///
-/// The error is that memory ran out.
+/// Returns the row of `step` and `others`, from the rows of `others`.
 fn row_of(
     alloc: Global,
     step: Step,
@@ -70,9 +64,7 @@ fn row_of(
     Ok(front_of(alloc, step, others, ignore_case, after, text)?.row)
 }
 
-/// Which ends are in one of two rows.
-///
-/// The error is that memory ran out.
+/// Returns the union of two rows.
 fn either(alloc: Global, one: &[bool], other: &[bool]) -> Result<Vec<bool>, OutOfMemory>
     ensures len { IfOk result (λ row. length row.items ≡ length one.now) }
     ensures bits { IfOk result (λ row. (n : ℕ) → n < length one.now → has row.items n ≡ has one.now n || has other.now n) }
@@ -84,14 +76,14 @@ fn either(alloc: Global, one: &[bool], other: &[bool]) -> Result<Vec<bool>, OutO
     Ok(row)
 }
 
-/// Whether one of two rows has the end of a text with so many characters.
+/// Whether a row has the suffix of `count` characters.
 fn is_in_either(one: &[bool], other: &[bool], count: usize) -> bool
     ensures { result ≡ has one.now count || has other.now count }
 {
     has(one, count) || has(other, count)
 }
 
-/// The row for these steps.
+/// The row of these steps.
 pub fn row_for<'r>(rows: &'r [Vec<bool>], steps: &[Step]) -> &'r [bool]
     ensures { result.now ≡ row_at rows.now (length steps.now) }
 {
@@ -101,14 +93,14 @@ pub fn row_for<'r>(rows: &'r [Vec<bool>], steps: &[Step]) -> &'r [bool]
     }
 }
 
-/// Whether the steps take an end of a text whole, of which the row for them is given.
+/// Whether the steps match the text, a suffix of the whole, by their row.
 pub fn is_taken(rows: &[Vec<bool>], steps: &[Step], text: &str) -> bool
     ensures { IsTakenByRows rows.now steps.now (chars text.now) result }
 {
     has(row_for(rows, steps), character_count(text))
 }
 
-/// How many characters a text has.
+/// The number of characters of a text.
 fn character_count(text: &str) -> usize
     ensures { result ≡ length (chars text.now) }
 {

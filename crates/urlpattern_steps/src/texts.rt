@@ -1,4 +1,4 @@
-//! Texts by their characters.
+//! Prefixes and suffixes of texts, by characters.
 
 ghost use Rattle.std.specs.Prelude.{◌≡◌, ◌≢◌, ◌∷◌, ◌++◌, [], ℕ, ◌<◌, List, length, IfNone, IfSome};
 ghost use Rattle.std.specs.Char.{IsScalar, encode_utf8};
@@ -8,7 +8,7 @@ ghost use Rattle.urlpattern_meaning.specs.Matching.{is_same_character};
 
 use urlpattern_syntax::text::{before, split_first};
 
-/// What follows this character in a text that begins with it.
+/// Returns the text without its first character, if that is `c`.
 pub fn after(text: &str, c: char) -> Option<&str>
     ensures cut { IfSome result (λ rest. chars text.now ≡ c ∷ chars rest.now) }
     ensures other { IfNone result ((rest : List ℕ) → chars text.now ≢ c ∷ rest) }
@@ -18,14 +18,14 @@ pub fn after(text: &str, c: char) -> Option<&str>
     if first == c { Some(rest) } else { None }
 }
 
-/// Whether two characters are the same; where case is ignored, but for the case of ASCII letters.
+/// Whether two characters are equal; with `ignore_case`, up to the case of ASCII letters.
 pub fn is_same(c: char, other: char, ignore_case: bool) -> bool
     ensures { result ≡ is_same_character ignore_case c other }
 {
     c == other || (ignore_case && c.eq_ignore_ascii_case(&other))
 }
 
-/// What follows this character, as it is compared, in a text that begins with it.
+/// Returns the text without its first character, if `is_same` finds that equal to `c`.
 pub fn after_same(text: &str, c: char, ignore_case: bool) -> Option<&str>
     ensures cut { IfSome result (λ rest. BeginsAs ignore_case (c ∷ []) (chars text.now) (chars rest.now)) }
     ensures other { IfNone result ((rest : List ℕ) → ¬ BeginsAs ignore_case (c ∷ []) (chars text.now) rest) }
@@ -39,7 +39,7 @@ pub fn after_same(text: &str, c: char, ignore_case: bool) -> Option<&str>
     }
 }
 
-/// What follows a front of a text.
+/// Returns the text without the prefix `front`.
 pub fn after_front<'a>(text: &'a str, front: &str) -> &'a str
     requires { (rest : List ℕ) × IsUtf8 rest × (text.now ≡ front.now ++ rest) }
     ensures { text.now ≡ front.now ++ result.now }
@@ -47,7 +47,7 @@ pub fn after_front<'a>(text: &'a str, front: &str) -> &'a str
     &text[front.len()..]
 }
 
-/// A text up to this many bytes, and from there on.
+/// Splits a text at a byte index.
 pub fn split_at_seam(text: &str, count: usize) -> (&str, &str)
     requires { (front rest : List ℕ) × IsUtf8 front × IsUtf8 rest × (text.now ≡ front ++ rest) × (length front ≡ count) }
     ensures cut { text.now ≡ result.0.now ++ result.1.now }
@@ -56,7 +56,7 @@ pub fn split_at_seam(text: &str, count: usize) -> (&str, &str)
     (&text[..count], &text[count..])
 }
 
-/// A text without its last character. `None`: it is empty.
+/// Returns the text without its last character. `None`: the text is empty.
 pub fn without_last(text: &str) -> Option<&str>
     ensures empty { IfNone result (text.now ≡ []) }
     ensures cut { IfSome result (λ front. (c : ℕ) × IsScalar c × (text.now ≡ front.now ++ encode_utf8 c)) }
@@ -69,7 +69,7 @@ pub fn without_last(text: &str) -> Option<&str>
     Some(characters.as_str())
 }
 
-/// A text up to the first such character, as it is compared, and from there on.
+/// Splits a text before the first character that `is_same` finds equal to `c`, or at the end.
 pub fn split_at_first(text: &str, c: char, ignore_case: bool) -> (&str, &str)
     ensures front { chars result.0.now ≡ up_to_first ignore_case c (chars text.now) }
     ensures rest { chars result.1.now ≡ from_first ignore_case c (chars text.now) }
@@ -78,7 +78,7 @@ pub fn split_at_first(text: &str, c: char, ignore_case: bool) -> (&str, &str)
     (before(text, rest), rest)
 }
 
-/// A text from the first such character on.
+/// Returns the text from the first character that `is_same` finds equal to `c`.
 fn skip_to_first(text: &str, c: char, ignore_case: bool) -> &str
     ensures { chars result.now ≡ from_first ignore_case c (chars text.now) }
 {

@@ -1,4 +1,4 @@
-//! What stands in the text of an expression.
+//! Tokens of regular expressions.
 
 ghost use Rattle.std.specs.Prelude.{◌≡◌, ◌≢◌, ◌∷◌, ◌++◌, ℕ, ◌<◌, ◌≤◌, Bool, List, length, codes, IfNone, IfSome, IsTrue};
 ghost use Rattle.std.specs.Str.{chars};
@@ -11,25 +11,25 @@ use crate::step::{Run, Step};
 use crate::texts::after;
 use urlpattern_syntax::text::split_first;
 
-/// What stands in an expression one after the other.
+/// A token of an expression.
 #[derive(Clone, Copy)]
 pub enum Token {
     /// `(?:`
     Open,
-    /// `)` and how often the group is taken.
+    /// `)` and the quantifier of the group.
     Close(Times),
-    /// A character, or a group that captures.
+    /// A literal character or a capturing group.
     Step(Step),
-    /// A group that captures, and a question mark.
+    /// A capturing group and `?`.
     MaybeStep(Step),
-    /// `((?:`, a run of characters and `)(?:`: the character that is not in the run, and whether it is as long as may be.
+    /// `((?:`, a run and `)(?:`: the character that ends the run, and whether the run is greedy.
     FirstSegment(char, bool),
 }
 
-/// How often a group is taken, by what follows its closing bracket.
+/// The quantifier after a group.
 #[derive(Clone, Copy)]
 pub enum Times {
-    /// Nothing.
+    /// No quantifier.
     Once,
     /// `?`
     Optional,
@@ -39,7 +39,7 @@ pub enum Times {
     OneOrMore,
 }
 
-/// The token at the front of the text, and what follows it.
+/// Returns the token that the text begins with, and the rest.
 pub fn read_token(text: &str) -> Option<(Token, &str)>
     ensures token { IfSome result (λ read. BeginsWithRegexpToken (chars text.now) read.0 (chars read.1.now)) }
     ensures reads { ReadsRegexpTokens (chars text.now) result }
@@ -56,7 +56,7 @@ pub fn read_token(text: &str) -> Option<(Token, &str)>
     Some((Token::Step(Step::Literal(c)), rest))
 }
 
-/// How often a group is taken, and what follows that. The text is what follows the closing bracket.
+/// Returns the quantifier of a group and the rest. `text` is what follows the closing parenthesis.
 fn read_times(text: &str) -> (Times, &str)
     ensures times { chars text.now ≡ times_text result.0 ++ chars result.1.now }
     ensures longest { result.0 ≡ Times.Once → IsUnquantified (chars result.1.now) }
@@ -70,7 +70,7 @@ fn read_times(text: &str) -> (Times, &str)
     }
 }
 
-/// The token that begins with an opening bracket, and what follows it. The text is what follows the bracket.
+/// Returns a token that begins with `(`, and the rest. `text` is what follows the `(`.
 fn read_bracket(text: &str) -> Option<(Token, &str)>
     ensures token { IfSome result (λ read. BeginsWithRegexpToken (codes "(" ++ chars text.now) read.0 (chars read.1.now)) }
     ensures reads { ReadsRegexpTokens (codes "(" ++ chars text.now) result }
@@ -90,7 +90,7 @@ fn read_bracket(text: &str) -> Option<(Token, &str)>
     Some((Token::Step(step), rest))
 }
 
-/// The token for the first of segments, and what follows it. The text is what follows the opening bracket.
+/// Returns the token of the first of separated runs, and the rest. `text` is what follows the `(`.
 fn read_first_segment(text: &str) -> Option<(Token, &str)>
     ensures token { IfSome result (λ read. BeginsWithRegexpToken (codes "(" ++ chars text.now) read.0 (chars read.1.now)) }
     ensures reads { ReadsFirstSegments (codes "(" ++ chars text.now) result }
@@ -103,7 +103,7 @@ fn read_first_segment(text: &str) -> Option<(Token, &str)>
     Some((Token::FirstSegment(end, is_greedy), rest))
 }
 
-/// What follows `(?:`.
+/// Returns the rest of the text after `(?:`.
 pub fn after_open(text: &str) -> Option<&str>
     ensures cut { IfSome result (λ rest. chars text.now ≡ codes "(?:" ++ chars rest.now) }
     ensures other { IfNone result ((rest : List ℕ) → chars text.now ≢ codes "(?:" ++ rest) }
@@ -112,7 +112,7 @@ pub fn after_open(text: &str) -> Option<&str>
     after(after(after(text, '(')?, '?')?, ':')
 }
 
-/// What follows `))*)`.
+/// Returns the rest of the text after `))*)`.
 pub fn after_segments(text: &str) -> Option<&str>
     ensures cut { IfSome result (λ rest. chars text.now ≡ codes "))*)" ++ chars rest.now) }
     ensures other { IfNone result ((rest : List ℕ) → chars text.now ≢ codes "))*)" ++ rest) }
@@ -121,7 +121,7 @@ pub fn after_segments(text: &str) -> Option<&str>
     after(after(after(after(text, ')')?, ')')?, '*')?, ')')
 }
 
-/// The step for what brackets capture, and what follows it.
+/// Returns the step of the body of a capturing group, and the rest.
 fn read_captured(text: &str) -> Option<(Step, &str)>
     ensures step { IfSome result (λ read. BeginsWithCaptured (chars text.now) read.0 (chars read.1.now)) }
     ensures reads { ReadsCaptured (chars text.now) result }
@@ -133,8 +133,8 @@ fn read_captured(text: &str) -> Option<(Step, &str)>
     }
 }
 
-/// The step for a group of a run of characters, taken so often, and what follows that. The text is what follows the opening
-/// bracket.
+/// Returns the step of a quantified group with a run as its body, and the rest. `text` is what
+/// follows the `(`.
 fn read_repeated_run(text: &str) -> Option<(Step, &str)>
     ensures step { IfSome result (λ read. BeginsWithCaptured (codes "(" ++ chars text.now) read.0 (chars read.1.now)) }
     ensures reads { ReadsCaptured (codes "(" ++ chars text.now) result }
@@ -145,7 +145,8 @@ fn read_repeated_run(text: &str) -> Option<(Step, &str)>
     Some((repeated_run(single, times)?, remaining))
 }
 
-/// The step for runs one after the other, so often, which are one run.
+/// The step of a repeated run, which is a run again. `None`: the step is no run, or the quantifier
+/// no repeat.
 fn repeated_run(run: Step, times: Times) -> Option<Step>
     ensures step { IfSome result (λ step. IsRepeatOf run (quantifier_of times) step) }
     ensures reads { RepeatsRuns run (quantifier_of times) result }
@@ -155,7 +156,8 @@ fn repeated_run(run: Step, times: Times) -> Option<Step>
     Some(Step::Longest(Run { end, may_be_empty }))
 }
 
-/// The character that ends a run, and whether it is of any number of characters, as many as what follows allows.
+/// The character that ends the run of a step, and whether the run is greedy. `None`: the step is
+/// neither `Segment` nor `Anything`.
 pub fn run_of(step: Step) -> Option<(char, bool)>
     ensures run { IfSome result (λ run. (items : Items) → IsStepOf step (Captured items) → IsRunOf run.0 run.1 items) }
     ensures reads { FindsRun step result }
@@ -167,7 +169,7 @@ pub fn run_of(step: Step) -> Option<(char, bool)>
     }
 }
 
-/// Whether runs that are taken so often may take nothing.
+/// Whether a repeated run may be empty. `None`: the quantifier is no repeat.
 fn may_be_empty(is_greedy: bool, times: Times) -> Option<bool>
     ensures may { IfSome result (λ may_be_empty. AllowsEmptyRun is_greedy (quantifier_of times) may_be_empty) }
     ensures reads { (may_be_empty : Bool) → AllowsEmptyRun is_greedy (quantifier_of times) may_be_empty → result ≡ Some may_be_empty }
@@ -179,7 +181,7 @@ fn may_be_empty(is_greedy: bool, times: Times) -> Option<bool>
     }
 }
 
-/// The step for a run of characters, and what follows it.
+/// Returns the step of a run of characters, and the rest.
 pub fn read_run(text: &str) -> Option<(Step, &str)>
     ensures step { IfSome result (λ read. BeginsWithCaptured (chars text.now) read.0 (chars read.1.now)) }
     ensures reads { ReadsRuns (chars text.now) result }
@@ -191,7 +193,7 @@ pub fn read_run(text: &str) -> Option<(Step, &str)>
     }
 }
 
-/// The step for a dot and its quantifier, and what follows that. The text is what follows the dot.
+/// Returns the step of a quantified dot, and the rest. `text` is what follows the dot.
 fn read_repeated_dot(text: &str) -> Option<(Step, &str)>
     ensures step { IfSome result (λ read. BeginsWithCaptured (codes "." ++ chars text.now) read.0 (chars read.1.now)) }
     ensures reads { ReadsRuns (codes "." ++ chars text.now) result }
@@ -203,7 +205,7 @@ fn read_repeated_dot(text: &str) -> Option<(Step, &str)>
     }
 }
 
-/// The step for a class and its quantifier, and what follows that. The text is what follows the two marks of the class.
+/// Returns the step of a quantified class, and the rest. `text` is what follows `[^`.
 fn read_repeated_class(text: &str) -> Option<(Step, &str)>
     ensures step { IfSome result (λ read. BeginsWithCaptured (codes "[^" ++ chars text.now) read.0 (chars read.1.now)) }
     ensures reads { ReadsRuns (codes "[^" ++ chars text.now) result }
@@ -213,7 +215,7 @@ fn read_repeated_class(text: &str) -> Option<(Step, &str)>
     Some((Step::Segment(c), after_lazy_plus(after(rest, ']')?)?))
 }
 
-/// What follows `+?`.
+/// Returns the rest of the text after `+?`.
 fn after_lazy_plus(text: &str) -> Option<&str>
     ensures cut { IfSome result (λ rest. chars text.now ≡ codes "+?" ++ chars rest.now) }
     ensures other { IfNone result ((rest : List ℕ) → chars text.now ≢ codes "+?" ++ rest) }
@@ -222,7 +224,7 @@ fn after_lazy_plus(text: &str) -> Option<&str>
     after(after(text, '+')?, '?')
 }
 
-/// A character that stands for itself, and what follows it.
+/// Returns the literal character that the text begins with, unescaped, and the rest.
 pub fn read_literal(text: &str) -> Option<(char, &str)>
     ensures character { IfSome result (λ read. BeginsWithCharacter IsCharacter (chars text.now) read.0 (chars read.1.now)) }
     ensures reads { (c : ℕ) (rest : List ℕ) → BeginsWithCharacter IsCharacter (chars text.now) c rest → IsRead result c rest }
@@ -235,7 +237,7 @@ pub fn read_literal(text: &str) -> Option<(char, &str)>
     if is_mark(c) { None } else { Some((c, rest)) }
 }
 
-/// A character of a class, and what follows it.
+/// Returns the character of a class, unescaped, and the rest.
 fn read_class_character(text: &str) -> Option<(char, &str)>
     ensures character { IfSome result (λ read. BeginsWithCharacter IsClassCharacter (chars text.now) read.0 (chars read.1.now)) }
     ensures reads { (c : ℕ) (rest : List ℕ) → BeginsWithCharacter IsClassCharacter (chars text.now) c rest → IsRead result c rest }
@@ -249,7 +251,8 @@ fn read_class_character(text: &str) -> Option<(char, &str)>
     }
 }
 
-/// A character after a backslash, which is a mark or a slash, and what follows it.
+/// Returns an escaped character, a metacharacter or `/`, and the rest. `text` is what follows the
+/// backslash.
 fn read_escaped(text: &str) -> Option<(char, &str)>
     ensures mark { IfSome result (λ read. IsTrue (is_among (regexp_marks ++ codes "/") read.0)) }
     ensures cut { IfSome result (λ read. chars text.now ≡ read.0 ∷ chars read.1.now) }
@@ -264,7 +267,7 @@ fn read_escaped(text: &str) -> Option<(char, &str)>
     }
 }
 
-/// Whether a character means more than itself in an expression.
+/// Whether the character is a metacharacter of expressions.
 fn is_mark(c: char) -> bool
     ensures { result ≡ is_among regexp_marks c }
 {

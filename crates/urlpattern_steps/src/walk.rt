@@ -1,4 +1,4 @@
-//! Matches a text by steps.
+//! Matches a text by backtracking.
 
 ghost use Rattle.std.specs.Prelude.{◌≡◌, ◌∷◌, ◌++◌, replicate, None, IfOk, OnOk};
 ghost use Rattle.std.specs.Str.{chars};
@@ -20,23 +20,21 @@ use crate::texts::{after_same, split_at_first};
 use std::alloc::Global;
 use urlpattern_syntax::error::OutOfMemory;
 
-/// A match by steps that is under way.
+/// A match in progress.
 #[derive(Drop)]
 struct Attempt<'s, 't> {
-    /// What was captured so far.
+    /// The captures so far.
     captures: Vec<Option<&'t str>>,
-    /// The states that failed.
+    /// The failed states.
     failed: Failed<'s, 't>,
 }
 
-/// Whether steps take a text whole. The error is that memory ran out.
+/// Whether steps match a whole text.
 type Taken = Result<bool, OutOfMemory>;
 
-/// What the steps capture of a text that they take whole. `None`: they do not take it whole.
+/// Returns the captures of the steps, if they match the whole text. `None`: no match.
 ///
-/// Where the states that failed are remembered, no choice is tried twice in one of them.
-///
-/// The error is that memory ran out.
+/// With memoization, no choice is tried twice in a failed state.
 #[inline]
 pub fn walk<'t>(
     alloc: Global,
@@ -60,7 +58,7 @@ pub fn walk<'t>(
 }
 
 impl<'t> Attempt<'_, 't> {
-    /// Whether the steps take the text whole. Where they do, what they capture is added.
+    /// Whether the steps match the whole text. On a match their captures are added.
     #[cycle(following)]
     fn follow(&mut self, ignore_case: bool, steps: &[Step], text: &'t str) -> Taken
         requires { IsStateOf ignore_case self.old.failed steps.now (chars text.now) }
@@ -74,7 +72,8 @@ impl<'t> Attempt<'_, 't> {
         Ok(false)
     }
 
-    /// Whether the steps take the text whole. What they capture is added, and where they do not, some of it.
+    /// Whether the steps match the whole text. On a match their captures are added, otherwise
+    /// perhaps some of them.
     #[cycle(following)]
     fn follow_on(&mut self, ignore_case: bool, steps: &[Step], text: &'t str) -> Taken
         requires { IsStateOf ignore_case self.old.failed steps.now (chars text.now) }
@@ -119,9 +118,10 @@ impl<'t> Attempt<'_, 't> {
         Ok(rest.is_empty())
     }
 
-    /// Whether the steps take the text whole. What they capture is added, and where they do not, some of it.
+    /// Whether the steps match the whole text. On a match their captures are added, otherwise
+    /// perhaps some of them.
     ///
-    /// A state is remembered from which no way in which the first of the steps may take the text leads on, and is not tried again.
+    /// A failed state is memoized, and not tried again.
     #[cycle(following)]
     fn follow_once(
         &mut self,
@@ -145,9 +145,10 @@ impl<'t> Attempt<'_, 't> {
         Ok(false)
     }
 
-    /// Whether the steps take the text whole. What they capture is added, and where they do not, some of it.
+    /// Whether the steps match the whole text. On a match their captures are added, otherwise
+    /// perhaps some of them.
     ///
-    /// The ways in which the first of them may take the text are tried in turn.
+    /// The matches of the first step are tried in turn.
     #[cycle(following)]
     fn follow_first(
         &mut self,
@@ -175,8 +176,8 @@ impl<'t> Attempt<'_, 't> {
         }
     }
 
-    /// Whether the steps of a group that may be missing and those after it take the text whole, or those after it alone. What they
-    /// capture is added, and where they do not, some of it.
+    /// Whether the steps match the whole text with an optional group, or else without. On a match
+    /// their captures are added, otherwise perhaps some of them.
     #[cycle(following)]
     fn follow_maybe(
         &mut self,
@@ -195,7 +196,8 @@ impl<'t> Attempt<'_, 't> {
         self.follow_on(ignore_case, pass(others, group.steps), text)
     }
 
-    /// Whether the steps take the rest of a text whole. Where they do, the front and what they capture are added.
+    /// Whether the steps match the whole rest of a text. On a match `front` and their captures are
+    /// added.
     #[cycle(following)]
     fn follow_captured(
         &mut self,
@@ -216,9 +218,7 @@ impl<'t> Attempt<'_, 't> {
     }
 }
 
-/// Adds so many captures that are missing.
-///
-/// The error is that memory ran out.
+/// Adds `count` captures that are `None`.
 pub fn add_missing(captures: &mut Vec<Option<&str>>, count: usize) -> Result<(), OutOfMemory>
     ensures { OnOk result (captures.new.items ≡ captures.old.items ++ replicate count None) }
 {

@@ -1,4 +1,4 @@
-//! Matches copies of a text, with the steps after them.
+//! Matches a repeated literal and the steps after it.
 
 ghost use Rattle.std.specs.Prelude.{◌∷◌};
 ghost use Rattle.std.specs.Str.{chars};
@@ -13,7 +13,8 @@ use crate::walk::{Attempt, Taken};
 use urlpattern_syntax::text::before;
 
 impl<'t> Attempt<'_, 't> {
-    /// Whether the steps that follow take what follows copies of a text, the most first. Where they do, what they capture is added.
+    /// Whether a repeated literal and the steps after it match the whole text. The greatest number
+    /// of copies is tried first. On a match the captures are added.
     #[cycle(following)]
     pub(super) fn follow_copies(
         &mut self,
@@ -37,8 +38,9 @@ impl<'t> Attempt<'_, 't> {
         }
     }
 
-    /// Whether the other steps take what follows any number of copies of a text, the most first. Where they do, what they capture
-    /// is added. The text is the first character and those of the literal steps.
+    /// Whether any number of copies of a literal and the other steps match the whole text. The
+    /// greatest number is tried first. On a match the captures are added. The literal is `first`
+    /// and the characters of the literal steps.
     #[cycle(following)]
     fn follow_any_copies(
         &mut self,

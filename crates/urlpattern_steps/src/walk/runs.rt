@@ -1,4 +1,4 @@
-//! Matches runs of characters, each with the steps after it.
+//! Matches a run of characters and the steps after it.
 
 ghost use Rattle.std.specs.Prelude.{◌≡◌, ◌∷◌};
 ghost use Rattle.std.specs.Str.{chars};
@@ -13,8 +13,8 @@ use crate::walk::{Attempt, Taken};
 use urlpattern_syntax::text::before;
 
 impl<'t> Attempt<'_, 't> {
-    /// Whether the steps take the text whole: the first a front without this character, not empty, the shortest first. Where they
-    /// do, what they capture is added.
+    /// Whether the steps match the whole text, the first a nonempty run without `end`. The shortest
+    /// run is tried first. On a match the captures are added.
     #[cycle(following)]
     pub(super) fn follow_shortest(
         &mut self,
@@ -39,8 +39,8 @@ impl<'t> Attempt<'_, 't> {
         Ok(false)
     }
 
-    /// Whether the steps take the text whole: the first a front without a line feed, the longest first. Where they do, what they
-    /// capture is added.
+    /// Whether the steps match the whole text, the first a run without a line feed. The longest run
+    /// is tried first. On a match the captures are added.
     #[cycle(following)]
     pub(super) fn follow_longest(
         &mut self,
@@ -67,8 +67,8 @@ impl<'t> Attempt<'_, 't> {
         }
     }
 
-    /// Whether the steps take what follows a run of characters, the longest first. Where they do, the run and what they capture
-    /// are added.
+    /// Whether a run of characters and the steps match the whole text. The longest run is tried
+    /// first. On a match the run and the captures of the steps are added.
     #[cycle(following)]
     pub(super) fn follow_longest_run(
         &mut self,

@@ -1,4 +1,4 @@
-//! Matches segments with a text between each two, with the steps after them.
+//! Matches runs joined by a separator and the steps after them.
 
 ghost use Rattle.std.specs.Prelude.{◌∷◌, IfOk, OnOk};
 ghost use Rattle.std.specs.Str.{chars};
@@ -14,8 +14,8 @@ use std::mem;
 use urlpattern_syntax::error::OutOfMemory;
 
 impl<'t> Attempt<'_, 't> {
-    /// Whether the steps that follow take what follows segments, by the order in which these are tried. Where they do, the segments
-    /// and what they capture are added.
+    /// Whether separated runs and the steps after them match the whole text. On a match the
+    /// preferred runs, as one capture, and the captures of the steps are added.
     #[cycle(following)]
     pub(super) fn follow_segments(
         &mut self,
@@ -38,10 +38,9 @@ impl<'t> Attempt<'_, 't> {
         }
     }
 
-    /// Where the segments at the front of a text end that are the first that the other steps lead on from, by the bytes before.
-    /// `None`: there are none. The text between two segments is made up of the first character and the literal steps.
-    ///
-    /// The error is that memory ran out.
+    /// The length in bytes of the preferred separated runs after which the other steps match the
+    /// rest. `None`: there are none. The separator is its first character and the characters of the
+    /// literal steps.
     #[cycle(following)]
     fn end_of_segments(
         &mut self,
@@ -74,9 +73,8 @@ impl<'t> Attempt<'_, 't> {
         }
     }
 
-    /// Where segments end of which a run may end here: where those after it end, or else here, where the steps take the rest.
-    ///
-    /// The error is that memory ran out.
+    /// The end of separated runs, one of which may end here: `next`, where the runs after it end,
+    /// or else `here`, if the steps match the rest.
     #[cycle(following)]
     fn end_here(
         &mut self,

@@ -29,7 +29,7 @@ entry_after-next-requires c =
     let same : rest ≡ so_far.0 = append_cancel_left front rest so_far.0 (sym c.after_front-rest.ensures ∙ so_far.2) in
     ap length c.deref.ensures.value ∙ so_far.3.is_begun.count ∙ ap (λ r. length (chars r)) (sym same)
 
--- what is known so far and of this end, after a front and before the rest
+-- The entries so far and the ends for this suffix, after a prefix and before the rest.
 abbrev IsKnown : (c : After-ends_of-ends) → (front rest : List ℕ) → Type 0
 IsKnown c front rest =
     IsSoFar c.args.ignore_case c.args.step c.args.others.now c.args.text.now front rest c.deref.result.now c.loop-row.row.items c.loop-row.later

@@ -13,14 +13,14 @@ returns-clause-step c =
     (chars c.read_times-times.result.1.now) c.in_ok-single.single c.in_ok-repeated_run.field-0 c.read_times-times.result.0 c.in_ok-after.ensures.cut c.in_ok-after-2.ensures.cut single
     c.in_ok-after-3.ensures.cut c.read_times-times.ensures.times c.in_ok-repeated_run.ensures.step
 
--- the text of the runs begins after the two characters
+-- The body of the group begins after `?:`.
 opened : (c : In_ok-after-2) → chars c.args.text.now ≡ codes "?:" ++ chars c.in_ok-after-2.field-0.now
 opened c =
     let asked = c.in_ok-after.ensures.cut in
     let colon = c.in_ok-after-2.ensures.cut in
     cc
 
--- the run is read
+-- The run is read.
 run_read : (c : In_ok-single) → ReadsRun (chars c.in_ok-after-2.field-0.now) c.in_ok-single.single (chars c.in_ok-single.rest.now)
 run_read c = rw (c.in_ok-single.single-is, c.in_ok-single.rest-is) c.in_ok-single.ensures.reads
 

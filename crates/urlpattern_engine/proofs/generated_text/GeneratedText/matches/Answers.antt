@@ -10,7 +10,7 @@ use Rattle.urlpattern_steps.specs.declared.step.Step.{Step}
 use Rattle.urlpattern_steps.specs.ReadSteps.{AreStepsOf}
 use Rattle.urlpattern_engine.proofs.generated_text.GeneratedText.matches.Goals as goal
 
--- steps that were read answer the first way of the tree
+-- Steps that were parsed return the first match of the tree.
 by_tree : (ignore_case : Bool) (read regexp : List ℕ) (steps : List Step) (own : HasTree regexp) (text : List ℕ) → AreStepsOf read steps → read ≡ regexp
     → walk ignore_case steps text ≡ first_way_by ignore_case own.0 text
 by_tree ignore_case read regexp steps own text of same =

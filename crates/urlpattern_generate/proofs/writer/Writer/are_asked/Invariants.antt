@@ -6,7 +6,8 @@ use Rattle.urlpattern_syntax.specs.Parts.{parts_view}
 use Rattle.urlpattern_syntax.specs.Text.{option_text}
 use Rattle.urlpattern_generate.proofs.writer.Writer.are_asked.Given as goal
 
--- all captures are what is asked where those that are left are what is asked of the parts that are left
+-- All captures are the requested ones if the remaining captures are those requested of the
+-- remaining parts.
 abbrev pub invariant-loop-part : goal.invariant-loop-part
 invariant-loop-part l = record {
   within : l.next ≤ length l.found;

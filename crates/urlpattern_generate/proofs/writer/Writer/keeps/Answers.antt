@@ -7,7 +7,7 @@ use Rattle.urlpattern_syntax.specs.ComponentParts.{kept_parts}
 use Rattle.urlpattern_syntax.specs.Parts.{PartView}
 use Rattle.urlpattern_generate.proofs.writer.Writer.keeps.Goals as goal
 
--- only where it is a host it matters whether it begins as an IPv6 address does
+-- Only for a hostname it matters whether the first part begins as an IPv6 address does.
 same_canonical : (component : ComponentName) (hierarchical : Bool) (parts : List PartView) (text : List ℕ) →
     canonical_for component hierarchical (is_ipv6_host component parts) text ≡ canonical_for component hierarchical (begins_ipv6 parts) text
 same_canonical Protocol hierarchical parts text = refl

@@ -21,7 +21,7 @@ use Rattle.urlpattern_steps.proofs.walk.Attempt.+following.Answers.CopyAnswers a
 use Rattle.urlpattern_steps.proofs.walk.Attempt.+following.Answers.SegmentAnswers as segments
 use Rattle.urlpattern_steps.proofs.walk.Attempt.+following.Goals as goal
 
--- ---- the first of the steps
+-- ---- the first step
 
 pub follow_first-follow-requires : goal.follow_first-follow-requires
 follow_first-follow-requires n c =
@@ -63,7 +63,7 @@ follow_first-returns-in-None n c =
     (follows_missed c.args.self.now c.args.self.now _ (untouched-same c.args.self.now)
     (ap (λ s. walk c.args.ignore_case s text) first ∙ literal_other c.args.ignore_case d others text c.in-None.ensures.other))
 
--- ---- a group that may be missing
+-- ---- an optional group
 
 pub follow_maybe-follow_on-requires : goal.follow_maybe-follow_on-requires
 follow_maybe-follow_on-requires n c = (
@@ -76,7 +76,7 @@ follow_maybe-returns n c =
     maybe_left c.args.ignore_case c.args.self.now c.follow.new.self _ c.follow_on.new.self c.args.group c.args.others.now c.pass.result.now (chars c.args.text.now) _ c.follow_on.result
     c.if-branch.false c.in_ok-follow.ensures c.in_ok-add_missing.ensures refl c.pass.ensures c.follow_on.ensures
 
--- ---- the steps one after the other
+-- ---- the steps in turn
 
 pub follow_on-loop-step-preserved-in-Literal-1 : goal.follow_on-loop-step-preserved-in-Literal-1
 follow_on-loop-step-preserved-in-Literal-1 n c =
@@ -222,7 +222,7 @@ follow_longest_run-returns-then-run = runs.follow_longest_run-returns-then-run
 pub follow_longest_run-returns-else-run : goal.follow_longest_run-returns-else-run
 follow_longest_run-returns-else-run = runs.follow_longest_run-returns-else-run
 
--- ---- copies of a text
+-- ---- a repeated literal
 
 pub follow_copies-follow_any_copies-requires : goal.follow_copies-follow_any_copies-requires
 follow_copies-follow_any_copies-requires = copies.follow_copies-follow_any_copies-requires
@@ -257,7 +257,7 @@ follow_any_copies-returns-in_default = copies.follow_any_copies-returns-in_defau
 pub follow_any_copies-loop-shorter-preserved : goal.follow_any_copies-loop-shorter-preserved
 follow_any_copies-loop-shorter-preserved = copies.follow_any_copies-loop-shorter-preserved
 
--- ---- segments
+-- ---- separated runs
 
 pub follow_segments-end_of_segments-requires : goal.follow_segments-end_of_segments-requires
 follow_segments-end_of_segments-requires = segments.follow_segments-end_of_segments-requires

@@ -13,7 +13,7 @@ use Rattle.urlpattern_steps.proofs.FallingLemmas.{falling}
 use Rattle.urlpattern_steps.proofs.LongestLemmas.{at_least}
 use Rattle.urlpattern_steps.proofs.walk.Attempt.+following.Given as goal
 
--- ---- how far each call is from its end: the steps that are left, and then the calls that pass them on
+-- ---- the measure of each call: the remaining steps, then the calls that pass them on
 
 abbrev pub decreases-follow_on : goal.decreases-follow_on
 decreases-follow_on l = 10 * length l.steps.now
@@ -57,7 +57,7 @@ decreases-follow_once l = 10 * length l.others.now + 6
 abbrev pub decreases-follow_first : goal.decreases-follow_first
 decreases-follow_first l = 10 * length l.others.now + 5
 
--- ---- what holds in each loop
+-- ---- loop invariants
 
 abbrev pub invariant-follow_on-loop-step : goal.invariant-follow_on-loop-step
 invariant-follow_on-loop-step l = record {

@@ -1,4 +1,4 @@
--- The answers for runs of characters.
+-- The goals for runs of characters.
 use Rattle.std.proofs.Common.{◌≡◌, ℕ, ◌∷◌, ◌++◌, [], None, length, sym, ap, ◌∙◌, subst, rules}
 use Rattle.std.proofs.lemmas.Str.{IsUtf8-encode}
 use Rattle.std.specs.Option.{option_or}
@@ -18,7 +18,7 @@ use Rattle.urlpattern_steps.proofs.FirstLemmas.{places}
 use Rattle.urlpattern_steps.proofs.walk.Attempt.+following.Goals as goal
 use Rattle.urlpattern_steps.proofs.walk.Attempt.+following.Goals.{follow_longest-Else-branch, follow_longest_run-After-follow_captured, follow_shortest-After-follow_captured}
 
--- ---- the longest front
+-- ---- the longest prefix
 
 pub follow_longest-loop-self-init : goal.follow_longest-loop-self-init
 follow_longest-loop-self-init n c =
@@ -44,7 +44,7 @@ follow_longest-returns-then-branch n c =
     (λ found some. longest_taken c.args.ignore_case c.args.steps.now c.args.others.now c.requires.1.1.1 c.args.text.now front c.after_front-rest.result.now so_far.0 found utf8 c.after_front-rest.ensures so_far.2 so_far.3.0 so_far.3.1
     some)
 
--- this front does not lead on, and none that is longer
+-- No prefix of this length or longer has a match.
 longest_none : (n : ℕ) (c : follow_longest-Else-branch n)
     → longest c.args.ignore_case line_feed (captured_front (walk c.args.ignore_case c.args.others.now)) (chars c.loop-self.front.now) (chars c.after_front-rest.result.now) ≡ None
 longest_none n c =
@@ -99,7 +99,7 @@ follow_longest-loop-self-preserved n c =
       before = record { same = before.same; whole = c.insert.ensures ∙ before.whole };
     }
 
--- ---- the shortest front
+-- ---- the shortest prefix
 
 pub follow_shortest-next_of_run-requires : goal.follow_shortest-next_of_run-requires
 follow_shortest-next_of_run-requires n c =
@@ -122,7 +122,7 @@ follow_shortest-follow_captured-requires n c =
     let ends : EndsWith text remaining = (so_far.0 ++ d ∷ [], run_passed so_far.0 text (chars c.loop-remaining.rest.now) d remaining so_far.1 c.in-Some.ensures.cut) in
     search (rules, places, ends)
 
--- what this front gives comes first, and then what those give that are longer
+-- The result of this prefix comes first, and then those of longer ones.
 shortest_so_far : (n : ℕ) (c : follow_shortest-After-follow_captured n)
     → let gives : Continuation = captured_front (walk c.args.ignore_case c.args.others.now) in
     let remaining = chars c.in-Some.remaining.now in
@@ -169,7 +169,7 @@ follow_shortest-returns n c =
     follows_missed c.args.self.now _ _ (record { same = before.same; whole = c.remember_run.ensures ∙ before.whole })
     (so_far.2 ∙ run_ended c.args.ignore_case c.args.end c.args.steps.now c.args.others.now so_far.0 (chars c.loop-remaining.rest.now) c.requires.1.1.1 c.in_default.ensures.none)
 
--- ---- a run that is as long as it may be
+-- ---- a greedy run
 
 pub follow_longest_run-loop-shorter-init : goal.follow_longest_run-loop-shorter-init
 follow_longest_run-loop-shorter-init n c =
@@ -198,7 +198,7 @@ follow_longest_run-after_front-rest-requires n c = let so_far = c.loop-shorter.i
 pub follow_longest_run-follow_captured-requires : goal.follow_longest_run-follow_captured-requires
 follow_longest_run-follow_captured-requires n c = search (rules, places)
 
--- a front that is not empty gives what it may give
+-- A nonempty prefix has the result of the continuation.
 run_given : (n : ℕ) (c : follow_longest_run-After-follow_captured n)
     → let gives : Continuation = captured_front (walk c.args.ignore_case c.args.steps.now) in
     let front = chars c.loop-shorter.front.now in

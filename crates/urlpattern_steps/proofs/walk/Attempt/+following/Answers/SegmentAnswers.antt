@@ -1,4 +1,4 @@
--- The answers for segments with a text between each two.
+-- The goals for separated runs.
 use Rattle.std.proofs.Common.{ℕ, ◌∷◌, ◌++◌, [], None, sym, ap, ◌∙◌, subst, arith, rules}
 use Rattle.std.proofs.lemmas.Str.{IsUtf8-encode}
 use Rattle.std.specs.Str.{chars, IsUtf8}
@@ -53,7 +53,7 @@ end_of_segments-loop-begun-init n c =
       before = untouched-same c.args.self.now;
     }
 
--- what is known of a place once the calls have answered
+-- The ends at a place after the calls have returned.
 ends_placed : (n : ℕ) (c : end_of_segments-After-ends-beginning n)
     → let first = c.args.segments.separator.first in
     let literal = literals c.args.literal.now in
