@@ -20,7 +20,7 @@ use Rattle.urlpattern_compare.specs.declared.pattern.PatternParts.{PatternParts}
 abbrev pub IsParted : (asked pattern : PatternParts) → Type 0
 IsParted asked pattern = (parting : Parting) × IsParting pattern asked parting
 
--- One of the patterns is known to cover the asked one, or all are known not to.
+-- A pattern is known to cover the asked one, or all are known not to.
 abbrev pub IsSettled : List PatternParts → (asked : PatternParts) → Type 0
 IsSettled patterns asked =
     ((index : ℕ) × CoversAt patterns asked index) ⊎ All (IsParted asked) patterns
