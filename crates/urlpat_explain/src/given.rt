@@ -17,7 +17,7 @@ use urlpattern_pattern::UrlPattern;
 /// The reason why arguments give no groups.
 #[derive(Drop)]
 pub enum Misgiven<'w> {
-    /// This argument is not the name of a group, `=` and a text.
+    /// The argument is not the name of a group, `=` and a text.
     Word(&'w str),
     /// Memory ran out.
     OutOfMemory,

@@ -24,7 +24,7 @@ const LINK_USAGE: &str = "usage: urlpat link PATTERN BASE NAME=VALUE..\n";
 /// The reason why there is no URL.
 #[derive(Drop)]
 pub enum Unlinked<'w> {
-    /// This argument is not the name of a group, `=` and a text.
+    /// The argument is not the name of a group, `=` and a text.
     Word(&'w str),
     /// The pattern has no URL with these texts for its groups.
     NoLink(NoLink),
