@@ -56,7 +56,7 @@ impl Case<'_> {
     }
 }
 
-/// Whether the error is printed as the text. An asterisk stands for any error of a URL.
+/// Whether the error is printed as the text. An asterisk matches any error of a URL.
 pub fn prints(alloc: Global, error: &Error, text: &str) -> Result<bool, AllocError> {
     if text == "*" {
         return Ok(matches!(error, Error::Url(_)));

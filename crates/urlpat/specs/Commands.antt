@@ -11,7 +11,7 @@ use Rattle.urlpat_rules.specs.Routes.{RoutesLines}
 use Rattle.urlpat_rules.specs.Unreached.{Lists}
 use Rattle.urlpat_lines.specs.declared.flags.Flags.{Flags}
 
--- The command among the arguments compares patterns or reads a table.
+-- The arguments are those of a command that compares patterns or reads a table.
 abbrev pub AskForRules : (words : List (List ℕ)) → Type 0
 AskForRules words =
     (rest : List (List ℕ)) × (AreWordsAfter (codes "covers") words rest ⊎ AreWordsAfter (codes "unreachable") words rest ⊎ AreWordsAfter (codes "route") words rest)

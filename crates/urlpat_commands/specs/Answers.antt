@@ -192,7 +192,7 @@ IsShortFailure ignores pattern words failure = failure ≡ failures.Usage
 
 -- ---- commands
 
--- The commands that take their input from their arguments.
+-- The commands of this crate, without `filter` and the short form.
 abbrev pub IsCommand : List ℕ → Type 0
 IsCommand word = (word ≡ codes "component") ⊎ (word ≡ codes "match") ⊎ (word ≡ codes "first")
 

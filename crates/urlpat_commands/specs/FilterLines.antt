@@ -97,7 +97,7 @@ FiltersLines flags words status input old new =
 abbrev pub FilterReplies : Flags → (words : List (String Global)) → (status : ℕ) → (input old new : Option (List ℕ)) → Type 0
 FilterReplies flags words status input old new = status ≢ FAILED → FiltersLines flags (words_view words) status input old new
 
--- The command among the arguments is `filter`.
+-- The arguments are those of `filter`.
 abbrev pub AskToFilter : (words : List (List ℕ)) → Type 0
 AskToFilter words = (rest : List (List ℕ)) × AreWordsAfter (codes "filter") words rest
 

@@ -2,7 +2,7 @@
 //!
 //! The texts of the input are made once. An index finds the patterns that can match them, by the
 //! literal protocol and hostname and by the segments of the pathname. Only these patterns are
-//! tried, in the order of the list. Nothing is allocated for patterns that do not match.
+//! tried, in the order of the list. No result is built for patterns that do not match.
 ghost use Rattle.std.specs.Iterator.Adapters.{IterYieldsInOrder};
 ghost use Rattle.std.specs.List.{remove};
 ghost use Rattle.std.specs.Prelude.{◌≡◌, ◌==◌, ◌++◌, ◌<◌, [], ◌∷◌, length, option_copied, slice_get, IfErr, IfOk, OnErr, OnOk};

@@ -24,7 +24,7 @@ abbrev pub subject_number : Subject → ℕ
 subject_number subjects.Base = 1
 subject_number subject = 0
 
--- For an init, 2 and the number of the component whose text is at fault.
+-- For an init, 2 plus the number of the component whose text is at fault, 1 for the base URL, or 0.
 abbrev pub init_subject_number : Subject → ℕ
 init_subject_number subjects.Whole = 0
 init_subject_number subjects.Base = 1

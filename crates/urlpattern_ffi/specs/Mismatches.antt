@@ -15,7 +15,7 @@ use Rattle.urlpattern_init.specs.Inheritance.{texts_of_url}
 use Rattle.urlpattern_pattern.specs.Mismatch.{FindsMismatch}
 use Rattle.urlpattern_pattern.specs.UrlPatterns.{UrlPattern}
 
--- The number that stands for no component.
+-- The number that is written if there is no component.
 abbrev pub no_component : ℕ
 no_component = 8
 

@@ -17,8 +17,8 @@ use urlpattern::{Diagnosis, Subject, UrlPattern};
 #[repr(C)]
 #[derive(Drop)]
 pub struct Place {
-    /// 0: the pattern's text, 1: the base URL. For an init, 2 and the number of the component whose
-    /// text it is.
+    /// 0: the pattern's text, 1: the base URL. For an init, 2 plus the number of the component
+    /// whose text it is.
     pub subject: u32,
     /// The byte at which the part begins.
     pub start: usize,

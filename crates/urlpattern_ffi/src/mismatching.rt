@@ -12,7 +12,7 @@ use std::alloc::Global;
 use urlpattern::regexp::PatternRegexp;
 use urlpattern::{ComponentName, UrlPattern};
 
-/// The number that stands for no component.
+/// The number that is written if there is no component.
 pub(crate) const NO_COMPONENT: u32 = 8;
 
 /// Writes the number of the first component of the pattern at an index that does not match, or else
