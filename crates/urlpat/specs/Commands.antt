@@ -27,7 +27,7 @@ DoesRules flags Has words status input old new =
 abbrev pub DoesAny : Flags → (Has : (name table : List ℕ) → Type 0) → (words : List (List ℕ)) → (status : ℕ) → (input old new : Option (List ℕ)) → Type 0
 DoesAny flags Has words status input old new = DoesRules flags Has words status input old new ⊎ Does flags words status input old new
 
--- The run succeeds unless its exit status is that of a failure.
+-- `DoesAny` unless the run failed.
 abbrev pub RunsAny : Flags → (Has : (name table : List ℕ) → Type 0) → (words : List (String Global)) → (status : ℕ) → (input old new : Option (List ℕ)) → Type 0
 RunsAny flags Has words status input old new = status ≢ FAILED → DoesAny flags Has (words_view words) status input old new
 

@@ -93,7 +93,7 @@ FiltersLines flags words status input old new =
     × IfSome input (λ text. (any : Bool) × (status ≡ status_of any)
     × FiltersText (IsFiltered compiled (base_view (base_of query.base.now)) query) query.shape text any old new)
 
--- The output of `filter` is written unless the run failed.
+-- `FiltersLines` unless the run failed.
 abbrev pub FilterReplies : Flags → (words : List (String Global)) → (status : ℕ) → (input old new : Option (List ℕ)) → Type 0
 FilterReplies flags words status input old new = status ≢ FAILED → FiltersLines flags (words_view words) status input old new
 
@@ -107,7 +107,7 @@ abbrev pub Does : Flags → (words : List (List ℕ)) → (status : ℕ) → (in
 Does flags words status input old new =
     ((rest : List (List ℕ)) × AreWordsAfter (codes "filter") words rest × FiltersLines flags rest status input old new) ⊎ Prints flags words status old new
 
--- The run succeeds unless its exit status is that of a failure.
+-- `Does` unless the run failed.
 abbrev pub RunsOne : Flags → (words : List (String Global)) → (status : ℕ) → (input old new : Option (List ℕ)) → Type 0
 RunsOne flags words status input old new = status ≢ FAILED → Does flags (words_view words) status input old new
 

@@ -19,7 +19,7 @@ use urlpattern_canonical::find_url;
 /// The first match of an input: a line with the index of its pattern and a line for each group, or
 /// JSON. `None`: no pattern matches.
 ///
-/// The error is the one with which the first pattern or base is rejected, or that memory ran out.
+/// The error is that of the first pattern or base that is rejected, or that memory ran out.
 pub fn first_groups(
     alloc: Global,
     base: &str,
@@ -39,7 +39,7 @@ pub fn first_groups(
 
 /// Compiles constructor strings, in order.
 ///
-/// The error is the one with which the first pattern or base is rejected, or that memory ran out.
+/// The error is that of the first pattern or base that is rejected, or that memory ran out.
 fn compiled_list(
     alloc: Global,
     patterns: &[String],

@@ -106,7 +106,7 @@ fn asked_by_two<'a>(first: &str, second: &'a str) -> Option<(bool, Shape<'a>)>
     }
 }
 
-/// Counts the lines that do not match, if both flags are there.
+/// The query for the count of the lines that do not match, if both flags are there.
 fn others_counted<'a>(both: bool) -> Option<(bool, Shape<'a>)>
     ensures asked { IfSome result (λ asked. (both ≡ true) × (asked ≡ (true, shapes.Count))) }
     ensures other { IfNone result (both ≡ false) }

@@ -25,8 +25,8 @@ abbrev pub IsSettled : List PatternParts → (asked : PatternParts) → Type 0
 IsSettled patterns asked =
     ((index : ℕ) × CoversAt patterns asked index) ⊎ All (IsParted asked) patterns
 
--- No pattern is known to cover the asked one. The doubt has the first one for which it is not known,
--- and the reason.
+-- No pattern is known to cover the asked one. The doubt has the first one for which it is not
+-- known, and the reason.
 pub record IsInDoubt (patterns : List PatternParts) (asked : PatternParts) (doubt : Doubt) :
     Type 0 where
   pub pattern : PatternParts

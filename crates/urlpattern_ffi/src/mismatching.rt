@@ -1,4 +1,4 @@
-//! Whether a component does not match, and whether a pattern has custom regular expressions.
+//! Which component does not match, and whether a pattern has custom regular expressions.
 ghost use Rattle.std.specs.Prelude.{◌≡◌, ◌<◌, slice_get, Some};
 ghost use Rattle.urlpattern.specs.Eight.{components};
 ghost use Rattle.urlpattern.specs.Patterns.{pattern_view};
