@@ -13,16 +13,16 @@ use urlpattern_pattern::UrlPattern;
 use urlpattern_quirks::{process_construct_pattern_input, process_match_input};
 use urlpattern_syntax::Error;
 
-/// A call that matches an input. The ones of a URL find no match of an init.
+/// A call that matches an input. Calls for URLs find no match for an init.
 #[derive(Clone, Copy)]
 pub enum Call {
     /// `exec`.
     Exec,
     /// `exec_url`.
     ExecUrl,
-    /// `captures`, and an owned copy of what it returns.
+    /// `captures`, and an owned copy of its result.
     Captures,
-    /// `captures_of_input`, and an owned copy of what it returns.
+    /// `captures_of_input`, and an owned copy of its result.
     CapturesOfInput,
     /// `exec_once`.
     Once,
@@ -48,7 +48,7 @@ pub fn call_of(question: &Value) -> Result<Call, Fault> {
     named(CALLS, optional_text(question, "by").unwrap_or("exec"))
 }
 
-/// What a call finds for an input that a question gives, or what stands for nothing where the input is none.
+/// The result of a call for the input of a question, or `nothing` if the input has no texts.
 pub fn found_for<T: Drop, F: Fn(UrlPatternMatchInput) -> Result<T, Error>>(
     alloc: Global,
     input: &Value,
@@ -78,7 +78,7 @@ pub fn found_for<T: Drop, F: Fn(UrlPatternMatchInput) -> Result<T, Error>>(
     })
 }
 
-/// What a call finds of an input that is a URL, and what stands for nothing for an init.
+/// The result of a call for an input that is a URL, or `nothing` for an init.
 pub fn found_of_url<T: Drop, F: Fn(&Url) -> Result<T, Error>>(
     input: UrlPatternMatchInput,
     nothing: T,
@@ -97,7 +97,7 @@ pub fn found_of_url<T: Drop, F: Fn(&Url) -> Result<T, Error>>(
     answer
 }
 
-/// What a call finds of the texts of an input. `None`: the input has none.
+/// The result of a call for the texts of an input. `None`: the input has no texts.
 pub fn found_of_texts<T: Drop, F: Fn(&MatchInput) -> Result<Option<T>, Error>>(
     alloc: Global,
     input: UrlPatternMatchInput,
@@ -138,7 +138,7 @@ pub fn matched<R: RegExp>(
     }
 }
 
-/// An owned copy of a match that borrows. The error is that memory ran out.
+/// An owned copy of a borrowed match.
 fn copied(
     alloc: Global,
     found: Result<Option<UrlPatternCaptures<'_, '_>>, Error>,
@@ -155,7 +155,7 @@ fn copied(
     copy
 }
 
-/// Whether a pattern matches an input, by a call that says no more.
+/// Whether a pattern matches an input, by a call that returns a bool.
 pub fn is_matched<R: RegExp>(
     alloc: Global,
     pattern: &UrlPattern<R>,
@@ -168,15 +168,15 @@ pub fn is_matched<R: RegExp>(
     }
 }
 
-/// What is given for a pattern or for an input, with its base.
+/// The text or init of a pattern or an input, with its base.
 type Given<'a> = (StringOrInit<'a>, Option<&'a str>);
 
-/// What a question or an input gives, with its base.
+/// The text or init of a question or an input, with its base.
 fn given_with_base<'a>(alloc: Global, fields: &'a Value) -> Result<Given<'a>, Fault> {
     Ok((given::input(alloc, fields)?, optional_text(fields, "base")))
 }
 
-/// The match of an input by a pattern that is compiled for it alone.
+/// The match of an input by a pattern that is compiled for this input alone.
 pub fn matched_once<R: RegExp>(
     case: &Case<'_>,
     input: &Value,

@@ -1,22 +1,23 @@
-//! A question with its recorded answer.
+//! A question with its recorded result.
 
 use crate::recorded::{Answer, Fault, list};
 use serde_json::Value;
 use std::alloc::{AllocError, Global};
 use urlpattern_syntax::Error;
 
-/// A question, and the answer that was recorded.
+/// A question, and the result that was recorded.
 #[derive(Drop)]
 pub struct Case<'a> {
     pub alloc: Global,
     pub question: &'a Value,
     pub answer: Answer<'a>,
-    /// The answer over `PatternRegexp`.
+    /// The result over `PatternRegexp`.
     pub over_pattern_regexp: Answer<'a>,
 }
 
 impl Case<'_> {
-    /// Whether what is found is what was recorded: a value that a call says is so, or an error that prints the text.
+    /// Whether the outcome is the recorded one: a value that a predicate accepts, or an error with
+    /// the recorded text.
     pub fn is_answer<T: Drop, F: FnOnce(&T, &Value) -> Result<bool, Fault>>(
         &self,
         found: Result<T, Error>,
@@ -34,7 +35,7 @@ impl Case<'_> {
         is_answer
     }
 
-    /// Whether each input of the question has the recorded result in its place.
+    /// Whether each input of the question has the recorded result at its index.
     pub fn are_results<F: Fn(&Value, &Value) -> Result<bool, Fault>>(
         &self,
         recorded: &Value,
@@ -55,7 +56,7 @@ impl Case<'_> {
     }
 }
 
-/// Whether the error prints the text. An asterisk stands for any error of a URL.
+/// Whether the error is printed as the text. An asterisk matches any error of a URL.
 pub fn prints(alloc: Global, error: &Error, text: &str) -> Result<bool, AllocError> {
     if text == "*" {
         return Ok(matches!(error, Error::Url(_)));
@@ -63,7 +64,7 @@ pub fn prints(alloc: Global, error: &Error, text: &str) -> Result<bool, AllocErr
     Ok(format!(in alloc; "{error}")?.as_str() == text)
 }
 
-/// Whether calls succeeded and answered yes. Only memory that ran out is a fault.
+/// Whether calls succeeded and returned true. Only memory that ran out is a fault.
 pub fn succeeded(found: Result<bool, Error>) -> Result<bool, Fault> {
     match found {
         Ok(is_same) => Ok(is_same),

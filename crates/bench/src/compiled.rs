@@ -8,7 +8,8 @@ use urlpattern_matcher::matcher::InnerMatcher;
 use urlpattern_matcher::regexp::RegExp;
 use urlpattern_syntax::Error;
 
-/// Whether the compiled component of a pattern over an engine is the recorded one. The pattern's texts stay as they are.
+/// Whether the compiled component of a pattern over an engine is the recorded one. The pattern's
+/// texts are kept as they are.
 pub fn is_same<R: RegExp>(case: &Case<'_>) -> Result<bool, Fault> {
     let alloc = case.alloc;
     let pattern = optional_text(case.question, "pattern");
@@ -33,7 +34,8 @@ fn is_component<R: RegExp>(component: &Component<R>, recorded: &Value) -> bool {
         }
 }
 
-/// Whether an engine's value has the recorded text, or an error is kept where an object was recorded.
+/// Whether an engine's value has the recorded text, or an error is kept where an object was
+/// recorded.
 fn is_kept<R: RegExp>(kept: &Result<R, Error>, recorded: Option<&Value>) -> bool {
     match (kept, recorded) {
         (Ok(engine), Some(recorded)) => recorded.as_str() == Some(engine.pattern_string()),

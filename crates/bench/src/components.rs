@@ -1,4 +1,4 @@
-//! Asks for the parts of a pattern and what is made of them.
+//! Parses patterns, and compares the parts and what is generated from them.
 
 use crate::case::{Case, succeeded};
 use crate::matchers::is_matcher;
@@ -15,18 +15,18 @@ use urlpattern_matcher::matcher::Matcher;
 use urlpattern_parser::parser::{Options, Part, PartModifier, PartType, parse_pattern_string};
 use urlpattern_syntax::Error;
 
-/// What becomes of each text of a pattern.
+/// A callback for the texts of a pattern.
 #[derive(Clone, Copy, Drop)]
 pub enum Callback {
-    /// It stays.
+    /// Keeps the text.
     Keep,
-    /// It becomes empty.
+    /// Returns an empty text.
     Empty,
-    /// It stands twice.
+    /// Repeats the text.
     Double,
-    /// It is refused as a port would be.
+    /// Rejects the text as a port would be.
     Refuse,
-    /// It becomes empty if it is a line feed.
+    /// Returns an empty text for a line feed.
     EmptyLineFeed,
 }
 
@@ -40,7 +40,7 @@ const CALLBACKS: &[(&str, Callback)] = &[
 ];
 
 impl Callback {
-    /// What becomes of a text.
+    /// Calls the callback.
     fn encode(self, alloc: Global, text: &str) -> Result<String, Error> {
         match self {
             Callback::Keep => Ok(String::from_str(alloc, text)?),
@@ -53,7 +53,7 @@ impl Callback {
     }
 }
 
-/// Whether the parts of a pattern, and what is made of them, are the recorded ones.
+/// Whether the parts of a pattern, and what is generated from them, are the recorded ones.
 pub fn is_same(case: &Case<'_>) -> Result<bool, Fault> {
     let callback = optional_text(case.question, "callback").unwrap_or("keep");
     let callback = named(CALLBACKS, callback)?;
@@ -68,7 +68,8 @@ pub fn is_same(case: &Case<'_>) -> Result<bool, Fault> {
     is_same
 }
 
-/// Whether the normal form of the parts of a pattern is the recorded one. The pattern's texts stay as they are.
+/// Whether the normal form of the parts of a pattern is the recorded one. The pattern's texts are
+/// kept as they are.
 pub fn is_same_normal_form(case: &Case<'_>) -> Result<bool, Fault> {
     let pattern = text(case.question, "pattern")?;
     let options = options_of(case.alloc, case.question)?;
@@ -95,7 +96,7 @@ pub fn parts_of(
     parse_pattern_string(alloc, pattern, options, encode)
 }
 
-/// Whether parts, and what is made of them, are the recorded ones.
+/// Whether parts, and what is generated from them, are the recorded ones.
 fn is_component(
     alloc: Global,
     parts: &[Part],

@@ -1,4 +1,4 @@
-//! Asks for the components of constructor strings, and for the inits of strings and of a browser's inits.
+//! Parses constructor strings, and inits of strings and of a browser's inits.
 
 use crate::recorded::{Fault, optional_text, text};
 use crate::{Case, given};
@@ -10,10 +10,11 @@ use urlpattern_init::UrlPatternInit;
 use urlpattern_quirks::process_construct_pattern_input;
 use urlpattern_syntax::Error;
 
-/// The answer to a constructor string: its components, and the number of looks at a token.
+/// The result for a constructor string: its components, and the number of turns, each at a token.
 type Counted = (UrlPatternInit, usize);
 
-/// Whether the components of a constructor string are the recorded ones, and the looks at a token as many.
+/// Whether the components of a constructor string are the recorded ones, and the number of turns
+/// is.
 pub fn is_same(case: &Case<'_>) -> Result<bool, Fault> {
     let base = optional_text(case.question, "base");
     let found = constructor(case.alloc, text(case.question, "pattern")?, base);
@@ -25,7 +26,7 @@ pub fn is_same(case: &Case<'_>) -> Result<bool, Fault> {
     })
 }
 
-/// The answer to a constructor string under a base, or without one.
+/// The result for a constructor string, with or without a base.
 fn constructor(alloc: Global, pattern: &str, base: Option<&str>) -> Result<Counted, Error> {
     let base = match base {
         Some(base) => Some(given::url(alloc, base)?),
@@ -34,7 +35,7 @@ fn constructor(alloc: Global, pattern: &str, base: Option<&str>) -> Result<Count
     UrlPatternInit::parse_constructor_string_counted::<Regex>(alloc, pattern, base)
 }
 
-/// Whether the init of what is given is the recorded one, with its base URL.
+/// Whether the init of a question is the recorded one, with its base URL.
 pub fn is_same_init(case: &Case<'_>) -> Result<bool, Fault> {
     let input = given::input(case.alloc, case.question)?;
     let base = optional_text(case.question, "base");
@@ -45,7 +46,8 @@ pub fn is_same_init(case: &Case<'_>) -> Result<bool, Fault> {
     )
 }
 
-/// Whether the components of an init are the recorded ones, null or missing where there is none.
+/// Whether the components of an init are the recorded ones. A component that is not there is
+/// recorded as null or missing.
 fn are_texts(init: &UrlPatternInit, recorded: &Value) -> bool {
     ComponentName::all().iter().all(|&name| init.get(name)
         == optional_text(recorded, name.as_str()))

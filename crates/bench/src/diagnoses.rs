@@ -1,4 +1,4 @@
-//! Asks what is wrong with patterns.
+//! Diagnoses patterns.
 
 use crate::recorded::{Answer, Fault, has_text, list, optional_text};
 use crate::{Case, given};
@@ -11,7 +11,8 @@ use urlpattern_pattern::UrlPattern;
 use urlpattern_quirks::process_construct_pattern_input;
 use urlpattern_syntax::Error;
 
-/// Whether what is wrong with a constructor string, or with an init, is what was recorded: null where nothing is.
+/// Whether the diagnosis of a constructor string or an init is the recorded one: null if it is
+/// accepted.
 pub fn is_same<R: RegExp>(case: &Case<'_>) -> Result<bool, Fault> {
     let Answer::Ok(recorded) = case.answer else {
         return Ok(false);
@@ -30,7 +31,7 @@ pub fn is_same<R: RegExp>(case: &Case<'_>) -> Result<bool, Fault> {
     }
 }
 
-/// What is wrong with an init.
+/// The diagnosis of an init.
 fn of_init<R: RegExp>(
     case: &Case<'_>,
     options: UrlPatternOptions,
@@ -65,7 +66,7 @@ fn is_recorded(alloc: Global, diagnosis: &Diagnosis, recorded: &Value) -> Result
     // docs: end
 }
 
-/// Whether a field has the two places of a span, or is missing where there is none.
+/// Whether a field has the two places of a span, or is missing if there is none.
 fn is_span(recorded: &Value, name: &str, span: Option<Span>) -> bool {
     // docs: span
     match (list(recorded, name), span) {

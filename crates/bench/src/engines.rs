@@ -1,4 +1,4 @@
-//! Asks an engine what was asked when a case was recorded.
+//! Calls an engine as in a recorded case.
 
 use crate::case::Case;
 use crate::recorded::{Answer, Fault, has_text, is_set, list, text};
@@ -7,7 +7,8 @@ use std::alloc::Global;
 use urlpattern_matcher::regexp::RegExp;
 use urlpattern_syntax::error::{OutOfMemory, RegExpError};
 
-/// Whether the answers of this engine are the recorded ones, also of a value that is made to be kept.
+/// Whether the results of this engine are the recorded ones, also those of a value that is compiled
+/// to be kept.
 pub fn is_same<R: RegExp>(case: &Case<'_>) -> Result<bool, Fault> {
     let pattern = text(case.question, "pattern")?;
     let force_eval = is_set(case.question, "force_eval");
@@ -17,7 +18,7 @@ pub fn is_same<R: RegExp>(case: &Case<'_>) -> Result<bool, Fault> {
     Ok(is_same_value(case, asked)? && is_same_value(case, kept)?)
 }
 
-/// Whether what an engine made of the text is recorded.
+/// Whether the recorded result is that of compiling the text.
 fn is_same_value<R: RegExp>(case: &Case<'_>, found: Result<R, RegExpError>) -> Result<bool, Fault> {
     let is_same = match (&found, case.answer) {
         (Err(RegExpError::OutOfMemory), _) => Err(Fault::OutOfMemory),
@@ -29,7 +30,8 @@ fn is_same_value<R: RegExp>(case: &Case<'_>, found: Result<R, RegExpError>) -> R
     is_same
 }
 
-/// Whether an engine has the recorded text, and answers the texts of a question as recorded.
+/// Whether an engine has the recorded text, and returns the recorded results for the texts of a
+/// question.
 fn is_engine<R: RegExp>(case: &Case<'_>, engine: &R, recorded: &Value) -> Result<bool, Fault> {
     let inputs = list(case.question, "inputs")?;
     let Ok(matches) = list(recorded, "matches") else {
@@ -41,7 +43,7 @@ fn is_engine<R: RegExp>(case: &Case<'_>, engine: &R, recorded: &Value) -> Result
     )
 }
 
-/// Whether an engine answers each text as recorded.
+/// Whether an engine returns the recorded result for each text.
 fn are_answers<R: RegExp>(
     alloc: Global,
     engine: &R,
@@ -57,7 +59,7 @@ fn are_answers<R: RegExp>(
     Ok(inputs.len() == recorded.len())
 }
 
-/// Whether an engine answers a text as recorded.
+/// Whether an engine returns the recorded result for a text.
 fn answers<R: RegExp>(
     alloc: Global,
     engine: &R,
@@ -70,7 +72,8 @@ fn answers<R: RegExp>(
     Ok(is_same)
 }
 
-/// Whether captures are the recorded ones: null where nothing is matched, and for a group that took no part.
+/// Whether captures are the recorded ones: null if the text does not match, and for a group that
+/// took no part.
 pub fn are_captures(found: &Option<Vec<Option<&str>>>, recorded: &Value) -> bool {
     match (found, recorded) {
         (Some(found), Value::Array(recorded)) => {

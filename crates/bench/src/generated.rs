@@ -1,4 +1,4 @@
-//! Asks for texts of components whose groups capture what is given.
+//! Generates texts of components, given texts for the groups.
 
 use crate::Case;
 use crate::patterns;
@@ -11,7 +11,8 @@ use urlpattern_matcher::regexp::RegExp;
 use urlpattern_pattern::UrlPattern;
 use urlpattern_syntax::Error;
 
-/// Whether the text of a component with the groups of a question is the recorded one, or is refused for the recorded reason.
+/// Whether the text of a component with the groups of a question is the recorded one, or is
+/// rejected for the recorded reason.
 pub fn is_same<R: RegExp>(case: &Case<'_>) -> Result<bool, Fault> {
     let Answer::Ok(recorded) = case.answer else {
         return Ok(false);
@@ -32,12 +33,12 @@ pub fn is_same<R: RegExp>(case: &Case<'_>) -> Result<bool, Fault> {
     }
 }
 
-/// The component of a name.
+/// The component with a name.
 fn component_of(name: &str) -> Result<ComponentName, Fault> {
     ComponentName::from_name(name).ok_or(Fault::NoCase)
 }
 
-/// The groups that a question gives: lists of a component, a name and a text.
+/// The groups of a question: lists of a component, a name and a text.
 pub fn groups_of<'a>(alloc: Global, given: &'a [Value]) -> Result<Vec<GivenGroup<'a>>, Fault> {
     let mut groups = Vec::new(alloc);
     for group in given {
@@ -49,7 +50,7 @@ pub fn groups_of<'a>(alloc: Global, given: &'a [Value]) -> Result<Vec<GivenGroup
     Ok(groups)
 }
 
-/// A group that a question gives.
+/// A group of a question.
 fn group_of(given: &Value) -> Result<GivenGroup<'_>, Fault> {
     let Some([component, name, text]) = given.as_array().map(|given| given.as_slice()) else {
         return Err(Fault::NoCase);
@@ -60,7 +61,7 @@ fn group_of(given: &Value) -> Result<GivenGroup<'_>, Fault> {
     }
 }
 
-/// Whether what was generated is the recorded text, or the error is the recorded one.
+/// Whether the generated text is the recorded one, or the error is.
 fn is_recorded(found: Result<String, GenerateError>, recorded: &Value) -> Result<bool, Fault> {
     match found {
         Ok(text) => Ok(has_text(recorded, "text", &text)),
@@ -87,7 +88,7 @@ pub fn is_reason(error: &GenerateError, recorded: &Value) -> Result<bool, Fault>
     }
 }
 
-/// Whether the recorded reason is this one, of this component.
+/// Whether the recorded reason is this one, for this component.
 pub fn is_refused(recorded: &Value, reason: &str, component: ComponentName) -> bool {
     has_text(recorded, "refused", reason) && has_text(recorded, "component", component.as_str())
 }

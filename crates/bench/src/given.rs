@@ -1,4 +1,4 @@
-//! What a question gives, as the library reads it of JSON.
+//! Values of a question, as the library parses them from JSON.
 
 use crate::recorded::{Fault, field, optional_text};
 use serde_json::Value;
@@ -8,7 +8,7 @@ use url::{ParseError, Url};
 use urlpattern_inputs::{StringOrInit, UrlPatternInit, UrlPatternOptions};
 use urlpattern_syntax::Error;
 
-/// What is given: a text, or an init.
+/// A text, or an init.
 pub fn input<'a>(alloc: Global, fields: &'a Value) -> Result<StringOrInit<'a>, Fault> {
     // docs: given
     if let Some(text) = optional_text(fields, "string") {
@@ -19,7 +19,7 @@ pub fn input<'a>(alloc: Global, fields: &'a Value) -> Result<StringOrInit<'a>, F
     // docs: end
 }
 
-/// The options that a question names, or the default ones.
+/// The options of a question, or the default ones.
 pub fn options(alloc: Global, question: &Value) -> Result<UrlPatternOptions, Fault> {
     match question.get("options") {
         Some(options) => read(UrlPatternOptions::from_json_value(alloc, options)),
@@ -27,7 +27,7 @@ pub fn options(alloc: Global, question: &Value) -> Result<UrlPatternOptions, Fau
     }
 }
 
-/// The value that was read. A question has one.
+/// The value that was parsed. A question has one.
 pub fn read<T: Drop>(found: Result<Option<T>, Error>) -> Result<T, Fault> {
     match found {
         Ok(Some(value)) => Ok(value),
@@ -36,7 +36,7 @@ pub fn read<T: Drop>(found: Result<Option<T>, Error>) -> Result<T, Fault> {
     }
 }
 
-/// The URL of a text.
+/// Parses a URL.
 pub fn url(alloc: Global, text: &str) -> Result<Url, Error> {
     match Url::parse(alloc, text) {
         Ok(url) => Ok(url),

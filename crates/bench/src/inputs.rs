@@ -1,4 +1,4 @@
-//! Replays what was asked of match inputs.
+//! Replays questions on match inputs.
 
 use crate::recorded::{Fault, optional_text};
 use crate::{Case, given};
@@ -9,7 +9,7 @@ use urlpattern_matches::parse_match_input;
 use urlpattern_quirks::process_match_input;
 use urlpattern_syntax::Error;
 
-/// Whether the texts of a match input are the recorded ones: null where there is none.
+/// Whether the texts of a match input are the recorded ones: null if there are none.
 pub fn is_same(case: &Case<'_>) -> Result<bool, Fault> {
     let base = optional_text(case.question, "base");
     let input = given::input(case.alloc, case.question)?;
@@ -22,7 +22,8 @@ pub fn is_same(case: &Case<'_>) -> Result<bool, Fault> {
     })
 }
 
-/// The texts of a match input. `None`: there are none, or what is handed back is not what was given.
+/// The texts of a match input. `None`: there are none, or the input that is returned is not the one
+/// that was passed.
 fn match_input(
     alloc: Global,
     input: StringOrInit<'_>,
@@ -43,7 +44,7 @@ fn match_input(
     }
 }
 
-/// Whether the eight texts are the recorded ones. They differ from an answer that has none.
+/// Whether the eight texts are the recorded ones. They differ from a recorded null.
 fn is_match_input(alloc: Global, input: &MatchInput, recorded: &Value) -> Result<bool, Fault> {
     match MatchInput::from_json_value(alloc, recorded) {
         Ok(Some(expected)) => Ok(*input == expected),

@@ -1,4 +1,4 @@
-//! Asks for URLs of patterns whose groups capture what is given, or what they captured of a URL.
+//! Links patterns, given texts for the groups, or the captures of a URL.
 
 use crate::generated::{groups_of, is_reason, is_refused};
 use crate::patterns;
@@ -13,7 +13,8 @@ use urlpattern_matches::UrlPatternResult;
 use urlpattern_pattern::UrlPattern;
 use urlpattern_syntax::Error;
 
-/// Whether the URL of a pattern with the groups of a question is the recorded one, or is refused for the recorded reason.
+/// Whether the URL of a pattern with the groups of a question is the recorded one, or is rejected
+/// for the recorded reason.
 pub fn is_same<R: RegExp>(case: &Case<'_>) -> Result<bool, Fault> {
     let Answer::Ok(recorded) = case.answer else {
         return Ok(false);
@@ -30,7 +31,8 @@ pub fn is_same<R: RegExp>(case: &Case<'_>) -> Result<bool, Fault> {
     }
 }
 
-/// The URL with the groups of a question: those that it gives, or those of the match of a URL, which is borrowed or owned.
+/// The URL with the groups of a question: its own, or those of the match of a URL, which is
+/// borrowed or owned.
 fn linked<R: RegExp>(
     case: &Case<'_>,
     pattern: &UrlPattern<R>,
@@ -51,7 +53,7 @@ fn linked<R: RegExp>(
     Ok(pattern.link(case.alloc, &groups))
 }
 
-/// The URL with what a pattern captures of a URL.
+/// The URL with the captures of a URL by a pattern.
 fn linked_of_captures<R: RegExp>(
     alloc: Global,
     pattern: &UrlPattern<R>,
@@ -64,7 +66,7 @@ fn linked_of_captures<R: RegExp>(
     Ok(pattern.link(alloc, &groups))
 }
 
-/// The URL with the groups of the result of a URL.
+/// The URL with the groups of the owned match of a URL.
 fn linked_of_result<R: RegExp>(
     alloc: Global,
     pattern: &UrlPattern<R>,
@@ -88,7 +90,7 @@ fn linked_of_groups<R: RegExp>(
     Ok(pattern.link(alloc, &groups))
 }
 
-/// What was made. The URLs of a question are accepted.
+/// The value that was parsed. The URLs of a question are valid.
 fn made<T: Drop>(found: Result<T, Error>) -> Result<T, Fault> {
     match found {
         Ok(value) => Ok(value),
@@ -97,7 +99,7 @@ fn made<T: Drop>(found: Result<T, Error>) -> Result<T, Fault> {
     }
 }
 
-/// Whether what was linked is the recorded URL, or the error is the recorded one.
+/// Whether the link is the recorded URL, or the error is the recorded one.
 fn is_recorded(found: Result<Url, NoLink>, recorded: &Value) -> Result<bool, Fault> {
     match found {
         Ok(url) => Ok(has_text(recorded, "url", url.as_str())),

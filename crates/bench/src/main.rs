@@ -1,4 +1,5 @@
-//! Replays questions and their answers over the library, and prints how many there are and how many of them differ.
+//! Replays questions over the library, compares the results with the recorded ones, and prints how
+//! many there are and how many differ.
 #![tactic(auto)]
 
 mod calls;
@@ -28,13 +29,13 @@ use std::io::Write;
 use std::process::ExitCode;
 use std::{env, io};
 
-/// The status of a run in which each answer is the recorded one.
+/// The exit status of a run in which each result is the recorded one.
 const SAME: u8 = 0;
 
-/// The status of a run in which an answer differs or a line holds no case.
+/// The exit status of a run in which a result differs or a line has no case.
 const DIFFERENT: u8 = 1;
 
-/// The status of a run that could not read or write, or for which memory ran out.
+/// The exit status of a run that could not read or write, or ran out of memory.
 const FAILED: u8 = 2;
 
 fn main(rt: HostRuntime) -> ExitCode {
@@ -48,7 +49,7 @@ fn main(rt: HostRuntime) -> ExitCode {
     })
 }
 
-/// Replays the files that the words name. Returns whether each answer is the recorded one.
+/// Replays the files that the arguments name. Returns whether each result is the recorded one.
 fn run(rt: &HostRuntime) -> io::Result<bool> {
     let mut words = env::args(rt)?;
     // The first word is the program's own name.

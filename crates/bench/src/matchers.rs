@@ -1,4 +1,4 @@
-//! Asks matchers what they were asked when a case was recorded.
+//! Calls matchers as in a recorded case.
 
 use crate::case::{Case, succeeded};
 use crate::components::{Callback, parts_of};
@@ -15,7 +15,7 @@ use urlpattern_matcher::regexp::RegExp;
 use urlpattern_parser::parser::Options;
 use urlpattern_syntax::{Error, RegexSyntax};
 
-/// Whether the matcher of a pattern over an engine answers what was recorded.
+/// Whether the matcher of a pattern over an engine returns the recorded results.
 pub fn is_same<R: RegExp>(case: &Case<'_>) -> Result<bool, Fault> {
     let pattern = text(case.question, "pattern")?;
     let options = options_of(case.alloc, case.question)?;
@@ -27,7 +27,8 @@ pub fn is_same<R: RegExp>(case: &Case<'_>) -> Result<bool, Fault> {
     )
 }
 
-/// Whether a matcher answers the texts of a question as recorded, and keeps an error where one was kept.
+/// Whether a matcher returns the recorded results for the texts of a question, and keeps an error
+/// if one was kept.
 fn is_matcher_of<R: RegExp>(
     case: &Case<'_>,
     matcher: &Matcher<R>,
@@ -59,12 +60,13 @@ fn keeps_error<R>(matcher: &Matcher<R>) -> bool {
     matches!(matcher.inner, InnerMatcher::RegExp { regexp: Err(_) })
 }
 
-/// Whether an engine refuses what that of the recorded answers refuses, unasked.
+/// Whether an engine rejects the expressions that the engine of the recorded results rejects,
+/// without being called with a text.
 fn refuses_unasked<R: RegExp>() -> bool {
     matches!(R::syntax(), RegexSyntax::Rust)
 }
 
-/// Whether a matcher made by hand answers what was recorded.
+/// Whether a matcher built by hand returns the recorded results.
 pub fn is_same_by_hand(case: &Case<'_>) -> Result<bool, Fault> {
     let inputs = list(case.question, "inputs")?;
     let Answer::Ok(Value::Array(recorded)) = case.answer else {
@@ -88,7 +90,7 @@ fn hand_matcher(alloc: Global, question: &Value) -> Result<Matcher<EcmaRegexp>, 
     })
 }
 
-/// What such a matcher has between prefix and suffix.
+/// The part of a hand-built matcher between prefix and suffix.
 fn hand_inner(alloc: Global, question: &Value) -> Result<InnerMatcher<EcmaRegexp>, AllocError> {
     match optional_text(question, "literal") {
         Some(literal) => Ok(InnerMatcher::Literal {
@@ -101,7 +103,7 @@ fn hand_inner(alloc: Global, question: &Value) -> Result<InnerMatcher<EcmaRegexp
     }
 }
 
-/// Whether a matcher answers each text as recorded.
+/// Whether a matcher returns the recorded result for each text.
 fn are_answers<R: RegExp>(
     alloc: Global,
     matcher: &Matcher<R>,
@@ -117,7 +119,7 @@ fn are_answers<R: RegExp>(
     Ok(inputs.len() == recorded.len())
 }
 
-/// Whether a matcher answers a text as recorded.
+/// Whether a matcher returns the recorded result for a text.
 fn answers<R: RegExp>(
     alloc: Global,
     matcher: &Matcher<R>,
@@ -141,7 +143,7 @@ pub fn is_matcher(matcher: &Matcher<EcmaRegexp>, component: &Value) -> bool {
         && is_inner(&matcher.inner, recorded)
 }
 
-/// Whether what stands between prefix and suffix is that of a recorded matcher.
+/// Whether the part between prefix and suffix is that of a recorded matcher.
 fn is_inner(inner: &InnerMatcher<EcmaRegexp>, recorded: &Value) -> bool {
     match inner {
         InnerMatcher::Literal { literal } => {

@@ -1,4 +1,4 @@
-//! Builds the patterns that were built when a case was recorded, and matches what was matched.
+//! Compiles and matches patterns as in a recorded case.
 
 use crate::calls::{self, Call};
 use crate::recorded::{Fault, has_text, is_set, optional_text, text};
@@ -14,7 +14,7 @@ use urlpattern_pattern::UrlPattern;
 use urlpattern_quirks::{parse_pattern_as_lib, process_construct_pattern_input};
 use urlpattern_syntax::Error;
 
-/// Whether a pattern over this engine, and what it answers to the inputs, are what was recorded.
+/// Whether a pattern over this engine, and its results for the inputs, are the recorded ones.
 pub fn is_same<R: RegExp>(case: &Case<'_>) -> Result<bool, Fault> {
     let found = built_through::<R>(case)?;
     case.is_answer(found, |pattern, recorded| {
@@ -41,7 +41,7 @@ fn built_through<R: RegExp>(case: &Case<'_>) -> Result<Result<UrlPattern<R>, Err
     }
 }
 
-/// The pattern of what is given.
+/// The pattern of a text or an init.
 pub fn built<R: RegExp>(
     alloc: Global,
     fields: &Value,
@@ -52,7 +52,7 @@ pub fn built<R: RegExp>(
     })
 }
 
-/// The init of what is given with its base, and the options.
+/// The init of a text or an init with its base, and the options.
 fn init_of(
     alloc: Global,
     fields: &Value,
@@ -75,12 +75,13 @@ fn has_same_texts<R: RegExp>(pattern: &UrlPattern<R>, recorded: &Value) -> bool 
     )) && is_set(recorded, "has_regexp_groups") == pattern.has_regexp_groups()
 }
 
-/// The pattern text of a component, as it is written anew.
+/// The pattern text of a component, generated anew.
 fn text_of<R: RegExp>(pattern: &UrlPattern<R>, name: ComponentName) -> &str {
     &pattern.get(name).pattern_string
 }
 
-/// Whether what comes of each input of a question is the recorded result, by the call that the question names.
+/// Whether the outcome for each input of a question is the recorded one, by the call that the
+/// question names.
 fn has_same_results<R: RegExp>(
     case: &Case<'_>,
     pattern: &UrlPattern<R>,
@@ -108,7 +109,7 @@ fn has_same_results<R: RegExp>(
     })
 }
 
-/// Whether the outcome of a match is the recorded one: null where there is none.
+/// Whether the outcome of a match is the recorded one: null if there is no match.
 fn is_same_result(
     alloc: Global,
     found: Result<Option<UrlPatternResult>, Error>,

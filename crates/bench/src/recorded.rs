@@ -1,4 +1,4 @@
-//! Recorded cases: a question and the answer to it on each line, as JSON.
+//! Recorded cases: a question and its result on each line, as JSON.
 
 use serde_json::Value;
 use std::alloc::{AllocError, Global};
@@ -7,10 +7,10 @@ use urlpattern_pattern::CompareError;
 use urlpattern_syntax::RegexSyntax;
 use urlpattern_syntax::error::OutOfMemory;
 
-/// Why nothing comes of a line.
+/// The reason why a line has no outcome.
 #[derive(Drop)]
 pub enum Fault {
-    /// It holds no case that is known here.
+    /// The line has no case that is known.
     NoCase,
     /// Memory ran out.
     OutOfMemory,
@@ -47,54 +47,54 @@ impl From<serde_json::Error> for Fault {
     }
 }
 
-/// What a case may ask for.
+/// The operation of a case.
 #[derive(Clone, Copy, PartialEq, Eq, Drop)]
 pub enum Operation {
-    /// The tokens of a text.
+    /// Tokenizes a text.
     Tokenize,
-    /// The parts of a pattern, and what is made of them.
+    /// Parses a pattern, and generates texts from its parts.
     Component,
-    /// The normal form of the parts of a pattern.
+    /// Normalizes the parts of a pattern.
     NormalForm,
-    /// The component of a pattern, compiled.
+    /// Compiles a component.
     Compile,
-    /// What an engine of regular expressions answers.
+    /// Calls a regular expression engine.
     Engine,
-    /// What the matcher of a pattern answers to texts.
+    /// Calls the matcher of a pattern.
     Matches,
-    /// What a matcher made by hand answers to texts.
+    /// Calls a matcher built by hand.
     HandMatcher,
-    /// A canonical value.
+    /// Canonicalizes a value.
     Canonicalize,
-    /// A value of an init, or an escaped text.
+    /// Processes a value of an init, or escapes a text.
     Process,
-    /// The texts of a match input.
+    /// Processes a match input.
     MatchInput,
-    /// The components of a constructor string.
+    /// Parses a constructor string.
     Constructor,
-    /// The init of a string or of a browser's init.
+    /// Makes the init of a string or of a browser's init.
     Construct,
-    /// A pattern, and what it answers to inputs.
+    /// Compiles a pattern, and matches inputs.
     Pattern,
-    /// A pattern as plain data.
+    /// Compiles a pattern as plain data.
     QuirksPattern,
-    /// The first match of inputs in a list of patterns.
+    /// Finds the first match of inputs in a list of patterns.
     FirstMatch,
-    /// What is wrong with a pattern.
+    /// Diagnoses a pattern.
     Diagnose,
-    /// The text of a component with given groups.
+    /// Generates the text of a component with given groups.
     Generate,
-    /// The URL of a pattern with given groups.
+    /// Generates the URL of a pattern with given groups.
     Link,
-    /// Which of two patterns is more specific in a component.
+    /// Compares two patterns by how specific they are in a component.
     Compare,
-    /// Whether a pattern covers another, and whether they overlap.
+    /// Decides whether a pattern covers another, and whether they overlap.
     Covers,
-    /// Which patterns of a list are covered by one before them.
+    /// Finds the patterns of a list that an earlier one covers.
     Unreachable,
-    /// What a plain value writes as JSON that is read of JSON.
+    /// Writes a plain value as JSON that was parsed from JSON.
     Json,
-    /// Which values of a type equal each other.
+    /// Compares the values of a type with each other.
     Equal,
 }
 
@@ -126,7 +126,7 @@ pub const OPERATIONS: &[(&str, Operation)] = &[
 ];
 
 impl Operation {
-    /// Whether an engine answers. The question may name it.
+    /// Whether the results are those of an engine. The question may name it.
     pub fn asks_engine(self) -> bool {
         matches!(
             self,
@@ -143,22 +143,22 @@ impl Operation {
     }
 }
 
-/// A recorded answer.
+/// A recorded result.
 #[derive(Clone, Copy)]
 pub enum Answer<'a> {
-    /// The answer of a call that succeeded.
+    /// The result of a call that succeeded.
     Ok(&'a Value),
     /// The printed text of the error.
     Err(&'a str),
 }
 
 impl<'a> Answer<'a> {
-    /// The answer of a case.
+    /// The result of a case.
     pub fn of(case: &'a Value) -> Result<Answer<'a>, Fault> {
         Answer::read(field(case, "out")?)
     }
 
-    /// The answer over `PatternRegexp`. It is recorded where it is another.
+    /// The result over `PatternRegexp`. It is recorded only if it differs.
     pub fn over_pattern_regexp(case: &'a Value) -> Result<Answer<'a>, Fault> {
         match case.get("out_pattern") {
             Some(answer) => Answer::read(answer),
@@ -166,7 +166,7 @@ impl<'a> Answer<'a> {
         }
     }
 
-    /// The answer that an object holds.
+    /// The result in an object.
     fn read(answer: &'a Value) -> Result<Answer<'a>, Fault> {
         if let Some(error) = optional_text(answer, "err") {
             return Ok(Answer::Err(error));
@@ -175,7 +175,7 @@ impl<'a> Answer<'a> {
     }
 }
 
-/// The value of a name in a table.
+/// The value with a name in a table.
 pub fn named<T: Copy>(table: &[(&str, T)], name: &str) -> Result<T, Fault> {
     match table.iter().find(|(other, _)| *other == name) {
         Some((_, value)) => Ok(*value),
@@ -183,7 +183,7 @@ pub fn named<T: Copy>(table: &[(&str, T)], name: &str) -> Result<T, Fault> {
     }
 }
 
-/// A field that has to be there.
+/// A field that must be there.
 pub fn field<'a>(object: &'a Value, name: &str) -> Result<&'a Value, Fault> {
     object.get(name).ok_or(Fault::NoCase)
 }
@@ -237,7 +237,7 @@ pub fn has_texts(object: &Value, name: &str, texts: &[String]) -> bool {
     recorded.len() == texts.len()
 }
 
-/// The options that a question names.
+/// The options of a question.
 pub fn options_of(alloc: Global, question: &Value) -> Result<Options, Fault> {
     let regex_syntax = syntax_of(question)?;
     let options = options_of_kind(alloc, optional_text(question, "kind"))?;
@@ -250,7 +250,7 @@ pub fn options_of(alloc: Global, question: &Value) -> Result<Options, Fault> {
     })
 }
 
-/// The syntax that a question names.
+/// The syntax of a question.
 fn syntax_of(question: &Value) -> Result<RegexSyntax, Fault> {
     match optional_text(question, "syntax") {
         Some("Rust") | None => Ok(RegexSyntax::Rust),

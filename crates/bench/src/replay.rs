@@ -1,4 +1,4 @@
-//! Asks the library what was asked when a case was recorded, and compares the answers.
+//! Replays a recorded case over the library, and compares the results.
 
 mod first_match;
 
@@ -14,18 +14,20 @@ use std::alloc::Global;
 use urlpattern::quirks::EcmaRegexp;
 use urlpattern::regexp::{PatternRegexp, RegExp};
 
-/// What came of a case.
+/// The outcome of a case.
 #[derive(Drop)]
 pub struct Outcome {
-    /// What was asked for.
+    /// The operation.
     pub operation: Operation,
     /// Whether an error was recorded.
     pub is_error: bool,
-    /// Whether the library answers what was recorded, or not that where the case is marked as wrong.
+    /// Whether the result of the library is the recorded one, or is not, if the case is marked as
+    /// wrong.
     pub is_same: bool,
 }
 
-/// Replays the case that a line holds. The answer of a case that is marked as wrong is one that the library may not give.
+/// Replays the case in a line. A case that is marked as wrong has a result that the library must
+/// not return.
 pub fn replay(alloc: Global, line: &str) -> Result<Outcome, Fault> {
     let recorded = Value::from_str(alloc, line)?;
     let outcome = outcome_of(alloc, &recorded);
@@ -33,7 +35,7 @@ pub fn replay(alloc: Global, line: &str) -> Result<Outcome, Fault> {
     outcome
 }
 
-/// What comes of a recorded case.
+/// The outcome of a recorded case.
 fn outcome_of(alloc: Global, recorded: &Value) -> Result<Outcome, Fault> {
     let question = field(recorded, "in")?;
     let answer = Answer::of(recorded)?;
@@ -52,7 +54,8 @@ fn outcome_of(alloc: Global, recorded: &Value) -> Result<Outcome, Fault> {
     })
 }
 
-/// Whether the library answers a case as recorded, over each engine that the case is about.
+/// Whether the library returns the recorded result of a case, over each engine that the case is
+/// about.
 fn is_same(operation: Operation, case: &Case<'_>) -> Result<bool, Fault> {
     if !operation.asks_engine() {
         return is_same_over::<Regex>(operation, case);
@@ -68,12 +71,13 @@ fn is_same(operation: Operation, case: &Case<'_>) -> Result<bool, Fault> {
     }
 }
 
-/// Whether it does over both engines of the syntax of Rust.
+/// Whether the library returns the recorded result over the two engines with the syntax of Rust.
 fn is_same_over_rust(operation: Operation, case: &Case<'_>) -> Result<bool, Fault> {
     Ok(is_same_over::<Regex>(operation, case)? && is_same_over_pattern_regexp(operation, case)?)
 }
 
-/// Whether it does over `PatternRegexp`, which may have an answer of its own.
+/// Whether the library returns the recorded result over `PatternRegexp`, which may have one of its
+/// own.
 fn is_same_over_pattern_regexp(operation: Operation, case: &Case<'_>) -> Result<bool, Fault> {
     let own = Case {
         alloc: case.alloc,
@@ -84,7 +88,7 @@ fn is_same_over_pattern_regexp(operation: Operation, case: &Case<'_>) -> Result<
     is_same_over::<PatternRegexp>(operation, &own)
 }
 
-/// Whether it does over this engine.
+/// Whether the library returns the recorded result over this engine.
 fn is_same_over<R: RegExp>(operation: Operation, case: &Case<'_>) -> Result<bool, Fault> {
     match operation {
         Operation::Tokenize => tokens::is_same(case),

@@ -1,4 +1,4 @@
-//! The run over files of cases, and what it prints.
+//! Runs over files of cases, and their output.
 
 use crate::replay::{Outcome, replay};
 use crate::recorded::{Fault, OPERATIONS, Operation};
@@ -7,7 +7,7 @@ use std::io::Write;
 use std::rt::Files;
 use std::{fs, io};
 
-/// How many cases of an operation there are, and how many of them differ.
+/// The number of cases of an operation, and how many of them differ.
 #[derive(Drop)]
 struct Tally {
     name: &'static str,
@@ -41,7 +41,7 @@ impl Tally {
     }
 }
 
-/// The counts of a run, by operation, and of the lines that hold no case.
+/// The counts of a run, by operation, and the number of lines without a case.
 #[derive(Drop)]
 struct Report {
     tallies: Vec<Tally>,
@@ -67,7 +67,8 @@ impl Report {
         })
     }
 
-    /// Counts the cases of a text, one in each line, and prints the place of each that differs or cannot be read.
+    /// Counts the cases of a text, one in each line, and prints the place of each that differs or
+    /// cannot be parsed.
     fn add<O: Write>(
         &mut self,
         alloc: Global,
@@ -93,7 +94,7 @@ impl Report {
         Ok(())
     }
 
-    /// Counts a case of its operation.
+    /// Counts a case for its operation.
     fn count(&mut self, outcome: &Outcome) {
         for tally in &mut self.tallies {
             if tally.operation == outcome.operation {
@@ -110,13 +111,14 @@ impl Report {
         writeln!(out, "lines without a case: {}", self.unreadable)
     }
 
-    /// Whether each line holds a case, and none differs.
+    /// Whether each line has a case, and none differs.
     fn is_same(&self) -> bool {
         self.unreadable == 0 && self.tallies.iter().all(|tally| tally.differing == 0)
     }
 }
 
-/// Replays the cases of each file, and prints those that differ and the counts. Says whether none differs.
+/// Replays the cases of each file, and prints those that differ and the counts. Returns whether
+/// none differs.
 pub fn run<R: Files + AllocGlobal, O: Write>(
     rt: &R,
     paths: &[String],

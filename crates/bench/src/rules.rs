@@ -24,7 +24,7 @@ const REASONS: &[(&str, Reason)] = &[
     ("too many", Reason::TooMany),
 ];
 
-/// Whether two patterns compare as was recorded: -1, 0 or 1.
+/// Whether the order of two patterns is the recorded one: -1, 0 or 1.
 pub fn is_same_order(case: &Case<'_>) -> Result<bool, Fault> {
     let Answer::Ok(recorded) = case.answer else {
         return Ok(false);
@@ -38,7 +38,7 @@ pub fn is_same_order(case: &Case<'_>) -> Result<bool, Fault> {
     Ok(recorded.as_i64() == Some(number(order?)))
 }
 
-/// Whether it is answered as recorded if a pattern covers another, and if they overlap.
+/// Whether the results for covering and overlap are the recorded ones.
 pub fn is_same_covering(case: &Case<'_>) -> Result<bool, Fault> {
     let Answer::Ok(recorded) = case.answer else {
         return Ok(false);
@@ -55,8 +55,8 @@ pub fn is_same_covering(case: &Case<'_>) -> Result<bool, Fault> {
     )
 }
 
-/// Whether the patterns of a list that one before them covers are those that were recorded, each with the index of that one; and whether
-/// those of a map are.
+/// Whether the patterns of a list that an earlier one covers are the recorded ones, each with the
+/// index of that one; and whether those of a map are.
 pub fn is_same_unreachable(case: &Case<'_>) -> Result<bool, Fault> {
     let Answer::Ok(recorded) = case.answer else {
         return Ok(false);
@@ -99,7 +99,7 @@ fn are_recorded(found: &[Shadowed], expected: &[Value]) -> bool {
         })
 }
 
-/// Whether `first_covering` finds the same first pattern that covers each of these.
+/// Whether `first_covering` finds the same first pattern that covers each of these patterns.
 fn are_first(
     alloc: Global,
     patterns: &UrlPatternList<PatternRegexp>,
@@ -122,8 +122,8 @@ fn is_index(recorded: &Value, name: &str, index: usize) -> bool {
     recorded.get(name).and_then(Value::as_u64) == Some(index as u64)
 }
 
-/// Whether this is the recorded covering: `covered`, the component in which the patterns part with the length of its text, or the
-/// component that is not known with the reason.
+/// Whether the covering is the recorded one: `covered`, the component in which the patterns differ
+/// with the length of its text, or the component that is not known with the reason.
 fn is_covering(covering: PatternCovering, recorded: &Value) -> Result<bool, Fault> {
     match covering {
         PatternCovering::Covered => Ok(recorded.as_str() == Some("covered")),
@@ -141,8 +141,8 @@ fn is_covering(covering: PatternCovering, recorded: &Value) -> Result<bool, Faul
     }
 }
 
-/// Whether this is the recorded overlap: `apart`, the length of a pathname that both mean, or the component that is not known with the
-/// reason.
+/// Whether the overlap is the recorded one: `apart`, the length of a pathname that both match, or
+/// the component that is not known with the reason.
 fn is_overlap(overlap: PatternOverlap, recorded: &Value) -> Result<bool, Fault> {
     // docs: overlap
     match overlap {
@@ -177,7 +177,7 @@ fn init(alloc: Global, fields: &Value) -> Result<UrlPatternInit, Fault> {
     made(process_construct_pattern_input(alloc, input, None))
 }
 
-/// What was made. A question has patterns that are accepted.
+/// The value that was parsed. The patterns of a question are valid.
 fn made<T: Drop>(found: Result<T, Error>) -> Result<T, Fault> {
     match found {
         Ok(value) => Ok(value),
@@ -186,7 +186,7 @@ fn made<T: Drop>(found: Result<T, Error>) -> Result<T, Fault> {
     }
 }
 
-/// The component that a question names.
+/// The component of a question.
 fn component(question: &Value) -> Result<ComponentName, Fault> {
     ComponentName::from_name(text(question, "component")?).ok_or(Fault::NoCase)
 }

@@ -1,4 +1,4 @@
-//! Asks for the tokens of a text.
+//! Tokenizes texts.
 
 use crate::case::Case;
 use crate::recorded::{Fault, optional_text, text};

@@ -1,4 +1,4 @@
-//! Reads plain values of JSON, writes them, and compares them with each other.
+//! Parses plain values from JSON, writes them, and compares them with each other.
 
 use crate::recorded::{Answer, Fault, field, is_set, list, optional_text, text};
 use crate::{Case, given};
@@ -14,15 +14,15 @@ use urlpattern_plain::{InnerMatcher, Matcher, UrlPattern, UrlPatternComponent};
 use urlpattern_quirks::process_construct_pattern_input;
 use urlpattern_syntax::Error;
 
-/// The error of a text that is no JSON.
+/// The error for a text that is not JSON.
 const NO_JSON: &str = "no JSON";
 
-/// A value that is read of a tree of JSON. `None`: the tree stands for no value.
+/// A value that is parsed from JSON. `None`: the JSON is not that of a value.
 trait Read: Sized + Drop {
     fn read(alloc: Global, tree: &Value) -> Result<Option<Self>, Error>;
 }
 
-/// A value that writes a tree of JSON.
+/// A value that is written as JSON.
 trait Write: Read {
     fn write(&self, alloc: Global) -> Result<Value, Error>;
 }
@@ -159,8 +159,8 @@ impl Write for UrlPatternResult {
     }
 }
 
-/// Whether what a plain value writes that is read of JSON is the recorded tree: null where none is read. The JSON is a tree or a
-/// text.
+/// Whether the JSON of a plain value that is parsed from JSON is the recorded one: null if none is
+/// parsed. The source is a tree or a text.
 pub fn is_same(case: &Case<'_>) -> Result<bool, Fault> {
     match optional_text(case.question, "text") {
         Some(text) => match Value::from_str(case.alloc, text) {
@@ -172,7 +172,7 @@ pub fn is_same(case: &Case<'_>) -> Result<bool, Fault> {
     }
 }
 
-/// Whether the value of a tree writes the recorded one.
+/// Whether the value of a tree is written as recorded.
 fn is_same_of(case: &Case<'_>, tree: &Value) -> Result<bool, Fault> {
     match text(case.question, "type")? {
         "UrlPatternOptions" => is_written::<UrlPatternOptions>(case, tree),
@@ -189,7 +189,8 @@ fn is_same_of(case: &Case<'_>, tree: &Value) -> Result<bool, Fault> {
     }
 }
 
-/// Whether the value of a tree writes the recorded one. Where the question names serde, its derives have to do so too.
+/// Whether the value of a tree is written as recorded. If the question names serde, also by its
+/// derives.
 fn is_written<T: Write + Serialize + DeserializeOwned>(
     case: &Case<'_>,
     tree: &Value,
@@ -200,7 +201,7 @@ fn is_written<T: Write + Serialize + DeserializeOwned>(
     )
 }
 
-/// Whether the value of a tree writes the recorded one by calls of its own.
+/// Whether the value of a tree is written as recorded, by calls of the library.
 fn is_same_tree<T: Write>(case: &Case<'_>, tree: &Value) -> Result<bool, Fault> {
     case.is_answer(rewritten::<T>(case.alloc, tree), |written, recorded| {
         Ok(match written {
@@ -210,7 +211,7 @@ fn is_same_tree<T: Write>(case: &Case<'_>, tree: &Value) -> Result<bool, Fault> 
     })
 }
 
-/// What the value of a tree writes.
+/// The JSON of the value of a tree.
 fn rewritten<T: Write>(alloc: Global, tree: &Value) -> Result<Option<Value>, Error> {
     match T::read(alloc, tree)? {
         Some(value) => {
@@ -222,7 +223,7 @@ fn rewritten<T: Write>(alloc: Global, tree: &Value) -> Result<Option<Value>, Err
     }
 }
 
-/// Whether the value that serde's derives read of a tree writes the recorded one by them.
+/// Whether the value that serde's derives parse from a tree is written as recorded, by the derives.
 fn is_derived_alike<T: Serialize + DeserializeOwned + Drop>(
     case: &Case<'_>,
     tree: &Value,
@@ -239,7 +240,8 @@ fn is_derived_alike<T: Serialize + DeserializeOwned + Drop>(
     }
 }
 
-/// Whether values of a type equal those that are recorded: for each the place of the first value that it equals.
+/// Whether values of a type equal the recorded ones: for each the index of the first value that it
+/// equals.
 pub fn is_same_equality(case: &Case<'_>) -> Result<bool, Fault> {
     match text(case.question, "type")? {
         "UrlPatternOptions" => are_equal_as_recorded::<UrlPatternOptions>(case),
@@ -257,7 +259,7 @@ pub fn is_same_equality(case: &Case<'_>) -> Result<bool, Fault> {
     }
 }
 
-/// Whether the values of a question equal those that are recorded, and each its copy.
+/// Whether the values of a question equal the recorded ones, and each its copy.
 fn are_equal_as_recorded<T: Read + Clone + PartialEq>(case: &Case<'_>) -> Result<bool, Fault> {
     let values = values_of::<T>(case.alloc, list(case.question, "values")?)?;
     let are_equal = are_equal_as(&values, case.answer);
@@ -277,7 +279,7 @@ fn values_of<T: Read>(alloc: Global, trees: &[Value]) -> Result<Vec<T>, Fault> {
     Ok(values)
 }
 
-/// Whether values equal those that are recorded, and each its copy.
+/// Whether values equal the recorded ones, and each its copy.
 fn are_equal_as<T: Clone + PartialEq + Drop>(
     values: &[T],
     answer: Answer<'_>,
@@ -301,7 +303,7 @@ fn is_copied<T: Clone + PartialEq + Drop>(value: &T) -> Result<bool, AllocError>
     Ok(is_copied)
 }
 
-/// The place of the first of some values that a value equals.
+/// The index of the first of some values that a value equals.
 fn first_equal<T: PartialEq>(values: &[T], value: &T) -> Option<u64> {
     for (other, place) in values.iter().zip(0u64..) {
         if value == other {

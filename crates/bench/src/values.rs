@@ -1,4 +1,4 @@
-//! Replays what was asked of values: canonical ones, and those of an init.
+//! Replays questions on values: canonical ones, and those of an init.
 
 use crate::case::Case;
 use crate::recorded::{Fault, optional_text, options_of, text};
@@ -50,7 +50,7 @@ pub fn is_same_processed(case: &Case<'_>) -> Result<bool, Fault> {
         "search" => process_search_init(alloc, value, &kind),
         "hash" => process_hash_init(alloc, value, &kind),
         "base_url" => process_base_url(alloc, value, &kind),
-        // These depend on the protocol.
+        // The values that depend on the protocol.
         "port" => process_port_init(alloc, value, protocol, &kind),
         "pathname" => process_pathname_init(alloc, value, protocol, &kind),
         "escape_pattern_string" => escape_pattern_string(alloc, value),
@@ -82,7 +82,7 @@ fn escaped_under(
     }
 }
 
-/// Whether a text, or why there is none, is what was recorded.
+/// Whether a text, or the reason why there is none, is the recorded one.
 fn is_same_text(case: &Case<'_>, found: Result<String, Error>) -> Result<bool, Fault> {
     case.is_answer(found, |text, recorded| {
         Ok(recorded.as_str() == Some(text.as_str()))

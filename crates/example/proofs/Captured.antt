@@ -1,4 +1,4 @@
--- What a group captured, as a result of a call.
+-- The capture of a group, as the result of a call.
 use Rattle.std.proofs.Common.{List, ℕ, inr}
 use Rattle.std.specs.Borrow.{Bor}
 use Rattle.std.specs.Prelude.{◌⊎◌, IfNone, IfSome, None, Option, Some}

@@ -1,4 +1,4 @@
--- What a pattern of `https://example.com/users/:id` answers to a URL, in the words of URLs.
+-- The outcome of the pattern `https://example.com/users/:id` for a URL, by the parts of the URL.
 use Rattle.std.proofs.Common.{◌≡◌, ℕ, List, [], ◌∷◌, refl, sym, ap, ◌∙◌, subst, inl, inr, None, Some, Ok, Err, arith}
 use Rattle.std.specs.Borrow.{Bor}
 use Rattle.std.specs.Option.{option_flatten}
@@ -53,7 +53,7 @@ https_is_special : scheme_type (codes "https") ≡ SpecialNotFile
 unfolding url_on_literals
 https_is_special = refl
 
--- the texts are those of a user's URL
+-- The texts are those of a user's URL.
 user_of_texts : (url : Parts) (captures : Captures) → IsValid url → chars url.scheme ≡ codes "https" → chars (host_text (host_or_empty url)) ≡ codes "example.com" →
     chars (text_between url BeforePort AfterPort) ≡ [] → (path : IsTextAndSegment pathname_options (codes "/users") (codes "/") (chars url.path) captures) → IsUser url path.0
 user_of_texts url captures valid is_scheme is_host is_port (id, is_path, segment, captured) =
@@ -67,7 +67,7 @@ user_of_texts url captures valid is_scheme is_host is_port (id, is_path, segment
       no_slash = segment.1;
     }
 
--- the pattern texts mean the texts of a user's URL
+-- The pattern texts mean the texts of a user's URL.
 user_meant : (url : Parts) (id : List ℕ) → IsValid url → EachIsLine (texts_of_url url) → IsUser url id → (component : ComponentName) →
     (captures : Captures) × PartsMean (users_options component) (users_parts component) (at (texts_of_url url) component) captures
 unfolding chars
@@ -82,7 +82,7 @@ user_meant url id valid lines user Password = (_, anything_means default_options
 user_meant url id valid lines user Search = (_, anything_means default_options _ (lines Search).no_line_feed)
 user_meant url id valid lines user Hash = (_, anything_means default_options _ (lines Hash).no_line_feed)
 
--- ---- what is answered
+-- ---- matches
 
 module _ (pattern : PatternView PatternRegexp) (is : IsPatternOfText pattern_engine users_text None default_asked pattern) (url : Parts) (valid : IsValid url) (lines : EachIsLine (texts_of_url url)) where
   agrees : (texts : Texts) (component : ComponentName) (result : Option Captures) → input_texts (inputs.Url url) ≡ Ok texts →
@@ -94,7 +94,7 @@ module _ (pattern : PatternView PatternRegexp) (is : IsPatternOfText pattern_eng
       (users_of_parts pattern is component).means (at (texts_of_url url) component) result (lines component)
       (subst (λ (of : Texts). Answers pattern_answer (pattern component).matcher (at of component) result) same answers)
 
-  -- a match is that of a user, whose id the group captures
+  -- A match is that of a user, whose id the group captures.
   user_found : (result : ComponentName → ResultView) → IsMatch pattern_answer pattern (inputs.Url url) result →
       (id : List ℕ) × IsUser url id × ((result Pathname).group (chars (codes "id")) ≡ Some (Some id))
   unfolding chars
@@ -115,7 +115,7 @@ module _ (pattern : PatternView PatternRegexp) (is : IsPatternOfText pattern_eng
   no_user (inr (texts, are_texts, (component, refused))) id user =
       let meant = user_meant url id valid lines user component in agrees texts component None are_texts refused meant.0 meant.1
 
-  -- what is matched, so that the group captures this, is the URL of the user with this id
+  -- A URL that matches, with this capture of the group, is that of the user with this id.
   user_captured : (id : List ℕ) → HasMatch pattern_answer pattern (inputs.Url url) →
       ((result : ComponentName → ResultView) → IsMatch pattern_answer pattern (inputs.Url url) result → (result Pathname).group (chars (codes "id")) ≡ Some (Some id)) → IsUser url id
   user_captured id (texts, are_texts, matched) captured =
@@ -126,7 +126,7 @@ module _ (pattern : PatternView PatternRegexp) (is : IsPatternOfText pattern_eng
       let same : found.0 ≡ id = cc (found.2, captured result match) in
       subst (IsUser url) same found.1
 
-  -- what is named is the id of a user
+  -- A capture is the id of a user.
   pub named : (id : List ℕ) → NamesUser pattern_answer pattern url (Some id) → IsUser url id
   named id (result, match, captured) =
       let found = user_found result match in
@@ -134,14 +134,14 @@ module _ (pattern : PatternView PatternRegexp) (is : IsPatternOfText pattern_eng
       let one : found.0 ≡ id = cc same in
       subst (IsUser url) one found.1
 
-  -- where none is named there is no user
+  -- A URL without a capture is not that of a user.
   pub named_none : NamesNone pattern_answer pattern url → IsNoUser url
   named_none (inl unmatched) = no_user unmatched
   named_none (inr (result, match, captured)) = λ id user.
       let found = user_found result match in
       let same : Some found.0 ≡ None = sym (ap option_flatten found.2) ∙ captured in absurd (cc same)
 
--- ---- what a call returns
+-- ---- results of calls
 
 abbrev pub Found : Type 0
 Found = Result (Option (Bor (List ℕ))) Error
@@ -159,7 +159,7 @@ none_weaker P Q weaker (Err error) holds = tt
 
 -- ---- links
 
--- a text is given for the group `id` of the path alone
+-- A text for the group `id` of the path alone.
 abbrev pub id_given : (id : List ℕ) → List GivenView
 id_given id = record { component = Pathname; name = chars (codes "id"); text = chars id } ∷ []
 
@@ -168,7 +168,8 @@ given_id id =
     ap (λ (same : Bool). if bytes_eq (name_text Pathname) (name_text Pathname) && same then Some (chars id) else None)
     ((bytes_eq-Decides (chars (codes "id")) (chars (codes "id"))).1 refl)
 
--- the link of the pattern with this for the group is the URL of the user whose id is the canonical form
+-- The link of the pattern with this text for the group is the URL of the user whose id is the
+-- canonical form.
 pub linked_user : (pattern : UrlPattern PatternRegexp) (groups : List GivenView) (text : List ℕ) (url : Parts) → IsPatternOfUsers pattern → IsValid url → EachIsLine (texts_of_url url) →
     text_given groups Pathname (chars (codes "id")) ≡ Some text → HasMatch pattern_answer (pattern_view pattern) (inputs.Url url) → ReturnsGiven pattern_answer pattern groups url → IsUrlOfUser url text
 unfolding chars

@@ -1,11 +1,12 @@
--- What stands beside the first pattern that matches.
+-- The rule of the first pattern that matches.
 use Rattle.std.specs.Prelude.{◌≡◌, ℕ, List, Option, None, Some, slice_get}
 use Rattle.urlpattern.specs.FirstMatch.{FirstView, IsFirstMatch}
 use Rattle.urlpattern.specs.Patterns.{PatternView}
 use Rattle.urlpattern.specs.PartMeaning.{Captures}
 use Rattle.urlpattern.specs.UrlPatternMatchInput.{UrlPatternMatchInput}
 
--- the rule beside the first pattern of the list that matches the input, or none where no pattern does
+-- The rule at the index of the first pattern of the list that matches the input. `None` if no
+-- pattern matches.
 abbrev pub IsOfFirst : {E A : Type 0} → (answer : E → List ℕ → Option Captures) → List (PatternView E) → (rules : List A) → UrlPatternMatchInput → Option A → Type 0
 IsOfFirst answer patterns rules input (Some rule) =
     (first : FirstView) × IsFirstMatch answer patterns input (Some first) × (slice_get rules first.0 ≡ Some rule)

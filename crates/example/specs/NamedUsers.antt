@@ -1,4 +1,4 @@
--- What one group captures in the match of an input.
+-- The capture of a group in the match of an input.
 use Rattle.std.specs.Prelude.{◌≡◌, ◌⊎◌, ℕ, List, codes, Option, None, Some}
 use Rattle.std.specs.Str.{chars}
 use Rattle.url.specs.Parts.{Parts}
@@ -12,28 +12,30 @@ use Rattle.urlpattern.specs.UrlPatternMatchInput.TheVariants as inputs
 use Rattle.urlpattern.specs.ComponentName.{ComponentName}
 use Rattle.urlpattern.specs.ComponentName.TheVariants.{Pathname}
 
--- the pattern matches the input, and this is what the component's group of this name captures, None where there is no
--- such group or it takes no part
+-- The pattern matches the input, and the group of the component with this name captures this text;
+-- `None` if there is no such group or it takes no part.
 abbrev pub IsCaptured : {E : Type 0} → (answer : E → List ℕ → Option Captures) → PatternView E → UrlPatternMatchInput → ComponentName → (name : List ℕ) → Option (List ℕ) → Type 0
 IsCaptured answer pattern input component name capture =
     (result : ComponentName → ResultView) × IsMatch answer pattern input result × (captured_text (result component) name ≡ capture)
 
--- the user that the URL names is what the group `id` of the path captures
+-- The user that the URL names: the capture of the group `id` of the path.
 abbrev pub NamesUser : {E : Type 0} → (answer : E → List ℕ → Option Captures) → (users : PatternView E) → Parts → Option (List ℕ) → Type 0
 NamesUser answer users url user = IsCaptured answer users (inputs.Url url) Pathname (chars (codes "id")) user
 
--- it names none: the pattern of users does not match it, or the group takes no part
+-- The URL names no user: the pattern of users does not match it, or the group takes no part.
 abbrev pub NamesNone : {E : Type 0} → (answer : E → List ℕ → Option Captures) → (users : PatternView E) → Parts → Type 0
 NamesNone answer users url = HasNoMatch answer users (inputs.Url url) ⊎ NamesUser answer users url None
 
--- what the group `id` captures of a path alone that the pattern of users matches
+-- The capture of the group `id` for a path that the pattern of users matches, all other components
+-- being empty.
 abbrev pub CapturesIdOfPath : {E : Type 0} → (answer : E → List ℕ → Option Captures) → (users : PatternView E) → (path : List ℕ) → Option (List ℕ) → Type 0
 CapturesIdOfPath answer users path id =
     (result : ComponentName → ResultView) × IsMatchOf answer users (pathname_alone path) result × (captured_text (result Pathname) (chars (codes "id")) ≡ id)
 
--- the user that a path alone names
+-- The user that a path names.
 abbrev pub PathNamesUser : {E : Type 0} → (answer : E → List ℕ → Option Captures) → (users : PatternView E) → (path user : List ℕ) → Type 0
 PathNamesUser answer users path user = CapturesIdOfPath answer users path (Some user)
 
+-- The path names no user: the pattern of users does not match it, or the group takes no part.
 abbrev pub PathNamesNone : {E : Type 0} → (answer : E → List ℕ → Option Captures) → (users : PatternView E) → (path : List ℕ) → Type 0
 PathNamesNone answer users path = IsRefused answer users (pathname_alone path) ⊎ CapturesIdOfPath answer users path None

@@ -1,4 +1,4 @@
--- What parts are that were printed and read again.
+-- Parts that were printed and read again.
 use Rattle.std.specs.Prelude.{◌≡◌, List}
 use Rattle.std.specs.declared.alloc.Global.{Global}
 use Rattle.std.specs.declared.vec.Vec.{Vec}
@@ -9,10 +9,10 @@ use Rattle.urlpattern.specs.Printing.{joined}
 use Rattle.urlpattern.specs.ParserOptions.{Options}
 use Rattle.urlpattern.specs.Part.{Part}
 
--- they are the parts, neighbouring plain fixed texts joined
+-- The new parts are the old ones, neighbouring plain fixed texts joined.
 abbrev pub AreJoined : List Part → (again : Vec Part Global) → Type 0
 AreJoined parts again = parts_view again.items ≡ joined (parts_view parts)
 
--- they mean the same as the parts
+-- The new parts mean the same as the old ones.
 abbrev pub KeepMeaning : Options → List Part → (again : Vec Part Global) → Type 0
 KeepMeaning options parts again = MeanTheSame (options_view options) (parts_view again.items) (parts_view parts)

@@ -1,4 +1,4 @@
-//! Rules for a cache: for how long a page is kept.
+//! Rules for a cache: how long a page is kept.
 
 ghost use Rattle.example.specs.FirstRule.{IsOfFirst};
 ghost use Rattle.std.specs.Prelude.{◌≡◌, length, IfOk};
@@ -10,10 +10,8 @@ use url::Url;
 use urlpattern::regexp::RegExp;
 use urlpattern::{Error, UrlPatternList, UrlPatternMatchInput};
 
-/// For how many seconds the page of a URL is kept: what stands beside the first pattern of the list that matches the URL, that
-/// of the least index. `None`: no pattern matches it.
-///
-/// The error is that memory ran out.
+/// The number of seconds for which the page of a URL is kept: the age of the first pattern of the
+/// list that matches the URL. `None`: no pattern matches.
 pub fn max_age<R: RegExp>(
     alloc: Global,
     patterns: &UrlPatternList<R>,

@@ -1,4 +1,4 @@
-//! A store of permissions: a pattern is permitted if one that was granted covers it.
+//! A store of permissions: a pattern is permitted if a granted one covers it.
 
 // docs: grants
 ghost use Rattle.example.specs.Grants.{IsGranted};
@@ -7,7 +7,7 @@ ghost use Rattle.std.specs.Prelude.{◌≡◌, ◌++◌, ◌∷◌, [], map, IfO
 use std::alloc::{AllocError, Global};
 use urlpattern::rules::{PatternParts, first_covering};
 
-/// What was granted: patterns, by their parts.
+/// Granted patterns, by their parts.
 #[derive(Debug, Drop)]
 pub struct Grants {
     /// The patterns.
@@ -15,7 +15,7 @@ pub struct Grants {
 }
 
 impl Grants {
-    /// A store of nothing.
+    /// Returns an empty store.
     pub fn new(alloc: Global) -> Self
         ensures { result.patterns.items ≡ [] }
     {
@@ -32,8 +32,8 @@ impl Grants {
         Ok(())
     }
 
-    /// Whether it is known that a pattern was granted that covers the asked one. Whatever the asked one matches is then matched by that
-    /// pattern.
+    /// Whether a granted pattern is known to cover the asked one. Everything that the asked one
+    /// matches is then matched by that pattern.
     pub fn check(&self, alloc: Global, asked: &PatternParts) -> Result<bool, AllocError>
         ensures { IfOk result (λ permitted. IsTrue permitted → IsGranted self.now.patterns.items asked.now) }
     {

@@ -1,6 +1,6 @@
-//! Small programs that use the library, each with a contract in the library's words: a router, the same of a path alone, a router
-//! with values, a permission check, a store of permissions, rules for a cache, and a pattern that is printed and read again. Another
-//! promises in the words of URLs alone which user a URL names, and writes the URL of a user.
+//! Small programs that use the library, each with a contract in the library's words: a router, a
+//! router for paths alone, a router with values, a permission check, a store of permissions, rules
+//! for a cache, a pattern that is printed and read again, and users by their URLs.
 #![tactic(auto)]
 
 ghost use Rattle.std.specs.Prelude.{◌≡◌, ◌+◌, length, OnOk};
@@ -42,7 +42,7 @@ fn pattern(alloc: Global, text: &str) -> Result<Pattern, Error> {
 // docs: end
 // docs: end
 
-/// The user that a URL names, in words.
+/// The user that a URL names, as a sentence.
 fn user_line(alloc: Global, url: &Url) -> Result<String, Error> {
     let users = Users::new(alloc)?;
     let id = users.id(alloc, url);
@@ -54,7 +54,7 @@ fn user_line(alloc: Global, url: &Url) -> Result<String, Error> {
     }
 }
 
-/// The URL of a user, in words.
+/// The URL of a user, as a sentence.
 fn link_line(alloc: Global, id: &str) -> Result<String, Error> {
     let users = Users::new(alloc)?;
     let url = users.url(alloc, id);
@@ -68,7 +68,7 @@ fn link_line(alloc: Global, id: &str) -> Result<String, Error> {
     // docs: end
 }
 
-/// The user that a path names, in words.
+/// The user that a path names, as a sentence.
 fn path_line(alloc: Global, path: &str) -> Result<String, Error> {
     // docs: init
     let mut init = UrlPatternInit::default();
@@ -83,7 +83,7 @@ fn path_line(alloc: Global, path: &str) -> Result<String, Error> {
     }
 }
 
-/// Routes, each with what it shows.
+/// Routes, each with the page that it shows.
 // docs: map
 fn pages(alloc: Global) -> Result<UrlPatternMap<&'static str, PatternRegexp>, Error> {
     // docs: pages
@@ -99,7 +99,7 @@ fn pages(alloc: Global) -> Result<UrlPatternMap<&'static str, PatternRegexp>, Er
 }
 // docs: end
 
-/// What a URL shows, in words.
+/// The page that a URL shows, as a sentence.
 fn page_line(alloc: Global, url: &Url) -> Result<String, Error> {
     let pages = pages(alloc)?;
     let shown = routes::shown(alloc, &pages, url);
@@ -114,12 +114,12 @@ fn page_line(alloc: Global, url: &Url) -> Result<String, Error> {
     line
 }
 
-/// A page of a user, in words.
+/// A page of a user, as a sentence.
 fn written(alloc: Global, page: &str, id: &str) -> Result<String, Error> {
     Ok(format!(in alloc; "{page} of {id}")?)
 }
 
-/// Whether a URL is public, in words.
+/// Whether a URL is public, as a sentence.
 fn permission_line(alloc: Global, url: &Url) -> Result<String, Error> {
     let public = pattern(alloc, "https://example.com/:page(about|help)")?;
     let refusal = permission::refusal(alloc, &public, url);
@@ -144,7 +144,7 @@ fn parts(alloc: Global, text: &str) -> Result<PatternParts, Error> {
     // docs: end
 }
 
-/// Whether an extension may have a pattern, in words.
+/// Whether an extension may have a pattern, as a sentence.
 fn grants_line(alloc: Global, asked: &str) -> Result<String, Error> {
     let mut grants = Grants::new(alloc);
     grants.grant(parts(alloc, "https://*.example.com/*")?)?;
@@ -159,7 +159,7 @@ fn grants_line(alloc: Global, asked: &str) -> Result<String, Error> {
     }
 }
 
-/// For how long a URL is kept, in words.
+/// How long a URL is kept, as a sentence.
 fn cache_line(alloc: Global, url: &Url) -> Result<String, Error> {
     // docs: list
     let mut patterns = UrlPatternList::new(alloc);
@@ -188,7 +188,7 @@ fn printed_line(alloc: Global) -> Result<String, Error> {
     // docs: end
 }
 
-/// A copy of words.
+/// A copy of a text.
 fn text(alloc: Global, words: &str) -> Result<String, Error> {
     Ok(String::from_str(alloc, words)?)
 }
@@ -206,7 +206,7 @@ fn add(patterns: &mut UrlPatternList<PatternRegexp>, pattern: Pattern) -> Result
     }
 }
 
-/// Writes a line, or why there is none.
+/// Writes a line, or the error.
 // docs: write_line
 fn write_line<W: Write>(out: &mut W, line: Result<String, Error>) -> io::Result<()> {
     match line {
@@ -216,7 +216,7 @@ fn write_line<W: Write>(out: &mut W, line: Result<String, Error>) -> io::Result<
 }
 // docs: end
 
-/// What the modules answer about a URL.
+/// The lines of all modules for a URL.
 fn lines(alloc: Global, url: &str) -> Result<String, Error> {
     let url = Url::parse(alloc, url)?;
     let user = user_line(alloc, &url)?;

@@ -1,4 +1,4 @@
-//! A server that has a path and no URL.
+//! A server that sees paths and no URLs.
 
 ghost use Rattle.example.specs.NamedUsers.{PathNamesNone, PathNamesUser};
 ghost use Rattle.std.specs.Prelude.{IfNone, IfOk, IfSome};
@@ -10,13 +10,12 @@ use std::alloc::Global;
 use urlpattern::regexp::RegExp;
 use urlpattern::{ComponentName, Error, UrlPattern, pathname_texts};
 
-/// The name of the group that has the user.
+/// The name of the group for the user.
 const ID: &str = "id";
 
-/// The user that a path names, borrowed from the path: what the group `id` captures. `None`: the pattern of users does not match
-/// the path, whose other components are empty, or the group takes no part in the match.
-///
-/// The error is that memory ran out.
+/// The user that a path names, borrowed from the path: the capture of the group `id`. `None`: the
+/// pattern of users does not match the path, whose other components are empty, or the group takes
+/// no part in the match.
 pub fn user<'u, R: RegExp>(
     alloc: Global,
     users: &UrlPattern<R>,

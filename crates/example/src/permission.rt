@@ -1,4 +1,4 @@
-//! A permission check: which URLs may be seen, and what is wrong with the others.
+//! A permission check: which URLs may be seen, and why others may not.
 
 // docs: permission
 ghost use Rattle.std.specs.Prelude.{IfNone, IfOk, IfSome};

@@ -1,4 +1,4 @@
-//! A pattern that is printed and read again, as one that is kept in a file.
+//! A pattern that is printed and read again, as if it had been stored in a file.
 
 ghost use Rattle.example.specs.Same.{AreJoined, KeepMeaning};
 ghost use Rattle.std.specs.Prelude.{◌≡◌, string_bytes, IfOk, MatchResult};
@@ -13,13 +13,11 @@ use urlpattern::component::normalize_part_list;
 use urlpattern::laws::joining_keeps_meaning;
 use urlpattern::parser::{Options, Part};
 
-/// The parts that the printed text of parts is read as.
+/// Prints parts, and reads the text again.
 ///
-/// Nothing has changed: they are the parts that were printed, neighbouring plain fixed texts joined, and they mean the same
-/// texts with the same captures. The parts have to be printable, as those are that were read of a pattern without an empty
-/// fixed text, a tab or a line end.
-///
-/// The error is then that memory ran out.
+/// For printable parts the result is the same parts, neighbouring plain fixed texts joined, which
+/// mean the same texts with the same captures, and the only error is that memory ran out. Parts are
+/// printable if they were read from a pattern without an empty fixed text, a tab or a line end.
 pub fn printed_and_read(
     alloc: Global,
     parts: &[Part],

@@ -1,4 +1,4 @@
-//! A router: what a URL under `/users/:id` names.
+//! A router for URLs under `/users/:id`.
 
 ghost use Rattle.example.specs.NamedUsers.{NamesNone, NamesUser};
 ghost use Rattle.std.specs.Prelude.{IfNone, IfOk, IfSome, Some};
@@ -11,16 +11,14 @@ use url::Url;
 use urlpattern::regexp::RegExp;
 use urlpattern::{ComponentName, Error, UrlPattern, UrlPatternMatchInput};
 
-/// The pattern of users: what stands between `/users/` and the end of the path is the group `id`.
+/// The pattern of users. The group `id` matches between `/users/` and the end of the path.
 pub const USERS: &str = "https://example.com/users/:id";
 
-/// The name of the group that has the user.
+/// The name of the group for the user.
 const ID: &str = "id";
 
-/// The user that a URL names, borrowed from the URL: what the group `id` of the path captures. `None`: the pattern of users
-/// does not match the URL, or the group takes no part in the match.
-///
-/// The error is that memory ran out.
+/// The user that a URL names, borrowed from the URL: the capture of the group `id` of the path.
+/// `None`: the pattern of users does not match the URL, or the group takes no part in the match.
 pub fn user<'u, R: RegExp>(
     alloc: Global,
     users: &UrlPattern<R>,

@@ -1,4 +1,4 @@
-//! A router with values: what a URL shows, and of whom.
+//! A router with values: the page that a URL shows, and the user.
 
 ghost use Rattle.example.specs.Routes.{ShowsNothing, ShowsValue};
 ghost use Rattle.std.specs.Prelude.{IfNone, IfOk, IfSome};
@@ -10,13 +10,11 @@ use url::Url;
 use urlpattern::regexp::RegExp;
 use urlpattern::{ComponentName, Error, UrlPatternMap};
 
-/// The name of the group that has the user.
+/// The name of the group for the user.
 const ID: &str = "id";
 
-/// The value of the first route that matches a URL, borrowed from the routes, and what the group `id` captures of its path, borrowed
-/// from the URL. `None`: no route matches it.
-///
-/// The error is that memory ran out.
+/// The value of the first route that matches a URL, borrowed from the routes, and the capture of
+/// the group `id` of its path, borrowed from the URL. `None`: no route matches.
 pub fn shown<'m, 'u, T, R: RegExp>(
     alloc: Global,
     routes: &'m UrlPatternMap<T, R>,

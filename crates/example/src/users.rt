@@ -1,4 +1,4 @@
-//! Users by their URLs, promised in the words of URLs alone.
+//! Users by their URLs, with contracts about URLs alone.
 
 ghost use Rattle.std.specs.Prelude.{IfNone, IfOk, IfSome};
 ghost use Rattle.std.specs.Str.{chars};
@@ -14,13 +14,14 @@ use urlpattern::regexp::PatternRegexp;
 use urlpattern::{ComponentName, Error, NoLink, UrlPattern, UrlPatternOptions};
 
 // docs: users
-/// The users under `https://example.com/users/`, with the pattern of their URLs, which is compiled once.
+/// The users under `https://example.com/users/`, with the pattern of their URLs, which is compiled
+/// once.
 #[derive(Drop)]
 pub struct Users {
     pattern: UrlPattern<PatternRegexp>,
 }
 
-// The pattern is that of the text. Contracts see nothing of it.
+// The pattern is that of the text. No contract mentions it.
 impl Model for Users {
     ghost use Rattle.example.specs.Users.{IsPatternOfUsers};
     ghost use Rattle.std.specs.Prelude.{⊤};
@@ -44,12 +45,12 @@ impl Users {
         // docs: end
     }
 
-    /// The id of the user whose URL this is, borrowed from the URL. `None`: it is the URL of no user.
+    /// The id of the user with this URL, borrowed from the URL. `None`: the URL is not that of a
+    /// user.
     ///
-    /// The URL of a user is `https://example.com/users/` and the id, which is not empty and has no slash. It has no port. Its
-    /// user name, password, query and fragment may be any, as the pattern says nothing of them.
-    ///
-    /// The error is that memory ran out.
+    /// The URL of a user is `https://example.com/users/` and the id, which is not empty and has no
+    /// slash. The port is empty. User name, password, query and fragment may be anything, since the
+    /// pattern does not restrict them.
     pub fn id<'u>(&self, alloc: Global, url: &'u Url) -> Result<Option<&'u str>, Error>
         ensures some { IfOk result (λ found. IfSome found (λ id. IsUser url.now (chars id.now))) }
         ensures none { IfOk result (λ found. IfNone found (IsNoUser url.now)) }
@@ -60,9 +61,9 @@ impl Users {
         router::user(alloc, &self.pattern, url)
     }
 
-    /// Writes the URL of the user with this id, which is made canonical: `a b` is `a%20b`.
+    /// Returns the URL of the user with this id, which is made canonical: `a b` is `a%20b`.
     ///
-    /// The error is that of `UrlPattern::link`. An id that is empty, or has a slash, is that of no user.
+    /// The error is that of `UrlPattern::link`. No user has an id that is empty or has a slash.
     pub fn url(&self, alloc: Global, id: &str) -> Result<Url, NoLink>
         ensures { IfOk result (λ url. IsUrlOfUser url (chars id.now)) }
     {

@@ -7,13 +7,13 @@ use urlpattern::quirks::{StringOrInit, process_construct_pattern_input};
 use urlpattern::regexp::RegExp;
 use urlpattern::{Error, UrlPattern, UrlPatternOptions};
 
-/// The parts of a pattern whose texts stay as they are.
+/// The parts of a pattern whose texts are kept as they are.
 pub fn parts_of(alloc: Global, pattern: &str, options: &Options) -> Result<Vec<Part>, Error> {
     let unchanged = |text: &str| -> Result<String, Error> { Ok(String::from_str(alloc, text)?) };
     parse_pattern_string(alloc, pattern, options, unchanged)
 }
 
-/// The pattern of what is given.
+/// The pattern of a text or an init.
 pub fn built<R: RegExp>(
     alloc: Global,
     input: StringOrInit<'_>,

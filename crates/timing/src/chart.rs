@@ -1,8 +1,8 @@
-//! Draws what calls take with the Rust crate and with this port, as pairs of bars in an SVG.
+//! Draws the times of calls with the Rust crate and with this port, as pairs of bars in an SVG.
 //!
-//! Figures are lines of text. A line `# NAME` begins a group. Each line after it has a name, what a call takes with the Rust
-//! crate, and what it takes with this port over `PatternRegexp`, with a tab between them. Times are whole nanoseconds below
-//! 2^32. The bars of a group are to one scale.
+//! Figures are lines of text. A line `# NAME` begins a group. Each line after it has a name, the
+//! time with the Rust crate, and the time with this port over `PatternRegexp`, separated by tabs.
+//! Times are whole nanoseconds below 2^32. The bars of a group have one scale.
 
 ghost use Rattle.std.specs.Prelude.{◌≡◌, ◌*◌, ◌/◌, ◌<◌, ◌≤◌};
 
@@ -13,13 +13,13 @@ use std::io::Write;
 /// The length of the longest bar of a group.
 const LONGEST_BAR: u64 = 400;
 
-/// How far a row is below the one before.
+/// The distance between the tops of two rows.
 const ROW_HEIGHT: u64 = 28;
 
-/// How far the first row of a group is below the group's top.
+/// The distance between the top of a group and its first row.
 const HEADING_HEIGHT: u64 = 32;
 
-/// How far the first group is below the picture's top.
+/// The distance between the top of the picture and the first group.
 const TITLE_HEIGHT: u64 = 60;
 
 /// The color of texts.
@@ -31,7 +31,7 @@ const ORIGINAL_COLOR: &str = "#9aa5b1";
 /// The color of the bars of this port.
 const PORT_COLOR: &str = "#2563a8";
 
-/// What a call takes with the Rust crate and with this port, in nanoseconds.
+/// The times of a call with the Rust crate and with this port, in nanoseconds.
 #[derive(Drop)]
 struct Row<'a> {
     name: &'a str,
@@ -40,7 +40,7 @@ struct Row<'a> {
 }
 
 impl<'a> Row<'a> {
-    /// The row of a line. `None`: the line holds none.
+    /// The row of a line. `None`: the line is not a row.
     fn of(line: &'a str) -> Option<Row<'a>> {
         let (name, times) = line.split_once('\t')?;
         let (original, port) = times.split_once('\t')?;
@@ -58,7 +58,7 @@ impl<'a> Row<'a> {
     }
 }
 
-/// Rows whose bars are to one scale.
+/// Rows whose bars have one scale.
 #[derive(Drop)]
 struct Group<'a> {
     name: &'a str,
@@ -75,7 +75,7 @@ impl<'a> Group<'a> {
         longest
     }
 
-    /// How high the group is in a picture.
+    /// The height of the group in a picture.
     fn height(&self) -> u64 {
         (self.rows.len() as u64)
             .saturating_mul(ROW_HEIGHT)
@@ -83,10 +83,10 @@ impl<'a> Group<'a> {
     }
 }
 
-/// Why there are no figures.
+/// The reason why there are no figures.
 #[derive(Drop)]
 enum Fault {
-    /// The line of this number is neither a group nor a row of a group.
+    /// The line with this number is neither a group nor a row of a group.
     Line(u64),
     /// Memory ran out.
     OutOfMemory,
@@ -98,7 +98,7 @@ impl From<AllocError> for Fault {
     }
 }
 
-/// Whether a text can stand in an SVG: it is not empty, and XML allows each of its characters.
+/// Whether a text may be in an SVG: it is not empty, and XML allows each of its characters.
 fn is_drawable(text: &str) -> bool {
     !text.is_empty()
         && text
@@ -106,7 +106,7 @@ fn is_drawable(text: &str) -> bool {
             .all(|c| c >= ' ' && c != '\u{fffe}' && c != '\u{ffff}')
 }
 
-/// The groups of a text of figures.
+/// Parses groups of figures.
 fn read_groups<'a>(alloc: Global, text: &'a str) -> Result<Vec<Group<'a>>, Fault> {
     let mut groups = Vec::<Group<'a>>::new(alloc);
     for (line, number) in text.lines().zip(1u64..) {
@@ -115,7 +115,7 @@ fn read_groups<'a>(alloc: Global, text: &'a str) -> Result<Vec<Group<'a>>, Fault
     Ok(groups)
 }
 
-/// Adds what a line holds: a group, or a row to the last group.
+/// Parses a line, and appends the group, or the row to the last group.
 fn add_line<'a>(
     alloc: Global,
     groups: &mut Vec<Group<'a>>,
@@ -147,7 +147,7 @@ fn bar_length(time: u32, longest: u32) -> u64
     (u64::from(time) * LONGEST_BAR / u64::from(longest.max(1))).min(LONGEST_BAR)
 }
 
-/// Writes a text in such a way that an SVG shows it.
+/// Writes a text, escaped for SVG.
 fn write_text<O: Write>(text: &str, out: &mut O) -> io::Result<()> {
     for c in text.chars() {
         match c {
@@ -219,7 +219,7 @@ fn draw_group<O: Write>(group: &Group<'_>, top: u64, out: &mut O) -> io::Result<
     Ok(())
 }
 
-/// Draws what stands above the groups: a background, a title and what the colors mean.
+/// Draws the head of the picture: a background, a title and a legend.
 fn draw_head<O: Write>(height: u64, out: &mut O) -> io::Result<()> {
     writeln!(
         out,
@@ -242,7 +242,7 @@ fn draw_head<O: Write>(height: u64, out: &mut O) -> io::Result<()> {
     )
 }
 
-/// Draws what a color means.
+/// Draws the legend of a color.
 fn draw_meaning<O: Write>(left: u64, color: &str, meaning: &str, out: &mut O) -> io::Result<()> {
     let text_left = left.saturating_add(16);
     writeln!(
@@ -252,7 +252,7 @@ fn draw_meaning<O: Write>(left: u64, color: &str, meaning: &str, out: &mut O) ->
     writeln!(out, r#"<text x="{text_left}" y="52">{meaning}</text>"#)
 }
 
-/// How high the picture of the groups is.
+/// The height of the picture of the groups.
 fn picture_height(groups: &[Group<'_>]) -> u64 {
     let mut height = TITLE_HEIGHT;
     for group in groups {
@@ -272,8 +272,8 @@ fn draw<O: Write>(groups: &[Group<'_>], out: &mut O) -> io::Result<()> {
     writeln!(out, "</svg>")
 }
 
-/// Draws the figures that standard input gives. Where a line is neither a group nor a row of a group, the number of the first
-/// such line is reported and nothing is drawn.
+/// Draws the figures in standard input. If a line is neither a group nor a row of a group, reports
+/// the number of the first such line, and draws nothing.
 pub fn run<R: Input + AllocGlobal + Eprint, O: Write>(rt: &R, out: &mut O) -> io::Result<()> {
     let text = io::read_to_string(rt.alloc(), rt.reader())?;
     match read_groups(rt.alloc(), &text) {

@@ -1,7 +1,9 @@
-//! Times the library's calls (`time FILE ..`), links (`link-times FILE ..`) and lookups among routes (`routes FILE`), draws times that standard input gives (`chart`), and asks questions
-//! that are made by a seed, on which calls have to agree (`questions SEED COUNT`, `lists SEED COUNT` for those on lists, and `pairs SEED COUNT` for those on pairs of
-//! patterns), or makes links of what was captured (`links SEED COUNT`). `rules FILE` times comparisons of all routes with each other. `repeat FILE NAME CALL COUNT`
-//! calls one call so many times, for a tool that counts instructions.
+//! Times the library's calls (`time FILE ..`), links (`link-times FILE ..`) and lookups among
+//! routes (`routes FILE`), and draws the times in standard input (`chart`). Asks random questions
+//! on which calls have to agree (`questions SEED COUNT`, `lists SEED COUNT` for those on lists, and
+//! `pairs SEED COUNT` for those on pairs of patterns), or links captures (`links SEED COUNT`).
+//! `rules FILE` times comparisons of all routes with each other. `repeat FILE NAME CALL COUNT`
+//! repeats a call, for a tool that counts instructions.
 #![tactic(auto)]
 
 mod calls;
@@ -13,43 +15,43 @@ use questions::Alone;
 use std::process::ExitCode;
 use std::{env, io};
 
-/// The word that asks for times.
+/// The command that prints times.
 const TIME: &str = "time";
 
-/// The word that asks for times of lookups among routes.
+/// The command that prints times of lookups among routes.
 const ROUTES: &str = "routes";
 
-/// The word that asks for a picture of times.
+/// The command that draws times.
 const CHART: &str = "chart";
 
-/// The word that asks for questions.
+/// The command that asks questions.
 const QUESTIONS: &str = "questions";
 
-/// The word that asks for questions on lists alone.
+/// The command that asks questions on lists alone.
 const LISTS: &str = "lists";
 
-/// The word that asks for questions on pairs of patterns alone.
+/// The command that asks questions on pairs of patterns alone.
 const PAIRS: &str = "pairs";
 
-/// The word that asks for times of comparisons of routes.
+/// The command that prints times of comparisons of routes.
 const RULES: &str = "rules";
 
-/// The word that asks for links of what was captured.
+/// The command that links captures.
 const LINKS: &str = "links";
 
-/// The word that asks for times of links.
+/// The command that prints times of links.
 const LINK_TIMES: &str = "link-times";
 
-/// The word that asks for calls that are not timed.
+/// The command that repeats a call without timing it.
 const REPEAT: &str = "repeat";
 
-/// The status of a run in which nothing differs.
+/// The exit status of a run in which nothing differs.
 const SAME: u8 = 0;
 
-/// The status of a run in which calls do not agree.
+/// The exit status of a run in which calls do not agree.
 const DIFFERENT: u8 = 1;
 
-/// The status of a run that could not read or write, or was given other words or a line of figures that is none.
+/// The exit status of a run that could not read or write, or had invalid arguments or figures.
 const FAILED: u8 = 2;
 
 fn main(rt: HostRuntime) -> ExitCode {
@@ -60,7 +62,7 @@ fn main(rt: HostRuntime) -> ExitCode {
     })
 }
 
-/// Does what the words say. Returns whether nothing differs.
+/// Runs the command of the arguments. Returns whether nothing differs.
 fn run(rt: &HostRuntime) -> io::Result<bool> {
     let mut words = env::args(rt)?;
     // The first word is the program's own name.
@@ -110,7 +112,7 @@ fn run(rt: &HostRuntime) -> io::Result<bool> {
     }
 }
 
-/// The number that a word is.
+/// The number in an argument.
 fn number(word: &str) -> io::Result<u64> {
     match word.parse::<u64>() {
         Ok(number) => Ok(number),

@@ -1,7 +1,8 @@
-//! Questions that are made by a seed, to calls that have to agree with each other. No answer is recorded.
+//! Random questions to calls that have to agree with each other. No result is recorded.
 //!
-//! A question is of one number: those of a run have the seed and the numbers after it, so that each can be asked alone. There is
-//! memory for all of them, so that a call that says it ran out is one that differs.
+//! A question is made from a number: those of a run have the seed and the numbers after it. Each
+//! can therefore be asked alone. There is memory for all of them: a call that runs out of memory
+//! differs.
 
 mod constructors;
 mod engines;
@@ -21,19 +22,19 @@ use std::io;
 use std::io::Write;
 use urlpattern::Error;
 
-/// What comes of a question.
+/// The outcome of a question.
 #[derive(Clone, Copy)]
 enum Outcome {
     /// The calls agree.
     Same,
-    /// They agree, and what was made is refused.
+    /// The calls agree, and the pattern is rejected.
     Refused,
-    /// They do not agree.
+    /// The calls do not agree.
     Differs,
 }
 
 impl Outcome {
-    /// What comes of a pattern that is refused. Memory did not run out.
+    /// The outcome for a pattern that is rejected. Memory did not run out.
     fn of_error(error: &Error) -> Result<Outcome, Error> {
         match error {
             Error::OutOfMemory => Err(Error::OutOfMemory),
@@ -42,7 +43,7 @@ impl Outcome {
     }
 }
 
-/// What comes of calls that agree, or do not.
+/// The outcome for calls that agree, or do not.
 fn same(is_same: bool) -> Outcome {
     if is_same {
         Outcome::Same
@@ -51,22 +52,22 @@ fn same(is_same: bool) -> Outcome {
     }
 }
 
-/// What is asked.
+/// The kind of a question.
 #[derive(Clone, Copy)]
 enum Kind {
-    /// A pattern about inputs, by each call that matches.
+    /// Matches inputs by a pattern, with each call that matches.
     Patterns,
-    /// A list of patterns about URLs.
+    /// Matches URLs by a list of patterns.
     Lists,
-    /// Matchers about texts.
+    /// Matches texts by matchers.
     Matchers,
-    /// Engines about texts.
+    /// Matches texts by engines.
     Engines,
-    /// The printed pattern of parts.
+    /// Prints parts as a pattern.
     Printing,
-    /// The JSON of plain values.
+    /// Writes and parses the JSON of plain values.
     Trees,
-    /// The split of a constructor string.
+    /// Splits a constructor string.
     Constructors,
 }
 
@@ -98,7 +99,7 @@ impl Kind {
     }
 }
 
-/// How many questions of a kind were asked, and what came of them.
+/// The number of questions of a kind, by outcome.
 #[derive(Default, Drop)]
 struct Tally {
     asked: u64,
@@ -168,7 +169,8 @@ impl Tallies {
         self.constructors.print(out, "constructor strings")
     }
 
-    /// Asks the question of a number, and prints it if the calls do not agree. Says whether they do.
+    /// Asks the question of a number, and prints it if the calls do not agree. Returns whether they
+    /// do.
     fn ask<O: Write>(&mut self, alloc: Global, number: u64, out: &mut O) -> io::Result<bool> {
         let mut maker = Maker::new(alloc, number);
         let kind = Kind::of(&mut maker);
@@ -186,12 +188,12 @@ impl Tallies {
     }
 }
 
-/// Questions of one kind alone.
+/// Kinds of questions that are asked alone.
 #[derive(Clone, Copy)]
 pub enum Alone {
     /// Lists of patterns.
     Lists,
-    /// Pairs of patterns, of which the one may cover the other.
+    /// Pairs of patterns, of which one may cover the other.
     Rules,
 }
 
@@ -213,8 +215,8 @@ impl Alone {
     }
 }
 
-/// Asks so many questions of a kind, of the seed and the numbers after it, and prints those to which calls do not agree, and the
-/// counts. Says whether all agree.
+/// Asks `count` questions of a kind, from the seed and the numbers after it. Prints those on which
+/// calls do not agree, and the counts. Returns whether all agree.
 pub fn run_alone<O: Write>(
     alloc: Global,
     alone: Alone,
@@ -236,8 +238,8 @@ pub fn run_alone<O: Write>(
     Ok(tally.differing == 0)
 }
 
-/// Asks so many questions, of the seed and the numbers after it, and prints those to which calls do not agree, and the counts.
-/// Says whether all agree.
+/// Asks `count` questions, from the seed and the numbers after it. Prints those on which calls do
+/// not agree, and the counts. Returns whether all agree.
 pub fn run<O: Write>(alloc: Global, seed: u64, count: u64, out: &mut O) -> io::Result<bool> {
     let mut tallies = Tallies::default();
     let mut agree = true;

@@ -1,5 +1,6 @@
-//! Times the library's calls on pairs of a pattern and URLs, over both engines, in nanoseconds for each call, and the first match
-//! of lists of routes, and matchers that leave an engine many choices.
+//! Times the library's calls on pairs of a pattern and URLs, over both engines, in nanoseconds for
+//! each call. Also times the first match of lists of routes, and matchers that leave an engine many
+//! choices.
 
 mod hostile;
 mod links;
@@ -30,35 +31,35 @@ use urlpattern::{
     ComponentName, Error, UrlPattern, UrlPatternCaptures, UrlPatternMatchInput, UrlPatternOptions,
 };
 
-/// How many bytes of captured texts are copied.
+/// The size of the buffer for copies of captures, in bytes.
 const ROOM: usize = 256;
 
-/// What is timed.
+/// The call that is timed.
 #[derive(Clone, Copy, Drop)]
 enum Call {
-    /// A pattern is made of what it is given as.
+    /// Compiles the pattern.
     Parse,
-    /// It captures the groups of a text that it matches.
+    /// Captures the groups of a text that matches.
     ExecText,
-    /// It refuses a text that it does not match.
+    /// Matches a text that does not match.
     ExecMiss,
-    /// It captures the groups of a URL that it matches, in a result that owns them.
+    /// Captures the groups of a URL that matches, in an owned result.
     ExecUrl,
-    /// It is asked whether it matches that URL.
+    /// Tests a URL that matches.
     TestUrl,
-    /// It captures the groups of that URL, borrowed from it.
+    /// Captures the groups of the URL, borrowed from it.
     Captures,
-    /// It is asked whether it matches that URL, which is lent.
+    /// Tests the URL, which is borrowed.
     TestLent,
-    /// The text of that URL is parsed.
+    /// Parses the text of the URL.
     ParseUrl,
-    /// The maps are made that a result of the pattern has, with the names of the groups and nothing that they capture.
+    /// Makes the maps of a result of the pattern, with the names of the groups and no captures.
     Maps,
-    /// It captures the groups of that URL, and each captured text is copied to a buffer.
+    /// Captures the groups of the URL, and copies each capture to a buffer.
     Copies,
 }
 
-/// What is timed, in the order of the columns.
+/// The calls, in the order of the columns.
 const CALLS: [Call; 10] = [
     Call::Parse,
     Call::ExecText,
@@ -72,7 +73,7 @@ const CALLS: [Call; 10] = [
     Call::Copies,
 ];
 
-/// A pattern, what it was given as, and what it is asked about.
+/// A pattern with the texts that it is made from, and the inputs for it.
 #[derive(Drop)]
 struct Subject<'a, E: RegExp> {
     given: StringOrInit<'a>,
@@ -107,9 +108,10 @@ impl<'a, E: RegExp> Subject<'a, E> {
         })
     }
 
-    /// Calls once. Says whether something was made, or is matched.
+    /// Calls once. Returns whether a value was made, or matches.
     ///
-    /// Each call has a frame of its own: a pattern fills kilobytes, and no other call should pay for them.
+    /// Each call is a function of its own: a pattern fills kilobytes of the stack, which other
+    /// calls should not pay for.
     fn call(&self, alloc: Global, call: Call) -> Result<bool, Error> {
         match call {
             Call::Parse => self.parse(alloc),
@@ -125,7 +127,7 @@ impl<'a, E: RegExp> Subject<'a, E> {
         }
     }
 
-    /// Makes the pattern.
+    /// Compiles the pattern.
     #[inline(never)]
     fn parse(&self, alloc: Global) -> Result<bool, Error> {
         let pattern = make_pattern::<E>(alloc, &self.given, self.base, self.ignore_case)?;
@@ -134,7 +136,7 @@ impl<'a, E: RegExp> Subject<'a, E> {
         Ok(is_made)
     }
 
-    /// Asks for the groups of a text.
+    /// Captures the groups of a text.
     #[inline(never)]
     fn exec_text(&self, alloc: Global, text: &str) -> Result<bool, Error> {
         let input = StringOrInit::String(CowStr::Borrowed(text));
@@ -144,27 +146,27 @@ impl<'a, E: RegExp> Subject<'a, E> {
         Ok(self.pattern.exec(alloc, input)?.is_some())
     }
 
-    /// Asks for the groups of the URL.
+    /// Captures the groups of the URL.
     #[inline(never)]
     fn exec_url(&self, alloc: Global) -> Result<bool, Error> {
         let input = UrlPatternMatchInput::Url(self.url.clone()?);
         Ok(self.pattern.exec(alloc, input)?.is_some())
     }
 
-    /// Asks whether the URL is matched.
+    /// Tests the URL.
     #[inline(never)]
     fn test_url(&self, alloc: Global) -> Result<bool, Error> {
         let input = UrlPatternMatchInput::Url(self.url.clone()?);
         self.pattern.test(alloc, input)
     }
 
-    /// Asks for the groups of the URL, borrowed.
+    /// Captures the groups of the URL, borrowed.
     #[inline(never)]
     fn captures(&self, alloc: Global) -> Result<bool, Error> {
         Ok(self.pattern.captures(alloc, &self.url)?.is_some())
     }
 
-    /// Asks for the groups of the URL, borrowed, and copies them.
+    /// Captures the groups of the URL, borrowed, and copies them.
     #[inline(never)]
     fn copies(&self, alloc: Global) -> Result<bool, Error> {
         match self.pattern.captures(alloc, &self.url)? {
@@ -173,7 +175,7 @@ impl<'a, E: RegExp> Subject<'a, E> {
         }
     }
 
-    /// Asks whether the URL is matched, and lends it.
+    /// Tests the URL, which is borrowed.
     #[inline(never)]
     fn test_lent(&self, alloc: Global) -> Result<bool, Error> {
         self.pattern.test_url(alloc, &self.url)
@@ -210,7 +212,7 @@ impl<'s, 'a, E: RegExp> Timed for SubjectCall<'s, 'a, E> {
     }
 }
 
-/// What a value gives a pattern as: a text, or else the components one by one.
+/// The pattern of a value: a text, or else the components one by one.
 fn given_as<'a>(alloc: Global, value: &'a Value) -> Result<StringOrInit<'a>, Error> {
     match value.as_str() {
         Some(text) => Ok(StringOrInit::String(CowStr::Borrowed(text))),
@@ -221,7 +223,7 @@ fn given_as<'a>(alloc: Global, value: &'a Value) -> Result<StringOrInit<'a>, Err
     }
 }
 
-/// Copies what groups captured to a buffer, as far as there is room. Says whether anything was copied.
+/// Copies captures to a buffer, as far as there is room. Returns whether anything was copied.
 #[inline(always)]
 fn are_copied(found: &UrlPatternCaptures<'_, '_>) -> bool {
     let mut buffer = [0_u8; ROOM];
@@ -237,7 +239,7 @@ fn are_copied(found: &UrlPatternCaptures<'_, '_>) -> bool {
     end > 0 && buffer[0] > 0
 }
 
-/// Makes a map of groups with these names. Says whether there is one.
+/// Makes a map of groups with these names. Returns whether there is one.
 fn make_map(alloc: Global, names: &[String]) -> Result<bool, Error> {
     let mut groups: HashMap<String, Option<String>> = HashMap::new(alloc);
     for name in names {
@@ -246,7 +248,7 @@ fn make_map(alloc: Global, names: &[String]) -> Result<bool, Error> {
     Ok(!groups.is_empty())
 }
 
-/// The pattern that is given in this way.
+/// Compiles the pattern of a text or an init.
 fn make_pattern<E: RegExp>(
     alloc: Global,
     given: &StringOrInit<'_>,
@@ -261,8 +263,8 @@ fn make_pattern<E: RegExp>(
     UrlPattern::parse(alloc, init, options)
 }
 
-/// Prints what each pair takes: its name, an engine, and a column for each call. Each line of a file holds a pair. Lists of routes
-/// follow, and then patterns that leave an engine many choices.
+/// Prints the times of each pair: its name, an engine, and a column for each call. Each line of a
+/// file has a pair. Then come lists of routes, and patterns that leave an engine many choices.
 pub fn run<R: Files + AllocGlobal + Clock, O: Write>(
     rt: &R,
     paths: &[String],
@@ -282,7 +284,8 @@ pub fn run<R: Files + AllocGlobal + Clock, O: Write>(
     hostile::run(rt, out)
 }
 
-/// Prints what the link of what each pair captures takes: its name, and a column each for the link and for `Url::parse` of its text.
+/// Prints the times of linking the captures of each pair: its name, a column for the link, and one
+/// for `Url::parse` of its text.
 pub fn run_links<R: Files + AllocGlobal + Clock, O: Write>(
     rt: &R,
     paths: &[String],
@@ -298,7 +301,7 @@ pub fn run_links<R: Files + AllocGlobal + Clock, O: Write>(
     Ok(())
 }
 
-/// Prints what the table of a file's routes takes, and tables that are made.
+/// Prints the times of the table of a file's routes, and of generated tables.
 pub fn run_routes<R: Files + AllocGlobal + Clock, O: Write>(
     rt: &R,
     path: &str,
@@ -308,7 +311,7 @@ pub fn run_routes<R: Files + AllocGlobal + Clock, O: Write>(
     routes::run(rt, &text, out)
 }
 
-/// Prints what comparisons of all routes of a file with each other take.
+/// Prints the times of comparing all routes of a file with each other.
 pub fn run_rules<R: AllocGlobal + Clock + Files, O: Write>(
     rt: &R,
     path: &str,
@@ -318,7 +321,7 @@ pub fn run_rules<R: AllocGlobal + Clock + Files, O: Write>(
     rules::run(rt, &text, out)
 }
 
-/// Prints what the pair of a line takes.
+/// Prints the times of the pair in a line.
 fn time_line<R: AllocGlobal + Clock, O: Write>(rt: &R, line: &str, out: &mut O) -> io::Result<()> {
     match serde_json::from_str::<Value>(rt.alloc(), line) {
         Ok(pair) => time_pair(rt, &pair, out),
@@ -326,7 +329,7 @@ fn time_line<R: AllocGlobal + Clock, O: Write>(rt: &R, line: &str, out: &mut O) 
     }
 }
 
-/// Prints what a pair takes, in a line for each engine.
+/// Prints the times of a pair, in a line for each engine.
 fn time_pair<R: AllocGlobal + Clock, O: Write>(
     rt: &R,
     pair: &Value,
@@ -342,7 +345,7 @@ fn time_pair<R: AllocGlobal + Clock, O: Write>(
     time_over::<PatternRegexp, R, O>(rt, given, pair, out)
 }
 
-/// Prints what a pair takes over an engine.
+/// Prints the times of a pair over an engine.
 fn time_over<E: RegExp, R: AllocGlobal + Clock, O: Write>(
     rt: &R,
     given: &Value,
@@ -359,7 +362,7 @@ fn time_over<E: RegExp, R: AllocGlobal + Clock, O: Write>(
     }
 }
 
-/// Prints what the calls on a subject take.
+/// Prints the times of the calls on a subject.
 fn time_subject<E: RegExp, R: AllocGlobal + Clock, O: Write>(
     rt: &R,
     subject: &Subject<'_, E>,

@@ -1,4 +1,4 @@
--- What the program answers to its words. Words and texts are bytes.
+-- The output of the program for its arguments. Arguments and texts are bytes.
 use Rattle.std.specs.Prelude.{◌≢◌, ◌⊎◌, ℕ, List, codes, Option, String}
 use Rattle.std.specs.declared.alloc.Global.{Global}
 use Rattle.urlpat_commands.specs.Answers.{AreAnswered, FailsWhere}
@@ -11,31 +11,32 @@ use Rattle.urlpat_rules.specs.Routes.{RoutesLines}
 use Rattle.urlpat_rules.specs.Unreached.{Lists}
 use Rattle.urlpat_lines.specs.declared.flags.Flags.{Flags}
 
--- the first word asks to compare patterns, or for a table
+-- The arguments are those of a command that compares patterns or reads a table.
 abbrev pub AskForRules : (words : List (List ℕ)) → Type 0
 AskForRules words =
     (rest : List (List ℕ)) × (AreWordsAfter (codes "covers") words rest ⊎ AreWordsAfter (codes "unreachable") words rest ⊎ AreWordsAfter (codes "route") words rest)
 
--- the words are answered by a command that compares patterns, or has a table
+-- The output of a command that compares patterns or reads a table.
 abbrev pub DoesRules : Flags → (Has : (name table : List ℕ) → Type 0) → (words : List (List ℕ)) → (status : ℕ) → (input old new : Option (List ℕ)) → Type 0
 DoesRules flags Has words status input old new =
     ((rest : List (List ℕ)) × AreWordsAfter (codes "covers") words rest × TellsWhether rest status old new)
     ⊎ ((rest : List (List ℕ)) × AreWordsAfter (codes "unreachable") words rest × Lists Has rest status old new)
     ⊎ ((rest : List (List ℕ)) × AreWordsAfter (codes "route") words rest × RoutesLines flags Has rest status input old new)
 
--- or by another one
+-- The output of any command.
 abbrev pub DoesAny : Flags → (Has : (name table : List ℕ) → Type 0) → (words : List (List ℕ)) → (status : ℕ) → (input old new : Option (List ℕ)) → Type 0
 DoesAny flags Has words status input old new = DoesRules flags Has words status input old new ⊎ Does flags words status input old new
 
--- unless the run failed, its words are answered
+-- `DoesAny` unless the run failed.
 abbrev pub RunsAny : Flags → (Has : (name table : List ℕ) → Type 0) → (words : List (String Global)) → (status : ℕ) → (input old new : Option (List ℕ)) → Type 0
 RunsAny flags Has words status input old new = status ≢ FAILED → DoesAny flags Has (words_view words) status input old new
 
--- the words may be answered with a report beside the answer: `url` refuses their input, where errors
--- are explained, or they ask for lines or for patterns
+-- A run that succeeds may also report something: a note that `url` rejects the input, if errors are
+-- explained, or anything if the command is `filter`, compares patterns or reads a table.
 abbrev pub MayReport : Flags → (words : List (List ℕ)) → Type 0
 MayReport flags words = HasNote flags words ⊎ AskToFilter words ⊎ AskForRules words
 
--- the words have no answer, and this is so; or they have one, or ask for lines or for patterns
+-- The arguments have no output, and `IsSo` holds; or they have one, or their command is `filter`,
+-- compares patterns or reads a table.
 abbrev pub FailsAny : Flags → (words : List (List ℕ)) → (IsSo : Type 0) → Type 0
 FailsAny flags words IsSo = FailsWhere flags words IsSo ⊎ AreAnswered flags words ⊎ AskToFilter words ⊎ AskForRules words

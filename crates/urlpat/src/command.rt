@@ -1,4 +1,4 @@
-//! All commands of the program.
+//! Runs any command of the program.
 
 ghost use Rattle.std.specs.Prelude.{◌≡◌, ◌≢◌, ◌⊎◌};
 ghost use Rattle.urlpat_lines.specs.Words.{words_view};
@@ -10,10 +10,10 @@ use urlpat_lines::{Flags, words_after};
 use urlpat_matching::{DONE, FAILED, NO_MATCH};
 use urlpat_rules::{Tables, covers, list_unreachable, route};
 
-/// Does what the words and the flags ask for, and gives the status to end with.
+/// Runs the program with these arguments and flags. Returns the exit status.
 ///
-/// `filter` and `route` read lines from `input`, `route` and `unreachable` a file from `tables`. What is printed goes to `out`, and
-/// why there is no answer to `err`.
+/// `filter` and `route` read lines from `input`, `route` and `unreachable` a file from `tables`.
+/// Output is written to `out`, errors and notes to `err`.
 pub fn run<T: Tables, In: BufRead, Out: Write, Err: Write>(
     alloc: Global,
     tables: &T,

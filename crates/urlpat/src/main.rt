@@ -1,5 +1,6 @@
-//! Matches URLs against patterns: one URL, the first of some patterns, or the lines of standard input; explains a pattern; prints the
-//! URL that a pattern matches with given groups; compares patterns; and shows what the pattern of one component is compiled to.
+//! Matches URLs against patterns: one URL, the first of several patterns, or the lines of standard
+//! input. Also explains a pattern, prints the URL that a pattern matches with given groups,
+//! compares patterns, and shows what the pattern of one component is compiled to.
 #![tactic(auto)]
 
 ghost use Rattle.std.specs.Prelude.{⊤};
@@ -26,7 +27,7 @@ struct HostFiles<'a> {
 }
 
 impl Tables for HostFiles<'_> {
-    // Nothing is known of what a file has.
+    // Nothing is known about the contents of files.
     ghost Has = { λ files name table. ⊤ };
 
     fn read(&self, name: &str) -> io::Result<Vec<u8>> {
@@ -51,8 +52,8 @@ fn main(rt: HostRuntime) -> ExitCode {
     })
 }
 
-/// Does what the arguments ask for, over buffers, and gives the status to end with. Where errors are
-/// explained, it says why the output cannot be written. The error is that memory ran out.
+/// Runs the program with buffered input and output. Returns the exit status. If errors are
+/// explained, reports why the output cannot be written.
 fn run_buffered(rt: &HostRuntime, words: &[String], flags: Flags) -> io::Result<u8> {
     let alloc = rt.alloc();
     let mut input = BufReader::new(alloc, rt.stdin())?;
@@ -65,7 +66,7 @@ fn run_buffered(rt: &HostRuntime, words: &[String], flags: Flags) -> io::Result<
     Ok(status)
 }
 
-/// Does what the arguments ask for, and gives the status to end with.
+/// Runs the program with these arguments. Returns the exit status.
 fn run_words<In: BufRead, Out: Write, Err: Write>(
     rt: &HostRuntime,
     words: &[String],
@@ -85,7 +86,8 @@ fn run_words<In: BufRead, Out: Write, Err: Write>(
     run(alloc, &files, words, flags, input, out, err)
 }
 
-/// The arguments after the program's own name. The error is that one of them is not UTF-8, or that memory ran out.
+/// The arguments after the program's own name. The error is that an argument is not UTF-8, or that
+/// memory ran out.
 fn words(rt: &HostRuntime) -> Result<Vec<String>, Failure> {
     let mut words = match env::args(rt) {
         Ok(words) => words,

@@ -1,4 +1,4 @@
-//! Standard output, which keeps why a write to it failed.
+//! Standard output that keeps the error of a failed write.
 
 ghost use Rattle.std.specs.Io.KnownBytes.{Appends, Keeps};
 ghost use Rattle.std.specs.IoError.{error_kind};
@@ -8,7 +8,7 @@ ghost use Rattle.std.specs.declared.io.ErrorKind.TheVariants as kinds;
 use std::io;
 use std::io::Write;
 
-/// A writer that keeps why a write to it failed.
+/// A writer that keeps the error of a failed write.
 #[derive(Drop)]
 pub struct Output<W> {
     writer: W,
@@ -16,7 +16,7 @@ pub struct Output<W> {
 }
 
 impl<W> Output<W> {
-    /// A writer over this one, no write of which has failed.
+    /// Wraps a writer. No write has failed yet.
     pub fn new(writer: W) -> Output<W>
         ensures { (result.writer ≡ writer) × (result.failure ≡ None) }
     {
@@ -26,14 +26,14 @@ impl<W> Output<W> {
         }
     }
 
-    /// Why a write failed, the last that did. `None`: none failed.
+    /// The error of the last write that failed. `None`: none failed.
     pub fn failure(&self) -> Option<io::Error>
         ensures { result ≡ self.now.failure }
     {
         self.failure
     }
 
-    /// Keeps why a write failed, if it did.
+    /// Keeps the error of a write, if it failed.
     fn keep(&mut self, written: &io::Result<()>)
         ensures writer { self.new.writer ≡ self.old.writer }
         ensures failed { IfErr written.now (λ error. self.new.failure ≡ Some error) }
@@ -74,7 +74,7 @@ impl<W: Write> Write for Output<W> {
     }
 }
 
-/// Reports why the output cannot be written. Nothing is said of a pipe that nobody reads.
+/// Reports why the output cannot be written. Nothing is reported for a closed pipe.
 pub fn report_output<Err: Write>(failure: Option<io::Error>, err: &mut Err)
     ensures none { IfNone failure (err.new ≡ err.old) }
     ensures closed { IfSome failure

@@ -2,11 +2,11 @@
 use Rattle.std.proofs.Common.{◌≡◌, [], ◌∷◌, codes, refl}
 use Rattle.urlpat_commands.specs.Report.{component_lines}
 
--- the answer to `component pathname /users/:id`
+-- The output of `component pathname /users/:id`.
 component_of_a_user : component_lines (codes "id" ∷ []) (codes "^/users(?:/([^/]+?))$") (codes "/users/:id")
     ≡ codes "names: id\nregexp: ^/users(?:/([^/]+?))$\npattern: /users/:id\n"
 component_of_a_user = refl
 
--- a pattern without groups has no names
+-- A pattern without groups has no names.
 component_without_groups : component_lines [] (codes "^/users$") (codes "/users") ≡ codes "names:\nregexp: ^/users$\npattern: /users\n"
 component_without_groups = refl

@@ -1,4 +1,4 @@
--- Lemmas on what the program answers.
+-- Lemmas on the output of the program.
 use Rattle.std.proofs.Common.{◌≡◌, ℕ, ◌<◌, ◌≤◌, get_or, inl, inr, Bool, List, [], ◌∷◌, length, sym, subst, refl, arith}
 use Rattle.std.specs.Prelude.{MatchOption, Option, None, Some, String, string_bytes}
 use Rattle.std.specs.declared.alloc.Global.{Global}
@@ -14,7 +14,7 @@ use Rattle.urlpattern_syntax.specs.declared.error.Error.{Error}
 
 -- ---- matches
 
--- an answer that has the text of a match, or says that there is none, tells of a match
+-- An output for what was found is the output of a match, or that there is none.
 pub answers_match : (json : Bool) (Matched : List ℕ → Type 0) (Unmatched : Type 0) (found : Option (String Global)) (answer : Printed)
     → IsPrintedOf json found answer
     → MatchOption found Unmatched (λ text. Matched (string_bytes text))
@@ -22,7 +22,7 @@ pub answers_match : (json : Bool) (Matched : List ℕ → Type 0) (Unmatched : T
 answers_match json Matched Unmatched None answer is unmatched = inr (unmatched, is.0, is.1)
 answers_match json Matched Unmatched (Some text) answer is matched = inl (subst (λ (reported : String Global). Matched (string_bytes reported)) (sym is.0) matched, is.1)
 
--- ---- words
+-- ---- arguments
 
 pub three_words : (words : List (String Global)) (a b c : String Global) → 3 ≤ length words → length words < 4
     → a ≡ get_or words 0 a → b ≡ get_or words 1 b → c ≡ get_or words 2 c → words ≡ a ∷ b ∷ c ∷ []

@@ -1,4 +1,4 @@
--- A lemma on what `filter` answers.
+-- A lemma on the output of `filter`.
 use Rattle.std.proofs.Common.{◌≡◌, ◌∙◌, ℕ, Bool, List, ap, subst}
 use Rattle.std.specs.Prelude.{Option, None, Some, IfSome}
 use Rattle.urlpattern_canonical.specs.BaseUrls.{BaseView, base_view}
@@ -12,7 +12,7 @@ use Rattle.urlpat_lines.specs.declared.query.Query.{Query}
 use Rattle.urlpattern.specs.Patterns.{PatternView}
 use Rattle.urlpattern_engine.specs.declared.pattern_regexp.PatternRegexp.{PatternRegexp}
 
--- the lines are filtered under the base URL that the words have
+-- The lines are filtered under the base URL of the arguments.
 pub filters : (flags : Flags) (words : List (List ℕ)) (query : Query) (compiled : PatternView PatternRegexp) (base : Option (List ℕ)) (kept : BaseView) (input old new : Option (List ℕ)) (any : Bool) (status : ℕ)
     → IsQueryOf flags.json words query → IsAskedPattern flags.ignore_case query base compiled → base ≡ base_of query.base.now
     → kept ≡ base_view base → status ≡ status_of any → IfSome input (λ text. FiltersText (IsFiltered compiled kept query) query.shape text any old new)

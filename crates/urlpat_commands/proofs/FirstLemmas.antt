@@ -20,7 +20,7 @@ use Rattle.urlpattern.specs.UrlPattern.{UrlPattern}
 use Rattle.urlpattern_engine.specs.declared.pattern_regexp.PatternRegexp.{PatternRegexp}
 use Rattle.urlpattern_syntax.specs.declared.error.Error.{Error}
 
--- ---- patterns one after the other
+-- ---- patterns in order
 
 all_zip-push : {X Y : Type 0} (R : X → Y → Type 0) (xs : List X) (ys : List Y) (x : X) (y : Y) → AllZip R xs ys → R x y → AllZip R (xs ++ x ∷ []) (ys ++ y ∷ [])
 all_zip-push R [] [] x y are is = (is, tt)
@@ -36,7 +36,7 @@ take-more : {X : Type 0} (xs : List X) (i : ℕ) (x : X) → i < length xs → x
 take-more xs i x within is = (take_at_read xs i x within).1 ∙ ap (λ y. take i xs ++ y ∷ []) (sym is)
 
 module _ (ignores : Bool) (base : Option (List ℕ)) (words : List (String Global)) (index : ℕ) (word : String Global) (within : index < length words) (is_word : word ≡ get_or words index word) where
-  -- the next word is compiled
+  -- The next argument is compiled.
   pub patterns-more : (list next : List (UrlPattern PatternRegexp)) (pattern : UrlPattern PatternRegexp) → next ≡ list ++ pattern ∷ []
       → ArePatterns ignores (map (λ w. string_bytes w) (take index words)) base (patterns_view list) → IsPatternOf ignores (string_bytes word) base (pattern_view pattern)
       → ArePatterns ignores (map (λ w. string_bytes w) (take (index + 1) words)) base (patterns_view next)
@@ -47,7 +47,7 @@ module _ (ignores : Bool) (base : Option (List ℕ)) (words : List (String Globa
       (subst (λ (vs : List (PatternView PatternRegexp)). ArePatterns ignores (map (λ w. string_bytes w) (take index words) ++ string_bytes word ∷ []) base vs) (sym views)
       (all_zip-push (λ text view. IsPatternOf ignores text base view) (map (λ w. string_bytes w) (take index words)) (patterns_view list) (string_bytes word) (pattern_view pattern) are is))
 
-  -- the next word is refused
+  -- The next argument is rejected.
   pub refuses-one : (list : List (UrlPattern PatternRegexp)) (error : Error) → ArePatterns ignores (map (λ w. string_bytes w) (take index words)) base (patterns_view list)
       → MemoryOr (RefusesPatternOf ignores (string_bytes word) base) error → MemoryOr (RefusesOneOf ignores (map (λ w. string_bytes w) words) base) error
   refuses-one list error are (inl memory) = inl memory
@@ -62,7 +62,7 @@ module _ (ignores : Bool) (base : Option (List ℕ)) (words : List (String Globa
 
 -- ---- the first match
 
--- what a list answers is an answer of the texts that it is compiled from
+-- The outcome of compiled patterns is that of their texts.
 pub first_found_by : (flags : Flags) (patterns : List (List ℕ)) (input : List ℕ) (base : Option (List ℕ)) (compiled : List (PatternView PatternRegexp)) (found : Option (String Global)) → ArePatterns flags.ignore_case patterns base compiled
     → MatchOption found (IsUnmatchedByAll compiled input base) (λ text. IsFirstTextBy flags.json compiled input base (string_bytes text))
     → MatchOption found (IsUnmatchedByEach flags.ignore_case patterns input base) (λ text. IsFirstText flags patterns input base (string_bytes text))
@@ -71,7 +71,7 @@ first_found_by flags patterns input base compiled (Some text) are answer = (comp
 
 -- ---- JSON
 
--- the tree of the first match has no float where that of the match has none
+-- The JSON of the first match has no float if that of the match has none.
 pub first-none : (index : ℕ) (found : Data) → has_float found ≡ false → has_float (first_tree index found) ≡ false
 first-none index found none =
     put-none (codes "match") found (put (codes "index") (number (unsigned index)) no_members) none

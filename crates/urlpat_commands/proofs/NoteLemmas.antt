@@ -5,7 +5,7 @@ use Rattle.std.specs.Prelude.{Err, IfSome, None, Ok, OnOk, Option, Result, Some}
 use Rattle.urlpat_commands.specs.Notes.{ReportsFirst}
 use Rattle.urlpat_lines.proofs.AnswerLemmas.{appends-both}
 
--- lines that are written alone are written first
+-- Lines that are written alone are written first.
 pub reports-alone : {X E : Type 0} (known : Option (List ℕ)) (written : Result X E)
     (old new : Option (List ℕ)) → IfSome known (λ lines. OnOk written (Appends old new lines))
     → IfSome known (λ lines. OnOk written (ReportsFirst lines old new))
@@ -14,7 +14,7 @@ reports-alone (Some lines) (Err error) old new is = tt
 reports-alone (Some lines) (Ok x) old new is =
     inl ([], subst (Appends old new) (sym (append-nil lines)) is)
 
--- so are lines after which a note is written
+-- Lines before a note are written first.
 pub reports-noted : {X E : Type 0} (known : Option (List ℕ)) (note : List ℕ) (written : Result X E)
     (old mid new : Option (List ℕ)) → IfSome known (λ lines. Appends old mid lines)
     → OnOk written (Appends mid new note)
@@ -24,7 +24,7 @@ reports-noted (Some lines) note (Err error) old mid new first second = tt
 reports-noted (Some lines) note (Ok x) old mid new first second =
     inl (note, appends-both old mid new lines note first second)
 
--- or memory runs out over the note
+-- Memory runs out during the note.
 pub reports-no-memory : {X E : Type 0} (known : Option (List ℕ)) (written : Result X E)
     (old new : Option (List ℕ)) → OnOk written (Appends old new (codes "out of memory\n"))
     → IfSome known (λ lines. OnOk written (ReportsFirst lines old new))

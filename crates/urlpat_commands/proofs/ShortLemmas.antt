@@ -1,4 +1,4 @@
--- Lemmas on the short form, and on what is said beside an answer.
+-- Lemmas on the short form, and on notes.
 use Rattle.std.proofs.Common.{◌≡◌, ℕ, ◌<◌, ◌≤◌, List, [], ◌∷◌, length, get_or, arith, Option, None, Some, Result, Ok, Err, IfOk, IfSome}
 use Rattle.std.specs.Prelude.{String, string_bytes}
 use Rattle.std.specs.declared.alloc.Global.{Global}
@@ -21,7 +21,7 @@ module _ (flags : Flags) (words : List (String Global)) (input : String Global) 
   pub short_fails : (error : Error) → MemoryOr (RefusesPatternOf flags.ignore_case pattern None) error → IsShortFailure flags.ignore_case pattern (words_view words) (failures.Refused error)
   short_fails error reported = rw are reported
 
--- what is said of the second and third of three words
+-- A fact of the second and third of three arguments.
 pub refused_match_input : (words : List (String Global)) (base input : String Global) → 3 ≤ length words → length words < 4 → base ≡ get_or words 1 base → input ≡ get_or words 2 input
     → IsRefusedText (string_bytes input) (base_of (string_bytes base)) → HasRefusedMatchInput (words_view words)
 refused_match_input [] base input least most is_base is_input refused = absurd (omega (arith, least))
@@ -30,18 +30,18 @@ refused_match_input (x ∷ y ∷ []) base input least most is_base is_input refu
 refused_match_input (x ∷ y ∷ z ∷ []) base input least most is_base is_input refused = rw (is_base, is_input) at refused
 refused_match_input (x ∷ y ∷ z ∷ w ∷ rest) base input least most is_base is_input refused = absurd (omega (arith, most))
 
--- what is said of the first two words
+-- A fact of the first two arguments.
 pub refused_first_input : (words : List (String Global)) (base input : String Global) → 2 ≤ length words → base ≡ get_or words 0 base → input ≡ get_or words 1 input
     → IsRefusedText (string_bytes input) (base_of (string_bytes base)) → HasRefusedFirstInput (words_view words)
 refused_first_input [] base input least is_base is_input refused = absurd (omega (arith, least))
 refused_first_input (x ∷ []) base input least is_base is_input refused = absurd (omega (arith, least))
 refused_first_input (x ∷ y ∷ rest) base input least is_base is_input refused = rw (is_base, is_input) at refused
 
--- what is said of the only word
+-- A fact of the only argument.
 pub refused_short_input : (words : List (String Global)) (input : String Global) → words ≡ input ∷ [] → IsRefusedText (string_bytes input) None → HasRefusedShortInput (words_view words)
 refused_short_input words input are refused = rw are refused
 
--- what follows of a note, if there is one
+-- The consequence of a note, if there is one.
 pub of_note : {N E : Type 0} (P Q : Type 0) (note : Result (Option N) E) → (P → Q) → IfOk note (λ found. IfSome found (λ text. P)) → IfOk note (λ found. IfSome found (λ text. Q))
 of_note P Q (Err error) f h = h
 of_note P Q (Ok None) f h = h

@@ -1,4 +1,5 @@
--- What `filter` answers to its words and to the lines that it reads. Words and texts are bytes.
+-- The output of `filter` for its arguments and for the lines that it reads. Arguments and texts are
+-- bytes.
 use Rattle.std.specs.Prelude.{◌≡◌, ◌≢◌, ◌⊎◌, ◌++◌, ℕ, Bool, IsTrue, List, [], codes, Option, None, Some, IfSome, String}
 use Rattle.std.specs.Borrow.{Bor}
 use Rattle.std.specs.declared.alloc.Global.{Global}
@@ -30,19 +31,20 @@ use Rattle.urlpattern_init.specs.declared.init.UrlPatternMatchInput.TheVariants 
 use Rattle.urlpattern_components.specs.Eight.{name_text}
 use Rattle.urlpattern_components.specs.declared.eight.ComponentName.{ComponentName}
 
--- what is printed of a group: what it captured, or nothing
+-- The output for a group: its capture, or nothing.
 abbrev pub capture_or_nothing : Option (List ℕ) → List ℕ
 capture_or_nothing None = []
 capture_or_nothing (Some capture) = capture
 
--- the piece is what a shape has of a match: what a group captured, or the line of the match
+-- The output of a shape for a match: the capture of a group, or the line of the match.
 abbrev pub HasPiece : (ComponentName → ResultView) → Shape → (piece : List ℕ) → Type 0
 HasPiece result shapes.Line piece = piece ≡ []
 HasPiece result shapes.Count piece = piece ≡ []
 HasPiece result (shapes.Group component name) piece = piece ≡ capture_or_nothing (group_bytes ((result component).group (chars name.now)))
 HasPiece result shapes.Json piece = IsMatchJson result piece
 
--- The pattern matches the URL of a text, under this base URL, and the piece is what the shape has of the match.
+-- The pattern matches the URL in a text, under this base URL, and the piece is the output of the
+-- shape for the match.
 pub record IsPieceOf (compiled : PatternView PatternRegexp) (base : BaseView) (text : List ℕ) (shape : Shape) (piece : List ℕ) : Type 0 where
   pub url : Parts
   pub result : ComponentName → ResultView
@@ -50,38 +52,39 @@ pub record IsPieceOf (compiled : PatternView PatternRegexp) (base : BaseView) (t
   pub is_match : IsMatch pattern_answer compiled (match_inputs.Url url) result
   pub is_piece : HasPiece result shape piece
 
--- a component, and the name of a group
+-- A component, and the name of a group.
 abbrev pub Group : Type 0
 Group = ComponentName × Bor (List ℕ)
 
--- the pattern has the group that a shape asks for, if it asks for one
+-- The pattern has the group of the shape, if there is one.
 abbrev pub HasAskedGroup : PatternView PatternRegexp → Shape → Type 0
 HasAskedGroup compiled (shapes.Group component name) =
     IsTrue (has_group compiled (chars name.now) component)
 HasAskedGroup compiled shape = Unit {0}
 
--- the shape asks for this group, and the pattern does not have it
+-- The group of the shape, which the pattern lacks.
 abbrev pub IsMissingGroup : PatternView PatternRegexp → Shape → Group → Type 0
 IsMissingGroup compiled shape (component, name) =
     (shape ≡ shapes.Group component name) × ¬ HasAskedGroup compiled shape
 
--- what is printed of such a group
+-- The message that the pattern lacks a group.
 abbrev pub missing_group_line : ComponentName → (name : List ℕ) → List ℕ
 missing_group_line component name =
     codes "the pattern has no group `" ++ name_text component ++ codes "." ++ name ++ codes "`\n"
 
--- the pattern of a query has the group that is asked for
+-- The pattern of a query, which has the group of its shape.
 abbrev pub IsAskedPattern : (ignores : Bool) → Query → (base : Option (List ℕ))
     → PatternView PatternRegexp → Type 0
 IsAskedPattern ignores query base compiled =
     IsPatternOf ignores query.pattern.now base compiled × HasAskedGroup compiled query.shape
 
--- the answer to a line: by what the pattern captures of it under this base URL, as is asked
+-- The verdict on a line and the output for it, by a pattern under this base URL.
 abbrev pub IsFiltered : PatternView PatternRegexp → BaseView → Query → (text line : List ℕ) → Verdict → (written : List ℕ) → Type 0
 IsFiltered compiled base query =
     FilterAnswers (IsPieceOf compiled base) (λ line. IsUnmatchedUnder compiled line base) query.inverted query.shape
 
--- the words after `filter` are answered over what the reader has, if that is known
+-- The output of `filter` with these arguments is written for the lines of the reader, if the
+-- contents of the reader are known.
 abbrev pub FiltersLines : Flags → (words : List (List ℕ)) → (status : ℕ) → (input old new : Option (List ℕ)) → Type 0
 FiltersLines flags words status input old new =
     (query : Query) × IsQueryOf flags.json words query
@@ -90,23 +93,24 @@ FiltersLines flags words status input old new =
     × IfSome input (λ text. (any : Bool) × (status ≡ status_of any)
     × FiltersText (IsFiltered compiled (base_view (base_of query.base.now)) query) query.shape text any old new)
 
--- unless the run failed, they are
+-- `FiltersLines` unless the run failed.
 abbrev pub FilterReplies : Flags → (words : List (String Global)) → (status : ℕ) → (input old new : Option (List ℕ)) → Type 0
 FilterReplies flags words status input old new = status ≢ FAILED → FiltersLines flags (words_view words) status input old new
 
--- the words are those of `filter`
+-- The arguments are those of `filter`.
 abbrev pub AskToFilter : (words : List (List ℕ)) → Type 0
 AskToFilter words = (rest : List (List ℕ)) × AreWordsAfter (codes "filter") words rest
 
--- the words are answered: by their own answer, or over what the reader has
+-- The run succeeds: `filter` writes its output for the lines of the reader, or the output for the
+-- arguments is printed.
 abbrev pub Does : Flags → (words : List (List ℕ)) → (status : ℕ) → (input old new : Option (List ℕ)) → Type 0
 Does flags words status input old new =
     ((rest : List (List ℕ)) × AreWordsAfter (codes "filter") words rest × FiltersLines flags rest status input old new) ⊎ Prints flags words status old new
 
--- unless the run failed, they are
+-- `Does` unless the run failed.
 abbrev pub RunsOne : Flags → (words : List (String Global)) → (status : ℕ) → (input old new : Option (List ℕ)) → Type 0
 RunsOne flags words status input old new = status ≢ FAILED → Does flags (words_view words) status input old new
 
--- the words have no answer, and this is so; or they have one, or ask for lines
+-- The arguments have no output, and `IsSo` holds; or they have one, or are those of `filter`.
 abbrev pub FailsOne : Flags → (words : List (List ℕ)) → (IsSo : Type 0) → Type 0
 FailsOne flags words IsSo = FailsWhere flags words IsSo ⊎ AreAnswered flags words ⊎ AskToFilter words

@@ -1,14 +1,14 @@
--- The kinds of options that the program knows by a name.
+-- The names of the options that `component` knows.
 use Rattle.std.specs.Prelude.{◌≡◌, ◌⊎◌, ℕ, List, codes}
 use Rattle.urlpattern.specs.Options.{OptionsView, default_options, hostname_options, pathname_options}
 
--- the word names these options
+-- The options with this name.
 abbrev pub NamesOptions : (word : List ℕ) → OptionsView → Type 0
 NamesOptions word options =
     ((word ≡ codes "default") × (options ≡ default_options))
     ⊎ ((word ≡ codes "hostname") × (options ≡ hostname_options))
     ⊎ ((word ≡ codes "pathname") × (options ≡ pathname_options))
 
--- the word names some options
+-- The word is the name of options.
 abbrev pub IsKind : (word : List ℕ) → Type 0
 IsKind word = (word ≡ codes "default") ⊎ (word ≡ codes "hostname") ⊎ (word ≡ codes "pathname")

@@ -1,4 +1,4 @@
-//! The commands of the program: what its words ask for, and what it prints.
+//! Runs the commands of the program.
 
 ghost use Rattle.std.specs.Io.KnownBytes.{Appends};
 ghost use Rattle.std.specs.Prelude.{◌≡◌, ◌≢◌, ◌⊎◌, map, string_bytes, IfErr, IfOk, IfSome, OnOk, Ok, None};
@@ -26,18 +26,19 @@ use urlpattern::Error;
 use urlpattern::component::{generate_pattern_string, generate_regular_expression_and_name_list};
 use urlpattern::parser::{Options, parse_pattern_string};
 
-/// An answer: what is printed, and the status to end with.
+/// The output of a run, and the exit status.
 #[derive(Drop)]
 struct Printed {
     text: String,
     status: u8,
 }
 
-/// Does what the words and the flags ask for, and gives the status to end with.
+/// Runs the program with these arguments and flags. Returns the exit status.
 ///
-/// `filter` reads lines from `input`. What is printed goes to `out`, the answer of each other command in one piece. Why there is no
-/// answer goes to `err`, and that an input or a line is no URL. `component`, `match` and `first` print
-/// an error alone, and say nothing of their input, unless the flags ask for errors that are explained.
+/// `filter` reads lines from `input`. Output is written to `out`, by every other command in one
+/// piece. Errors are written to `err`, and notes on an input or a line that is not a URL.
+/// `component`, `match` and `first` print an error alone, and no note on their input, unless the
+/// flags ask for errors that are explained.
 pub fn run<In: BufRead, Out: Write, Err: Write>(
     alloc: Global,
     words: &[String],
@@ -58,7 +59,7 @@ pub fn run<In: BufRead, Out: Write, Err: Write>(
     }
 }
 
-/// Does what the words of a command that reads nothing ask for, and gives the status to end with.
+/// Runs a command that reads no input. Returns the exit status.
 fn run_once<Out: Write, Err: Write>(
     alloc: Global,
     words: &[String],
@@ -95,8 +96,7 @@ fn run_once<Out: Write, Err: Write>(
     }
 }
 
-/// What is said beside an answer with this status: that the input is no URL, where errors are
-/// explained.
+/// The note for a run with this exit status: the input is not a URL, if errors are explained.
 fn note_beside(
     alloc: Global,
     words: &[String],
@@ -112,7 +112,7 @@ fn note_beside(
     }
 }
 
-/// Writes what is said beside an answer or an error, if there is such.
+/// Writes a note, if there is one.
 fn write_note<Err: Write>(note: &Option<String>, err: &mut Err) -> io::Result<()>
     ensures none { note.now ≡ None → err.new ≡ err.old }
     ensures written { OnOk result
@@ -124,8 +124,8 @@ fn write_note<Err: Write>(note: &Option<String>, err: &mut Err) -> io::Result<()
     }
 }
 
-/// Writes why there is no answer, and after it, where errors are explained, what is wrong with the
-/// pattern among the words.
+/// Writes why a run has no output, and then, if errors are explained, what is wrong with the
+/// pattern among the arguments.
 fn write_failure<Err: Write>(
     alloc: Global,
     words: &[String],
@@ -150,7 +150,7 @@ fn write_failure<Err: Write>(
     }
 }
 
-/// What the words ask for.
+/// The output for the arguments.
 fn answer(alloc: Global, words: &[String], flags: Flags) -> Result<Printed, Failure>
     ensures answers { IfOk result (λ answer. IsCommandAnswer flags (words_view words.now) (string_bytes answer.text) answer.status) }
     ensures fails { IfErr result (IsFailure flags (words_view words.now)) }
@@ -166,7 +166,7 @@ fn answer(alloc: Global, words: &[String], flags: Flags) -> Result<Printed, Fail
     }
 }
 
-/// What a pattern and the words after it ask for.
+/// The output for a pattern and the arguments after it.
 fn short_answer(
     alloc: Global,
     pattern: &str,
@@ -183,7 +183,7 @@ fn short_answer(
     Ok(answer_of(alloc, lines, flags.json)?)
 }
 
-/// What the words after `component` ask for.
+/// The output for the arguments of `component`.
 fn component_answer(alloc: Global, words: &[String]) -> Result<Printed, Failure>
     ensures answers { IfOk result (λ answer. IsComponentAnswer (words_view words.now) (string_bytes answer.text) answer.status) }
     ensures fails { IfErr result (IsComponentFailure (words_view words.now)) }
@@ -197,7 +197,7 @@ fn component_answer(alloc: Global, words: &[String]) -> Result<Printed, Failure>
     })
 }
 
-/// What the words after `match` ask for.
+/// The output for the arguments of `match`.
 fn match_answer(alloc: Global, words: &[String], flags: Flags) -> Result<Printed, Failure>
     ensures answers { IfOk result (λ answer. IsMatchAnswer flags (words_view words.now) (string_bytes answer.text) answer.status) }
     ensures fails { IfErr result (IsMatchFailure flags.ignore_case (words_view words.now)) }
@@ -209,7 +209,7 @@ fn match_answer(alloc: Global, words: &[String], flags: Flags) -> Result<Printed
     Ok(answer_of(alloc, lines, flags.json)?)
 }
 
-/// What the words after `first` ask for.
+/// The output for the arguments of `first`.
 fn first_answer(alloc: Global, words: &[String], flags: Flags) -> Result<Printed, Failure>
     ensures answers { IfOk result (λ answer. IsFirstAnswer flags (words_view words.now) (string_bytes answer.text) answer.status) }
     ensures fails { IfErr result (IsFirstFailure flags.ignore_case (words_view words.now)) }
@@ -224,7 +224,7 @@ fn first_answer(alloc: Global, words: &[String], flags: Flags) -> Result<Printed
     Ok(answer_of(alloc, lines, flags.json)?)
 }
 
-/// The text of a match, or that there is none.
+/// The output for a match, or for none.
 fn answer_of(alloc: Global, found: Option<String>, json: bool) -> Result<Printed, AllocError>
     ensures { IfOk result (IsPrintedOf json found) }
 {
@@ -237,14 +237,14 @@ fn answer_of(alloc: Global, found: Option<String>, json: bool) -> Result<Printed
     }
 }
 
-/// What is printed where there is no match.
+/// The text that is printed if there is no match.
 fn no_match_text(json: bool) -> &'static str
     ensures { result.now ≡ no_match_text json }
 {
     if json { "null\n" } else { "no match\n" }
 }
 
-/// The answer to `component`.
+/// The output of `component`.
 fn component(alloc: Global, kind: &str, pattern: &str) -> Result<String, Failure>
     ensures text { IfOk result (λ text. IsComponentText kind.now pattern.now (string_bytes text)) }
     ensures fails { IfErr result (FailsComponent kind.now pattern.now) }
@@ -261,7 +261,7 @@ fn component(alloc: Global, kind: &str, pattern: &str) -> Result<String, Failure
     Ok(component_report(alloc, &names, &regexp, &printed)?)
 }
 
-/// The options of this name, if there are such.
+/// The options with this name, if there are any.
 pub fn options_of(alloc: Global, kind: &str) -> Result<Option<Options>, Error>
     ensures some { IfOk result (λ found. IfSome found (λ options. NamesOptions kind.now (options_view options))) }
     ensures none { result ≡ Ok None → ¬ IsKind kind.now }

@@ -1,4 +1,4 @@
-//! The command `filter`: the lines of a reader whose URLs match a pattern.
+//! The command `filter`: prints the lines of a reader whose URLs match a pattern.
 
 ghost use Rattle.std.specs.Io.KnownBytes.{Appends};
 ghost use Rattle.std.specs.Prelude.{◌≡◌, ◌⊎◌, option_copied, IfNone, IfSome, OnOk};
@@ -26,13 +26,13 @@ usage: urlpat filter PATTERN BASE [--not] [--count] [--group COMPONENT.NAME]
        add --ignore-case for patterns that ignore case
 ";
 
-/// The usage of `filter` with JSON as the answer.
+/// The usage of `filter` with output as JSON.
 const JSON_USAGE: &str = "\
 usage: urlpat filter PATTERN BASE --json
        add --ignore-case for patterns that ignore case
 ";
 
-/// A pattern that matches the URLs of lines, under a base URL.
+/// A pattern and a base URL, as a matcher of lines.
 #[derive(Drop)]
 struct UrlLines<'a> {
     alloc: Global,
@@ -40,7 +40,7 @@ struct UrlLines<'a> {
     base: &'a BaseUrl,
 }
 
-/// Does what the words after `filter` ask for, and gives the status to end with.
+/// Runs `filter` with these arguments. Returns the exit status.
 pub fn filter<In: BufRead, Out: Write, Err: Write>(
     alloc: Global,
     words: &[String],
@@ -83,8 +83,8 @@ fn usage(json: bool) -> &'static str {
     if json { JSON_USAGE } else { FILTER_USAGE }
 }
 
-/// The pattern of a query. `None`: it is refused, or does not have the group that is asked for, which
-/// is reported.
+/// Compiles the pattern of a query. `None`: the pattern is rejected, or lacks the group of the
+/// query, which is reported.
 fn asked_pattern<Err: Write>(
     alloc: Global,
     query: Query<'_>,
@@ -112,7 +112,7 @@ fn asked_pattern<Err: Write>(
     }
 }
 
-/// The group that a shape asks for, if a pattern does not have it.
+/// The group of a shape, if the pattern lacks it.
 fn missing_group<'q>(
     pattern: &UrlPattern<PatternRegexp>,
     shape: Shape<'q>,
@@ -130,7 +130,7 @@ fn missing_group<'q>(
     }
 }
 
-/// Reports that the pattern does not have a group that is asked for.
+/// Reports that the pattern lacks a group.
 fn report_missing_group<Err: Write>(
     component: ComponentName,
     name: &str,
@@ -172,7 +172,7 @@ impl LineMatcher for UrlLines<'_> {
     }
 }
 
-/// Appends what a shape has of a match: what a group captured, or JSON.
+/// Appends what a shape prints of a match: the capture of a group, or JSON.
 fn push_piece(
     alloc: Global,
     found: &UrlPatternCaptures<'_, '_>,

@@ -1,4 +1,4 @@
-//! The command `first`: the first of some patterns that matches a URL, and what its groups capture.
+//! The command `first`: the first of several patterns that matches a URL, and its captures.
 
 ghost use Rattle.std.specs.Prelude.{option_copied, string_bytes, IfErr, IfOk};
 ghost use Rattle.urlpat_commands.specs.Answers.{ArePatterns, FindsFirst, FindsFirstBy, RefusesOneOf, ShowsFirst};
@@ -16,10 +16,10 @@ use urlpattern::regexp::PatternRegexp;
 use urlpattern::{Error, UrlPatternCaptures, UrlPatternList};
 use urlpattern_canonical::find_url;
 
-/// The first match of an input: a line with the index of its pattern and a line for each group, or JSON. `None`: no pattern
-/// matches it.
+/// The first match of an input: a line with the index of its pattern and a line for each group, or
+/// JSON. `None`: no pattern matches.
 ///
-/// The error is why a pattern or its base is refused, that of the first one that is, or that memory ran out.
+/// The error is that of the first pattern or base that is rejected, or that memory ran out.
 pub fn first_groups(
     alloc: Global,
     base: &str,
@@ -37,9 +37,9 @@ pub fn first_groups(
     Ok(answer?)
 }
 
-/// The patterns of constructor strings, in their order.
+/// Compiles constructor strings, in order.
 ///
-/// The error is why a pattern or its base is refused, that of the first one that is, or that memory ran out.
+/// The error is that of the first pattern or base that is rejected, or that memory ran out.
 fn compiled_list(
     alloc: Global,
     patterns: &[String],
@@ -60,10 +60,8 @@ fn compiled_list(
     Ok(list)
 }
 
-/// The first match of an input: a line with the index of its pattern and a line for each group, or JSON. `None`: no pattern
-/// matches it.
-///
-/// The error is that memory ran out.
+/// The first match of an input by compiled patterns: a line with the index of its pattern and a
+/// line for each group, or JSON. `None`: no pattern matches.
 fn groups_of_first(
     alloc: Global,
     list: &UrlPatternList<PatternRegexp>,
@@ -85,7 +83,8 @@ fn groups_of_first(
     Ok(Some(text?))
 }
 
-/// The text of the first match: a line with the index of its pattern and a line for each group, or JSON.
+/// The text of the first match: a line with the index of its pattern and a line for each group, or
+/// JSON.
 fn first_text(
     alloc: Global,
     json: bool,

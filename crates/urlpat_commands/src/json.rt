@@ -1,4 +1,4 @@
-//! The first match as JSON, on a line.
+//! The first match as a line of JSON.
 
 ghost use Rattle.serde_json.specs.View.{view};
 ghost use Rattle.std.specs.Prelude.{◌≡◌, string_bytes, IfOk};
@@ -10,7 +10,7 @@ use std::alloc::{AllocError, Global};
 use urlpat_matching::{json_line, match_tree};
 use urlpattern::UrlPatternCaptures;
 
-/// The line of the first match: the index of its pattern, and the match.
+/// The first match as a line of JSON: the index of its pattern, and the match.
 pub fn first_json(
     alloc: Global,
     index: usize,
@@ -22,7 +22,7 @@ pub fn first_json(
     json_line(alloc, &tree)
 }
 
-/// The JSON of the first match.
+/// The first match as JSON.
 fn first_tree(alloc: Global, index: usize, found: Value) -> Result<Value, AllocError>
     ensures { IfOk result (λ tree. view tree ≡ first_tree index (view found)) }
 {

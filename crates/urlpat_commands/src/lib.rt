@@ -1,6 +1,6 @@
-//! The commands of the program `urlpat` that match URLs: `match` and `first` print what the groups of a pattern, or of the first of
-//! some patterns, capture of a URL, `filter` prints the lines of a reader that match, and `component` shows what the pattern of one
-//! component is compiled to.
+//! The commands of the program `urlpat` that match URLs. `match` and `first` print the captures of
+//! a URL by a pattern, or by the first of several patterns that matches. `filter` prints the lines
+//! of a reader that match. `component` shows what the pattern of one component is compiled to.
 #![tactic(auto)]
 
 mod command;

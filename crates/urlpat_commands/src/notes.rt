@@ -1,4 +1,5 @@
-//! What goes to standard error beside the answer: what is wrong with a pattern that is refused, and that an input is no URL.
+//! Notes on standard error: what is wrong with a pattern that is rejected, and that an input is not
+//! a URL.
 
 ghost use Rattle.std.specs.Prelude.{IfOk, IfSome, IsFalse, IsTrue};
 ghost use Rattle.urlpat_lines.specs.Words.{words_view};
@@ -14,8 +15,8 @@ use urlpattern::parser::parse_pattern_string;
 use urlpattern::{ComponentName, Diagnosis, Error, Subject};
 use urlpattern_diagnosis::{Place, fault_of};
 
-/// Whether errors are explained: the flags ask for it, or the words are not those of `component`,
-/// `match` or `first`.
+/// Whether errors are explained: the flags ask for it, or the command is not `component`, `match`
+/// or `first`.
 pub fn explains_errors(words: &[String], flags: Flags) -> bool
     ensures explained { IsTrue result → ExplainsErrors flags (words_view words.now) }
     ensures alone { IsFalse result → ¬ ExplainsErrors flags (words_view words.now) }
@@ -23,7 +24,7 @@ pub fn explains_errors(words: &[String], flags: Flags) -> bool
     flags.explain_errors || !are_of_command(words)
 }
 
-/// Whether the words are those of `component`, `match` or `first`.
+/// Whether the command among the arguments is `component`, `match` or `first`.
 fn are_of_command(words: &[String]) -> bool
     ensures these { IsTrue result → AreOfCommand (words_view words.now) }
     ensures other { IsFalse result → ¬ AreOfCommand (words_view words.now) }
@@ -34,7 +35,7 @@ fn are_of_command(words: &[String]) -> bool
     is_command(command)
 }
 
-/// Whether a word is one of these commands.
+/// Whether an argument is `component`, `match` or `first`.
 fn is_command(word: &str) -> bool
     ensures these { IsTrue result → IsCommand word.now }
     ensures other { IsFalse result → ¬ IsCommand word.now }
@@ -42,9 +43,7 @@ fn is_command(word: &str) -> bool
     matches!(word, "component" | "match" | "first")
 }
 
-/// Says that the input among the words is no URL. `None`: it is one, or there is none.
-///
-/// The error is that memory ran out.
+/// A note that the input among the arguments is not a URL. `None`: it is one, or there is no input.
 pub fn input_note(alloc: Global, words: &[String]) -> Result<Option<String>, Error>
     ensures { IfOk result (λ note. IfSome note (λ text. HasRefusedInput (words_view words.now))) }
 {
@@ -59,7 +58,7 @@ pub fn input_note(alloc: Global, words: &[String]) -> Result<Option<String>, Err
     }
 }
 
-/// Says that the input of the short form is no URL.
+/// A note that the input of the short form is not a URL.
 fn short_note(alloc: Global, words: &[String]) -> Result<Option<String>, Error>
     ensures { IfOk result (λ note. IfSome note (λ text. HasRefusedShortInput (words_view words.now))) }
 {
@@ -69,7 +68,7 @@ fn short_note(alloc: Global, words: &[String]) -> Result<Option<String>, Error>
     note_of(alloc, None, input)
 }
 
-/// Says that the input of `match` is no URL.
+/// A note that the input of `match` is not a URL.
 fn match_note(alloc: Global, words: &[String]) -> Result<Option<String>, Error>
     ensures { IfOk result (λ note. IfSome note (λ text. HasRefusedMatchInput (words_view words.now))) }
 {
@@ -79,7 +78,7 @@ fn match_note(alloc: Global, words: &[String]) -> Result<Option<String>, Error>
     note_of(alloc, base_of(base), input)
 }
 
-/// Says that the input of `first` is no URL.
+/// A note that the input of `first` is not a URL.
 fn first_note(alloc: Global, words: &[String]) -> Result<Option<String>, Error>
     ensures { IfOk result (λ note. IfSome note (λ text. HasRefusedFirstInput (words_view words.now))) }
 {
@@ -89,9 +88,8 @@ fn first_note(alloc: Global, words: &[String]) -> Result<Option<String>, Error>
     note_of(alloc, base_of(base), input)
 }
 
-/// What is wrong with the pattern among the words, or its base, as lines for a reader. `None`: the failure is another one.
-///
-/// The error is that memory ran out.
+/// Diagnoses the pattern among the arguments and its base, in lines for a reader. `None`: the
+/// failure has another reason.
 pub fn diagnosis_note(
     alloc: Global,
     words: &[String],
@@ -103,7 +101,7 @@ pub fn diagnosis_note(
     }
 }
 
-/// What is wrong with the pattern among the words that is refused with this error, or its base.
+/// Diagnoses the pattern among the arguments that is rejected with this error, or its base.
 fn refusal_note(
     alloc: Global,
     words: &[String],
@@ -121,7 +119,7 @@ fn refusal_note(
     }
 }
 
-/// What is wrong with the pattern of a component, under the options of this name.
+/// Diagnoses the pattern of a component, under the options with this name.
 fn component_diagnosis(
     alloc: Global,
     kind: &str,

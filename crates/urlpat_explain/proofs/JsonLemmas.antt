@@ -1,4 +1,4 @@
--- The JSON of an explanation has no floats, so that its text is known.
+-- The JSON of an explanation has no floats. Its text is therefore known.
 use Rattle.std.proofs.Common.{◌≡◌, ℕ, Bool, true, false, List, [], ◌∷◌, ◌++◌, ap, refl, subst, sym, zip, ◌∙◌}
 use Rattle.std.specs.List.{AllByRecursion}
 use Rattle.std.specs.Prelude.{Option, None, Some}
@@ -33,7 +33,7 @@ both-none : (first second : Named) → AreWithoutFloat first → AreWithoutFloat
 both-none [] second none others = others
 both-none (named ∷ first) second (one, none) others = (one, both-none first second none others)
 
--- ---- those of a component
+-- ---- members of a component
 
 place-none : (place : Option Span) → AreWithoutFloat (place_members place)
 place-none None = tt

@@ -1,4 +1,4 @@
--- Lemmas on what `link` answers.
+-- Lemmas on the output of `link`.
 use Rattle.std.proofs.Common.{◌≡◌, ◌≢◌, ℕ, false, List, ◌∷◌, ◌++◌, codes, subst, sym, String, string_bytes}
 use Rattle.std.specs.Io.KnownBytes.{Appends}
 use Rattle.std.specs.Prelude.{Option}
@@ -16,11 +16,11 @@ use Rattle.urlpattern_pattern.specs.UrlPatterns.{UrlPattern}
 module _ (words : List (String Global)) (pattern base : String Global) (given : List (String Global)) (view : UrlPattern PatternRegexp) (text : List ℕ) (base_text : Option (List ℕ))
     (are : words ≡ pattern ∷ base ∷ given) (is_text : text ≡ string_bytes pattern) (is_base : base_text ≡ base_of (string_bytes base)) (is : IsPatternOf false text base_text (pattern_view view))
     (keeps : KeepsPartsOfWord false text base_text view) where
-  -- what holds of the text and its base holds of these words
+  -- A property of the text and its base is one of these arguments.
   of_words : (Holds : List ℕ → Option (List ℕ) → Type 0) → Holds text base_text → Holds (string_bytes pattern) (base_of (string_bytes base))
   of_words Holds holds = subst (Holds (string_bytes pattern)) is_base (subst (λ (t : List ℕ). Holds t base_text) is_text holds)
 
-  -- what is said of the pattern among the words
+  -- A property of the compiled pattern is one of the pattern among the arguments.
   said : (Is : UrlPattern PatternRegexp → List (List ℕ) → Type 0) → Is view (words_view given) → OfPattern Is (words_view words)
   said Is holds =
       subst (λ (ws : List (String Global)). OfPattern Is (words_view ws)) (sym are)

@@ -17,11 +17,11 @@ some_characters : (characters text : List ℕ) → encode_utf8_all characters �
 some_characters [] text same some = subst (λ (bytes : List ℕ). (length bytes == 0) ≡ false) (sym same) some
 some_characters (c ∷ characters) text same some = not_zero (length (c ∷ characters)) (omega arith)
 
--- a text that has bytes has characters
+-- A text that has bytes has characters.
 full : (text : List ℕ) → IsUtf8 text → (length text == 0) ≡ false → (length (chars text) == 0) ≡ false
 full text utf8 some = some_characters (chars text) text (encodes-chars text utf8) some
 
--- one that has none has none
+-- A text without bytes has no characters.
 empty : (text : List ℕ) → (length text == 0) ≡ true → (length (chars text) == 0) ≡ true
 empty [] none = subst (λ (characters : List ℕ). (length characters == 0) ≡ true) (sym chars-nil) refl
 empty (b ∷ text) none = absurd (false≢true (sym (not_zero (length (b ∷ text)) (omega arith)) ∙ none))

@@ -1,4 +1,4 @@
--- The place of a text that is given.
+-- The place of a component's text.
 use Rattle.std.proofs.Common.{◌≡◌, ℕ, List, encode_utf8_all, subst, sym}
 use Rattle.std.proofs.lemmas.Str.{encodes-chars}
 use Rattle.std.specs.Prelude.{IfSome, IsSomeAnd, Option, None, Some}

@@ -11,7 +11,7 @@ empty_text_is_quoted = refl
 other_texts_are_shown : shown (codes "a") ≡ codes "a"
 other_texts_are_shown = refl
 
--- a line without names is left out
+-- A line without names is left out.
 no_line_without_names : names_line (codes "left out:") (left_out_name Hash (Some [])) ≡ []
 no_line_without_names = refl
 

@@ -1,4 +1,4 @@
--- Lemmas on the lines for components.
+-- Lemmas on the rows of components.
 use Rattle.std.proofs.Common.{◌≡◌, ◌<◌, ◌+◌, ◌⊎◌, ◌∙◌, ℕ, List, [], ◌∷◌, ◌++◌, ap, ap₂, append_assoc, append-nil, codes, encode_utf8_all, get_or, inl, inr, length, map, refl, subst, sym, take, zip}
 use Rattle.std.proofs.lemmas.List.{take_more}
 use Rattle.std.proofs.lemmas.Str.{encodes-chars}
@@ -26,7 +26,7 @@ pieces-last IsPiece (first ∷ names) name text piece (own, others, split, is_fi
   pieces-last IsPiece names name others piece rest is,
 )
 
--- the piece for the next component goes after those for the components before it
+-- The piece for the next component is appended.
 pub pieces-more : (IsPiece : ComponentName → List ℕ → Type 0) (names : List ComponentName) (n : ℕ) (text next piece : List ℕ) → n < length names
     → HasPieceForEach IsPiece (take n names) text → next ≡ text ++ piece → IsPiece (get_or names n Protocol) piece → HasPieceForEach IsPiece (take (n + 1) names) next
 pieces-more IsPiece names n text next piece within are goes is =
@@ -37,7 +37,7 @@ pieces-more IsPiece names n text next piece within are goes is =
 joined : (old name pattern text verdict end : List ℕ) → ((((old ++ name) ++ pattern) ++ text) ++ verdict) ++ end ≡ old ++ ((((name ++ pattern) ++ text) ++ verdict) ++ end)
 joined old name pattern text verdict end = simp append_assoc
 
--- the cells of a row make it up
+-- A row is the concatenation of its cells.
 pub row-of : (old named patterned texted judged new name pattern text verdict : List ℕ)
     → named ≡ old ++ name → patterned ≡ named ++ pattern → texted ≡ patterned ++ text → judged ≡ texted ++ verdict → new ≡ judged ++ codes "\n"
     → new ≡ old ++ (name ++ pattern ++ text ++ verdict ++ codes "\n")
@@ -65,7 +65,7 @@ group-with row name capture next utf8 utf8_capture goes =
 abbrev pub cells_of : List (String Global) → List (Option (Bor (List ℕ))) → List ℕ
 cells_of names captures = flat_map group_cell (zip (texts_of names) (map option_text captures))
 
--- the next group goes after those before it
+-- The next group is appended.
 pub groups-more : (names names_left : List (String Global)) (captures captures_left : List (Option (Bor (List ℕ)))) (name : String Global) (capture : Option (Bor (List ℕ)))
     (row next whole : List ℕ) → names ≡ name ∷ names_left → captures ≡ capture ∷ captures_left → next ≡ row ++ group_cell (text_of name, option_text capture)
     → row ++ cells_of names captures ≡ whole → next ++ cells_of names_left captures_left ≡ whole

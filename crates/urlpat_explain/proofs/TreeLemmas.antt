@@ -18,7 +18,7 @@ use Rattle.urlpattern_inputs.specs.Trees.{all_with, each_member, object_of, with
 use Rattle.urlpattern_matches.specs.GroupTexts.{texts_of}
 use Rattle.urlpattern_syntax.specs.Text.{option_text, text_of}
 
--- members that are put after others
+-- Members that are inserted after others.
 pub all_with-append : (listed : Members) (first second : Named) → all_with listed (first ++ second) ≡ all_with (all_with listed first) second
 all_with-append listed [] second = refl
 all_with-append listed (named ∷ first) second = all_with-append (with listed named) first second
@@ -26,7 +26,7 @@ all_with-append listed (named ∷ first) second = all_with-append (with listed n
 abbrev pub named_of : List (String Global) → List (Option (Bor (List ℕ))) → Named
 named_of names captures = groups_named (zip (texts_of names) (map option_text captures))
 
--- the next group is put after those before it
+-- The next group is inserted.
 pub groups-put : (names names_left : List (String Global)) (captures captures_left : List (Option (Bor (List ℕ)))) (name : String Global) (capture : Option (Bor (List ℕ)))
     (tree : Data) (old new whole : Members) → names ≡ name ∷ names_left → captures ≡ capture ∷ captures_left → tree ≡ capture_tree (option_text capture)
     → new ≡ put (string_bytes name) tree old → all_with old (named_of names captures) ≡ whole → all_with new (named_of names_left captures_left) ≡ whole
@@ -44,18 +44,18 @@ pub groups-all : (names : List (String Global)) (captures : List (Option (Bor (L
     → all_with members (named_of names captures) ≡ whole → members ≡ whole
 groups-all names captures members whole none was = sym (ap (all_with members) (none-left names captures none)) ∙ was
 
--- what a group captured, as it is lent
+-- A borrowed capture.
 pub capture-some : (capture : Option (Bor (List ℕ))) (text : Bor (List ℕ)) → capture ≡ Some text → IsUtf8 text.now → string text.now ≡ capture_tree (option_text capture)
 capture-some capture text is utf8 =
     ap string (sym (encodes-chars text.now utf8)) ∙ ap (λ (lent : Option (Bor (List ℕ))). capture_tree (option_text lent)) (sym is)
 
--- members that are put after those of a new object
+-- Members that are inserted after those of a new object.
 pub object-of : (listed : Members) (first second : Named) → listed ≡ all_with (all_with no_members first) second → object listed ≡ object_of (first ++ second)
 object-of listed first second is = ap object (is ∙ sym (all_with-append no_members first second))
 
--- ---- trees of components
+-- ---- JSON of components
 
--- members get, at the name of each component, a tree of which this holds
+-- For each component, JSON for which `Is` is true is inserted under the component's name.
 abbrev pub HasTrees : (Is : ComponentName → Data → Type 0) → List ComponentName → (before after : Members) → Type 0
 HasTrees Is [] before after = after ≡ before
 HasTrees Is (name ∷ names) before after = (tree : Data) × Is name tree × HasTrees Is names (put (name_text name) tree before) after
@@ -66,7 +66,7 @@ trees-last Is [] name tree before mid after none is gain = (tree, is, gain ∙ a
 trees-last Is (first ∷ names) name tree before mid after (own, is_own, rest) is gain =
     (own, is_own, trees-last Is names name tree (put (name_text first) own before) mid after rest is gain)
 
--- the tree of the next component is put after those of the components before it
+-- The JSON of the next component is inserted.
 pub trees-more : (Is : ComponentName → Data → Type 0) (names : List ComponentName) (n : ℕ) (before mid after : Members) → n < length names
     → HasTrees Is (take n names) before mid → ((tree : Data) × Is (get_or names n Protocol) tree × (after ≡ put (name_text (get_or names n Protocol)) tree mid))
     → HasTrees Is (take (n + 1) names) before after
@@ -74,7 +74,7 @@ trees-more Is names n before mid after within are (tree, is, gain) =
     subst (λ (ns : List ComponentName). HasTrees Is ns before after) (sym (take_more names n Protocol within))
     (trees-last Is (take n names) (get_or names n Protocol) tree before mid after are is gain)
 
--- so there is a tree for each component
+-- JSON is inserted for each component.
 pub trees-all : (Is : ComponentName → Data → Type 0) (before after : Members) → HasTrees Is components before after
     → (trees : Eight Data) × ((name : ComponentName) → Is name (at trees name)) × (after ≡ all_with before (each_member (λ name. Some (at trees name))))
 trees-all Is before after (a, is-a, (b, is-b, (c, is-c, (d, is-d, (e, is-e, (f, is-f, (g, is-g, (h, is-h, gain)))))))) =

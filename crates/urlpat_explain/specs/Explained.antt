@@ -1,4 +1,4 @@
--- What `explain` is about: a constructor string and what is made of it.
+-- The subject of `explain`: a constructor string and its pattern.
 use Rattle.std.specs.Prelude.{◌≡◌, ◌++◌, ℕ, List, Option, String, map, option_map, string_bytes, zip}
 use Rattle.std.specs.Borrow.{Bor}
 use Rattle.std.specs.declared.alloc.Global.{Global}
@@ -11,14 +11,15 @@ use Rattle.urlpattern_matches.specs.GroupTexts.{borrowed_texts, texts_of}
 use Rattle.urlpattern_pattern.specs.Patterns.{PatternView, pattern_view}
 use Rattle.urlpattern_syntax.specs.Text.{option_text}
 
--- A constructor string, as bytes; the pattern that it is compiled to; the texts that it gives to components; and the values that
--- they result in.
+-- A constructor string, as bytes; its compiled pattern; the texts that it has for components; and
+-- the values of the components.
 pub record ExplainedView : Type 0 where
   pub string : List ℕ
   pub pattern : PatternView PatternRegexp
   pub given : Values
   pub values : Values
 
+-- The view of an `Explained`.
 abbrev pub explained_view : Explained → ExplainedView
 explained_view explained = record {
   string = explained.string.now;
@@ -27,14 +28,14 @@ explained_view explained = record {
   values = values_view explained.values.now;
 }
 
--- texts that are lent, if there are some
+-- Borrowed texts, if there are any.
 abbrev pub lent_texts : Option (Bor (Eight (Bor (List ℕ)))) → Option Texts
 lent_texts texts = option_map (λ lent. borrowed_texts lent.now) texts
 
--- groups of these names, each with what it captured
+-- The captures of groups with these names.
 abbrev pub named_captures : (names : List (String Global)) → (captures : List (Option (Bor (List ℕ)))) → List (List ℕ × Option (List ℕ))
 named_captures names captures = zip (texts_of names) (map option_text captures)
 
--- a text gets another at its end
+-- A text is appended to another one.
 abbrev pub GetsBytes : (old new : String Global) → List ℕ → Type 0
 GetsBytes old new text = string_bytes new ≡ string_bytes old ++ text

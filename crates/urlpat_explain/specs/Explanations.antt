@@ -1,4 +1,4 @@
--- What `explain` answers to its words. Words and texts are bytes.
+-- The output of `explain` for its arguments. Arguments and texts are bytes.
 use Rattle.std.specs.Prelude.{◌≡◌, ◌⊎◌, ℕ, Bool, true, false, List, [], ◌∷◌, ◌++◌, Ok, Option, None, Some, option_copied, string_bytes}
 use Rattle.std.specs.Io.KnownBytes.{Appends}
 use Rattle.std.specs.Str.{chars}
@@ -23,18 +23,19 @@ use Rattle.urlpattern_init.specs.declared.init.UrlPatternMatchInput.TheVariants 
 use Rattle.urlpattern_pattern.specs.Match.{TestsInput}
 use Rattle.urlpattern_pattern.specs.Patterns.{PatternView}
 
--- ---- words
+-- ---- arguments
 
--- What is asked: a constructor string, with a base URL and an input if there are such.
+-- The arguments: a constructor string, and a base URL and an input if there are any.
 pub record AskedView : Type 0 where
   pub string : List ℕ
   pub base : Option (List ℕ)
   pub input : Option (List ℕ)
 
+-- The view of the arguments.
 abbrev pub asked_view : Asked → AskedView
 asked_view asked = record { string = asked.string.now; base = option_copied asked.base; input = option_copied asked.input }
 
--- the words after `explain` ask this
+-- The arguments of `explain`.
 abbrev pub AskToExplain : (words : List (List ℕ)) → AskedView → Type 0
 AskToExplain (string ∷ word ∷ []) asked = asked ≡ record { string = string; base = base_of word; input = None }
 AskToExplain (string ∷ word ∷ last ∷ []) asked = asked ≡ record { string = string; base = base_of word; input = Some last }
@@ -42,51 +43,52 @@ AskToExplain words asked = ⊥
 
 -- ---- explanations
 
--- the lines for the components of a pattern: with texts, if there are some
+-- The lines for the components of a pattern, with texts if there are any.
 abbrev pub IsTable : PatternView PatternRegexp → (texts : Option Texts) → (table : List ℕ) → Type 0
 IsTable pattern None table = table ≡ pattern_table pattern
 IsTable pattern (Some texts) table = IsMatchTable pattern texts table
 
--- what is printed of a pattern, with texts or without: JSON, or a line for each component and the notes
+-- The output for a pattern, with or without texts: JSON, or a line for each component and the
+-- notes.
 abbrev pub IsShown : (json : Bool) → ExplainedView → (texts : Option Texts) → (text : List ℕ) → Type 0
 IsShown true explained texts text = IsExplanationJson explained texts text
 IsShown false explained texts text = (table notes : List ℕ) × IsTable explained.pattern texts table × AreNotes explained notes × (text ≡ table ++ notes)
 
--- it is printed with this status
+-- The output for a pattern, with this exit status.
 abbrev pub IsShownBy : (json : Bool) → ExplainedView → (texts : Option Texts) → (status : ℕ) → Explanation → Type 0
 IsShownBy json explained texts status found = IsShown json explained texts (string_bytes found.text) × (found.status ≡ status)
 
--- the same of a URL: whether the pattern matches is the status
+-- The output for a pattern and a URL. The exit status says whether the pattern matches.
 abbrev pub IsShownOf : (json : Bool) → ExplainedView → Parts → Explanation → Type 0
 IsShownOf json explained url found =
     (matched : Bool) × TestsInput pattern_answer explained.pattern (match_inputs.Url url) matched
     × IsShownBy json explained (Some (texts_of_url url)) (status_of matched) found
 
--- with an input: its texts are shown if it is a URL
+-- The output for a pattern and an input, whose texts are shown if it is a URL.
 abbrev pub IsExplained : (json : Bool) → ExplainedView → (base input : Option (List ℕ)) → Explanation → Type 0
 IsExplained json explained base None found = IsShownBy json explained None 0 found
 IsExplained json explained base (Some input) found =
     (IsRefusedText input base × IsShownBy json explained None 1 found)
     ⊎ ((url : Parts) × IsUrlOf input base url × IsShownOf json explained url found)
 
--- the constructor string gives the texts of this init, and is compiled to this pattern
+-- The output for a constructor string with this init and this compiled pattern.
 abbrev pub IsExplanationOf : (json : Bool) → PatternView PatternRegexp → UrlPatternInit → AskedView → Explanation → Type 0
 IsExplanationOf json compiled init asked found =
     (values : Values) × (pattern_values init ≡ Ok values)
     × IsExplained json (record { string = asked.string; pattern = compiled; given = values_view init; values = values }) asked.base asked.input found
 
--- it is compiled to this pattern
+-- The output for a constructor string with this compiled pattern.
 abbrev pub IsExplanationBy : (json : Bool) → PatternView PatternRegexp → AskedView → Explanation → Type 0
 IsExplanationBy json compiled asked found =
     (init : UrlPatternInit) × IsInitOfText pattern_engine (chars asked.string) asked.base init × IsExplanationOf json compiled init asked found
 
--- the explanation of what is asked
+-- The output for these arguments.
 abbrev pub IsExplanation : Flags → AskedView → Explanation → Type 0
 IsExplanation flags asked found =
     (compiled : PatternView PatternRegexp) × IsPatternOf flags.ignore_case asked.string asked.base compiled
     × IsExplanationBy flags.json compiled asked found
 
--- what is printed for the words after `explain`, with this status
+-- The output for the arguments of `explain` is printed, with this exit status.
 abbrev pub Explains : Flags → (words : List (List ℕ)) → (status : ℕ) → (old new : Option (List ℕ)) → Type 0
 Explains flags words status old new =
     (asked : AskedView) × (found : Explanation) × AskToExplain words asked × IsExplanation flags asked found

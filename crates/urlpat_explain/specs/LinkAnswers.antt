@@ -1,4 +1,4 @@
--- What `link` answers to its words. Words and texts are bytes.
+-- The output of `link` for its arguments. Arguments and texts are bytes.
 use Rattle.std.specs.Prelude.{◌≢◌, ◌++◌, ℕ, false, Any, List, ◌∷◌, codes, Option}
 use Rattle.std.specs.Io.KnownBytes.{Appends}
 use Rattle.url.specs.Parts.{Parts, serialize}
@@ -15,33 +15,35 @@ use Rattle.urlpattern_pattern.specs.UrlPatterns.{UrlPattern}
 use Rattle.urlpattern_generate.specs.declared.no_link.NoLink.{NoLink}
 use Rattle.urlpattern_generate.specs.declared.no_link.NoLink.TheVariants as no_link
 
--- the URL is that of the pattern with the groups that the words give
+-- The URL is that of the pattern with the texts for groups that the arguments give.
 abbrev pub IsLinkBy : UrlPattern PatternRegexp → (words : List (List ℕ)) → Parts → Type 0
 IsLinkBy pattern words url = (groups : List Given) × AreGiven (pattern_view pattern) words groups × IsLink pattern_answer pattern (given_groups groups) url
 
--- the pattern has no URL with these groups, for this reason
+-- The pattern has no URL with the texts for groups that the arguments give, for this reason.
 abbrev pub RefusesLinkBy : UrlPattern PatternRegexp → (words : List (List ℕ)) → NoLink → Type 0
 RefusesLinkBy pattern words error = (groups : List Given) × AreGiven (pattern_view pattern) words groups × RefusesLink pattern_answer pattern (given_groups groups) error
 
--- why there is no URL: a word gives nothing, the pattern has none, or memory ran out
+-- The reason why there is no URL: an argument gives no group, the pattern has no URL, or memory ran
+-- out.
 abbrev pub LacksUrl : UrlPattern PatternRegexp → (words : List (List ℕ)) → Unlinked → Type 0
 LacksUrl pattern words (unlinked.Word word) = Any (WordGivesNothing (pattern_view pattern)) words
 LacksUrl pattern words (unlinked.NoLink error) = (error ≢ no_link.OutOfMemory) × RefusesLinkBy pattern words error
 LacksUrl pattern words unlinked.OutOfMemory = Unit {0}
 
--- ---- what is printed
+-- ---- output
 
--- this is said of the pattern among the words after `link`, with the parts that it keeps, and of the words after its base
+-- `Is` is true of the compiled pattern among the arguments of `link`, which keeps its parts, and of
+-- the arguments after its base.
 abbrev pub OfPattern : (Is : UrlPattern PatternRegexp → List (List ℕ) → Type 0) → (words : List (List ℕ)) → Type 0
 OfPattern Is (pattern ∷ base ∷ words) =
     (compiled : UrlPattern PatternRegexp) × IsPatternOf false pattern (base_of base) (pattern_view compiled)
     × KeepsPartsOfWord false pattern (base_of base) compiled × Is compiled words
 OfPattern Is words = ⊥
 
--- the URL is written, and a line end
+-- The URL and a line end are written.
 abbrev pub WritesLink : (words : List (List ℕ)) → (old new : Option (List ℕ)) → Type 0
 WritesLink words old new = OfPattern (λ pattern given. (url : Parts) × IsLinkBy pattern given url × Appends old new (serialize url ++ codes "\n")) words
 
--- there is no URL
+-- The pattern has no URL with these arguments.
 abbrev pub HasNoLink : (words : List (List ℕ)) → Type 0
 HasNoLink words = OfPattern (λ pattern given. (reason : Unlinked) × (reason ≢ unlinked.OutOfMemory) × LacksUrl pattern given reason) words

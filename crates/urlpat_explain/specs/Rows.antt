@@ -1,4 +1,4 @@
--- The lines that `explain` prints for the components of a pattern, in columns. What is printed is bytes.
+-- The table of components that `explain` prints. Output is bytes.
 use Rattle.std.specs.Prelude.{◌≡◌, ◌==◌, ◌-◌, ℕ, List, [], ◌∷◌, ◌++◌, codes, encode_utf8_all, fold, length, map, max, Option, None, Some, option_map, zip, if◌then◌else◌}
 use Rattle.std.specs.List.{flat_map, repeat}
 use Rattle.std.specs.Str.{chars}
@@ -15,66 +15,72 @@ use Rattle.urlpattern_pattern.specs.Patterns.{PatternView}
 
 -- ---- columns
 
--- an empty text is shown as two quotation marks
+-- A text as it is shown. An empty text is shown as two quotation marks.
 abbrev pub shown : List ℕ → List ℕ
 shown text = if length text == 0 then codes "\"\"" else text
 
--- a text, spaces up to a width, and two more
+-- A text, spaces up to a width, and two more.
 abbrev pub column : (width : ℕ) → List ℕ → List ℕ
 column width text = text ++ repeat (width - length (chars text)) (codes " ") ++ codes "  "
 
--- the pattern of a component, and its text
+-- The cell with the pattern of a component.
 abbrev pub pattern_cell : PatternView PatternRegexp → ComponentName → List ℕ
 pattern_cell pattern name = shown (encode_utf8_all (pattern name).pattern_string)
 
+-- The cell with the text of a component.
 abbrev pub text_cell : Texts → ComponentName → List ℕ
 text_cell texts name = shown (encode_utf8_all (at texts name))
 
--- how many characters the longest cell has
+-- The length of the longest cell in characters, for these components.
 abbrev pub widest_of : (cell : ComponentName → List ℕ) → List ComponentName → ℕ
 widest_of cell names = fold max 0 (map (λ name. length (chars (cell name))) names)
 
+-- The length of the longest cell in characters.
 abbrev pub widest : (cell : ComponentName → List ℕ) → ℕ
 widest cell = widest_of cell components
 
 -- ---- patterns alone
 
+-- The row of a component: its name and its pattern.
 abbrev pub pattern_row : PatternView PatternRegexp → ComponentName → List ℕ
 pattern_row pattern name = column NAME_WIDTH (name_text name) ++ pattern_cell pattern name ++ codes "\n"
 
+-- A row for each component, without texts.
 abbrev pub pattern_table : PatternView PatternRegexp → List ℕ
 pattern_table pattern = flat_map (pattern_row pattern) components
 
 -- ---- patterns with texts
 
--- a group: its name, and what it captured, if it took part
+-- The cell of a group: its name, and its capture if it took part.
 abbrev pub group_cell : List ℕ × Option (List ℕ) → List ℕ
 group_cell group = codes "  " ++ encode_utf8_all group.0 ++ capture_text (option_map encode_utf8_all group.1)
 
--- whether a matcher matches, and what the groups of these names capture
+-- Whether a matcher matches, and the captures of groups with these names.
 abbrev pub verdict_text : (names : List (List ℕ)) → Option Captures → List ℕ
 verdict_text names None = codes "differs"
 verdict_text names (Some captures) = codes "matches" ++ flat_map group_cell (zip names captures)
 
--- the verdict on a text, by the matcher of a component
+-- The verdict of a component's matcher on a text.
 abbrev pub IsVerdict : ComponentView PatternRegexp → (text : List ℕ) → (verdict : List ℕ) → Type 0
 IsVerdict component text verdict =
     (captures : Option Captures) × Answers pattern_answer component.matcher text captures × (verdict ≡ verdict_text component.group_name_list captures)
 
--- the cells of a row, before the verdict
+-- The cells of a row before the verdict.
 abbrev pub front_cells : PatternView PatternRegexp → Texts → ComponentName → List ℕ
 front_cells pattern texts name =
     column NAME_WIDTH (name_text name) ++ column (widest (pattern_cell pattern)) (pattern_cell pattern name) ++ column (widest (text_cell texts)) (text_cell texts name)
 
+-- The row of a component: its name, its pattern, its text and the verdict.
 abbrev pub IsMatchRow : PatternView PatternRegexp → Texts → ComponentName → (row : List ℕ) → Type 0
 IsMatchRow pattern texts name row =
     (verdict : List ℕ) × IsVerdict (pattern name) (at texts name) verdict × (row ≡ front_cells pattern texts name ++ verdict ++ codes "\n")
 
--- the text has a piece for each component, one after the other
+-- The text is one piece for each component, in order.
 abbrev pub HasPieceForEach : (IsPiece : ComponentName → List ℕ → Type 0) → List ComponentName → (text : List ℕ) → Type 0
 HasPieceForEach IsPiece [] text = text ≡ []
 HasPieceForEach IsPiece (name ∷ names) text =
     (first others : List ℕ) × (text ≡ first ++ others) × IsPiece name first × HasPieceForEach IsPiece names others
 
+-- A row for each component, with texts.
 abbrev pub IsMatchTable : PatternView PatternRegexp → Texts → (table : List ℕ) → Type 0
 IsMatchTable pattern texts table = HasPieceForEach (IsMatchRow pattern texts) components table

@@ -1,4 +1,4 @@
-//! A constructor string and what is made of it.
+//! A constructor string and its pattern, as `explain` shows them.
 
 ghost use Rattle.std.specs.Prelude.{◌≡◌, IfSome};
 ghost use Rattle.urlpat_explain.specs.Explained.{explained_view};
@@ -13,29 +13,29 @@ use urlpattern_engine::PatternRegexp;
 use urlpattern_init::UrlPatternInit;
 use urlpattern_pattern::UrlPattern;
 
-/// A constructor string and what is made of it.
+/// A constructor string with its pattern and the values of its components.
 #[derive(Clone, Copy)]
 pub struct Explained<'a> {
     /// The constructor string.
     pub string: &'a str,
     /// The pattern that it is compiled to.
     pub pattern: &'a UrlPattern<PatternRegexp>,
-    /// The texts that it gives to components.
+    /// The texts that the constructor string has for components.
     pub init: &'a UrlPatternInit,
-    /// The values that these result in, with what they inherit.
+    /// The values of the components, inherited ones included.
     pub values: &'a UrlPatternInit,
 }
 
 impl Explained<'_> {
-    /// Where the value of a component comes from: `given`, `inherited` or `left out`.
+    /// The origin of a component's value: `given`, `inherited` or `left out`.
     pub fn origin(&self, name: ComponentName) -> &'static str
         ensures { result.now ≡ origin (at (explained_view self.now).given name) (at (explained_view self.now).values name) }
     {
         origin_of(self.init.get(name), self.values.get(name))
     }
 
-    /// Where the text of a component is in the constructor string: a span of bytes. `None`: the string does not give it, or implies it,
-    /// or gives it as empty.
+    /// The place of a component's text in the constructor string, in bytes. `None`: the text is not
+    /// in the string, or implied by it, or empty.
     pub fn place(&self, name: ComponentName) -> Option<Span>
         ensures { MayBeAt (explained_view self.now).string (at (explained_view self.now).given name) result }
     {
@@ -47,7 +47,7 @@ impl Explained<'_> {
         )
     }
 
-    /// The texts that the constructor string gives.
+    /// The texts of components in the constructor string.
     fn given(&self) -> Eight<Option<&str>> {
         let init = self.init;
         Eight {
@@ -63,7 +63,7 @@ impl Explained<'_> {
     }
 }
 
-/// Where a value comes from, by the text that is given and the value that results.
+/// The origin of a value, by the text in the constructor string and the value of the component.
 fn origin_of(given: Option<&str>, value: Option<&str>) -> &'static str
     ensures { result.now ≡ origin (option_text given.entry) (option_text value.entry) }
 {
@@ -74,7 +74,8 @@ fn origin_of(given: Option<&str>, value: Option<&str>) -> &'static str
     }
 }
 
-/// The span of a text in a string that has it at this byte. `None`: the string does not, or the text is empty.
+/// The span of a text in a string that has it at byte `start`. `None`: the string does not have it
+/// there, or the text is empty.
 fn span_at(string: &str, text: &str, start: usize) -> Option<Span>
     ensures { IfSome result (IsSpanOf string.now text.now) }
 {

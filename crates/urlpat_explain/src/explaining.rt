@@ -1,4 +1,5 @@
-//! The command `explain`: a line for each component of a pattern, and notes on what the pattern leaves out, or all of it as JSON.
+//! The command `explain`: prints a line for each component of a pattern and notes on what the
+//! pattern leaves out, or all of it as JSON.
 
 ghost use Rattle.std.specs.Prelude.{◌≡◌, ◌≢◌, ◌⊎◌, length, option_copied, string_bytes, IfNone, IfOk, IfSome};
 ghost use Rattle.urlpat_matching.specs.Status.{status_of};
@@ -32,7 +33,7 @@ usage: urlpat explain PATTERN BASE [INPUT]
        add --ignore-case for patterns that ignore case, --json for JSON
 ";
 
-/// What words ask to explain: a constructor string, its base URL, and an input.
+/// The arguments of `explain`: a constructor string, its base URL, and an input.
 #[derive(Clone, Copy)]
 struct Asked<'a> {
     string: &'a str,
@@ -40,15 +41,15 @@ struct Asked<'a> {
     input: Option<&'a str>,
 }
 
-/// An explanation, and the status to end with: whether the pattern matches the input, if there is one.
+/// An explanation, and the exit status: whether the pattern matches the input, if there is one.
 #[derive(Drop)]
 struct Explanation {
     text: String,
     status: u8,
 }
 
-/// Prints what the words after `explain` ask for, and gives the status to end with: 1 if the pattern does not match the input. That the
-/// input is no URL is reported to `err`.
+/// Runs `explain` with these arguments. Returns the exit status: `NO_MATCH` if the pattern does not
+/// match the input. An input that is not a URL is reported to `err`.
 pub fn explain<Out: Write, Err: Write>(
     alloc: Global,
     words: &[String],
@@ -82,7 +83,7 @@ pub fn explain<Out: Write, Err: Write>(
     }
 }
 
-/// What words ask to explain. `None`: they are other words.
+/// Parses the arguments of `explain`. `None`: they are invalid.
 fn asked_by(words: &[String]) -> Option<Asked<'_>>
     ensures asked { IfSome result (λ asked. AskToExplain (words_view words.now) (asked_view asked)) }
     ensures other { IfNone result ((length words.now ≢ 2) × (length words.now ≢ 3)) }
@@ -102,9 +103,7 @@ fn asked_by(words: &[String]) -> Option<Asked<'_>>
     }
 }
 
-/// Says that the input is no URL. `None`: it is one, or there is none.
-///
-/// The error is that memory ran out.
+/// A note that the input is not a URL. `None`: it is one, or there is no input.
 fn input_note(
     alloc: Global,
     base: Option<&str>,
@@ -116,9 +115,9 @@ fn input_note(
     }
 }
 
-/// The explanation of a pattern, with an input or without.
+/// The explanation of a pattern, with or without an input.
 ///
-/// The error is why the pattern or its base is refused, or that memory ran out.
+/// The error is the one with which the pattern or its base is rejected, or that memory ran out.
 fn explanation_for(alloc: Global, asked: Asked<'_>, flags: Flags) -> Result<Explanation, Error>
     ensures text { IfOk result (IsExplanation flags (asked_view asked.entry)) }
     ensures status { IfOk result (λ found. (found.status ≡ DONE) ⊎ (found.status ≡ NO_MATCH)) }
@@ -130,9 +129,7 @@ fn explanation_for(alloc: Global, asked: Asked<'_>, flags: Flags) -> Result<Expl
     found
 }
 
-/// The same with the pattern that is compiled, and the init of the constructor string.
-///
-/// The error is that memory ran out.
+/// The explanation of a pattern, given the compiled pattern and the init of the constructor string.
 fn explanation_of(
     alloc: Global,
     asked: Asked<'_>,
@@ -155,9 +152,7 @@ fn explanation_of(
     found
 }
 
-/// What is explained, with the texts of the input, if that is a URL.
-///
-/// The error is that memory ran out.
+/// The explanation of a constructor string, with the texts of the input if that is a URL.
 fn answer(
     alloc: Global,
     explained: &Explained<'_>,
@@ -187,9 +182,8 @@ fn answer(
     })
 }
 
-/// What is printed of a pattern: JSON, or a line for each component and the notes. Texts of a URL may be given.
-///
-/// The error is that memory ran out.
+/// The output for a pattern: JSON, or a line for each component and the notes, with the texts of a
+/// URL if there are any.
 fn shown(
     alloc: Global,
     explained: &Explained<'_>,
@@ -206,9 +200,7 @@ fn shown(
     Ok(text)
 }
 
-/// A line for each component, with its text, if texts are given.
-///
-/// The error is that memory ran out.
+/// A line for each component, with its text if there is one.
 fn table(
     alloc: Global,
     pattern: &UrlPattern<PatternRegexp>,
@@ -222,7 +214,7 @@ fn table(
     }
 }
 
-/// The status of a run whose input is matched, or not.
+/// The exit status of a run, by whether the input matches.
 fn status_of(matched: bool) -> u8
     ensures either { (result ≡ DONE) ⊎ (result ≡ NO_MATCH) }
     ensures is { result ≡ status_of matched }

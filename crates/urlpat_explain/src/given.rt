@@ -1,4 +1,4 @@
-//! What the words of `link` give for the groups of a pattern.
+//! Parses the arguments of `link` that give texts for groups.
 
 ghost use Rattle.std.specs.Prelude.{◌≡◌, IfErr, IfNone, IfOk, IfSome};
 ghost use Rattle.std.specs.Str.{chars};
@@ -14,12 +14,12 @@ use urlpattern_engine::PatternRegexp;
 use urlpattern_generate::GivenGroup;
 use urlpattern_pattern::UrlPattern;
 
-/// Why words give nothing for the groups of a pattern.
+/// The reason why arguments give no groups.
 #[derive(Drop)]
 pub enum Misgiven<'w> {
-    /// This word is not the name of a group, `=` and a text.
+    /// The argument is not the name of a group, `=` and a text.
     Word(&'w str),
-    /// The allocator had no memory.
+    /// Memory ran out.
     OutOfMemory,
 }
 
@@ -31,9 +31,9 @@ impl From<AllocError> for Misgiven<'_> {
     }
 }
 
-/// What the words give, each for one group.
+/// Parses arguments, each of which gives the text for a group.
 ///
-/// The error is a word that gives nothing, or that memory ran out.
+/// The error is an argument that gives no group, or that memory ran out.
 pub fn given_by<'w>(
     alloc: Global,
     pattern: &UrlPattern<PatternRegexp>,
@@ -56,7 +56,8 @@ pub fn given_by<'w>(
     Ok(groups)
 }
 
-/// What a word gives for a group: its name, `=`, and the text. `None`: it has no `=`, or no group has this name.
+/// Parses an argument that gives the text for a group: its name, `=`, and the text. `None`: the
+/// argument has no `=`, or its name names no group.
 fn group_of<'w>(pattern: &UrlPattern<PatternRegexp>, word: &'w str) -> Option<GivenGroup<'w>>
     ensures given { IfSome result (WordGivesGroup (pattern_view pattern.now) word.now) }
     ensures nothing { IfNone result (WordGivesNothing (pattern_view pattern.now) word.now) }
@@ -66,7 +67,8 @@ fn group_of<'w>(pattern: &UrlPattern<PatternRegexp>, word: &'w str) -> Option<Gi
     Some((component, group, text))
 }
 
-/// The group of a name: after that of its component and a dot, or alone where one component alone has such a group.
+/// The group with a name: a component, a dot and the group, or the group alone if a single
+/// component has it. After a dot, any name of a group is accepted.
 fn named_group<'w>(
     pattern: &UrlPattern<PatternRegexp>,
     name: &'w str,
@@ -80,7 +82,7 @@ fn named_group<'w>(
     }
 }
 
-/// The component that alone has a group of this name.
+/// The component that alone has a group with this name.
 fn owner(pattern: &UrlPattern<PatternRegexp>, name: &str) -> Option<ComponentName>
     ensures alone { IfSome result (IsOnlyOwner (pattern_view pattern.now) (chars name.now)) }
     ensures none { IfNone result (IsNobodys (pattern_view pattern.now) (chars name.now)) }

@@ -1,4 +1,4 @@
-//! An explanation as JSON, on a line.
+//! An explanation as a line of JSON.
 
 ghost use Rattle.serde_json.specs.View.{view};
 ghost use Rattle.std.specs.Prelude.{◌≡◌, Some, string_bytes, IfOk, OnOk};
@@ -20,9 +20,8 @@ use urlpattern_inputs::writing::put_text;
 use urlpattern_matcher::component::Component;
 use urlpattern_syntax::Error;
 
-/// The line of an explanation: an object with a key for each component, whose texts of a URL may be given.
-///
-/// The error is that memory ran out.
+/// The explanation as a line of JSON: an object with a key for each component, with the texts of a
+/// URL if there are any.
 pub fn explanation_json(
     alloc: Global,
     explained: &Explained<'_>,
@@ -34,7 +33,7 @@ pub fn explanation_json(
     Ok(json_line(alloc, &tree)?)
 }
 
-/// The JSON of an explanation.
+/// The explanation as JSON.
 fn explanation_tree(
     alloc: Global,
     explained: &Explained<'_>,
@@ -49,7 +48,7 @@ fn explanation_tree(
     Ok(Value::Object(members))
 }
 
-/// Puts the explanation of a component into an object.
+/// Inserts the explanation of a component into an object.
 fn put_component(
     members: &mut Map<String, Value>,
     alloc: Global,
@@ -64,7 +63,7 @@ fn put_component(
     Ok(())
 }
 
-/// The explanation of a component.
+/// The explanation of a component as JSON.
 fn component_tree(
     alloc: Global,
     explained: &Explained<'_>,
@@ -88,7 +87,7 @@ fn component_tree(
     Ok(Value::Object(members))
 }
 
-/// Puts the pattern of a component into an object, where it comes from, and its place, if it has one.
+/// Inserts the pattern of a component into an object, with its origin, and its place if it has one.
 fn put_pattern(
     members: &mut Map<String, Value>,
     alloc: Global,
@@ -105,7 +104,7 @@ fn put_pattern(
     Ok(())
 }
 
-/// Puts a place into an object, if there is one.
+/// Inserts a place into an object, if there is one.
 fn put_place(
     members: &mut Map<String, Value>,
     alloc: Global,
@@ -120,9 +119,7 @@ fn put_place(
     serde_json::put(members, alloc, "end", Value::from(end))
 }
 
-/// Puts a text into an object, whether a component matches it, and what its groups capture.
-///
-/// The error is that memory ran out.
+/// Inserts a text into an object, with whether a component matches it, and its captures.
 fn put_match(
     members: &mut Map<String, Value>,
     alloc: Global,
@@ -140,7 +137,7 @@ fn put_match(
     Ok(())
 }
 
-/// Puts into an object whether a text matches, and what the groups of these names capture.
+/// Inserts into an object whether a text matches, and the captures of groups with these names.
 fn put_verdict(
     members: &mut Map<String, Value>,
     alloc: Global,
@@ -155,7 +152,7 @@ fn put_verdict(
     serde_json::put(members, alloc, "groups", groups)
 }
 
-/// An object with the capture of each group, or null where it took no part.
+/// An object with the capture of each group, or null if it took no part.
 fn groups_tree(
     alloc: Global,
     names: &[String],
@@ -171,7 +168,7 @@ fn groups_tree(
     Ok(Value::Object(groups))
 }
 
-/// A text, or null.
+/// A capture, or null if the group took no part.
 fn capture_tree(alloc: Global, capture: Option<&str>) -> Result<Value, AllocError>
     ensures { IfOk result (λ tree. view tree ≡ capture_tree (option_text capture.entry)) }
 {

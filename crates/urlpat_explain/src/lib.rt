@@ -1,4 +1,4 @@
-//! The commands `explain` and `link` of the program.
+//! The commands `explain` and `link` of the program `urlpat`.
 #![tactic(auto)]
 
 mod explained;

@@ -1,4 +1,4 @@
-//! The command `link`: the URL of a pattern whose groups capture what the words give.
+//! The command `link`: prints the URL of a pattern, given texts for its groups.
 
 ghost use Rattle.std.specs.Prelude.{◌≡◌, ◌≢◌, ◌⊎◌, ◌++◌, codes, IfErr, IfOk, OnOk};
 ghost use Rattle.std.specs.Io.KnownBytes.{Appends};
@@ -21,19 +21,19 @@ use urlpattern_pattern::UrlPattern;
 /// The usage of `link`.
 const LINK_USAGE: &str = "usage: urlpat link PATTERN BASE NAME=VALUE..\n";
 
-/// Why there is no URL.
+/// The reason why there is no URL.
 #[derive(Drop)]
 pub enum Unlinked<'w> {
-    /// This word is not the name of a group, `=` and a text.
+    /// The argument is not the name of a group, `=` and a text.
     Word(&'w str),
-    /// The pattern has no URL with the groups that are given.
+    /// The pattern has no URL with these texts for its groups.
     NoLink(NoLink),
-    /// The allocator had no memory.
+    /// Memory ran out.
     OutOfMemory,
 }
 
-/// Prints the URL that the words after `link` ask for, and gives the status to end with: 1 if there is none, which is reported to
-/// `err`.
+/// Runs `link` with these arguments. Returns the exit status: `NO_MATCH` if there is no URL, which
+/// is reported to `err`.
 pub fn link<Out: Write, Err: Write>(
     alloc: Global,
     words: &[String],
@@ -64,7 +64,7 @@ pub fn link<Out: Write, Err: Write>(
     }
 }
 
-/// Reports why there is no URL, and gives the status to end with.
+/// Reports why there is no URL. Returns the exit status.
 fn report<Err: Write>(reason: &Unlinked<'_>, err: &mut Err) -> u8
     ensures status { (result ≡ NO_MATCH) ⊎ (result ≡ FAILED) }
     ensures known { result ≡ NO_MATCH → reason.now ≢ all_unlinked.OutOfMemory }
@@ -76,7 +76,7 @@ fn report<Err: Write>(reason: &Unlinked<'_>, err: &mut Err) -> u8
     }
 }
 
-/// The URL of a pattern with the groups that the words give.
+/// The URL of a pattern, given arguments with texts for its groups.
 fn linked<'w>(
     alloc: Global,
     pattern: &UrlPattern<PatternRegexp>,
@@ -97,7 +97,7 @@ fn linked<'w>(
     }
 }
 
-/// Writes a URL and a line end, and all that is still to be written.
+/// Writes a URL and a line end, and flushes the output.
 fn print_url<Out: Write>(url: &Url, out: &mut Out) -> io::Result<()>
     ensures { OnOk result (Appends (Out.contents out.old) (Out.contents out.new) (serialize url.now ++ codes "\n")) }
 {

@@ -1,5 +1,5 @@
-//! Notes on a pattern: where its components are in the constructor string, what it inherits from the base URL, what it leaves out, and
-//! what its port is.
+//! Notes on a pattern: where its components are in the constructor string, what it inherits from
+//! the base URL, what it leaves out, and what its port is.
 
 ghost use Rattle.std.specs.Prelude.{◌≡◌, string_bytes, IfOk, OnOk};
 ghost use Rattle.urlpat_matching.specs.GroupLines.{GetsLines};
@@ -15,19 +15,19 @@ use urlpattern_components::ComponentName;
 use urlpattern_diagnosis::Span;
 use urlpattern_init::UrlPatternInit;
 
-/// What is said of components that are in the constructor string.
+/// The note on components in the constructor string.
 const PLACES: &str = "bytes of the pattern:";
 
-/// What is said of components that are inherited.
+/// The note on components that are inherited.
 const INHERITED: &str = "inherited from the base URL:";
 
-/// What is said of components that are neither given nor inherited.
+/// The note on components that are neither given nor inherited.
 const LEFT_OUT: &str = "left out, so that any text matches:";
 
-/// What is said of a port that is empty.
+/// The note on a port that is empty.
 const EMPTY_PORT: &str = "the port is empty: only the default port of the protocol matches\n";
 
-/// What is said of a port that is emptied.
+/// The note on a port that is removed since it is the default one.
 const DEFAULT_PORT: &str = "the port is the default port of the protocol, which a URL leaves out\n";
 
 /// Appends the notes on a constructor string.
@@ -45,7 +45,7 @@ pub fn push_notes(
     Ok(())
 }
 
-/// The components that are in the constructor string, each with its place.
+/// The components in the constructor string, each with its place.
 fn places_of(alloc: Global, explained: &Explained<'_>) -> Result<String, AllocError>
     ensures { IfOk result (λ cells. ArePlaces (explained_view explained.now) (string_bytes cells)) }
 {
@@ -74,7 +74,7 @@ fn push_place(
     Ok(())
 }
 
-/// The notes on the texts of an init, which result in these values.
+/// The notes on the texts of an init, which has these values.
 fn value_notes(
     alloc: Global,
     init: &UrlPatternInit,
@@ -130,7 +130,7 @@ fn push_left_out(
     Ok(())
 }
 
-/// Appends a line with names, if there are some.
+/// Appends a line with names, if there are any.
 fn push_names(notes: &mut String, lead: &str, names: &str) -> Result<(), AllocError>
     ensures { OnOk result (GetsBytes notes.old notes.new (names_line lead.now names.now)) }
 {
@@ -142,7 +142,7 @@ fn push_names(notes: &mut String, lead: &str, names: &str) -> Result<(), AllocEr
     notes.push('\n')
 }
 
-/// Appends what is said of the port, if it is given and has to be empty.
+/// Appends the note on the port, if the constructor string has one and its value is empty.
 fn push_port_note(
     notes: &mut String,
     given: Option<&str>,

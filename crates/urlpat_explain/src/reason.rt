@@ -1,4 +1,4 @@
-//! Why there is no URL, for a reader.
+//! Messages on why there is no URL.
 
 use crate::linking::Unlinked;
 use std::io;
@@ -17,7 +17,7 @@ pub(crate) fn write_reason<Err: Write>(reason: &Unlinked<'_>, err: &mut Err) -> 
     }
 }
 
-/// Writes why there is no URL, and what to give for a group that is missing.
+/// Writes why there is no URL, and which argument is missing for a group.
 fn write_refusal<Err: Write>(refusal: &NoLink, err: &mut Err) -> io::Result<()> {
     match refusal {
         NoLink::Component(GenerateError::Missing(component, name)) => {

@@ -1,4 +1,4 @@
-//! A line for each component of a pattern, in columns.
+//! A table with a line for each component of a pattern.
 
 ghost use Rattle.std.specs.List.{flat_map};
 ghost use Rattle.std.specs.Prelude.{◌≡◌, length, string_bytes, IfOk, OnOk};
@@ -18,10 +18,10 @@ use urlpattern_matcher::component::Component;
 use urlpattern_pattern::UrlPattern;
 use urlpattern_syntax::Error;
 
-/// How many characters the longest name of a component has.
+/// The length of the longest component name in characters.
 const NAME_WIDTH: usize = 8;
 
-/// A line for each component: its name, and its pattern as it is printed.
+/// A line for each component: its name and its printed pattern.
 pub fn pattern_table(
     alloc: Global,
     pattern: &UrlPattern<PatternRegexp>,
@@ -37,9 +37,8 @@ pub fn pattern_table(
     Ok(table)
 }
 
-/// A line for each component: its name, its pattern as it is printed, its text, whether it matches, and what its groups capture.
-///
-/// The error is that memory ran out.
+/// A line for each component: its name, its printed pattern, its text, whether it matches, and its
+/// captures.
 pub fn match_table(
     alloc: Global,
     pattern: &UrlPattern<PatternRegexp>,
@@ -65,7 +64,7 @@ pub fn match_table(
     Ok(table)
 }
 
-/// How many characters the longest pattern has, as it is shown.
+/// The length of the longest pattern cell in characters.
 fn pattern_width(pattern: &UrlPattern<PatternRegexp>) -> usize
     ensures { result ≡ widest (pattern_cell (pattern_view pattern.now)) }
 {
@@ -76,7 +75,7 @@ fn pattern_width(pattern: &UrlPattern<PatternRegexp>) -> usize
     width
 }
 
-/// How many characters the longest text has, as it is shown.
+/// The length of the longest text cell in characters.
 fn text_width(texts: &Eight<&str>) -> usize
     ensures { result ≡ widest (text_cell (borrowed_texts texts.now)) }
 {
@@ -87,28 +86,28 @@ fn text_width(texts: &Eight<&str>) -> usize
     width
 }
 
-/// The pattern of a component, as it is shown.
+/// The cell with the pattern of a component.
 fn pattern_cell(pattern: &UrlPattern<PatternRegexp>, name: ComponentName) -> &str
     ensures { result.now ≡ pattern_cell (pattern_view pattern.now) name }
 {
     shown(&pattern.get(name).pattern_string)
 }
 
-/// The text of a component, as it is shown.
+/// The cell with the text of a component.
 fn text_cell<'u>(texts: &Eight<&'u str>, name: ComponentName) -> &'u str
     ensures { result.now ≡ text_cell (borrowed_texts texts.now) name }
 {
     shown(texts.get(name))
 }
 
-/// A text as it is shown: an empty one as two quotation marks.
+/// A text as it is shown. An empty text is shown as two quotation marks.
 fn shown(text: &str) -> &str
     ensures { result.now ≡ shown text.now }
 {
     if text.is_empty() { "\"\"" } else { text }
 }
 
-/// How many characters a text has.
+/// The length of a text in characters.
 fn length_of(text: &str) -> usize
     ensures { result ≡ length (chars text.now) }
 {
@@ -126,9 +125,7 @@ fn push_column(alloc: Global, row: &mut String, text: &str, width: usize) -> Res
     row.push_str("  ")
 }
 
-/// Appends whether a component matches a text, and what its groups capture.
-///
-/// The error is that memory ran out.
+/// Appends whether a component matches a text, and its captures.
 fn push_verdict(
     alloc: Global,
     row: &mut String,
@@ -146,7 +143,7 @@ fn push_verdict(
     Ok(())
 }
 
-/// Appends each group: its name, and what it captured, if it took part.
+/// Appends each group: its name, and its capture if it took part.
 fn push_groups(
     row: &mut String,
     names: &[String],
@@ -160,7 +157,7 @@ fn push_groups(
     Ok(())
 }
 
-/// Appends a group: its name, and what it captured, if it took part.
+/// Appends a group: its name, and its capture if it took part.
 fn push_group(row: &mut String, name: &str, capture: Option<&str>) -> Result<(), AllocError>
     ensures { OnOk result (GetsBytes row.old row.new (group_cell (chars name.now, option_text capture.entry))) }
 {

@@ -1,4 +1,4 @@
--- Lemmas on the answers to lines.
+-- Lemmas on the output for lines.
 use Rattle.std.proofs.Common.{◌≡◌, ℕ, ◌+◌, ◌<◌, ◌≤◌, List, [], ◌∷◌, ◌++◌, Option, None, Some, length, refl, sym, ap, subst, ◌∙◌, arith, append_assoc, append-nil, inl, inr, zero-lt-suc, zero-add, zero, suc, Bool, true, false, IsTrue, ◌↔◌, Result, Ok, Err, IfOk}
 use Rattle.std.specs.Str.{IsUtf8}
 use Rattle.bstr.specs.Text.{without_terminator}
@@ -11,7 +11,7 @@ use Rattle.urlpat_lines.specs.declared.reading.TheConstants.{LONGEST}
 use Rattle.urlpat_lines.specs.declared.answers.Verdict.{Verdict}
 use Rattle.urlpat_lines.specs.declared.answers.Verdict.TheVariants as verdicts
 
--- what two writes appended, one after the other
+-- Two writes append one text after the other.
 pub appends-both : (a b c : Option (List ℕ)) (first second : List ℕ) → Appends a b first → Appends b c second → Appends a c (first ++ second)
 appends-both None b c first second p q = tt
 appends-both (Some x) None c first second p q = absurd p
@@ -22,13 +22,13 @@ pub appends-nothing : (a : Option (List ℕ)) → Appends a a []
 appends-nothing None = tt
 appends-nothing (Some x) = sym (append-nil x)
 
--- a line that is asked of a rule
+-- A line that is not rejected.
 pub not-refused : (line : List ℕ) → length line ≤ LONGEST → IsUtf8 (without_terminator line) → ¬ IsRefusedLine line
 not-refused line short is (inl long) = omega (arith, short, long)
 not-refused line short is (inr other) = other is
 
 module _ (Answers : (text line : List ℕ) → Verdict → (written : List ℕ) → Type 0) where
-  -- answers to the rest of a text complete those to the whole
+  -- The output for the rest of a text completes that for the whole text.
   abbrev pub Completes : (text rest : List ℕ) → (selected : ℕ) → (so_far : List ℕ) → Type 0
   Completes text rest selected so_far =
       (more : ℕ) (written : List ℕ) → AreAnswersTo Answers (lines_of rest) more written → AreAnswersTo Answers (lines_of text) (selected + more) (so_far ++ written)
@@ -36,13 +36,13 @@ module _ (Answers : (text line : List ℕ) → Verdict → (written : List ℕ) 
   pub completes-all : (text : List ℕ) → Completes text text 0 []
   completes-all text more written are = subst (λ n. AreAnswersTo Answers (lines_of text) n written) (sym (zero-add more)) are
 
-  -- the answer to what is kept of a line is the answer to the line
+  -- The output for the kept part of a line is that for the line.
   pub answers-line : (kept line : List ℕ) (verdict : Verdict) (written : List ℕ) → IsKept kept line → IsAnswerTo Answers kept verdict written → IsAnswerTo Answers line verdict written
   answers-line kept line verdict written (inl same) is = subst (λ l. IsAnswerTo Answers l verdict written) same is
   answers-line kept line verdict written (inr long) (inl refused) = inl (inl long.1, refused.1, refused.2)
   answers-line kept line verdict written (inr long) (inr answered) = absurd (answered.0 (inl long.0))
 
-  -- one more line is answered
+  -- A line is processed.
   pub completes-next : (text rest : List ℕ) (selected : ℕ) (so_far piece : List ℕ) (verdict : Verdict) → 0 < length rest
       → Completes text rest selected so_far → IsAnswerTo Answers (take_through 10 rest) verdict piece
       → Completes text (drop_through 10 rest) (selected + selected_by verdict) (so_far ++ piece)
@@ -56,7 +56,7 @@ module _ (Answers : (text line : List ℕ) → Verdict → (written : List ℕ) 
       subst (λ n. AreAnswersTo Answers (lines_of text) n ((so_far ++ piece) ++ written)) numbers
       (subst (λ w. AreAnswersTo Answers (lines_of text) (selected + (selected_by verdict + more)) w) (sym (append_assoc so_far piece written)) all)
 
-  -- no line is left
+  -- No line is left.
   pub completes-none : (text rest : List ℕ) (selected : ℕ) (so_far : List ℕ) → length rest ≡ 0 → Completes text rest selected so_far → AreAnswersTo Answers (lines_of text) selected so_far
   unfolding AreAnswersTo
   completes-none text [] selected so_far none completes =
@@ -65,7 +65,7 @@ module _ (Answers : (text line : List ℕ) → Verdict → (written : List ℕ) 
       subst (λ n. AreAnswersTo Answers (lines_of text) n so_far) numbers (subst (λ w. AreAnswersTo Answers (lines_of text) (selected + 0) w) (append-nil so_far) all)
   completes-none text (x ∷ rest) selected so_far none completes = absurd (omega (arith, none))
 
-  -- a rule's answer to a line
+  -- The output of a rule for a line.
   pub answers-text : {E : Type 0} (line text old new : List ℕ) (answer : Result Verdict E) → length line ≤ LONGEST → text ≡ without_terminator line → IsUtf8 text
       → IfOk answer (AppendsAnswer Answers text line old new) → IfOk answer (AppendsAnswerTo Answers line old new)
   answers-text line text old new (Err error) short same is answered = answered
@@ -75,7 +75,7 @@ module _ (Answers : (text line : List ℕ) → Verdict → (written : List ℕ) 
     inr (not-refused line short (subst IsUtf8 same is), subst (λ t. Answers t line verdict answered.0) same answered.2),
   )
 
--- whether there is one more line
+-- Whether there is another line.
 pub no-more : (more : Bool) (left : ℕ) → more ≡ false → (IsTrue more ↔ 0 < left) → left ≡ 0
 no-more more zero is says = refl
 no-more more (suc left) is says =

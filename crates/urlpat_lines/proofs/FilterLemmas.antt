@@ -1,4 +1,4 @@
--- A lemma on what is answered to a line that does not match.
+-- A lemma on the output for a line that does not match.
 use Rattle.std.proofs.Common.{◌≡◌, ℕ, Bool, List, ◌++◌, IfOk, ap, inr, ◌∙◌}
 use Rattle.std.specs.Prelude.{Result, Ok, Err}
 use Rattle.std.specs.declared.alloc.AllocError.{AllocError}

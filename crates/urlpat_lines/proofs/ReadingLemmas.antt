@@ -1,4 +1,4 @@
--- Lemmas on lines that are read part by part.
+-- Lemmas on lines that are read in parts.
 use Rattle.std.proofs.Common.{◌≡◌, ℕ, ◌<◌, ◌↔◌, Bool, true, false, List, [], ◌∷◌, ◌++◌, IsTrue, Option, None, Some, length, refl, sym, ap, subst, ◌∙◌, arith, append_assoc, length-append, inl, inr, not, ne_eqb}
 use Rattle.std.specs.Prelude.{MatchBool, nat_eq}
 use Rattle.std.specs.Io.KnownBytes.{Consumes}
@@ -7,14 +7,14 @@ use Rattle.std.proofs.BufReadLemmas.{take_through-nil, take_through_nonempty}
 use Rattle.urlpat_lines.specs.Lines.{IsAppended, IsKept}
 use Rattle.urlpat_lines.specs.declared.reading.TheConstants.{LONGEST}
 
--- what two reads consumed, one after the other
+-- Two reads consume one text after the other.
 pub consumes-both : (a b c : Option (List ℕ)) (first second : List ℕ) → Consumes a b first → Consumes b c second → Consumes a c (first ++ second)
 consumes-both None b c first second p q = tt
 consumes-both (Some x) None c first second p q = absurd p
 consumes-both (Some x) (Some y) None first second p q = absurd q
 consumes-both (Some x) (Some y) (Some z) first second p q = p ∙ ap (λ l. first ++ l) q ∙ sym (append_assoc first second z)
 
--- what is kept of a line that gets one more part
+-- The kept part of a line after a part is appended.
 pub kept-appended : (old new line part : List ℕ) → IsKept old line → IsAppended old new part → IsKept new (line ++ part)
 kept-appended old new line part (inl same) (inl grown) = inl (grown ∙ ap (λ l. l ++ part) same)
 kept-appended old new line part (inl same) (inr stays) =
@@ -24,11 +24,11 @@ kept-appended old new line part (inr long) (inl grown) =
 kept-appended old new line part (inr long) (inr stays) =
     inr (subst (λ l. LONGEST < length l) (sym stays.1) stays.0, omega (arith, length-append line part, long.1))
 
--- as much is kept of an empty line as of any
+-- The kept part of an empty line is empty.
 pub kept-empty : (kept : List ℕ) → kept ≡ [] → IsKept kept []
 kept-empty kept none = inl none
 
--- a line is kept as empty only if nothing is left
+-- If the kept part of a line is not empty, bytes were left.
 pub kept-some : (kept bytes : List ℕ) → IsKept kept (take_through 10 bytes) → 0 < length kept → 0 < length bytes
 kept-some kept bytes (inl same) some = take_through_nonempty 10 bytes (subst (λ l. 0 < length l) same some)
 kept-some kept bytes (inr long) some = take_through_nonempty 10 bytes (omega (arith, long.1))
@@ -37,7 +37,7 @@ pub kept-none : (kept bytes : List ℕ) → IsKept kept (take_through 10 bytes) 
 kept-none kept bytes (inl same) none = ap length (take_through-nil 10 bytes (sym (ap length same) ∙ none))
 kept-none kept bytes (inr long) none = absurd (omega (arith, long.0))
 
--- whether a line is kept as not empty says whether bytes are left
+-- The kept part of a line is not empty exactly if bytes were left.
 pub kept-more : (kept bytes : List ℕ) (more : Bool) → more ≡ not (nat_eq (length kept) 0) → IsKept kept (take_through 10 bytes) → IsTrue more ↔ 0 < length bytes
 kept-more [] bytes more is kept = (
   λ yes. let not_so : false ≡ true = sym is ∙ yes in absurd (cc),
@@ -45,7 +45,7 @@ kept-more [] bytes more is kept = (
 )
 kept-more (x ∷ xs) bytes more is kept = (λ yes. kept-some (x ∷ xs) bytes kept (omega arith), λ some. is ∙ ap not (ne_eqb (length (x ∷ xs)) 0 (λ none. absurd (omega (arith, none)))))
 
--- what holds of a test that is true, or false
+-- The cases of a boolean.
 pub on-true : (b : Bool) (P Q : Type 0) → b ≡ true → MatchBool b P Q → P
 on-true b P Q is h = subst (λ c. MatchBool c P Q) is h
 

@@ -1,4 +1,4 @@
--- What `filter` answers to the lines that it reads. Texts are bytes.
+-- The output of `filter` for the lines that it reads. Texts are bytes.
 use Rattle.std.specs.Prelude.{◌≡◌, ◌⊎◌, ℕ, Bool, true, false, List, [], ◌++◌, codes, decimal, nat_lt, IfSome, Option}
 use Rattle.std.specs.Io.KnownBytes.{Appends}
 use Rattle.urlpat_lines.specs.declared.filter.Outcome.{Outcome}
@@ -10,70 +10,72 @@ use Rattle.urlpat_lines.specs.declared.query.Query.{Query}
 use Rattle.urlpat_lines.specs.declared.query.Shape.{Shape}
 use Rattle.urlpat_lines.specs.declared.query.Shape.TheVariants as shapes
 
--- what goes after what is printed of a match
+-- The output after what is printed of a match.
 abbrev pub rest_text : Shape → (line : List ℕ) → List ℕ
 rest_text shapes.Line line = line
 rest_text shapes.Count line = []
 rest_text (shapes.Group component name) line = codes "\n"
 rest_text shapes.Json line = []
 
--- what is printed for a line that does not match
+-- The output for a line that does not match.
 abbrev pub other_text : Shape → (line : List ℕ) → List ℕ
 other_text shapes.Line line = line
 other_text shapes.Count line = []
 other_text (shapes.Group component name) line = []
 other_text shapes.Json line = []
 
--- of a line that matches nothing is asked, if the others are looked for
+-- The shape for lines that match. Nothing is printed of them if the query is inverted.
 abbrev pub asked_shape : (inverted : Bool) → Shape → Shape
 asked_shape true shape = shapes.Count
 asked_shape false shape = shape
 
--- a piece of which this holds goes after what is there
+-- A piece for which `IsSuch` is true is appended.
 abbrev pub GetsPiece : (IsSuch : List ℕ → Type 0) → (old new : List ℕ) → Type 0
 GetsPiece IsSuch old new = (piece : List ℕ) × (new ≡ old ++ piece) × IsSuch piece
 
--- what a text is, and what is appended of its match
+-- The outcome for a text, and what is appended of its match.
 abbrev pub IsOutcome : (Matches : (piece : List ℕ) → Type 0) → (Differs : Type 0) → (old new : List ℕ) → Outcome → Type 0
 IsOutcome Matches Differs old new outcomes.Match = GetsPiece Matches old new
 IsOutcome Matches Differs old new outcomes.NoMatch = Differs × (new ≡ old)
 IsOutcome Matches Differs old new outcomes.NoUrl = Differs × (new ≡ old)
 
--- a line that matches is selected, unless the others are looked for, and this goes after what is printed of its match
+-- A line that matches is selected unless the query is inverted, and this is appended after what is
+-- printed of its match.
 abbrev pub AnswersMatched : (inverted : Bool) → Shape → (line : List ℕ) → Verdict → (written : List ℕ) → Type 0
 AnswersMatched true shape line verdict written = (verdict ≡ verdicts.Passed) × (written ≡ [])
 AnswersMatched false shape line verdict written = (verdict ≡ verdicts.Selected) × (written ≡ rest_text shape line)
 
--- a line that does not match is selected, if such lines are looked for
+-- A line that does not match is selected if the query is inverted.
 abbrev pub AnswersUnmatched : (inverted : Bool) → Shape → (line : List ℕ) → Verdict → (written : List ℕ) → Type 0
 AnswersUnmatched true shape line verdict written = (selected_by verdict ≡ 1) × (written ≡ other_text shape line)
 AnswersUnmatched false shape line verdict written = (selected_by verdict ≡ 0) × (written ≡ [])
 
--- A line whose text matches is answered with what is printed of its match, and one whose text does not without.
+-- The verdict on a line and the output for it. If its text matches, the output begins with what is
+-- printed of its match.
 abbrev pub FilterAnswers : (Matches : (text : List ℕ) → Shape → (piece : List ℕ) → Type 0) → (Differs : (text : List ℕ) → Type 0) → (inverted : Bool) → Shape
     → (text line : List ℕ) → Verdict → (written : List ℕ) → Type 0
 FilterAnswers Matches Differs inverted shape text line verdict written =
     ((piece rest : List ℕ) × Matches text (asked_shape inverted shape) piece × (written ≡ piece ++ rest) × AnswersMatched inverted shape line verdict rest)
     ⊎ (Differs text × AnswersUnmatched inverted shape line verdict written)
 
--- the line with the count, if lines are counted
+-- The line with the count, if lines are counted.
 abbrev pub count_line : Shape → (selected : ℕ) → List ℕ
 count_line shapes.Line selected = []
 count_line shapes.Count selected = decimal selected ++ codes "\n"
 count_line (shapes.Group component name) selected = []
 count_line shapes.Json selected = []
 
--- the lines of a text have such answers, which are written, and the count after them, if lines are counted
+-- The output for the lines of a text is written, with the count after it if lines are counted.
 abbrev pub FiltersText : (Answers : (text line : List ℕ) → Verdict → (written : List ℕ) → Type 0) → Shape → (text : List ℕ) → (any : Bool) → (old new : Option (List ℕ)) → Type 0
 FiltersText Answers shape text any old new =
     (selected : ℕ) × (written : List ℕ) × AreAnswersTo Answers (lines_of text) selected written
     × Appends old new (written ++ count_line shape selected) × (any ≡ nat_lt 0 selected)
 
--- what a reader has, if that is known, has such answers
+-- The output for the lines of a reader is written, if the contents of the reader are known.
 abbrev pub Filters : (Answers : (text line : List ℕ) → Verdict → (written : List ℕ) → Type 0) → Shape → (input old new : Option (List ℕ)) → (any : Bool) → Type 0
 Filters Answers shape input old new any = IfSome input (λ text. FiltersText Answers shape text any old new)
 
--- it has the answers to a query
+-- The output of a query for the lines of a reader is written.
 abbrev pub FiltersFor : (Matches : (text : List ℕ) → Shape → (piece : List ℕ) → Type 0) → (Differs : (text : List ℕ) → Type 0) → Query
     → (input old new : Option (List ℕ)) → (any : Bool) → Type 0
 FiltersFor Matches Differs query = Filters (FilterAnswers Matches Differs query.inverted query.shape) query.shape

@@ -1,4 +1,4 @@
--- The flags among the words of the program.
+-- The flags among the arguments of the program.
 use Rattle.std.specs.Prelude.{◌≡◌, ◌⊎◌, ℕ, Bool, true, false, List, [], ◌∷◌, codes, find, Option, None, Some, String, MatchBool, not, bytes_eq, string_bytes}
 use Rattle.std.specs.List.{filter, list_any}
 use Rattle.std.specs.declared.alloc.Global.{Global}
@@ -7,47 +7,49 @@ use Rattle.urlpat_lines.specs.declared.flags.TheConstants.{EXPLAIN_ERRORS, IGNOR
 
 -- ---- the flags of a command
 
+-- Whether a word is a flag.
 abbrev pub is_flag : (word : List ℕ) → Bool
 is_flag word = list_any (bytes_eq word) (IGNORE_CASE.now ∷ JSON.now ∷ EXPLAIN_ERRORS.now ∷ [])
 
--- the command of the words: the first that is no flag
+-- The command: the first argument that is not a flag.
 abbrev pub command_of : (words : List (String Global)) → Option (String Global)
 command_of words = find (λ word. not (is_flag (string_bytes word))) words
 
--- the command matches nothing with patterns that could ignore case
+-- The command matches no URLs, and has neither `--ignore-case` nor `--json`.
 abbrev pub MatchesNothing : (command : List ℕ) → Type 0
 MatchesNothing command =
     (command ≡ codes "component") ⊎ (command ≡ codes "covers") ⊎ (command ≡ codes "link")
     ⊎ (command ≡ codes "unreachable")
 
--- the command explains its errors without being asked to
+-- The command always explains its errors, and does not have `--explain-errors`.
 abbrev pub ExplainsAlways : (command : List ℕ) → Type 0
 ExplainsAlways command =
     (command ≡ codes "covers") ⊎ (command ≡ codes "link") ⊎ (command ≡ codes "unreachable")
     ⊎ (command ≡ codes "filter") ⊎ (command ≡ codes "route") ⊎ (command ≡ codes "explain")
 
--- the command may have these flags
+-- The flags that a command has.
 abbrev pub MayHave : (command : List ℕ) → (flags : Flags) → Type 0
 MayHave command flags =
     MatchBool flags.ignore_case (¬ MatchesNothing command) (MatchesNothing command)
     × MatchBool flags.json (¬ MatchesNothing command) (MatchesNothing command)
     × MatchBool flags.explain_errors (¬ ExplainsAlways command) (ExplainsAlways command)
 
--- the command may have these; without one there are none
+-- The flags that the command among the arguments has. Without a command there are none.
 abbrev pub AreFlagsOf : (command : Option (String Global)) → (flags : Flags) → Type 0
 AreFlagsOf None flags =
     (flags.ignore_case ≡ false) × (flags.json ≡ false) × (flags.explain_errors ≡ false)
 AreFlagsOf (Some command) flags = MayHave (string_bytes command) flags
 
--- ---- taken out of the words
+-- ---- flags removed from the arguments
 
--- a flag that a command may have is taken: whether it is among the words, and the words without it; any other stays
+-- A flag that the command has is removed, and found if it was there. Any other flag is left in
+-- place.
 abbrev pub TakesFlag : (may : Bool) → (flag : List ℕ) → (old new : List (String Global)) → (found : Bool) → Type 0
 TakesFlag true flag old new found =
     (found ≡ list_any (λ word. bytes_eq flag (string_bytes word)) old) × (new ≡ filter (λ word. not (bytes_eq flag (string_bytes word))) old)
 TakesFlag false flag old new found = (found ≡ false) × (new ≡ old)
 
--- each flag that the command of the words may have is taken
+-- Each flag that the command among the arguments has is removed.
 abbrev pub TakesFlags : (old new : List (String Global)) → Flags → Type 0
 TakesFlags old new flags =
     (may : Flags) × AreFlagsOf (command_of old) may

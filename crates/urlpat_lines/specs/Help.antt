@@ -1,16 +1,16 @@
--- The help that the program prints.
+-- The help texts of the program.
 use Rattle.std.specs.Prelude.{◌≡◌, ◌⊎◌, ℕ, List, [], ◌∷◌, codes}
 use Rattle.urlpat_lines.specs.declared.help.TheConstants.{HELP, VERSION, COMPONENT_HELP, MATCH_HELP, FIRST_HELP, FILTER_HELP, ROUTE_HELP, EXPLAIN_HELP, LINK_HELP, COVERS_HELP, UNREACHABLE_HELP}
 
--- the text is what a word asks for: this help, or the version
+-- The argument asks for this help text, or for the version.
 abbrev pub IsHelpBy : (help word text : List ℕ) → Type 0
 IsHelpBy help word text = ((word ≡ codes "--help") × (text ≡ help)) ⊎ ((word ≡ codes "--version") × (text ≡ VERSION.now))
 
--- the word asks for such a text
+-- The argument asks for help or for the version.
 abbrev pub IsHelpWord : (word : List ℕ) → Type 0
 IsHelpWord word = (word ≡ codes "--help") ⊎ (word ≡ codes "--version")
 
--- the text is the help on a command
+-- The help text of a command.
 abbrev pub IsHelpOn : (command text : List ℕ) → Type 0
 IsHelpOn command text =
     ((command ≡ codes "component") × (text ≡ COMPONENT_HELP.now)) ⊎ ((command ≡ codes "match") × (text ≡ MATCH_HELP.now))
@@ -19,15 +19,16 @@ IsHelpOn command text =
     ⊎ ((command ≡ codes "link") × (text ≡ LINK_HELP.now))
     ⊎ ((command ≡ codes "covers") × (text ≡ COVERS_HELP.now)) ⊎ ((command ≡ codes "unreachable") × (text ≡ UNREACHABLE_HELP.now))
 
--- the words after a command ask for the help on it, or for the version
+-- The arguments after a command ask for its help text, or for the version.
 abbrev pub AskForHelp : (words : List (List ℕ)) → Type 0
 AskForHelp words = (word : List ℕ) × (words ≡ word ∷ []) × IsHelpWord word
 
+-- The text that the arguments after a command ask for.
 abbrev pub IsCommandHelp : (command : List ℕ) → (words : List (List ℕ)) → (text : List ℕ) → Type 0
 IsCommandHelp command words text =
     (word help : List ℕ) × (words ≡ word ∷ []) × IsHelpOn command help × IsHelpBy help word text
 
--- the text is the help that the words ask for
+-- The text that the arguments ask for.
 abbrev pub IsHelp : (words : List (List ℕ)) → (text : List ℕ) → Type 0
 IsHelp [] text = ⊥
 IsHelp (word ∷ []) text = IsHelpBy HELP.now word text

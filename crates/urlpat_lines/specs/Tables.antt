@@ -13,41 +13,47 @@ pub record EntryView : Type 0 where
   pub pattern : List ℕ
   pub name : List ℕ
 
+-- The view of an entry.
 abbrev pub entry_view : Entry → EntryView
 entry_view entry = record { number = entry.number; pattern = entry.pattern.now; name = entry.name.now }
 
+-- The views of entries.
 abbrev pub entries_view : List Entry → List EntryView
 entries_view entries = map entry_view entries
 
--- the lines of a table, without their ends
+-- The lines of a table, without their ends.
 abbrev pub table_lines : (table : List ℕ) → List (List ℕ)
 table_lines table = map without_terminator (lines_of table)
 
--- a line that is empty or a comment has no pattern
+-- A line that is empty or a comment has no entry.
 abbrev pub is_skipped : (line : List ℕ) → Bool
 is_skipped [] = true
 is_skipped (first ∷ line) = first == slice_index (codes "#") 0
 
+-- Whether a byte is a tab.
 abbrev pub is_tab : ℕ → Bool
 is_tab c = c == slice_index (codes "\t") 0
 
--- the pattern of any other is before the first tab, and its name after it
+-- The entry of a line that is not skipped: the pattern is before the first tab, and the name after
+-- it.
 abbrev pub line_entry : (number : ℕ) → (line : List ℕ) → EntryView
 line_entry number line = record { number = number; pattern = before_first is_tab line; name = after_first is_tab line }
 
+-- The entry of a line, if it has one.
 abbrev pub line_entries : (number : ℕ) → (line : List ℕ) → List EntryView
 line_entries number line = if is_skipped line then [] else line_entry number line ∷ []
 
--- the entries of lines, the first of which has this number
+-- The entries of lines, of which the first has this number.
 abbrev pub entries_from : (number : ℕ) → (lines : List (List ℕ)) → List EntryView
 entries_from number [] = []
 entries_from number (line ∷ lines) = line_entries number line ++ entries_from (number + 1) lines
 
--- the entries of a table
+-- The entries of a table.
 abbrev pub table_entries : (table : List ℕ) → List EntryView
 table_entries table = entries_from 1 (table_lines table)
 
--- why a table has none: the line of this number is the first that is not UTF-8, or memory ran out
+-- The reason why a table has no entries: the line with this number is the first that is not UTF-8,
+-- or memory ran out.
 abbrev pub HasNoEntries : (table : List ℕ) → NoTable → Type 0
 HasNoEntries table (NotUtf8 number) =
     (index : ℕ) × (line : List ℕ) × (number ≡ index + 1) × (slice_get (table_lines table) index ≡ Some line) × (¬ IsUtf8 line)

@@ -1,4 +1,4 @@
-//! The answers to the lines of a reader.
+//! Processes the lines of a reader by a rule.
 ghost use Rattle.std.specs.Prelude.{◌≡◌, ◌+◌, ◌<◌, ◌^◌, ℕ, List, IfOk, OnOk};
 ghost use Rattle.std.specs.Io.KnownBytes.{Appends};
 ghost use Rattle.urlpat_lines.specs.Answers.{AppendsAnswer, AppendsAnswerTo, WritesInput, selected_by};
@@ -9,44 +9,42 @@ use std::alloc::{AllocError, Global};
 use std::io::{BufRead, Write};
 use std::{io, str};
 
-/// What is made of a line.
+/// The verdict on a line.
 #[derive(Debug, Clone, Copy, PartialEq, Eq)]
 pub enum Verdict {
-    /// It is one of those that are looked for.
+    /// The line is selected.
     Selected,
-    /// It is none of them.
+    /// The line is not selected.
     Passed,
-    /// It is none of them, as it is no URL.
+    /// The line is not selected, and not a URL.
     NoUrl,
-    /// It is one of those that are looked for, and no URL.
+    /// The line is selected, and not a URL.
     SelectedNoUrl,
-    /// It is not UTF-8, or too long.
+    /// The line is not UTF-8, or too long.
     Refused,
 }
 
-/// A rule that answers a line.
+/// A rule that decides what is written for a line.
 pub trait Rule {
     ghost Answers: { Self → (text line : List ℕ) → Verdict → (written : List ℕ) → Type 0 };
 
-    /// Answers a line, and appends what is to be written. `text` is the line without its end.
-    ///
-    /// The error is that memory ran out.
+    /// Decides on a line, and appends what is written for it. `text` is the line without its end.
     fn answer(&self, text: &str, line: &[u8], written: &mut Vec<u8>) -> Result<Verdict, AllocError>
         ensures { IfOk result (AppendsAnswer (Answers self.now) text.now line.now written.old.items written.new.items) };
 }
 
-/// How many lines there are of each kind.
+/// The numbers of lines of each kind.
 #[derive(Debug, Clone, Copy, PartialEq, Eq)]
 pub struct Tally {
-    /// Those that are looked for.
+    /// The lines that are selected.
     pub selected: u64,
-    /// Those that are no URL.
+    /// The lines that are not URLs.
     pub no_url: u64,
-    /// Those that are not UTF-8, or too long.
+    /// The lines that are not UTF-8, or too long.
     pub refused: u64,
 }
 
-/// Why lines are answered no further.
+/// The reason why processing stopped.
 #[derive(Debug, Drop)]
 pub enum Fault {
     /// The reader failed.
@@ -72,8 +70,8 @@ impl From<AllocError> for Fault {
     }
 }
 
-/// Answers the lines of a reader by a rule, and writes what is to be written for each. A line that is refused is reported to `err`,
-/// with its number.
+/// Writes, for each line of a reader, what a rule decides. A line that is rejected is reported to
+/// `err`, with its number.
 pub fn answer_lines<In: BufRead, Out: Write, Err: Write, R: Rule>(
     alloc: Global,
     rule: &R,
@@ -103,7 +101,7 @@ pub fn answer_lines<In: BufRead, Out: Write, Err: Write, R: Rule>(
     Err(Fault::Read(io::ErrorKind::Other.into()))
 }
 
-/// Writes what is to be written for a line.
+/// Writes the output for a line.
 fn write_piece<Out: Write>(out: &mut Out, piece: &[u8]) -> Result<(), Fault>
     ensures { OnOk result (Appends (Out.contents out.old) (Out.contents out.new) piece.now) }
 {
@@ -113,9 +111,7 @@ fn write_piece<Out: Write>(out: &mut Out, piece: &[u8]) -> Result<(), Fault>
     }
 }
 
-/// Answers a line by a rule, and appends what is to be written for it.
-///
-/// The error is that memory ran out.
+/// Decides on a line by a rule, and appends what is written for it.
 fn answer_line<R: Rule>(rule: &R, line: &[u8], written: &mut Vec<u8>) -> Result<Verdict, AllocError>
     ensures { IfOk result (AppendsAnswerTo (R.Answers rule.now) line.now written.old.items written.new.items) }
 {
@@ -128,7 +124,7 @@ fn answer_line<R: Rule>(rule: &R, line: &[u8], written: &mut Vec<u8>) -> Result<
     }
 }
 
-/// Reports a line that is refused.
+/// Reports a line that is rejected.
 fn report<Err: Write>(verdict: Verdict, number: u64, line: &[u8], err: &mut Err) {
     if verdict == Verdict::Refused {
         let number = number.saturating_add(1);
@@ -140,7 +136,7 @@ fn report<Err: Write>(verdict: Verdict, number: u64, line: &[u8], err: &mut Err)
     }
 }
 
-/// The tally after one more line.
+/// The tally with one more line.
 fn counted(tally: Tally, verdict: Verdict) -> Tally
     requires { tally.selected + 1 < 2 ^ 64 }
     ensures { result.selected ≡ tally.selected + selected_by verdict }

@@ -1,4 +1,4 @@
-//! The command `filter`, over anything that matches lines.
+//! The command `filter`, for any matcher of lines.
 ghost use Rattle.std.specs.Prelude.{◌≡◌, ℕ, List, IfOk, IfSome, OnOk, None, nat_lt};
 ghost use Rattle.std.specs.Io.KnownBytes.{Appends};
 ghost use Rattle.urlpat_lines.specs.Filters.{AnswersMatched, AnswersUnmatched, FilterAnswers, Filters, FiltersFor, GetsPiece, IsOutcome, asked_shape, count_line};
@@ -11,26 +11,24 @@ use std::alloc::{AllocError, Global};
 use std::io;
 use std::io::{BufRead, Write};
 
-/// What a text is to a pattern.
+/// The outcome of matching a text.
 #[derive(Debug, Clone, Copy, PartialEq, Eq)]
 pub enum Outcome {
-    /// The pattern matches it.
+    /// The pattern matches.
     Match,
-    /// The pattern does not match it.
+    /// The pattern does not match.
     NoMatch,
-    /// It is no URL.
+    /// The text is not a URL.
     NoUrl,
 }
 
-/// Something that matches the texts of lines.
+/// A matcher of lines.
 pub trait LineMatcher {
     ghost Matches: { Self → (text : List ℕ) → Asked → (piece : List ℕ) → Type 0 };
 
     ghost Differs: { Self → (text : List ℕ) → Type 0 };
 
-    /// Matches a text. What the shape has of a match is appended to `written`.
-    ///
-    /// The error is that memory ran out.
+    /// Matches a text. Appends to `written` what the shape prints of a match.
     fn outcome(
         &self,
         text: &str,
@@ -48,8 +46,9 @@ struct LineFilter<'a, M> {
     shape: Shape<'a>,
 }
 
-/// Prints what a query asks for of each line that matches, or does not. Returns whether there is such a line. `None`: there is a failure,
-/// which is reported to `err`, unless the output failed.
+/// Prints what a query asks for, for each line that matches, or for each that does not. Returns
+/// whether there is such a line. `None`: an error occurred, which is reported to `err` unless it is
+/// an error of the output.
 pub fn filter_lines<In: BufRead, Out: Write, Err: Write, M: LineMatcher>(
     alloc: Global,
     query: Query<'_>,
@@ -68,8 +67,9 @@ pub fn filter_lines<In: BufRead, Out: Write, Err: Write, M: LineMatcher>(
     write_answers(alloc, &rule, query.shape, input, out, err)
 }
 
-/// Writes the answers of a rule to the lines of a reader, and how many lines are selected, if the shape has that. Returns whether one
-/// is. `None`: there is a failure, which is reported to `err`, unless the output failed.
+/// Writes the output of a rule for the lines of a reader, and the number of selected lines if the
+/// shape is a count. Returns whether a line is selected. `None`: an error occurred, which is
+/// reported to `err` unless it is an error of the output.
 pub fn write_answers<In: BufRead, Out: Write, Err: Write, R: Rule>(
     alloc: Global,
     rule: &R,
@@ -86,7 +86,8 @@ pub fn write_answers<In: BufRead, Out: Write, Err: Write, R: Rule>(
     }
 }
 
-/// Writes the count, if lines are counted, and how many lines were no URL. Returns whether there is a line that was looked for.
+/// Writes the count, if lines are counted, and reports how many lines were not URLs. Returns
+/// whether a line is selected.
 fn finish<Out: Write, Err: Write>(
     shape: Shape<'_>,
     tally: Tally,
@@ -105,7 +106,7 @@ fn finish<Out: Write, Err: Write>(
     }
 }
 
-/// Writes the count, if lines are counted, and all that is still to be written.
+/// Writes the count, if lines are counted, and flushes the output.
 fn write_count<Out: Write>(shape: Shape<'_>, selected: u64, out: &mut Out) -> io::Result<()>
     ensures { OnOk result (Appends (Out.contents out.old) (Out.contents out.new) (count_line shape.entry selected)) }
 {
@@ -118,7 +119,7 @@ fn write_count<Out: Write>(shape: Shape<'_>, selected: u64, out: &mut Out) -> io
     }
 }
 
-/// Reports how many lines were no URL, or were refused.
+/// Reports how many lines were not URLs, or were rejected.
 fn report_tally<Err: Write>(tally: Tally, err: &mut Err) {
     let Tally {
         selected: _,
@@ -133,7 +134,7 @@ fn report_tally<Err: Write>(tally: Tally, err: &mut Err) {
     }
 }
 
-/// Reports why lines are answered no further, unless the output failed.
+/// Reports why processing stopped, unless the output failed.
 fn report_fault<Err: Write>(fault: &Fault, err: &mut Err) -> Option<bool>
     ensures { result ≡ None }
 {
@@ -175,14 +176,14 @@ impl<M: LineMatcher> Rule for LineFilter<'_, M> {
     }
 }
 
-/// What is asked of a line that matches: nothing, if the others are looked for.
+/// The shape for lines that match. Nothing is printed of them if the query is inverted.
 fn asked_shape(inverted: bool, shape: Shape<'_>) -> Shape<'_>
     ensures { result ≡ asked_shape inverted shape.entry }
 {
     if inverted { Shape::Count } else { shape }
 }
 
-/// Appends what is to be written for a line that matches, after what is printed of its match.
+/// Appends the rest of the output for a line that matches, after what is printed of its match.
 fn answer_match(
     inverted: bool,
     shape: Shape<'_>,
@@ -202,7 +203,8 @@ fn answer_match(
     Ok(Verdict::Selected)
 }
 
-/// Appends what is to be written for a line that does not match. The verdict is the one on lines that are not looked for.
+/// Appends the output for a line that does not match. `verdict` is the verdict if the line is not
+/// selected.
 fn answer_other(
     inverted: bool,
     shape: Shape<'_>,
@@ -223,7 +225,7 @@ fn answer_other(
     Ok(selected(verdict))
 }
 
-/// The verdict on a line that is looked for, by the one on a line that is not.
+/// The verdict if the line is selected, given the one if it is not.
 fn selected(verdict: Verdict) -> Verdict
     ensures { selected_by result ≡ 1 }
 {

@@ -1,32 +1,32 @@
-//! The words that hold for the patterns, the answers and the errors of a command. They may stand
-//! anywhere.
+//! Flags, which may be anywhere among the arguments: how patterns match, and how results and errors
+//! are printed.
 
 ghost use Rattle.std.specs.Prelude.{◌≡◌, option_copied};
 ghost use Rattle.urlpat_lines.specs.Flags.{AreFlagsOf, MayHave, TakesFlag, TakesFlags, command_of, is_flag};
 
 use crate::words::take_word;
 
-/// The word for patterns that ignore case.
+/// The flag for patterns that ignore case.
 const IGNORE_CASE: &str = "--ignore-case";
 
-/// The word for answers that are JSON.
+/// The flag for output as JSON.
 const JSON: &str = "--json";
 
-/// The word for errors that are explained.
+/// The flag for errors that are explained.
 const EXPLAIN_ERRORS: &str = "--explain-errors";
 
-/// What words say of the patterns, the answers and the errors of a command.
+/// The flags among the arguments.
 #[derive(Clone, Copy)]
 pub struct Flags {
     /// Whether patterns ignore case.
     pub ignore_case: bool,
-    /// Whether answers are printed as JSON.
+    /// Whether results are printed as JSON.
     pub json: bool,
-    /// Whether errors are explained where a command prints them alone.
+    /// Whether a command explains an error that it would print alone.
     pub explain_errors: bool,
 }
 
-/// Takes the flags out of the words, if their command has such.
+/// Removes the flags that the command has from the arguments.
 pub fn take_flags(words: &mut Vec<String>) -> Flags
     ensures { TakesFlags words.old.items words.new.items result }
 {
@@ -41,14 +41,14 @@ pub fn take_flags(words: &mut Vec<String>) -> Flags
     }
 }
 
-/// Takes a flag out of the words, if their command may have it, and returns whether it was there.
+/// Removes a flag from the arguments if the command has it, and returns whether it was there.
 fn take_flag(words: &mut Vec<String>, may: bool, flag: &str) -> bool
     ensures { TakesFlag may flag.now words.old.items words.new.items result }
 {
     if may { take_word(words, flag) } else { false }
 }
 
-/// The flags that the command of the words may have.
+/// The flags that the command among the arguments has.
 fn flags_of(words: &[String]) -> Flags
     ensures { AreFlagsOf (command_of words.now) result }
 {
@@ -62,7 +62,7 @@ fn flags_of(words: &[String]) -> Flags
     }
 }
 
-/// The command of the words: the first that is no flag.
+/// The command: the first argument that is not a flag.
 fn command_of(words: &[String]) -> Option<&String>
     ensures { option_copied result ≡ command_of words.now }
 {
@@ -76,7 +76,7 @@ fn is_flag(word: &str) -> bool
     matches!(word, IGNORE_CASE | JSON | EXPLAIN_ERRORS)
 }
 
-/// The flags that a command may have.
+/// The flags that a command has.
 fn command_flags(command: &str) -> Flags
     ensures { MayHave command.now result }
 {

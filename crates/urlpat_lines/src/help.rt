@@ -1,10 +1,10 @@
-//! What `--help` and `--version` print.
+//! The output of `--help` and `--version`.
 
 ghost use Rattle.std.specs.Prelude.{IfSome, IsFalse, IsTrue};
 ghost use Rattle.urlpat_lines.specs.Help.{AskForHelp, IsCommandHelp, IsHelp, IsHelpBy, IsHelpOn, IsHelpWord};
 ghost use Rattle.urlpat_lines.specs.Words.{words_view};
 
-/// The help on the program.
+/// The help text of the program.
 const HELP: &str = "\
 urlpat matches URLs against URL patterns, such as https://example.com/users/:id
 
@@ -42,7 +42,7 @@ example: urlpat 'https://example.com/users/:id' https://example.com/users/7
 /// The name and the version of the program.
 const VERSION: &str = "urlpat 0.6.0\n";
 
-/// The help on `component`.
+/// The help text of `component`.
 const COMPONENT_HELP: &str = "\
 Shows what the pattern of one component is compiled to: the names of its groups, its regular expression, and the pattern that is
 printed for it.
@@ -56,7 +56,7 @@ its place in the pattern.
 example: urlpat component pathname /users/:id
 ";
 
-/// The help on `match`.
+/// The help text of `match`.
 const MATCH_HELP: &str = "\
 Prints a line for each group of a pattern: its component, its name, and after = what it captured of a URL. If the URL does not
 match, prints `no match` and ends with status 1.
@@ -71,7 +71,7 @@ no URL is reported.
 example: urlpat match /users/:id https://example.com/ /users/7
 ";
 
-/// The help on `first`.
+/// The help text of `first`.
 const FIRST_HELP: &str = "\
 Prints `match` and the index of the first pattern that matches a URL, from 0 on, and a line for each group. If none matches, prints
 `no match` and ends with status 1.
@@ -86,7 +86,7 @@ reported.
 example: urlpat first https://example.com/ /users/7 /about /users/:id
 ";
 
-/// The help on `filter`.
+/// The help text of `filter`.
 const FILTER_HELP: &str = "\
 Prints the lines of standard input whose URLs match a pattern, as they are. Ends with status 1 if there is none.
 
@@ -109,7 +109,7 @@ BASE is a URL for the pattern and the lines, or - for none. A line that is no UR
 example: urlpat filter 'https://example.com/users/:id' - --group pathname.id <urls.txt
 ";
 
-/// The help on `route`.
+/// The help text of `route`.
 const ROUTE_HELP: &str = "\
 Finds the first pattern of a table that matches the URL of each line of standard input. Prints, with tabs between, the number of the
 line that has the pattern, its name, and for each group its component, its name, and after = what it captured. Prints `-` if no pattern
@@ -124,7 +124,7 @@ ignore case. With --json an object with `number`, `name` and `match` is printed 
 example: urlpat route routes.txt https://example.com/ <urls.txt
 ";
 
-/// The help on `explain`.
+/// The help text of `explain`.
 const EXPLAIN_HELP: &str = "\
 Prints a line for each component of a pattern: its name and its pattern, and with an input its text, `matches` or `differs`, and what
 its groups capture. Empty texts are shown as two quotation marks. Lines after that say which bytes of the pattern each component is, what
@@ -139,7 +139,7 @@ an input `input`, `matches` and `groups`.
 example: urlpat explain /users/:id https://example.com/ /users/7
 ";
 
-/// The help on `link`.
+/// The help text of `link`.
 const LINK_HELP: &str = "\
 Prints the URL that a pattern matches with these groups. If there is none, ends with status 1.
 
@@ -151,7 +151,7 @@ name has a number in its component, from 0 on. BASE is a URL for the pattern, or
 example: urlpat link /users/:id https://example.com/ id=7
 ";
 
-/// The help on `covers`.
+/// The help text of `covers`.
 const COVERS_HELP: &str = "\
 Prints `covered` if a pattern matches whatever another one, the asked one, matches. If not, prints in which component they part, and
 a text for each component that the asked one matches, and ends with status 1.
@@ -165,7 +165,7 @@ known whether a pattern covers another, the status is 2. The texts need not be t
 example: urlpat covers 'https://example.com/*' 'https://example.com/users/:id'
 ";
 
-/// The help on `unreachable`.
+/// The help text of `unreachable`.
 const UNREACHABLE_HELP: &str = "\
 Finds the patterns of a table that are never the first match, since one before them covers them. Prints a line for each: the number
 of its line, a tab, and that of the pattern that covers it. Ends with status 1 if there is none.
@@ -180,7 +180,7 @@ URL for the patterns, or - for none.
 example: urlpat unreachable routes.txt https://example.com/
 ";
 
-/// The help that the words ask for. `None`: they ask for none.
+/// The help text or version that the arguments ask for, if any.
 pub fn help_of(words: &[String]) -> Option<&'static str>
     ensures { IfSome result (λ text. IsHelp (words_view words.now) text.now) }
 {
@@ -194,7 +194,7 @@ pub fn help_of(words: &[String]) -> Option<&'static str>
     }
 }
 
-/// The help on a command that the words after it ask for.
+/// The help text of a command or the version, if the arguments after it ask for one.
 fn command_help(command: &str, words: &[String]) -> Option<&'static str>
     ensures { IfSome result (λ text. IsCommandHelp command.now (words_view words.now) text.now) }
 {
@@ -204,7 +204,7 @@ fn command_help(command: &str, words: &[String]) -> Option<&'static str>
     help_by(help_on(command)?, word)
 }
 
-/// What a word asks for: this help, or the version.
+/// The help text or the version, if the argument asks for one.
 fn help_by(help: &'static str, word: &str) -> Option<&'static str>
     ensures { IfSome result (λ text. IsHelpBy help.now word.now text.now) }
 {
@@ -215,7 +215,7 @@ fn help_by(help: &'static str, word: &str) -> Option<&'static str>
     }
 }
 
-/// Whether the words after a command ask for the help on it, or for the version.
+/// Whether the arguments after a command ask for its help text, or for the version.
 pub fn asks_for_help(words: &[String]) -> bool
     ensures asked { IsTrue result → AskForHelp (words_view words.now) }
     ensures other { IsFalse result → ¬ AskForHelp (words_view words.now) }
@@ -226,7 +226,7 @@ pub fn asks_for_help(words: &[String]) -> bool
     is_help_word(word)
 }
 
-/// Whether a word asks for help, or for the version.
+/// Whether an argument asks for help, or for the version.
 fn is_help_word(word: &str) -> bool
     ensures asked { IsTrue result → IsHelpWord word.now }
     ensures other { IsFalse result → ¬ IsHelpWord word.now }
@@ -237,7 +237,7 @@ fn is_help_word(word: &str) -> bool
     }
 }
 
-/// The help on a command.
+/// The help text of a command.
 fn help_on(command: &str) -> Option<&'static str>
     ensures { IfSome result (λ text. IsHelpOn command.now text.now) }
 {

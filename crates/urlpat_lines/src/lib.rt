@@ -1,6 +1,6 @@
-//! What the commands of the program read and write: their arguments, lines and tables of patterns.
+//! The input and output of the program's commands: arguments, lines and tables of patterns.
 //!
-//! One line at a time is in memory, and a line that is too long is not kept.
+//! Only one line at a time is in memory. A line that is too long is not kept.
 #![tactic(auto)]
 
 mod answers;

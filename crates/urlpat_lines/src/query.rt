@@ -1,4 +1,4 @@
-//! What the words after `filter` ask for.
+//! Parses the arguments of `filter`.
 
 ghost use Rattle.std.specs.Prelude.{◌≡◌, true, false, IfNone, IfSome};
 ghost use Rattle.urlpat_lines.specs.Queries.{AsksNothing, AskForNoQuery, IsQuery, IsAskedByFlags, IsAskedByOne, IsAskedByTwo, IsQueryOf, NamesGroup};
@@ -7,33 +7,33 @@ ghost use Rattle.urlpat_lines.specs.Words.{words_view};
 
 use urlpattern_components::ComponentName;
 
-/// What is printed of a line that is looked for.
+/// What is printed for a selected line.
 #[derive(Clone, Copy)]
 pub enum Shape<'a> {
-    /// The line as it is.
+    /// The line itself.
     Line,
-    /// Nothing: they are counted.
+    /// Nothing: selected lines are counted.
     Count,
-    /// What a group captured.
+    /// The capture of a group.
     Group(ComponentName, &'a str),
     /// The match, as JSON.
     Json,
 }
 
-/// What the words after `filter` ask for.
+/// The arguments of `filter`.
 #[derive(Clone, Copy)]
 pub struct Query<'a> {
     /// The pattern.
     pub pattern: &'a str,
-    /// The word for its base URL.
+    /// The argument for the base URL.
     pub base: &'a str,
-    /// Whether the lines that do not match are looked for.
+    /// Whether the lines that do not match are selected.
     pub inverted: bool,
-    /// What is printed of a line that is looked for.
+    /// What is printed for a selected line.
     pub shape: Shape<'a>,
 }
 
-/// What the words after `filter` ask for, with JSON as the answer or not. `None`: they are not such words.
+/// Parses the arguments of `filter`, with output as JSON or not. `None`: the arguments are invalid.
 pub fn query_of(words: &[String], json: bool) -> Option<Query<'_>>
     ensures asked { IfSome result (IsQueryOf json (words_view words.now)) }
     ensures other { IfNone result (AskForNoQuery json (words_view words.now)) }
@@ -54,7 +54,8 @@ pub fn query_of(words: &[String], json: bool) -> Option<Query<'_>>
     })
 }
 
-/// What the words after the base ask for, with JSON as the answer: there are none, and the match is printed.
+/// Parses the arguments after the base URL when output is JSON: there are none, and the match is
+/// printed.
 fn asked_as_json(words: &[String]) -> Option<(bool, Shape<'_>)>
     ensures asked { IfSome result (IsQuery true (words_view words.now)) }
     ensures other { IfNone result (AsksNothing (IsQuery true (words_view words.now))) }
@@ -66,7 +67,8 @@ fn asked_as_json(words: &[String]) -> Option<(bool, Shape<'_>)>
     }
 }
 
-/// What the words after the base ask for: whether lines that do not match are looked for, and what is printed of a line.
+/// Parses the arguments after the base URL: whether lines that do not match are selected, and what
+/// is printed for a line.
 fn asked_by(flags: &[String]) -> Option<(bool, Shape<'_>)>
     ensures asked { IfSome result (IsAskedByFlags (words_view flags.now)) }
     ensures other { IfNone result (AsksNothing (IsAskedByFlags (words_view flags.now))) }
@@ -79,7 +81,7 @@ fn asked_by(flags: &[String]) -> Option<(bool, Shape<'_>)>
     }
 }
 
-/// The same of one word.
+/// Parses a single argument after the base URL.
 fn asked_by_one(flag: &str) -> Option<(bool, Shape<'_>)>
     ensures asked { IfSome result (IsAskedByOne flag.now) }
     ensures other { IfNone result (AsksNothing (IsAskedByOne flag.now)) }
@@ -91,7 +93,7 @@ fn asked_by_one(flag: &str) -> Option<(bool, Shape<'_>)>
     }
 }
 
-/// The same of two words: flags in any order, or one with a group.
+/// Parses two arguments after the base URL: two flags in any order, or `--group` and a group.
 fn asked_by_two<'a>(first: &str, second: &'a str) -> Option<(bool, Shape<'a>)>
     ensures asked { IfSome result (IsAskedByTwo first.now second.now) }
     ensures other { IfNone result (AsksNothing (IsAskedByTwo first.now second.now)) }
@@ -104,7 +106,7 @@ fn asked_by_two<'a>(first: &str, second: &'a str) -> Option<(bool, Shape<'a>)>
     }
 }
 
-/// The count of the lines that do not match, if both flags for it are there.
+/// The query for the count of the lines that do not match, if both flags are there.
 fn others_counted<'a>(both: bool) -> Option<(bool, Shape<'a>)>
     ensures asked { IfSome result (λ asked. (both ≡ true) × (asked ≡ (true, shapes.Count))) }
     ensures other { IfNone result (both ≡ false) }
@@ -116,7 +118,7 @@ fn others_counted<'a>(both: bool) -> Option<(bool, Shape<'a>)>
     }
 }
 
-/// The group of a name, after that of its component and a dot.
+/// Parses the name of a component, a dot, and the name of a group.
 fn group_of(word: &str) -> Option<(bool, Shape<'_>)>
     ensures asked { IfSome result (NamesGroup word.now) }
     ensures other { IfNone result (AsksNothing (NamesGroup word.now)) }

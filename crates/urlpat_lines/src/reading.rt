@@ -1,4 +1,4 @@
-//! Lines of a reader, as bytes.
+//! The lines of a reader, as bytes.
 ghost use Rattle.std.specs.Prelude.{◌≡◌, ◌+◌, ◌-◌, ◌<◌, ◌≤◌, ◌↔◌, true, length, take, All, ◌≢◌, IfOk, IfSome, IsTrue, MatchBool, OnOk, Some};
 ghost use Rattle.std.specs.Io.BufRead.{drop_through, take_through};
 ghost use Rattle.std.specs.Io.{IsEmptyOrEndsWith, StopsAt};
@@ -10,13 +10,13 @@ use std::alloc::AllocError;
 use std::io;
 use std::io::BufRead;
 
-/// How many bytes a line has at most, its end included: 16 MB.
+/// The maximum length of a line in bytes, its end included: 16 MB.
 pub const LONGEST: usize = 16_777_216;
 
-/// Reads a line with its end into `line`, in place of what is there. Returns whether there is one.
+/// Reads a line with its end into `line`, which is overwritten. Returns whether there is a line.
 ///
-/// Of a line that is longer than `LONGEST` only a part is kept, which is longer than that too. The error is that of the reader, or
-/// that memory ran out.
+/// Only a part of a line longer than `LONGEST` is kept, which is still longer than `LONGEST`. The
+/// error is that of the reader, or that memory ran out.
 pub fn read_line<In: BufRead>(input: &mut In, line: &mut Vec<u8>) -> io::Result<bool>
     ensures kept { IfOk result (λ more. IfSome (In.remaining input.old) (λ bytes. IsKept line.new.items (take_through 10 bytes))) }
     ensures rest { IfOk result (λ more. IfSome (In.remaining input.old) (λ bytes. In.remaining input.new ≡ Some (drop_through 10 bytes))) }
@@ -31,7 +31,8 @@ pub fn read_line<In: BufRead>(input: &mut In, line: &mut Vec<u8>) -> io::Result<
     Err(io::ErrorKind::Other.into())
 }
 
-/// Appends what a reader has at hand to a line, through the next line end. Returns whether the line ends there, or the input does.
+/// Appends the bytes that a reader has buffered to a line, through the next line end. Returns
+/// whether the line ends there, or the input does.
 fn append_some<In: BufRead>(input: &mut In, line: &mut Vec<u8>) -> io::Result<bool>
     ensures { IfOk result (Gets (In.remaining input.old) (In.remaining input.new) line.old.items line.new.items) }
 {
@@ -53,7 +54,7 @@ fn append_some<In: BufRead>(input: &mut In, line: &mut Vec<u8>) -> io::Result<bo
     Ok(ended)
 }
 
-/// The bytes through the first line end, or all.
+/// The bytes through the first line end, or all of them.
 fn first_part(bytes: &[u8]) -> &[u8]
     ensures front { result.now ≡ take (length result.now) bytes.now }
     ensures within { length result.now ≤ length bytes.now }
@@ -66,7 +67,7 @@ fn first_part(bytes: &[u8]) -> &[u8]
     }
 }
 
-/// Whether a part of a line that stops at a line end has it, or is empty.
+/// Whether a part of a line has the line end, or is empty.
 fn is_ended(part: &[u8]) -> bool
     requires { StopsAt part.now 10 }
     ensures { MatchBool result (IsEmptyOrEndsWith part.now 10) (All (λ byte. byte ≢ 10) part.now) }
@@ -75,7 +76,7 @@ fn is_ended(part: &[u8]) -> bool
     length == 0 || part[length - 1] == b'\n'
 }
 
-/// Appends a part to a line, unless the line is too long without it.
+/// Appends a part to a line, unless the line is already too long.
 fn keep(line: &mut Vec<u8>, part: &[u8]) -> Result<(), AllocError>
     ensures { OnOk result (IsAppended line.old.items line.new.items part.now) }
 {
@@ -97,7 +98,7 @@ pub fn without_end(line: &[u8]) -> &[u8]
     }
 }
 
-/// A text without this byte at its end.
+/// The bytes without this byte at the end, if it is there.
 fn without_last(bytes: &[u8], byte: u8) -> &[u8]
     ensures { result.now ≡ trim_record byte bytes.now }
 {

@@ -11,18 +11,18 @@ use std::str;
 /// A pattern of a table.
 #[derive(Clone, Copy)]
 pub struct Entry<'t> {
-    /// The number of its line, from 1 on.
+    /// The number of the line, from 1 on.
     pub number: u64,
     /// The pattern.
     pub pattern: &'t str,
-    /// Its name, or nothing.
+    /// The name, or an empty text.
     pub name: &'t str,
 }
 
-/// Why a table has no entries.
+/// The reason why a table has no entries.
 #[derive(Clone, Copy)]
 pub enum NoTable {
-    /// The line of this number is not UTF-8.
+    /// The line with this number is not UTF-8.
     NotUtf8(u64),
     /// Memory ran out.
     OutOfMemory,
@@ -38,8 +38,8 @@ impl From<AllocError> for NoTable {
     }
 }
 
-/// The entries of a table, in its order. A line that is empty, or that begins with `#`, has none. Of any other the pattern is what stands
-/// before the first tab, and the name what stands after it.
+/// The entries of a table, in order. A line that is empty, or that begins with `#`, has none. In
+/// any other line the pattern is before the first tab, and the name after it.
 ///
 /// The error is that a line is not UTF-8, or that memory ran out.
 pub fn entries_of<'t>(alloc: Global, table: &'t [u8]) -> Result<Vec<Entry<'t>>, NoTable>
@@ -59,7 +59,7 @@ pub fn entries_of<'t>(alloc: Global, table: &'t [u8]) -> Result<Vec<Entry<'t>>, 
     Ok(entries)
 }
 
-/// Adds the entry of a line, if it has one.
+/// Appends the entry of a line, if it has one.
 fn add<'t>(entries: &mut Vec<Entry<'t>>, number: u64, line: &'t str) -> Result<(), AllocError>
     ensures { OnOk result (entries_view entries.new.items ≡ entries_view entries.old.items ++ line_entries number line.now) }
 {

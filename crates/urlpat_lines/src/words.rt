@@ -1,4 +1,4 @@
-//! The words after a command, and those that hold for all commands.
+//! The arguments after a command, and those that hold for all commands.
 
 ghost use Rattle.std.specs.Prelude.{◌≡◌, IfNone, IfSome, not, bytes_eq, string_bytes};
 ghost use Rattle.std.specs.List.{filter, list_any};
@@ -6,7 +6,8 @@ ghost use Rattle.urlpat_lines.specs.Words.{AreWordsAfter, HasNoneAfter, words_vi
 
 use crate::help::asks_for_help;
 
-/// The words after a command. `None`: the first word is another, or they ask for the help on it.
+/// The arguments after a command. `None`: the first argument is another command, or the arguments
+/// ask for help.
 pub fn words_after<'w>(words: &'w [String], command: &str) -> Option<&'w [String]>
     ensures after { IfSome result (λ rest. AreWordsAfter command.now (words_view words.now) (words_view rest.now)) }
     ensures other { IfNone result (HasNoneAfter command.now (words_view words.now)) }
@@ -24,7 +25,7 @@ pub fn words_after<'w>(words: &'w [String], command: &str) -> Option<&'w [String
     }
 }
 
-/// Takes each copy of a word out of the words, and returns whether there was one.
+/// Removes each copy of a flag from the arguments, and returns whether there was one.
 pub(crate) fn take_word(words: &mut Vec<String>, word: &str) -> bool
     ensures asked { result ≡ list_any (λ other. bytes_eq word.now (string_bytes other)) words.old.items }
     ensures left { words.new.items ≡ filter (λ other. not (bytes_eq word.now (string_bytes other))) words.old.items }

@@ -1,4 +1,4 @@
--- Lemmas on the names of a component's groups, each once and in order.
+-- Lemmas on the names of a component's groups, each once and sorted.
 use Rattle.std.proofs.Common.{Less, Ordering, ◌≡◌, ◌↔◌, ℕ, ◌<◌, Bool, List, [], ◌∷◌, ◌++◌, append-nil, append_assoc, ap, ap₂, arith, bytes_eq, map, refl, reverse, subst, suc, sym, zero, ◌∙◌}
 use Rattle.std.proofs.lemmas.List.{get_or-map, length-map}
 use Rattle.std.proofs.lemmas.List.Kept.{Any-dedup, Contains-from_dedup, IsStrictlySortedBy-dedup}
@@ -21,7 +21,7 @@ use Rattle.urlpattern_syntax.specs.Text.{text_of}
 use Rattle.urlpattern_components.specs.declared.eight.ComponentName.{ComponentName}
 use Rattle.urlpattern_matches.specs.declared.captures.UrlPatternCaptures.{UrlPatternCaptures}
 
--- ---- names that are gathered
+-- ---- names that are collected
 
 abbrev pub texts : List (String Global) → List (List ℕ)
 texts names = map (λ name. text_of name) names
@@ -30,7 +30,7 @@ texts-push : (names : List (String Global)) (name : String Global) → texts (na
 texts-push [] name = refl
 texts-push (first ∷ names) name = ap (λ rest. text_of first ∷ rest) (texts-push names name)
 
--- one more name that is gathered: the copy of the first that was still to come
+-- A name is collected: a copy of the first remaining one.
 pub names-more : (before left : List (List ℕ × Option (List ℕ))) (group : List ℕ × Option (List ℕ)) (copy : String Global) (old new : List (String Global)) (all : List (List ℕ)) →
     before ≡ group ∷ left → text_of copy ≡ group.0 → new ≡ old ++ copy ∷ [] → texts old ++ keys_of before ≡ all → texts new ++ keys_of left ≡ all
 names-more before left group copy old new all is_first is_copy is_new was =
@@ -45,7 +45,7 @@ names-end left gathered all ends was = sym (append-nil (texts gathered)) ∙ ap 
 
 -- ---- names and groups
 
--- a name is among those of the groups where there is a group of it
+-- A name is one of those of the groups exactly if there is a group with it.
 pub named-group : (found : UrlPatternCaptures) (component : ComponentName) (name : List ℕ) →
     Contains (keys_of (groups_view found component)) name ↔ IsSome ((pattern_captures_view found component).group name)
 named-group found component name =
@@ -56,7 +56,7 @@ named-group found component name =
           (Contains-keys_from_lookup (λ x y same. (bytes_decides x y).0 same) name (reverse groups) is),
     )
 
--- ---- names in order, each once
+-- ---- sorted names, each once
 
 contains-map : {X Y : Type 0} (f : X → Y) (xs : List X) (x : X) → Contains xs x → Contains (map f xs) (f x)
 contains-map f xs x (k, within, is) = (k, subst (λ n. k < n) (sym (length-map xs f)) within, get_or-map f xs k x (f x) within ∙ ap f is)
@@ -68,7 +68,7 @@ contains-from_map f (x ∷ xs) y (suc k, within, is) =
     let (z, there, same) = contains-from_map f xs y (k, omega (arith, within), is) in
     (z, (suc there.0, omega (arith, there.1), there.2), same)
 
--- values that stand strictly in order stay so where each is seen by the function that they are compared by
+-- A strictly sorted list is strictly sorted after a map that keeps the order.
 strictly-map : {X Y : Type 0} (f : X → Y) (R : X → X → Ordering) (S : Y → Y → Ordering) → ((x y : X) → R x y ≡ S (f x) (f y)) → (xs : List X) → IsStrictlySortedBy R xs → IsStrictlySortedBy S (map f xs)
 unfolding IsStrictlySortedBy
 strictly-map f R S same [] sorted = tt
@@ -111,7 +111,7 @@ names-in_order found component gathered sorted are_all permuted in_order =
           (IsStrictlySortedBy-dedup (on_texts bytes_at) (λ x y. texts_ties (bytes_at x) (bytes_at y)) sorted in_order);
     }
 
--- a name that is alone is in order
+-- A single name is sorted.
 pub only-name : (found : UrlPatternCaptures) (component : ComponentName) (name : List ℕ) → keys_of (groups_view found component) ≡ name ∷ [] →
     AreNames (pattern_captures_view found component) (name ∷ [])
 unfolding IsStrictlySortedBy
@@ -122,14 +122,14 @@ only-name found component name alone = record {
 
 -- ---- lines
 
--- the line of a name that is alone
+-- The line of a single name.
 pub only-line : (component : List ℕ) (found : ResultView) (name : List ℕ) → IsUtf8 name →
     flat_map (named_group_line component found) (chars name ∷ []) ≡ group_line component name (group_bytes (found.group (chars name)))
 only-line component found name utf8 =
     append-nil (named_group_line component found (chars name))
     ∙ ap (λ bytes. group_line component bytes (group_bytes (found.group (chars name)))) (encodes-chars name utf8)
 
--- the lines by the bytes of names are those by their characters
+-- The lines by the bytes of names are those by their characters.
 pub lines-of_texts : (component : List ℕ) (found : ResultView) (names : List (String Global)) →
     flat_map (λ name. group_line component name (group_bytes (found.group (chars name)))) (map bytes_at names) ≡ flat_map (named_group_line component found) (texts names)
 lines-of_texts component found [] = refl

@@ -1,4 +1,4 @@
--- The trees that are printed have no floats, so that their texts are known.
+-- The JSON that is printed has no floats. Its text is therefore known.
 use Rattle.std.proofs.Common.{◌≡◌, ℕ, Bool, true, false, List, [], ◌∷◌, map, None, Some, is_some, Ordering, Less, Equal, Greater, codes, refl, sym, ap, ◌∙◌, subst}
 use Rattle.std.specs.Cmp.Lexicographic.{slice_cmp}
 use Rattle.std.specs.Ordering.{match_ordering, nat_cmp}
@@ -74,14 +74,14 @@ component-none result tree (groups, are, is) =
     let first = put-none (codes "input") (string result.input) no_members refl refl in
     ap has_float is ∙ put-none (codes "groups") groups (put (codes "input") (string result.input) no_members) (groups-none groups result.group are) first
 
--- the tree of a match has no float
+-- The JSON of a match has no float.
 pub match-none : (result : ComponentName → ResultView) (tree : Data) → IsMatchTree result tree → has_float tree ≡ false
 match-none result tree (copy, same, (trees, are, is)) =
     ap has_float is ∙ each-none (λ name. at trees name) (λ name. component-none _ (at trees name) (are name)) components no_members refl
 
 -- ---- lines
 
--- what holds of the line of a tree without floats holds of the text that is made of it
+-- A property of the line of JSON without floats is one of the text that is written.
 pub line_is : (tree : Data) (line : Result (String Global) AllocError) (Holds : List ℕ → Type 0) → has_float tree ≡ false → Holds (json_line tree)
     → IfOk line (λ text. has_float tree ≡ false → string_bytes text ≡ json_line tree) → IfOk line (λ text. Holds (string_bytes text))
 line_is tree (Err error) Holds none is same = tt

@@ -1,13 +1,13 @@
--- Worked examples of what the groups of a match print, and of words for base URLs.
+-- Worked examples of printed captures, and of arguments for base URLs.
 use Rattle.std.proofs.Common.{◌≡◌, [], Some, None, codes, refl}
 use Rattle.urlpat_matching.specs.GroupLines.{group_bytes, group_line}
 use Rattle.urlpat_matching.specs.PatternWords.{base_of}
 
--- of a group that took no part the line ends after its name
+-- The line of a group that took no part ends after the name.
 optional_group_that_took_no_part : group_line (codes "pathname") (codes "lang") (group_bytes (Some None)) ≡ codes "pathname lang\n"
 optional_group_that_took_no_part = refl
 
--- one that captured the empty text has a mark
+-- The line of a group that captured the empty text has an equals sign.
 group_that_captured_nothing : group_line (codes "search") (codes "0") (Some []) ≡ codes "search 0=\n"
 group_that_captured_nothing = refl
 

@@ -1,4 +1,4 @@
--- Lemmas on the texts of words and on matches.
+-- Lemmas on the texts of arguments and on matches.
 use Rattle.std.proofs.Common.{◌≡◌, ℕ, ◌<◌, ◌≤◌, get_or, Bool, false, List, [], ◌∷◌, ◌++◌, map, length, drop, take, ◌+◌, refl, ap, ap₂, ◌∙◌, sym, subst, arith, append_assoc, append-nil}
 use Rattle.std.proofs.lemmas.List.{map-append, take_more}
 use Rattle.std.proofs.lemmas.Str.{encodes-chars, IsUtf8-string_bytes}
@@ -21,7 +21,7 @@ use Rattle.urlpattern_syntax.specs.declared.parser.RegexSyntax.TheVariants.{Rust
 
 -- ---- texts
 
--- the lines of one more component go after those of the others
+-- The lines of a component are appended.
 pub lines-behind : (components : List (List ℕ × ResultView)) (component : List ℕ × ResultView) (lines more : List ℕ)
     → AreLines components lines → AreGroupLines component.0 component.1 more → AreLines (components ++ component ∷ []) (lines ++ more)
 lines-behind [] component lines more none last = (more, [], ap (λ text. text ++ more) none ∙ sym (append-nil more), last, refl)
@@ -33,7 +33,7 @@ lines-behind (first ∷ components) component lines more (own, others, split, gr
   lines-behind components component others more rest last,
 )
 
--- so the lines of the next component go after those of the components before it
+-- The lines of the next component go after those of the components before it.
 pub lines-next : (found : ComponentName → ResultView) (names : List ComponentName) (n : ℕ) (lines more : List ℕ) → n < length names
     → AreLines (named_results found (take n names)) lines
     → AreGroupLines (name_text (get_or names n Protocol)) (found (get_or names n Protocol)) more
@@ -44,7 +44,7 @@ lines-next found names n lines more within are own =
     (sym (ap (named_results found) (take_more names n Protocol within) ∙ map-append (λ other. (name_text other, found other)) (take n names) (name ∷ [])))
     (lines-behind (named_results found (take n names)) (name_text name, found name) lines more are own)
 
--- the bytes of a string are those of its characters
+-- The bytes of a string are those of its characters.
 pub bytes_of_text : (string : String Global) (text : List ℕ) → text_of string ≡ text → string_bytes string ≡ encode_utf8_all text
 bytes_of_text string text same = sym (encodes-chars (string_bytes string) (IsUtf8-string_bytes string)) ∙ ap encode_utf8_all same
 
@@ -74,7 +74,7 @@ two_words_and_more (x ∷ y ∷ others) a b rest least is_a is_b is_rest = rw (i
 
 -- ---- matches
 
--- what a pattern answers is an answer of the text that it is compiled from
+-- The outcome of a compiled pattern is that of its text.
 pub found_by : (flags : Flags) (pattern input : List ℕ) (base : Option (List ℕ)) (compiled : PatternView PatternRegexp) (found : Option (String Global)) → IsPatternOf flags.ignore_case pattern base compiled
     → MatchOption found (IsUnmatchedBy compiled input base) (λ text. IsMatchTextBy flags.json compiled input base (string_bytes text))
     → MatchOption found (IsUnmatched flags.ignore_case pattern input base) (λ text. IsMatchText flags pattern input base (string_bytes text))

@@ -8,7 +8,7 @@ use Rattle.std.specs.declared.alloc.Global.{Global}
 use Rattle.urlpattern_matches.proofs.GroupLemmas.{chars-test}
 use Rattle.urlpattern_syntax.specs.Text.{text_of}
 
--- a name is among others by its bytes as by its characters
+-- A name is an element by its bytes exactly if it is one by its characters.
 pub among_alike : (name : List ℕ) → IsUtf8 name → (others : List (String Global)) → list_any (λ other. bytes_eq name (string_bytes other)) others ≡ list_any (bytes_eq (chars name)) (map (λ other. text_of other) others)
 among_alike name utf8 [] = refl
 among_alike name utf8 (other ∷ others) = λ i. sym (chars-test name (string_bytes other) utf8 (IsUtf8-string_bytes other)) i || among_alike name utf8 others i

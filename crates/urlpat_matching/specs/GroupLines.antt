@@ -1,4 +1,4 @@
--- The lines that have what the groups of a match capture. Texts are bytes.
+-- The lines for the captures of a match. Texts are bytes.
 use Rattle.std.specs.Prelude.{◌≡◌, ◌↔◌, ◌++◌, ℕ, List, [], ◌∷◌, map, codes, Option, None, Some, String, string_bytes, encode_utf8_all, IsSome}
 use Rattle.std.specs.Ordering.{on, nat_cmp}
 use Rattle.std.specs.Cmp.Lexicographic.{slice_cmp}
@@ -9,46 +9,47 @@ use Rattle.urlpattern_components.specs.Eight.{components, name_text}
 use Rattle.urlpattern_components.specs.declared.eight.ComponentName.{ComponentName}
 use Rattle.urlpattern_matches.specs.ResultViews.{ResultView}
 
--- what a group captured; of one that took no part nothing is printed
+-- The capture of a group. Nothing is printed if the group took no part.
 abbrev pub capture_text : Option (List ℕ) → List ℕ
 capture_text None = []
 capture_text (Some capture) = codes "=" ++ capture
 
--- the line of a group of a match: its component, its name, and what it captured
+-- The line of a group of a match: its component, its name, and its capture.
 abbrev pub group_line : (component name : List ℕ) → (capture : Option (List ℕ)) → List ℕ
 group_line component name capture = component ++ codes " " ++ name ++ capture_text capture ++ codes "\n"
 
--- the bytes that a group captured, if it took part
+-- The capture of a group as bytes, if the group took part.
 abbrev pub group_bytes : Option (Option (List ℕ)) → Option (List ℕ)
 group_bytes (Some (Some text)) = Some (encode_utf8_all text)
 group_bytes capture = None
 
--- These are the names of the component's groups, each once, in the order of their bytes.
+-- The names of the component's groups, each once, sorted by their bytes.
 pub record AreNames (found : ResultView) (names : List (List ℕ)) : Type 0 where
   pub are_all : (name : List ℕ) → Contains names name ↔ IsSome (found.group name)
   pub in_order : IsStrictlySortedBy (on encode_utf8_all (slice_cmp nat_cmp)) names
 
--- the line of the component's group of this name
+-- The line of the component's group with this name.
 abbrev pub named_group_line : (component : List ℕ) → ResultView → (name : List ℕ) → List ℕ
 named_group_line component found name = group_line component (encode_utf8_all name) (group_bytes (found.group name))
 
--- the text has a line for each group of the component
+-- The text has a line for each group of the component.
 abbrev pub AreGroupLines : (component : List ℕ) → ResultView → (text : List ℕ) → Type 0
 AreGroupLines component found text = (names : List (List ℕ)) × AreNames found names × (text ≡ flat_map (named_group_line component found) names)
 
--- the text has the lines of these components, one after the other
+-- The text has the lines of the components, one after the other.
 abbrev pub AreLines : List (List ℕ × ResultView) → (text : List ℕ) → Type 0
 AreLines [] text = text ≡ []
 AreLines (component ∷ rest) text =
     (first others : List ℕ) × (text ≡ first ++ others) × AreGroupLines component.0 component.1 first × AreLines rest others
 
--- the text gets such lines after what it has
+-- Lines for which `AreSuch` is true are appended to the text.
 abbrev pub GetsLines : (AreSuch : List ℕ → Type 0) → (old new : String Global) → Type 0
 GetsLines AreSuch old new = (lines : List ℕ) × (string_bytes new ≡ string_bytes old ++ lines) × AreSuch lines
 
--- these components by their names, and all
+-- The results of components, with the names of the components.
 abbrev pub named_results : (ComponentName → ResultView) → List ComponentName → List (List ℕ × ResultView)
 named_results result names = map (λ name. (name_text name, result name)) names
 
+-- The results of all components, with the names of the components.
 abbrev pub all_named_results : (ComponentName → ResultView) → List (List ℕ × ResultView)
 all_named_results result = named_results result components

@@ -4,6 +4,6 @@ use Rattle.std.specs.List.{list_any}
 use Rattle.urlpattern_components.specs.declared.eight.ComponentName.{ComponentName}
 use Rattle.urlpattern_pattern.specs.Patterns.{PatternView}
 
--- whether a component of the pattern has a group of this name
+-- Whether a component of the pattern has a group with this name.
 abbrev pub has_group : {E : Type 0} → PatternView E → (name : List ℕ) → ComponentName → Bool
 has_group pattern name component = list_any (bytes_eq name) (pattern component).group_name_list

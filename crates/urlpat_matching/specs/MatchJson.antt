@@ -1,4 +1,4 @@
--- Matches as JSON: their trees, as the library writes them, each on a line.
+-- Matches as JSON, as the library writes it, one on each line.
 use Rattle.std.specs.Prelude.{◌≡◌, ◌++◌, ℕ, List, codes}
 use Rattle.serde_json.specs.Data.{Data}
 use Rattle.serde_json.specs.Written.{compact_text}
@@ -7,15 +7,15 @@ use Rattle.urlpattern_matches.specs.ResultJson.{IsResultTree, plain_results_view
 use Rattle.urlpattern_matches.specs.ResultViews.{IsSameResult, ResultView, result_view}
 use Rattle.urlpattern_matches.specs.declared.result.UrlPatternResult.{UrlPatternResult}
 
--- the text of a tree, without spaces, and a line end
+-- The text of JSON, without spaces, and a line end.
 abbrev pub json_line : Data → List ℕ
 json_line tree = compact_text tree ++ codes "\n"
 
--- the tree of a match: that of a result with its texts and groups
+-- The JSON of a match: that of a result with the same texts and groups.
 abbrev pub IsMatchTree : (ComponentName → ResultView) → Data → Type 0
 IsMatchTree result tree =
     (copy : UrlPatternResult) × ((name : ComponentName) → IsSameResult (result_view copy name) (result name)) × IsResultTree (plain_results_view copy) tree
 
--- the text is the line of a match
+-- The text is the line of a match.
 abbrev pub IsMatchJson : (ComponentName → ResultView) → (text : List ℕ) → Type 0
 IsMatchJson result text = (tree : Data) × IsMatchTree result tree × (text ≡ json_line tree)

@@ -1,4 +1,4 @@
--- What is printed of the match of an input. Texts are bytes.
+-- The output for the match of an input. Texts are bytes.
 use Rattle.std.specs.Prelude.{◌⊎◌, ℕ, All, Bool, true, false, List, Option, String, string_bytes, MatchOption}
 use Rattle.std.specs.declared.alloc.Global.{Global}
 use Rattle.url.specs.Parts.{Parts}
@@ -15,12 +15,12 @@ use Rattle.urlpattern_matches.specs.ResultViews.{ResultView}
 use Rattle.urlpattern_pattern.specs.Match.{HasNoMatch, IsMatch}
 use Rattle.urlpattern_pattern.specs.Patterns.{PatternView}
 
--- the text shows what the groups of a match capture: as JSON, or a line for each
+-- The text has the captures of a match: as JSON, or a line for each group.
 abbrev pub ShowsMatch : (json : Bool) → (ComponentName → ResultView) → (text : List ℕ) → Type 0
 ShowsMatch true result text = IsMatchJson result text
 ShowsMatch false result text = AreLines (all_named_results result) text
 
--- The pattern matches the input, a URL under this base URL, and the text has what the groups capture.
+-- The pattern matches the input, a URL under this base URL, and the text has the captures.
 pub record IsMatchTextBy (json : Bool) (compiled : PatternView PatternRegexp) (input : List ℕ) (base : Option (List ℕ)) (text : List ℕ) : Type 0 where
   pub url : Parts
   pub result : ComponentName → ResultView
@@ -28,32 +28,37 @@ pub record IsMatchTextBy (json : Bool) (compiled : PatternView PatternRegexp) (i
   pub is_match : IsMatch pattern_answer compiled (match_inputs.Url url) result
   pub shows : ShowsMatch json result text
 
+-- The pattern text compiles to a pattern that matches the input, and the text has the captures.
 abbrev pub IsMatchText : Flags → (pattern input : List ℕ) → (base : Option (List ℕ)) → (text : List ℕ) → Type 0
 IsMatchText flags pattern input base text =
     (compiled : PatternView PatternRegexp) × IsPatternOf flags.ignore_case pattern base compiled × IsMatchTextBy flags.json compiled input base text
 
--- the pattern does not match the input: `url` refuses it, or the pattern has no match on it
+-- The pattern does not match the input: `url` rejects the input, or the pattern has no match on it.
 abbrev pub IsUnmatchedUnder : (compiled : PatternView PatternRegexp) → (input : List ℕ) → BaseView → Type 0
 IsUnmatchedUnder compiled input base =
     IsRefusedUnder input base ⊎ ((url : Parts) × IsUrlUnder input base url × HasNoMatch pattern_answer compiled (match_inputs.Url url))
 
+-- The pattern does not match the input, under this base URL if there is one.
 abbrev pub IsUnmatchedBy : (compiled : PatternView PatternRegexp) → (input : List ℕ) → (base : Option (List ℕ)) → Type 0
 IsUnmatchedBy compiled input base = IsUnmatchedUnder compiled input (base_view base)
 
+-- The pattern text compiles to a pattern that does not match the input.
 abbrev pub IsUnmatched : (ignores : Bool) → (pattern input : List ℕ) → (base : Option (List ℕ)) → Type 0
 IsUnmatched ignores pattern input base =
     (compiled : PatternView PatternRegexp) × IsPatternOf ignores pattern base compiled × IsUnmatchedBy compiled input base
 
--- no pattern of the list matches the input: `url` refuses it, or none has a match on it
+-- No pattern of the list matches the input: `url` rejects the input, or no pattern has a match on
+-- it.
 abbrev pub IsUnmatchedByAllUnder : (compiled : List (PatternView PatternRegexp)) → (input : List ℕ) → BaseView → Type 0
 IsUnmatchedByAllUnder compiled input base =
     IsRefusedUnder input base ⊎ ((url : Parts) × IsUrlUnder input base url × All (λ pattern. HasNoMatch pattern_answer pattern (match_inputs.Url url)) compiled)
 
--- what is found is the text of a match; None where there is none
+-- The text of the match of a pattern text. `None`: there is no match.
 abbrev pub FindsMatch : Flags → (pattern input : List ℕ) → (base : Option (List ℕ)) → Option (String Global) → Type 0
 FindsMatch flags pattern input base found =
     MatchOption found (IsUnmatched flags.ignore_case pattern input base) (λ text. IsMatchText flags pattern input base (string_bytes text))
 
+-- The text of the match of a compiled pattern. `None`: there is no match.
 abbrev pub FindsMatchBy : (json : Bool) → PatternView PatternRegexp → (input : List ℕ) → (base : Option (List ℕ)) → Option (String Global) → Type 0
 FindsMatchBy json compiled input base found =
     MatchOption found (IsUnmatchedBy compiled input base) (λ text. IsMatchTextBy json compiled input base (string_bytes text))

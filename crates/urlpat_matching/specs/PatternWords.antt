@@ -1,4 +1,4 @@
--- The pattern that a word and its base URL stand for. Words are bytes.
+-- The pattern of an argument and its base URL. Arguments are bytes.
 use Rattle.std.specs.Prelude.{ℕ, Bool, false, if◌then◌else◌, List, bytes_eq, codes, Option, None, Some}
 use Rattle.std.specs.Str.{chars}
 use Rattle.urlpattern_compile.specs.FromString.{IsPatternOfText, RefusesPatternOfText}
@@ -11,25 +11,28 @@ use Rattle.urlpattern_pattern.specs.UrlPatterns.{UrlPattern}
 use Rattle.urlpattern_syntax.specs.Errors.{ErrorView}
 use Rattle.urlpattern_syntax.specs.declared.parser.RegexSyntax.TheVariants.{Rust}
 
--- the base URL that a word stands for: none for `-`
+-- The base URL of an argument: none for `-`.
 abbrev pub base_of : List ℕ → Option (List ℕ)
 base_of word = if bytes_eq word (codes "-") then None else Some word
 
--- the options that whole patterns are compiled under, where they ignore case or not; and the default ones
+-- The options for patterns, which ignore case or not.
 abbrev pub pattern_options : (ignores : Bool) → UrlPatternOptions
 pattern_options ignores = record { regex_syntax = Rust; ignore_case = ignores }
 
+-- The default options for patterns, which keep case.
 abbrev pub default_pattern_options : UrlPatternOptions
 default_pattern_options = pattern_options false
 
--- the constructor string with this base URL is compiled to the pattern, which ignores case or not, by the engine `PatternRegexp`
+-- The constructor string with this base URL is compiled to the pattern, with the engine
+-- `PatternRegexp`.
 abbrev pub IsPatternOf : (ignores : Bool) → (text : List ℕ) → (base : Option (List ℕ)) → PatternView PatternRegexp → Type 0
 IsPatternOf ignores text base pattern = IsPatternOfText pattern_engine (chars text) base (pattern_options ignores) pattern
 
--- the pattern keeps the parts that the texts of the constructor string read as
+-- The pattern keeps the parts that the component texts of the constructor string read as.
 abbrev pub KeepsPartsOfWord : (ignores : Bool) → (text : List ℕ) → (base : Option (List ℕ)) → UrlPattern PatternRegexp → Type 0
 KeepsPartsOfWord ignores text base pattern = KeepsPartsOfText pattern_engine (chars text) base (pattern_options ignores) pattern
 
--- it is refused with this error, as a constructor string or when it is compiled
+-- The constructor string with this base URL is rejected with this error, when it is parsed or
+-- compiled.
 abbrev pub RefusesPatternOf : (ignores : Bool) → (text : List ℕ) → (base : Option (List ℕ)) → ErrorView → Type 0
 RefusesPatternOf ignores text base error = RefusesPatternOfText pattern_engine (chars text) base (pattern_options ignores) error

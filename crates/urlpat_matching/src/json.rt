@@ -1,4 +1,4 @@
-//! Matches as JSON, each on a line.
+//! Matches as JSON, one on each line.
 
 ghost use Rattle.serde_json.specs.View.{view};
 ghost use Rattle.serde_json.specs.Written.{has_float};
@@ -10,7 +10,7 @@ use serde_json::Value;
 use std::alloc::{AllocError, Global};
 use urlpattern_matches::UrlPatternCaptures;
 
-/// The line of a match.
+/// The match as a line of JSON.
 pub fn match_json(alloc: Global, found: &UrlPatternCaptures<'_, '_>) -> Result<String, AllocError>
     ensures { IfOk result (λ text. IsMatchJson (pattern_captures_view found.now) (string_bytes text)) }
 {
@@ -18,7 +18,7 @@ pub fn match_json(alloc: Global, found: &UrlPatternCaptures<'_, '_>) -> Result<S
     json_line(alloc, &tree)
 }
 
-/// The JSON of a match.
+/// The match as JSON.
 pub fn match_tree(alloc: Global, found: &UrlPatternCaptures<'_, '_>) -> Result<Value, AllocError>
     ensures { IfOk result (λ tree. IsMatchTree (pattern_captures_view found.now) (view tree)) }
 {

@@ -1,6 +1,5 @@
-//! What the commands of the program `urlpat` share: the patterns and the URLs that words stand for, the
-//! groups of a pattern and what they capture, as lines or as JSON, the status of a run, and why a
-//! pattern or an input is refused.
+//! The base of the program's commands: patterns and URLs from arguments, groups and their captures,
+//! as lines or as JSON, exit statuses, and the reasons why a pattern or an input is rejected.
 #![tactic(auto)]
 
 mod groups;

@@ -1,4 +1,4 @@
-//! What the groups of a pattern capture of a URL.
+//! The captures of a URL.
 
 ghost use Rattle.std.specs.Map.{keys_of};
 ghost use Rattle.std.specs.Prelude.{◌≡◌, ◌++◌, ◌∷◌, [], ℕ, List, map, option_copied, string_bytes, IfErr, IfOk, IfSome, OnOk};
@@ -23,12 +23,12 @@ use urlpattern_matches::UrlPatternCaptures;
 use urlpattern_pattern::UrlPattern;
 use urlpattern_syntax::{Error, RegexSyntax};
 
-/// The word that stands for no base URL.
+/// The argument for no base URL.
 pub const NO_BASE: &str = "-";
 
-/// The match of an input: a line for each group, or JSON. `None`: the input is not matched.
+/// The captures of an input: a line for each group, or JSON. `None`: the input does not match.
 ///
-/// The error is why the pattern or its base is refused, or that memory ran out.
+/// The error is the one with which the pattern or its base is rejected, or that memory ran out.
 pub fn matched_groups(
     alloc: Global,
     pattern: &str,
@@ -46,16 +46,16 @@ pub fn matched_groups(
     Ok(answer?)
 }
 
-/// The base URL that a word stands for.
+/// The base URL of an argument.
 pub fn base_of(word: &str) -> Option<&str>
     ensures { option_copied result ≡ base_of word.now }
 {
     if word == NO_BASE { None } else { Some(word) }
 }
 
-/// The pattern of a constructor string, which ignores case or not, over an engine that is made for patterns.
+/// Compiles a constructor string with the engine `PatternRegexp`.
 ///
-/// The error is why the pattern or its base is refused, or that memory ran out.
+/// The error is the one with which the pattern or its base is rejected, or that memory ran out.
 pub fn compiled(
     alloc: Global,
     pattern: &str,
@@ -73,9 +73,7 @@ pub fn compiled(
     UrlPattern::from_constructor_string(alloc, pattern, base, options)
 }
 
-/// The match of an input: a line for each group, or JSON. `None`: the input is not matched.
-///
-/// The error is that memory ran out.
+/// The captures of an input: a line for each group, or JSON. `None`: the input does not match.
 fn groups_of_match(
     alloc: Global,
     pattern: &UrlPattern<PatternRegexp>,
@@ -127,7 +125,7 @@ pub fn push_match(
     Ok(())
 }
 
-/// Appends a line for each group of a component, in the order of the bytes of their names.
+/// Appends a line for each group of a component, sorted by the bytes of the names.
 fn push_groups(
     alloc: Global,
     text: &mut String,
@@ -147,7 +145,7 @@ fn push_groups(
     Ok(())
 }
 
-/// The name of the group of a component that has one alone.
+/// The name of the group of a component that has a single group.
 fn only_group<'p>(found: &UrlPatternCaptures<'p, '_>, name: ComponentName) -> Option<&'p str>
     ensures { IfSome result (λ group. keys_of (groups_view found.now name) ≡ chars group.now ∷ []) }
 {
@@ -159,7 +157,7 @@ fn only_group<'p>(found: &UrlPatternCaptures<'p, '_>, name: ComponentName) -> Op
     }
 }
 
-/// The names of the groups of a component, each once, in the order of their bytes.
+/// The names of the groups of a component, each once, sorted by their bytes.
 fn sorted_names(
     alloc: Global,
     found: &UrlPatternCaptures<'_, '_>,
@@ -189,7 +187,7 @@ fn names_of(
     Ok(names)
 }
 
-/// What a group captured. `None`: it took no part.
+/// The capture of a group. `None`: the group took no part.
 pub fn capture_of<'u>(
     found: &UrlPatternCaptures<'_, 'u>,
     name: ComponentName,
@@ -203,7 +201,7 @@ pub fn capture_of<'u>(
     }
 }
 
-/// Appends the line of a group: its component and its name, and what it captured, if it took part.
+/// Appends the line of a group: its component, its name, and its capture, if it took part.
 fn push_group(
     text: &mut String,
     component: &str,

@@ -1,4 +1,5 @@
-//! What goes to standard error beside an answer: what is wrong with a pattern that is refused, and that an input is no URL.
+//! Notes on standard error: what is wrong with a pattern that is rejected, and that an input is not
+//! a URL.
 
 ghost use Rattle.std.specs.Prelude.{◌≡◌, option_copied, IfOk, IfSome};
 ghost use Rattle.urlpattern_canonical.specs.BaseUrls.{IsRefusedText};
@@ -15,9 +16,7 @@ use urlpattern_pattern::UrlPattern;
 use urlpattern_syntax::Error;
 use urlpattern_syntax::error::OutOfMemory;
 
-/// Says that an input is no URL. `None`: it is one.
-///
-/// The error is that memory ran out.
+/// A note that an input is not a URL. `None`: it is one.
 pub fn note_of(alloc: Global, base: Option<&str>, input: &str) -> Result<Option<String>, Error>
     ensures { IfOk result (λ note. IfSome note (λ text. IsRefusedText input.now (option_copied base.entry))) }
 {
@@ -39,7 +38,7 @@ pub fn note_of(alloc: Global, base: Option<&str>, input: &str) -> Result<Option<
     }
 }
 
-/// The URL of an input, as `url` reads it.
+/// Parses an input as a URL, under a base URL if there is one.
 fn parsed(alloc: Global, base: Option<&str>, input: &str) -> Result<Url, ParseError> {
     let Some(base) = base else {
         return Url::parse(alloc, input);
@@ -50,7 +49,8 @@ fn parsed(alloc: Global, base: Option<&str>, input: &str) -> Result<Url, ParseEr
     url
 }
 
-/// Reports why a constructor string or its base is refused, and what is wrong with it, and gives the status to end with.
+/// Reports why a constructor string or its base is rejected, and what is wrong with it. Returns the
+/// exit status.
 pub fn write_refusal<Err: Write>(
     alloc: Global,
     pattern: &str,
@@ -79,9 +79,7 @@ pub fn write_refusal<Err: Write>(
     FAILED
 }
 
-/// What is wrong with a constructor string, or its base, as lines for a reader. `None`: neither is refused.
-///
-/// The error is that memory ran out.
+/// Diagnoses a constructor string and its base, in lines for a reader. `None`: neither is rejected.
 pub fn match_diagnosis(
     alloc: Global,
     pattern: &str,
@@ -99,10 +97,8 @@ pub fn match_diagnosis(
     // docs: end
 }
 
-/// What is wrong with the first constructor string that is refused, after its number, or with the base. `None`: none is
-/// refused.
-///
-/// The error is that memory ran out.
+/// Diagnoses the first constructor string that is rejected, after its number, or the base. `None`:
+/// none is rejected.
 pub fn first_diagnosis(
     alloc: Global,
     base: Option<&str>,
@@ -118,7 +114,7 @@ pub fn first_diagnosis(
     Ok(None)
 }
 
-/// A diagnosis after the number of its pattern. Of the base no pattern is named.
+/// A diagnosis after the number of its pattern. No pattern is named if the base is at fault.
 fn numbered(alloc: Global, index: usize, diagnosis: &Diagnosis) -> Result<String, OutOfMemory> {
     // docs: subject
     match diagnosis.subject {
@@ -128,7 +124,7 @@ fn numbered(alloc: Global, index: usize, diagnosis: &Diagnosis) -> Result<String
     // docs: end
 }
 
-/// What is wrong with a constructor string, or its base.
+/// Diagnoses a constructor string and its base.
 // docs: diagnose
 fn diagnosed(
     alloc: Global,

@@ -1,4 +1,4 @@
-//! How a run ends: its status, and why there is no answer.
+//! The end of a run: its exit status, and why it has no output.
 
 ghost use Rattle.std.specs.Io.KnownBytes.{Appends};
 ghost use Rattle.std.specs.Prelude.{◌≡◌, IfSome, OnOk};
@@ -12,13 +12,13 @@ use std::io;
 use std::io::Write;
 use urlpattern_syntax::Error;
 
-/// The status of a run that gave its answer.
+/// The exit status of a run that succeeded.
 pub const DONE: u8 = 0;
 
-/// The status of a run whose input is not matched.
+/// The exit status of a run whose input does not match.
 pub const NO_MATCH: u8 = 1;
 
-/// The status of every other run.
+/// The exit status of any other run.
 pub const FAILED: u8 = 2;
 
 /// The usage of `component`.
@@ -30,12 +30,12 @@ const MATCH_USAGE: &str = "       urlpat match PATTERN BASE INPUT\n";
 /// The usage of `first`.
 const FIRST_USAGE: &str = "       urlpat first BASE INPUT PATTERN..\n";
 
-/// Why there is no answer.
+/// The reason why a run has no output.
 #[derive(Debug, Drop)]
 pub enum Failure {
-    /// The words are no command.
+    /// The arguments are not a command.
     Usage,
-    /// The library refused a word, or memory ran out.
+    /// The library rejected an argument, or memory ran out.
     Refused(Error),
 }
 
@@ -55,7 +55,7 @@ impl From<AllocError> for Failure {
     }
 }
 
-/// Writes a text, and all that is still to be written.
+/// Writes a text, and flushes the output.
 pub fn print<Out: Write>(text: &[u8], out: &mut Out) -> io::Result<()>
     ensures { OnOk result (Appends (Out.contents out.old) (Out.contents out.new) text.now) }
 {
@@ -63,7 +63,7 @@ pub fn print<Out: Write>(text: &[u8], out: &mut Out) -> io::Result<()>
     out.flush()
 }
 
-/// Reports why there is no answer, and gives the status to end with.
+/// Reports why a run has no output. Returns the exit status.
 pub fn fail<Err: Write>(failure: &Failure, err: &mut Err) -> u8
     ensures { result ≡ FAILED }
 {
@@ -71,7 +71,7 @@ pub fn fail<Err: Write>(failure: &Failure, err: &mut Err) -> u8
     FAILED
 }
 
-/// Writes why there is no answer: how the program is used, or the error and a line end.
+/// Writes why a run has no output: the usage of the program, or the error and a line end.
 pub fn report<Err: Write>(failure: &Failure, err: &mut Err) -> io::Result<()>
     ensures { IfSome (failure_lines failure.now) (λ lines. OnOk result (Appends (Err.contents err.old) (Err.contents err.new) lines)) }
 {

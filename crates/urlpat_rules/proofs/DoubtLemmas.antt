@@ -1,4 +1,4 @@
--- Lemmas on patterns of which it is not known whether one before them covers them.
+-- Lemmas on patterns for which it is not known whether an earlier one covers them.
 use Rattle.std.proofs.Common.{◌≡◌, ◌⊎◌, ◌<◌, ◌≤◌, ◌+◌, ◌++◌, ◌∙◌, ℕ, List, add-one, ap, get_or, inl, inr, length, refl, subst, sym, take, take_all}
 use Rattle.std.proofs.lemmas.List.Elements.{All-more}
 use Rattle.std.proofs.lemmas.Option.{slice_get_read}
@@ -17,7 +17,8 @@ use Rattle.urlpattern_compare.specs.Comparing.{IsNotKnownToCover, IsParting, IsR
 use Rattle.urlpattern_compare.specs.declared.pattern.Parting.{Parting}
 use Rattle.urlpattern_compare.specs.declared.pattern.PatternParts.{PatternParts}
 
--- a doubt about the asked pattern, whose index is given: those before the one in question part
+-- A doubt about the asked pattern, which has this index. The patterns before the one in question
+-- are known not to cover it.
 pub record IsDoubt (index : ℕ) (patterns : List PatternParts) (asked : PatternParts) (doubt : Doubt) :
     Type 0 where
   pub is_pattern : doubt.pattern ≡ index
@@ -26,7 +27,7 @@ pub record IsDoubt (index : ℕ) (patterns : List PatternParts) (asked : Pattern
   pub why : IsReasonIn pattern asked doubt.component doubt.reason
   pub parted : All (IsParted asked) (take doubt.by patterns)
 
--- what is known of it because of the first patterns, so many, none of which is known to cover it
+-- The doubt because of the first `count` patterns, none of which is known to cover the asked one.
 pub record IsDoubtBelow (index : ℕ) (patterns : List PatternParts) (asked : PatternParts) (count : ℕ)
     (first : Option Doubt) : Type 0 where
   pub uncovered : All (IsNotKnownToCover asked) (take count patterns)
@@ -42,7 +43,7 @@ module _ (index : ℕ) (patterns : List PatternParts) (asked : PatternParts) (by
       All-more (IsNotKnownToCover asked) patterns by pattern within before
       (subst (IsNotKnownToCover asked) is here)
 
-  -- one more pattern does not cover the asked one
+  -- The next pattern is known not to cover the asked one.
   pub below-parted : (first : Option Doubt) (parting : Parting) → IsParting pattern asked parting
       → IsDoubtBelow index patterns asked by first → IsDoubtBelow index patterns asked (by + 1) first
   below-parted None parting parts below = record {
@@ -55,7 +56,7 @@ module _ (index : ℕ) (patterns : List PatternParts) (asked : PatternParts) (by
     found = below.found;
   }
 
-  -- of one more it is not known
+  -- Whether the next pattern covers the asked one is not known.
   pub below-doubted : (first : Option Doubt) (name : ComponentName) (reason : Reason)
       → IsReasonIn pattern asked name reason → IsDoubtBelow index patterns asked by first
       → IsDoubtBelow index patterns asked (by + 1)
@@ -75,7 +76,7 @@ module _ (index : ℕ) (patterns : List PatternParts) (asked : PatternParts) (by
     found = below.found;
   }
 
--- what is known because of all
+-- The doubt because of all patterns.
 pub about-all : (index : ℕ) (patterns : List PatternParts) (asked : PatternParts) (count : ℕ)
     (first : Option Doubt) → length patterns ≤ count → IsDoubtBelow index patterns asked count first
     → IsDoubtAbout index patterns asked first
@@ -92,23 +93,23 @@ about-all index patterns asked count (Some doubt) past below = (
   },
 )
 
--- the doubt about one more pattern goes after the others
+-- The doubt about the next pattern is appended.
 pub doubts-more : (patterns : List PatternParts) (index : ℕ) (old new : List Doubt)
     (last : Option Doubt) → AreDoubts patterns index old → IsDoubtAt patterns index last
     → new ≡ old ++ option_to_list last → AreDoubts patterns (index + 1) new
 doubts-more patterns index old new last are is grown =
     subst (λ count. AreDoubts patterns count new) (sym (add-one index)) (old, last, are, is, grown)
 
--- ---- what is printed
+-- ---- output
 
--- a text gets a line, if there is memory
+-- A line is appended to a text, unless memory runs out.
 pub line-pushed : {X E : Type 0} (pushed : Result X E) (old new piece line : List ℕ)
     → new ≡ (if is_ok pushed then old ++ piece else old) → piece ≡ line
     → OnOk pushed (new ≡ old ++ line)
 line-pushed (Err error) old new piece line grown is = tt
 line-pushed (Ok x) old new piece line grown is = grown ∙ ap (λ added. old ++ added) is
 
--- what is said of a table's entries is said of the table
+-- A doubt about a table's entries is one about the table.
 pub has-doubts : (table : List ℕ) (base : Option (List ℕ)) (items first second : List Entry)
     (patterns shown : List PatternParts) (text : List ℕ)
     → entries_view items ≡ table_entries table → first ≡ items → second ≡ items → shown ≡ patterns
@@ -123,7 +124,7 @@ has-doubts table base items first second patterns shown text are one two same pa
   some,
 )
 
--- nothing is said, or this
+-- Nothing is reported, or a doubt is.
 pub quiet-or : {E : Type 0} (new mid old : E) (P Q : Type 0) → mid ≡ old → (P → Q)
     → (new ≡ mid) ⊎ P → (new ≡ old) ⊎ Q
 quiet-or new mid old P Q is f (inl same) = inl (same ∙ is)

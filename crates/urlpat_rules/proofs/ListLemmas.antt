@@ -1,4 +1,4 @@
--- Lemmas on what is printed of patterns.
+-- Lemmas on printed patterns.
 use Rattle.std.proofs.Common.{◌≡◌, ◌<◌, ◌+◌, ℕ, List, [], ◌∷◌, ◌++◌, length, take, get_or, ap, sym, subst, ◌∙◌}
 use Rattle.std.proofs.lemmas.Grind.{take_at_read}
 use Rattle.std.proofs.lemmas.List.{map-append}
@@ -20,7 +20,7 @@ one-more R [] (z ∷ ys) x y are is = absurd are
 one-more R (z ∷ xs) [] x y are is = absurd are
 one-more R (z ∷ xs) (w ∷ ys) x y are is = (are.0, one-more R xs ys x y are.1 is)
 
--- the parts of the next entry's pattern go after those of the entries before it
+-- The parts of the next entry's pattern are appended.
 pub parts-more : (base : Option (List ℕ)) (entries : List Entry) (index : ℕ) (none : Entry) (patterns next : List PatternParts) (parts : PatternParts)
     → index < length entries → next ≡ patterns ++ parts ∷ [] → ArePartsOfEach base (entries_view (take index entries)) patterns
     → ArePartsOf (get_or entries index none).pattern.now base parts → ArePartsOfEach base (entries_view (take (index + 1) entries)) next
@@ -32,14 +32,14 @@ parts-more base entries index none patterns next parts within is_next are is =
     (subst (λ (ps : List PatternParts). ArePartsOfEach base (entries_view (take index entries) ++ entry_view entry ∷ []) ps) (sym is_next)
     (one-more (λ (e : EntryView) p. ArePartsOf e.pattern base p) (entries_view (take index entries)) patterns (entry_view entry) parts are is))
 
--- ---- what is printed
+-- ---- output
 
 pub tells-whether : (words : List (String Global)) (pattern asked : String Global) (covering : PatternCovering) (status : ℕ) (old new : Option (List ℕ)) → words ≡ pattern ∷ asked ∷ []
     → ComparesWith (string_bytes pattern) (string_bytes asked) covering → TellsCovering covering status old new → TellsWhether (words_view words) status old new
 tells-whether words pattern asked covering status old new are compares tells =
     subst (λ ws. TellsWhether (words_view ws) status old new) (sym are) (covering, compares, tells)
 
--- what is printed of a table's entries is printed of the table
+-- The output for a table's entries is that for the table.
 pub lists-of : (table : List ℕ) (base : Option (List ℕ)) (items first second : List Entry) (patterns shown : List PatternParts) (text : List ℕ) (status : ℕ) (old new : Option (List ℕ))
     → entries_view items ≡ table_entries table → first ≡ items → second ≡ items → shown ≡ patterns
     → ArePartsOfEach base (entries_view first) patterns → AreUnreached shown (entries_view second) text → status ≡ status_of (nat_lt 0 (length text)) → Appends old new text

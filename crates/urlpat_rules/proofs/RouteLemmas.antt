@@ -1,4 +1,4 @@
--- Lemmas on the patterns of a table, and on the rows that are printed of it.
+-- Lemmas on the patterns of a table, and on its rows.
 use Rattle.std.proofs.Common.{◌≡◌, ◌<◌, ◌+◌, ◌∙◌, ℕ, Bool, false, List, [], ◌∷◌, ◌++◌, ap, append_assoc, append-nil, arith, codes, decimal, get_or, length, refl, subst, sym, take}
 use Rattle.std.proofs.lemmas.Grind.{flat_map-append, take_at_read}
 use Rattle.std.proofs.lemmas.List.{map-append}
@@ -22,13 +22,13 @@ use Rattle.urlpattern.specs.Patterns.{pattern_view}
 use Rattle.urlpattern.specs.UrlPattern.{UrlPattern}
 use Rattle.urlpattern_engine.specs.declared.pattern_regexp.PatternRegexp.{PatternRegexp}
 
--- ---- patterns one after the other
+-- ---- patterns in order
 
 pub routes-none : (ignores : Bool) (base : Option (List ℕ)) (routes : Routes) → routes ≡ [] → AreRoutesOf ignores base [] routes
 routes-none ignores base routes are =
     subst (λ (rs : Routes). AreRoutesOf ignores base [] rs) (sym are) (refl, λ k d less. absurd (omega (arith, less)))
 
--- the next entry with its pattern goes after those before it
+-- The next entry with its pattern is appended.
 pub routes-more : (ignores : Bool) (base : Option (List ℕ)) (entries : List Entry) (index : ℕ) (none : Entry) (routes next : Routes) (pattern : UrlPattern PatternRegexp)
     → index < length entries → next ≡ routes ++ (pattern, get_or entries index none) ∷ [] → AreRoutesOf ignores base (entries_view (take index entries)) routes
     → IsPatternOf ignores (get_or entries index none).pattern.now base (pattern_view pattern) → AreRoutesOf ignores base (entries_view (take (index + 1) entries)) next
@@ -47,7 +47,7 @@ routes-more ignores base entries index none routes next pattern within is_next (
 
 -- ---- rows
 
--- one more line goes after a tab
+-- A line is appended after a tab.
 pub cells-more : (old row tabbed next : List ℕ) (before : List (List ℕ)) (line : List ℕ)
     → row ≡ old ++ flat_map cell_text before → tabbed ≡ row ++ codes "\t" → next ≡ tabbed ++ line
     → next ≡ old ++ flat_map cell_text (before ++ line ∷ [])
@@ -59,7 +59,7 @@ cells-more old row tabbed next before line was tab goes =
     ∙ ap (λ (cells : List ℕ). old ++ (flat_map cell_text before ++ cells)) (sym (append-nil (cell_text line)))
     ∙ ap (λ (cells : List ℕ). old ++ cells) (sym (flat_map-append cell_text before (line ∷ [])))
 
--- the pieces of a row make it up
+-- A row is the concatenation of its pieces.
 pub row-of : (entry : EntryView) (text old headed celled new : List ℕ)
     → headed ≡ old ++ (decimal entry.number ++ codes "\t" ++ entry.name) → celled ≡ headed ++ flat_map cell_text (bare_lines text) → new ≡ celled ++ codes "\n"
     → new ≡ old ++ row_text entry text
@@ -70,7 +70,7 @@ row-of entry text old headed celled new head cells end =
     ∙ ap (λ (row : List ℕ). row ++ codes "\n") (cells ∙ ap (λ (row : List ℕ). row ++ middle) head ∙ append_assoc old front middle)
     ∙ append_assoc old (front ++ middle) (codes "\n")
 
--- the tree of a route has no float
+-- The JSON of a route has no float.
 pub route-none : (entry : EntryView) (found : Data) → has_float found ≡ false → has_float (route_tree entry found) ≡ false
 route-none entry found none =
     let numbered = put (codes "number") (number (unsigned entry.number)) no_members in
@@ -78,9 +78,9 @@ route-none entry found none =
     put-none (codes "match") found named none
     (put-none (codes "name") (string entry.name) numbered refl (put-none (codes "number") (number (unsigned entry.number)) no_members refl refl))
 
--- ---- what is printed
+-- ---- output
 
--- what is answered by the entries of a table is answered by the table
+-- The output for a table's entries is that for the table.
 pub routes-by : (flags : Flags) (table : List ℕ) (base : Option (List ℕ)) (kept : BaseView) (items shown : List Entry) (routes : Routes) (input old new : Option (List ℕ)) (any : Bool) (status : ℕ)
     → entries_view items ≡ table_entries table → shown ≡ items → AreRoutesOf flags.ignore_case base (entries_view shown) routes → kept ≡ base_view base → status ≡ status_of any
     → IfSome input (λ text. FiltersText (IsLineAnswered flags.json routes kept) Line text any old new) → RoutesBy flags table base status input old new

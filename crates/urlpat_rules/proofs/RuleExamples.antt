@@ -4,11 +4,11 @@ use Rattle.urlpat_rules.specs.TableWords.{NameTable}
 use Rattle.urlpat_rules.specs.Unreached.{number_at}
 use Rattle.urlpat_lines.specs.Tables.{entries_from}
 
--- lines are numbered from 1 on, also those without a pattern
+-- Lines are numbered from 1 on, including those without a pattern.
 number_after_a_comment : number_at (entries_from 1 (codes "/*" ∷ codes "# users" ∷ codes "/users/:id" ∷ [])) 1 ≡ 3
 number_after_a_comment = refl
 
--- the base URL may be left out
+-- The base URL may be left out.
 file_alone : NameTable (codes "routes.txt" ∷ []) (codes "routes.txt") None
 file_alone = (refl, refl)
 

@@ -1,4 +1,4 @@
--- Whether a pattern covers another, and what is printed of it. Words and texts are bytes.
+-- Whether a pattern covers another, and the output for it. Arguments and texts are bytes.
 use Rattle.std.specs.Prelude.{◌≡◌, ℕ, false, List, [], ◌∷◌, ◌++◌, codes, Option, None, Some, String, string_bytes}
 use Rattle.std.specs.List.{flat_map}
 use Rattle.std.specs.Io.KnownBytes.{Appends}
@@ -16,37 +16,39 @@ use Rattle.urlpattern_compare.specs.declared.pattern.PatternCovering.TheVariants
 
 -- ---- parts
 
--- the parts are those that the pattern keeps to which the constructor string with this base URL is compiled
+-- The parts of the pattern to which the constructor string with this base URL is compiled.
 abbrev pub ArePartsOf : (text : List ℕ) → (base : Option (List ℕ)) → PatternParts → Type 0
 ArePartsOf text base parts =
     (compiled : UrlPattern PatternRegexp) × IsPatternOf false text base (pattern_view compiled)
     × KeepsPartsOfWord false text base compiled × (compiled.parts ≡ Some parts)
 
--- whether the pattern of the first constructor string covers that of the asked one
+-- Whether the pattern of the first constructor string covers that of the asked one.
 abbrev pub ComparesWith : (pattern asked : List ℕ) → PatternCovering → Type 0
 ComparesWith pattern asked covering =
     (parts asked_parts : PatternParts) × ArePartsOf pattern None parts × ArePartsOf asked None asked_parts × IsPatternCovering parts asked_parts covering
 
--- ---- what is printed
+-- ---- output
 
--- a line with the text of a component, and those of all
+-- A line with the text of a component.
 abbrev pub text_line : Eight (String Global) → ComponentName → List ℕ
 text_line texts name = name_text name ++ codes "=" ++ string_bytes (at texts name) ++ codes "\n"
 
+-- A line with the text of each component.
 abbrev pub text_lines : Eight (String Global) → List ℕ
 text_lines texts = flat_map (text_line texts) components
 
--- a line with the component in which patterns part, and the texts by which they do
+-- A line with the component in which patterns differ, and the texts that only the asked one
+-- matches.
 abbrev pub parting_lines : Parting → List ℕ
 parting_lines parting = codes "not covered: " ++ name_text parting.component ++ codes "\n" ++ text_lines parting.texts
 
--- what is printed of it, with this status; if it is not known, nothing is
+-- The output and the exit status. If it is not known, the run fails.
 abbrev pub TellsCovering : PatternCovering → (status : ℕ) → (old new : Option (List ℕ)) → Type 0
 TellsCovering Covered status old new = (status ≡ 0) × Appends old new (codes "covered\n")
 TellsCovering (NotCovered parting) status old new = (status ≡ 1) × Appends old new (parting_lines parting)
 TellsCovering (Unknown component reason) status old new = ⊥
 
--- what is printed for the words after `covers`
+-- The output and the exit status for the arguments of `covers`.
 abbrev pub TellsWhether : (words : List (List ℕ)) → (status : ℕ) → (old new : Option (List ℕ)) → Type 0
 TellsWhether (pattern ∷ asked ∷ []) status old new =
     (covering : PatternCovering) × ComparesWith pattern asked covering × TellsCovering covering status old new

@@ -1,5 +1,5 @@
--- The patterns of a table of which it is not known whether one before them covers them, and what is
--- printed of them. Texts are bytes.
+-- The patterns of a table for which it is not known whether an earlier one covers them, and the
+-- output for them. Texts are bytes.
 use Rattle.std.specs.Prelude.{◌≡◌, ◌⊎◌, ◌<◌, ℕ, zero, suc, All, List, [], ◌++◌, codes, decimal, length, Option, Some, MatchOption, slice_get, take}
 use Rattle.std.specs.List.{flat_map}
 use Rattle.std.specs.Option.{option_to_list}
@@ -16,17 +16,17 @@ use Rattle.urlpattern_compare.specs.declared.pattern.PatternParts.{PatternParts}
 
 -- ---- doubts
 
--- it is known that the pattern does not cover the asked one: texts part them
+-- The pattern is known not to cover the asked one, by texts that only the asked one matches.
 abbrev pub IsParted : (asked pattern : PatternParts) → Type 0
 IsParted asked pattern = (parting : Parting) × IsParting pattern asked parting
 
--- one of the patterns is known to cover the asked one, or all are known not to
+-- A pattern is known to cover the asked one, or all are known not to.
 abbrev pub IsSettled : List PatternParts → (asked : PatternParts) → Type 0
 IsSettled patterns asked =
     ((index : ℕ) × CoversAt patterns asked index) ⊎ All (IsParted asked) patterns
 
--- None of the patterns is known to cover the asked one. Of this one it is not known whether it does,
--- for this reason, and those before it are known not to.
+-- No pattern is known to cover the asked one. The doubt has the first one for which it is not
+-- known, and the reason.
 pub record IsInDoubt (patterns : List PatternParts) (asked : PatternParts) (doubt : Doubt) :
     Type 0 where
   pub pattern : PatternParts
@@ -35,20 +35,20 @@ pub record IsInDoubt (patterns : List PatternParts) (asked : PatternParts) (doub
   pub parted : All (IsParted asked) (take doubt.by patterns)
   pub uncovered : All (IsNotKnownToCover asked) patterns
 
--- the doubt about the asked pattern, whose index is given; None where there is none
+-- The doubt about the asked pattern, which has this index. `None` if there is none.
 abbrev pub IsDoubtAbout : (index : ℕ) → List PatternParts → (asked : PatternParts) → Option Doubt
     → Type 0
 IsDoubtAbout index patterns asked found =
     MatchOption found (IsSettled patterns asked)
     (λ doubt. (doubt.pattern ≡ index) × IsInDoubt patterns asked doubt)
 
--- the doubt about the pattern of an index, because of those before it
+-- The doubt about the pattern at an index, because of the ones before it.
 abbrev pub IsDoubtAt : List PatternParts → (index : ℕ) → Option Doubt → Type 0
 IsDoubtAt patterns index found =
     (asked : PatternParts) × (slice_get patterns index ≡ Some asked)
     × IsDoubtAbout index (take index patterns) asked found
 
--- the doubts about the first patterns, so many, in their order
+-- The doubts about the first `count` patterns, in order.
 abbrev pub AreDoubts : List PatternParts → (count : ℕ) → List Doubt → Type 0
 AreDoubts patterns zero found = found ≡ []
 AreDoubts patterns (suc count) found =
@@ -56,15 +56,15 @@ AreDoubts patterns (suc count) found =
     × AreDoubts patterns count earlier × IsDoubtAt patterns count last
     × (found ≡ earlier ++ option_to_list last)
 
--- ---- what is printed
+-- ---- output
 
--- why it is not known, after the name of the component
+-- The reason, in words that follow the name of the component.
 abbrev pub reason_text : Reason → List ℕ
 reason_text reasons.CustomExpression = codes "has a custom expression"
 reason_text reasons.IgnoredCase = codes "ignores case"
 reason_text reasons.TooMany = codes "would take too many steps to compare"
 
--- a line with the number of a pattern's line, that of the one that may cover it, and the reason
+-- A line with the line number of a pattern, that of the one that may cover it, and the reason.
 abbrev pub doubt_line : List EntryView → Doubt → List ℕ
 doubt_line entries doubt =
     codes "line " ++ decimal (number_at entries doubt.pattern)
@@ -72,20 +72,20 @@ doubt_line entries doubt =
     ++ codes " covers it: the " ++ name_text doubt.component
     ++ codes " " ++ reason_text doubt.reason ++ codes "\n"
 
--- a line for each doubt
+-- A line for each doubt.
 abbrev pub TellsDoubts : List PatternParts → List EntryView → (text : List ℕ) → Type 0
 TellsDoubts patterns entries text =
     (found : List Doubt) × AreDoubts patterns (length patterns) found
     × (text ≡ flat_map (doubt_line entries) found)
 
--- there are such lines of a table
+-- The table has patterns in doubt.
 abbrev pub HasDoubts : (table : List ℕ) → (base : Option (List ℕ)) → Type 0
 HasDoubts table base =
     (patterns : List PatternParts) × ArePartsOfEach base (table_entries table) patterns
     × (text : List ℕ) × TellsDoubts patterns (table_entries table) text × (0 < length text)
 
--- there are such lines of the table that the words after `unreachable` name, where files have these
--- tables
+-- The table that the arguments of `unreachable` name has patterns in doubt. `Has` says which file
+-- has which table.
 abbrev pub LeaveDoubts : (Has : (name table : List ℕ) → Type 0) → (words : List (List ℕ)) → Type 0
 LeaveDoubts Has words =
     (name : List ℕ) × (base : Option (List ℕ)) × NameTable words name base

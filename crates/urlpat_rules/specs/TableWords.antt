@@ -1,8 +1,8 @@
--- The words of commands that have a table. Words are bytes.
+-- The arguments of commands that read a table. Arguments are bytes.
 use Rattle.std.specs.Prelude.{◌≡◌, ℕ, List, [], ◌∷◌, Option, None}
 use Rattle.urlpat_matching.specs.PatternWords.{base_of}
 
--- the words name a file, and the base URL that a second word stands for
+-- The arguments name a file, and a base URL if there is a second argument other than `-`.
 abbrev pub NameTable : (words : List (List ℕ)) → (name : List ℕ) → (base : Option (List ℕ)) → Type 0
 NameTable (file ∷ []) name base = (name ≡ file) × (base ≡ None)
 NameTable (file ∷ word ∷ []) name base = (name ≡ file) × (base ≡ base_of word)

@@ -1,4 +1,4 @@
-//! The command `covers`: whether a pattern matches whatever another one does.
+//! The command `covers`: whether a pattern matches everything that another one matches.
 
 ghost use Rattle.std.specs.Io.KnownBytes.{Appends};
 ghost use Rattle.std.specs.Prelude.{◌≡◌, ◌≢◌, ◌⊎◌, ◌++◌, string_bytes, IfOk, IfSome, OnOk, None};
@@ -16,7 +16,7 @@ use urlpattern::{ComponentName, Eight};
 /// The usage of `covers`.
 const COVERS_USAGE: &str = "usage: urlpat covers PATTERN ASKED\n";
 
-/// Does what the words after `covers` ask for, and gives the status to end with.
+/// Runs `covers` with these arguments. Returns the exit status.
 pub fn covers<Out: Write, Err: Write>(
     alloc: Global,
     words: &[String],
@@ -38,7 +38,8 @@ pub fn covers<Out: Write, Err: Write>(
     status
 }
 
-/// Whether a pattern covers the asked one. `None`: one of them is refused, or memory ran out, which is reported.
+/// Whether a pattern covers the asked one. `None`: one of them is rejected, or memory ran out,
+/// which is reported.
 fn compared<Err: Write>(
     alloc: Global,
     pattern: &str,
@@ -64,7 +65,8 @@ fn compared<Err: Write>(
     }
 }
 
-/// The parts of the pattern of a constructor string. `None`: it is refused, or memory ran out, which is reported.
+/// The parts of the pattern of a constructor string. `None`: it is rejected, or memory ran out,
+/// which is reported.
 fn parts_or_report<Err: Write>(alloc: Global, text: &str, err: &mut Err) -> Option<PatternParts>
     ensures { IfSome result (ArePartsOf text.now None) }
 {
@@ -77,7 +79,8 @@ fn parts_or_report<Err: Write>(alloc: Global, text: &str, err: &mut Err) -> Opti
     }
 }
 
-/// Writes whether a pattern covers another, or reports that it is not known, and gives the status to end with.
+/// Writes whether a pattern covers another, or reports that it is not known. Returns the exit
+/// status.
 fn tell<Out: Write, Err: Write>(
     alloc: Global,
     covering: &PatternCovering,
@@ -100,7 +103,8 @@ fn tell<Out: Write, Err: Write>(
     }
 }
 
-/// Writes in which component and by which texts two patterns part, and gives the status to end with.
+/// Writes the component in which two patterns differ, and texts that only the asked one matches.
+/// Returns the exit status.
 fn tell_parting<Out: Write, Err: Write>(
     alloc: Global,
     parting: &Parting,
@@ -120,7 +124,7 @@ fn tell_parting<Out: Write, Err: Write>(
     }
 }
 
-/// A line with the component in which two patterns part, and one with the text of each component.
+/// A line with the component in which two patterns differ, and one with the text of each component.
 fn parting_text(alloc: Global, parting: &Parting) -> Result<String, AllocError>
     ensures { IfOk result (λ text. string_bytes text ≡ parting_lines parting.now) }
 {

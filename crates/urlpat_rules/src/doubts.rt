@@ -1,4 +1,4 @@
-//! The patterns of a table of which it is not known whether one before them covers them.
+//! The patterns of a table for which it is not known whether an earlier one covers them.
 
 ghost use Rattle.std.specs.Prelude.{◌≡◌, ◌++◌, length, string_bytes, IfOk, OnOk};
 ghost use Rattle.std.specs.Option.{option_to_list};
@@ -12,12 +12,12 @@ use urlpat_lines::Entry;
 use urlpattern::ComponentName;
 use urlpattern::rules::{PatternCovering, PatternParts, Reason};
 
-/// A pattern of which it is not known whether one before it covers it.
+/// A pattern for which it is not known whether an earlier one covers it.
 #[derive(Clone, Copy)]
 pub struct Doubt {
     /// The index of the pattern.
     pub pattern: usize,
-    /// The index of the first pattern of which that is not known.
+    /// The index of the first pattern for which it is not known whether it covers this one.
     pub by: usize,
     /// The component because of which it is not known.
     pub component: ComponentName,
@@ -25,7 +25,7 @@ pub struct Doubt {
     pub reason: Reason,
 }
 
-/// A line for each pattern of which it is not known whether one before it covers it.
+/// A line for each pattern for which it is not known whether an earlier one covers it.
 pub fn doubts_text(
     alloc: Global,
     entries: &[Entry<'_>],
@@ -42,8 +42,8 @@ pub fn doubts_text(
     Ok(text)
 }
 
-/// Lists each pattern of which it is not known whether one before it covers it, in their order, unless
-/// another is known to.
+/// Lists each pattern for which it is not known whether an earlier one covers it, in order, unless
+/// one is known to cover it.
 fn doubts(alloc: Global, patterns: &[PatternParts]) -> Result<Vec<Doubt>, AllocError>
     ensures { IfOk result (λ found. AreDoubts patterns.now (length patterns.now) found.items) }
 {
@@ -55,7 +55,7 @@ fn doubts(alloc: Global, patterns: &[PatternParts]) -> Result<Vec<Doubt>, AllocE
     Ok(found)
 }
 
-/// Adds a doubt, if there is one.
+/// Appends a doubt, if there is one.
 fn add(found: &mut Vec<Doubt>, doubt: Option<Doubt>) -> Result<(), AllocError>
     ensures { OnOk result (found.new.items ≡ found.old.items ++ option_to_list doubt) }
 {
@@ -65,8 +65,8 @@ fn add(found: &mut Vec<Doubt>, doubt: Option<Doubt>) -> Result<(), AllocError>
     Ok(())
 }
 
-/// The first of these patterns of which it is not known whether it covers the asked one, whose index
-/// is given. `None`: one of them is known to cover it, or all are known not to.
+/// The first of `patterns` for which it is not known whether it covers `asked`, whose index is
+/// `pattern`. `None`: one of them is known to cover it, or all are known not to.
 fn doubt_about(
     alloc: Global,
     patterns: &[PatternParts],
@@ -94,7 +94,7 @@ fn doubt_about(
     Ok(first)
 }
 
-/// Appends a line with the number of the line of a pattern, that of the one that may cover it, and the
+/// Appends a line with the line number of a pattern, that of the one that may cover it, and the
 /// reason.
 fn push_doubt(
     alloc: Global,

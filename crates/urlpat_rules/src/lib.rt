@@ -1,4 +1,4 @@
-//! The commands of the program `urlpat` that compare patterns, or have a table of them.
+//! The commands of the program `urlpat` that compare patterns or read a table of patterns.
 #![tactic(auto)]
 
 mod covering;

@@ -8,9 +8,9 @@ use urlpattern::regexp::PatternRegexp;
 use urlpattern::rules::PatternParts;
 use urlpattern::{Error, UrlPattern, UrlPatternOptions};
 
-/// The parts of the pattern of a constructor string, over an engine that is made for patterns.
+/// The parts of the pattern of a constructor string, compiled with the engine `PatternRegexp`.
 ///
-/// The error is why the pattern or its base is refused, or that memory ran out.
+/// The error is the one with which the pattern or its base is rejected, or that memory ran out.
 pub fn parts_of_text(alloc: Global, text: &str, base: Option<&str>) -> Result<PatternParts, Error>
     ensures { IfOk result (ArePartsOf text.now (option_copied base.entry)) }
 {

@@ -1,11 +1,11 @@
-//! Why it is not known whether a pattern covers another, in words.
+//! The reasons why it is not known whether a pattern covers another, in words.
 
 ghost use Rattle.std.specs.Prelude.{◌≡◌};
 ghost use Rattle.urlpat_rules.specs.Doubts.{reason_text};
 
 use urlpattern::rules::Reason;
 
-/// Why it is not known, after the name of the component.
+/// The reason, in words that follow the name of the component.
 pub fn reason_text(reason: Reason) -> &'static str
     ensures { result.now ≡ reason_text reason }
 {

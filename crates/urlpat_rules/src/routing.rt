@@ -21,7 +21,7 @@ usage: urlpat route FILE [BASE]
        add --ignore-case for patterns that ignore case
 ";
 
-/// The entries of a table with their patterns, which match the URLs of lines under a base URL.
+/// The entries of a table with their patterns, as a rule for the URLs in lines, under a base URL.
 #[derive(Drop)]
 struct Router<'a, 't> {
     alloc: Global,
@@ -30,7 +30,7 @@ struct Router<'a, 't> {
     json: bool,
 }
 
-/// Does what the words after `route` ask for, and gives the status to end with.
+/// Runs `route` with these arguments. Returns the exit status.
 pub fn route<T: Tables, In: BufRead, Out: Write, Err: Write>(
     alloc: Global,
     tables: &T,
@@ -55,7 +55,7 @@ pub fn route<T: Tables, In: BufRead, Out: Write, Err: Write>(
     status
 }
 
-/// Answers each line by the patterns of a table, and gives the status to end with.
+/// Routes each line by the patterns of a table. Returns the exit status.
 fn route_by<In: BufRead, Out: Write, Err: Write>(
     alloc: Global,
     table: &[u8],
@@ -93,7 +93,8 @@ fn route_by<In: BufRead, Out: Write, Err: Write>(
     }
 }
 
-/// The entries with their patterns. `None`: one is refused, or memory ran out, which is reported.
+/// The entries with their patterns. `None`: a pattern is rejected, or memory ran out, which is
+/// reported.
 fn routes_of<'t, Err: Write>(
     alloc: Global,
     entries: &[Entry<'t>],
@@ -120,7 +121,7 @@ fn routes_of<'t, Err: Write>(
     Some(routes)
 }
 
-/// What is printed for a line that no pattern matches.
+/// The text that is printed for a line that no pattern matches.
 fn unmatched_text(json: bool) -> &'static str
     ensures { result.now ≡ unmatched_text json }
 {

@@ -16,10 +16,11 @@ use urlpat_matching::{json_line, match_tree, push_match};
 use urlpattern::UrlPatternCaptures;
 use urlpattern_inputs::writing::put_text;
 
-/// How many bytes the groups of a row usually have at most.
+/// The usual maximum length of a row's groups in bytes.
 const USUAL: usize = 256;
 
-/// Appends the row of an entry whose pattern matches: as JSON, or with tabs between its number, its name and each group.
+/// Appends the row of an entry whose pattern matches: as JSON, or its number, its name and each
+/// group, separated by tabs.
 pub fn push_route(
     alloc: Global,
     json: bool,
@@ -49,7 +50,7 @@ fn route_tree(alloc: Global, entry: &Entry<'_>, found: Value) -> Result<Value, A
     Ok(Value::Object(members))
 }
 
-/// Appends the row of an entry: its number, its name and each group, with tabs between.
+/// Appends the row of an entry: its number, its name and each group, separated by tabs.
 fn push_row(
     alloc: Global,
     entry: &Entry<'_>,

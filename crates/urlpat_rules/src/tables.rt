@@ -12,16 +12,17 @@ use urlpat_lines::{Entry, NoTable, entries_of};
 use urlpat_matching::{base_of, write_refusal};
 use urlpattern::Error;
 
-/// What has the files of tables.
+/// A source of files with tables.
 pub trait Tables {
     ghost Has: { Self → (name table : List ℕ) → Type 0 };
 
-    /// The bytes of the file of this name.
+    /// Reads the file with this name.
     fn read(&self, name: &str) -> io::Result<Vec<u8>>
         ensures { IfOk result (λ table. Has self.now name.now table.items) };
 }
 
-/// The file that words name, and the base URL, if there is one. `None`: they are other words.
+/// The file that the arguments name, and the base URL, if there is one. `None`: the arguments are
+/// invalid.
 pub fn table_words(words: &[String]) -> Option<(&str, Option<&str>)>
     ensures asked { IfSome result (λ asked. NameTable (words_view words.now) asked.0.now (option_copied asked.1)) }
     ensures other { IfNone result ((length words.now ≢ 1) × (length words.now ≢ 2)) }
@@ -33,7 +34,7 @@ pub fn table_words(words: &[String]) -> Option<(&str, Option<&str>)>
     }
 }
 
-/// The table of this name. `None`: it cannot be read, which is reported.
+/// Reads the table with this name. `None`: it cannot be read, which is reported.
 pub fn read_table<T: Tables, Err: Write>(tables: &T, name: &str, err: &mut Err) -> Option<Vec<u8>>
     ensures table { IfSome result (λ table. T.Has tables.now name.now table.items) }
     ensures quiet { IfSome result (λ table. err.new ≡ err.old) }
@@ -73,7 +74,8 @@ pub fn read_entries<'t, Err: Write>(
     }
 }
 
-/// Reports why the pattern of an entry or its base is refused, with the number of its line, or that memory ran out.
+/// Reports why the pattern of an entry or its base is rejected, with the number of its line, or
+/// that memory ran out.
 pub fn report_refused<Err: Write>(
     alloc: Global,
     entry: &Entry<'_>,

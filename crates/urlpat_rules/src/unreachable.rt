@@ -1,4 +1,4 @@
-//! The command `unreachable`: the patterns of a table that one before them covers.
+//! The command `unreachable`: the patterns of a table that an earlier one covers.
 
 ghost use Rattle.std.specs.Io.KnownBytes.{Appends};
 ghost use Rattle.std.specs.Prelude.{◌≡◌, ◌≢◌, ◌⊎◌, ◌++◌, length, map, nat_lt, string_bytes, option_copied, IfOk, IfSome, OnOk};
@@ -20,8 +20,8 @@ use urlpattern::rules::{PatternParts, Shadowed, unreachable};
 /// The usage of `unreachable`.
 const UNREACHABLE_USAGE: &str = "usage: urlpat unreachable FILE [BASE]\n";
 
-/// Does what the words after `unreachable` ask for, and gives the status to end with. Patterns of which
-/// it is not known whether one before them covers them are reported to `err`, whatever the status is.
+/// Runs `unreachable` with these arguments. Returns the exit status. Patterns for which it is not
+/// known whether an earlier one covers them are reported.
 pub fn list_unreachable<T: Tables, Out: Write, Err: Write>(
     alloc: Global,
     tables: &T,
@@ -46,8 +46,8 @@ pub fn list_unreachable<T: Tables, Out: Write, Err: Write>(
     status
 }
 
-/// Writes which patterns of a table one before them covers, reports of which it is not known, and gives
-/// the status to end with.
+/// Writes the patterns of a table that an earlier one covers, and reports those for which it is not
+/// known. Returns the exit status.
 fn tell_unreachable<Out: Write, Err: Write>(
     alloc: Global,
     table: &[u8],
@@ -83,7 +83,7 @@ fn tell_unreachable<Out: Write, Err: Write>(
     }
 }
 
-/// A line for each pattern that one before it covers, and one for each of which it is not known.
+/// A line for each pattern that an earlier one covers, and one for each for which it is not known.
 fn texts_of(
     alloc: Global,
     entries: &[Entry<'_>],
@@ -99,7 +99,7 @@ fn texts_of(
     Ok((text, doubts))
 }
 
-/// The status of a run that printed these lines, or none.
+/// The exit status of a run that printed these lines.
 fn status_of(text: &str) -> u8
     ensures either { (result ≡ DONE) ⊎ (result ≡ NO_MATCH) }
     ensures is { result ≡ status_of (nat_lt 0 (length text.now)) }
@@ -107,7 +107,8 @@ fn status_of(text: &str) -> u8
     if text.is_empty() { NO_MATCH } else { DONE }
 }
 
-/// The parts of the pattern of each entry. `None`: one is refused, or memory ran out, which is reported.
+/// The parts of the pattern of each entry. `None`: a pattern is rejected, or memory ran out, which
+/// is reported.
 fn parts_of_each<Err: Write>(
     alloc: Global,
     entries: &[Entry<'_>],
@@ -135,7 +136,7 @@ fn parts_of_each<Err: Write>(
     Some(patterns)
 }
 
-/// A line for each pattern that one before it covers.
+/// A line for each pattern that an earlier one covers.
 fn unreached_text(
     alloc: Global,
     entries: &[Entry<'_>],
@@ -159,7 +160,7 @@ fn references(alloc: Global, patterns: &[PatternParts]) -> Result<Vec<&PatternPa
     patterns.iter().collect(alloc)
 }
 
-/// Appends a line with the number of the line of a pattern, and that of the one that covers it.
+/// Appends a line with the line number of a pattern, and that of the one that covers it.
 fn push_shadowed(
     alloc: Global,
     text: &mut String,
@@ -174,7 +175,7 @@ fn push_shadowed(
     text.push_str(&line)
 }
 
-/// The number of the line of an entry.
+/// The line number of an entry.
 pub fn number_at(entries: &[Entry<'_>], index: usize) -> u64
     ensures { result ≡ number_at (entries_view entries.now) index }
 {

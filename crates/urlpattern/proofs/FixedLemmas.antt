@@ -1,4 +1,4 @@
--- Lemmas on the patterns that a list does not ask.
+-- Lemmas on the patterns that a list does not try.
 use Rattle.std.proofs.Common.{◌≡◌, ℕ, zero, suc, ◌+◌, ◌<◌, ◌≤◌, ◌⊎◌, Bool, true, false, List, [], ◌∷◌, ◌++◌, ap, arith, get_or, inl, inr, length, refl, replicate, subst, sym, take, ◌∙◌}
 use Rattle.std.proofs.lemmas.Bool.{cases_lt}
 use Rattle.std.proofs.lemmas.List.{get_or-take, length_push}
@@ -29,14 +29,14 @@ same_or_not : (xs ys : List ℕ) → (xs ≡ ys) ⊎ ¬ (xs ≡ ys)
 same_or_not xs ys = same_cases xs ys (bytes_eq xs ys) refl
 
 module _ {E : Type 0} (answer : E → List ℕ → Option Captures) where
-  -- what a matcher matches is the fixed text, if there is one
+  -- A text is the fixed text, if there is one, or the matcher does not match it.
   text-cases : (matcher : MatcherView E) (fixed : Option (List ℕ)) (given : List ℕ) → ((text : List ℕ) → IsMatched answer matcher text → IsText fixed text)
       → IsText fixed given ⊎ Answers answer matcher given None
   text-cases matcher None given are = inl tt
   text-cases matcher (Some text) given are =
       elim (same_or_not given text) [ inl same ↦ inl same | inr other ↦ inr (λ captures matches. other (are given (captures, matches))) ]
 
-  -- the pattern does not match where what is fixed is not there
+  -- A pattern does not match texts that lack its fixed texts.
   fixed-refused : (pattern : PatternView E) (fixed : FixedTexts) (texts : Texts) → AreFixed answer pattern fixed → ¬ HasTexts fixed (address_of texts) → IsRefused answer pattern texts
   fixed-refused pattern fixed texts are other =
       elim (text-cases (pattern Protocol).matcher fixed.protocol texts.protocol are.protocol) [
@@ -71,22 +71,22 @@ got_above (x ∷ xs) zero n le lt = refl
 got_above (x ∷ xs) (suc i) zero le lt = absurd (omega arith)
 got_above (x ∷ xs) (suc i) (suc n) le lt = got_above xs i n (omega arith) (omega arith)
 
--- an index that is out of range removes nothing
+-- An index that is out of range removes nothing.
 pub remove-past : {X : Type 0} (xs : List X) (i : ℕ) → length xs ≤ i → remove xs i ≡ xs
 remove-past [] zero le = refl
 remove-past [] (suc i) le = refl
 remove-past (x ∷ xs) zero le = absurd (omega arith)
 remove-past (x ∷ xs) (suc i) le = ap (λ ys. x ∷ ys) (remove-past xs i (omega arith))
 
--- ---- patterns that are indexed
+-- ---- patterns in an index
 
--- no patterns
+-- An empty list.
 pub indexed-none : {E : Type 0} (answer : E → List ℕ → Option Captures) (patterns : List (UrlPattern E)) (index : Listing) → patterns ≡ [] → ◌≡◌ {A = Listing} index (record { keys = []; forms = replicate 13 [] })
     → AreIndexed answer patterns index
 indexed-none answer patterns index none empty = rw (none, empty) record { as_many = refl; refuses = λ number pattern is texts missed. absurd (cc) }
 
 module _ {E : Type 0} (answer : E → List ℕ → Option Captures) (patterns : List (UrlPattern E)) (index : Listing) (are : AreIndexed answer patterns index) where
-  -- one more pattern
+  -- A pattern is appended.
   pub indexed-push : (pattern : UrlPattern E) (new : Listing) (fixed : FixedTexts) → GetsPattern index new fixed → AreFixed answer (pattern_view pattern) fixed
       → AreIndexed answer (patterns ++ pattern ∷ []) new
   indexed-push pattern new fixed appends is_fixed = record {
@@ -98,7 +98,7 @@ module _ {E : Type 0} (answer : E → List ℕ → Option Captures) (patterns : 
     ];
   }
 
-  -- a pattern less
+  -- A pattern is removed.
   pub indexed-remove : (i : ℕ) → i < length patterns → AreIndexed answer (remove patterns i) (record { keys = remove index.keys i; forms = index.forms })
   indexed-remove i within =
       let within_keys : i < length index.keys = omega (arith, are.as_many) in
@@ -112,11 +112,11 @@ module _ {E : Type 0} (answer : E → List ℕ → Option Captures) (patterns : 
         ];
       }
 
-  -- what is found is the index of a pattern
+  -- A number that is found is the index of a pattern.
   pub found_within : (hashes : Hashes) (number : ℕ) → Finds index hashes number → number < length patterns
   found_within hashes number (form, has, fits, key) = let within = slice_get_within index.keys number (form_key form hashes) key in omega (arith, are.as_many)
 
--- ---- elements that are passed over
+-- ---- elements that are skipped
 
 take_inside : {X : Type 0} (xs : List X) (n k : ℕ) → k < length (take n xs) → (k < n) × (k < length xs)
 take_inside xs zero k lt = absurd (omega arith)
@@ -149,7 +149,7 @@ All-passed P xs from n before passed = λ k d within.
 
 -- ---- results
 
--- what is true of a result is true in a weaker form
+-- A clause on a result implies a weaker clause.
 pub ok-weaker : {X F : Type 0} (P Q : X → Type 0) → (result : Result X F) → IfOk result P → ((x : X) → P x → Q x) → IfOk result Q
 ok-weaker P Q (Ok x) is to = to x is
 ok-weaker P Q (Err error) is to = tt

@@ -17,7 +17,7 @@ use Rattle.urlpattern_components.specs.Eight.{Texts}
 
 -- ---- the pattern at an index
 
--- what is borrowed at an index is the element there
+-- The borrowed element is the one at the index.
 pub got : {X : Type 0} (found : Option (Bor X)) (xs : List X) (i : ℕ) (P : Bor X → Type 0)
     → IfSome found (λ x. x.now ≡ get_or xs i x.now) → MatchOption found (length xs ≤ i) (λ x. (i < length xs) × P x)
     → option_copied found ≡ slice_get xs i
@@ -27,7 +27,7 @@ got (Some x) xs i P same (inside, p) = sym (slice_get_read xs (length xs) i x.no
 -- ---- a first match and its result
 
 module _ {E : Type 0} (answer : E → List ℕ → Option Captures) (patterns : List (PatternView E)) where
-  -- a result of the pattern's match is one of the first match
+  -- A copy of the match is a first match as well.
   pub first-same : (texts : Texts) (index : ℕ) (match result : ComponentName → ResultView)
       → ((pattern : PatternView E) → IsMatchOf answer pattern texts match → IsMatchOf answer pattern texts result)
       → IsFirstMatchOf answer patterns texts (Some (index, match)) → IsFirstMatchOf answer patterns texts (Some (index, result))
@@ -36,11 +36,11 @@ module _ {E : Type 0} (answer : E → List ℕ → Option Captures) (patterns : 
 -- ---- from texts to inputs
 
 module _ {E : Type 0} (answer : E → List ℕ → Option Captures) (patterns : List (PatternView E)) (input : UrlPatternMatchInput) where
-  -- an input that has no texts is not matched
+  -- An input without texts has no match.
   pub none-of_no_input : IsNoInput input → IsFirstMatch answer patterns input None
   none-of_no_input no_input = λ k d within. inl no_input
 
-  -- what is found of the input's texts is found of the input
+  -- The first match of the input's texts is that of the input.
   pub first-of_texts : {X : Type 0} (view : X → ComponentName → ResultView) (texts : Texts) (result : Result (Option (ℕ × X)) Error) → input_texts input ≡ Ok texts
       → IfOk result (λ found. IsFirstMatchOf answer patterns texts (option_map (λ first. (first.0, view first.1)) found))
       → IfOk result (λ found. IsFirstMatch answer patterns input (option_map (λ first. (first.0, view first.1)) found))

@@ -1,4 +1,4 @@
--- Lemmas on the first pattern from an index on that matches.
+-- Lemmas on the first pattern that matches, from an index on.
 use Rattle.std.proofs.Common.{◌≡◌, ◌+◌, ◌-◌, ◌<◌, ◌≤◌, ◌∙◌, ℕ, List, ap, arith, inl, inr, length, refl, subst, sym, take, take_all}
 use Rattle.std.proofs.lemmas.Bool.{cases_lt}
 use Rattle.std.proofs.lemmas.Option.{IfSome_then, same_Some, slice_get-map}
@@ -24,14 +24,14 @@ not-found : (Q : ℕ → Type 0) (from index count : ℕ) (found : Option ℕ) �
 not-found Q from index count (Some next) least le lt = λ q. let other : next ≤ index = least.1 index (le, q) in let below : index < next = lt in absurd (omega arith)
 not-found Q from index count None none le lt = λ q. none index (le, q)
 
--- what an index finds is a pattern's number
+-- A number that the index finds is that of a pattern.
 pub found-inside : {E : Type 0} (answer : E → List ℕ → Option Captures) (patterns : List (UrlPattern E)) (listing : Listing) → AreIndexed answer patterns listing → (hashes : Hashes) (from : ℕ) (found : Option ℕ)
     → IsLeast (λ number. (from ≤ number) × Finds listing hashes number) found → IfSome found (λ index. (from ≤ index) × (index < length patterns))
 found-inside answer patterns listing are hashes from (Some next) least = (least.0.0, found_within answer patterns listing are hashes next least.0.1)
 found-inside answer patterns listing are hashes from None none = tt
 
 module _ {E : Type 0} (answer : E → List ℕ → Option Captures) (texts : Texts) where
-  -- the patterns before the one that an index finds do not match
+  -- The patterns before the number that the index finds do not match.
   pub found-passed : (patterns : List (UrlPattern E)) (listing : Listing) → AreIndexed answer patterns listing → (hashes : Hashes) → hashes ≡ hashes_of (address_of texts) → (from : ℕ) (found : Option ℕ)
       → IsLeast (λ number. (from ≤ number) × Finds listing hashes number) found → AreRefusedBetween answer (patterns_view patterns) texts from (unwrap_or found (length (patterns_view patterns)))
   found-passed patterns listing are hashes same from found least = λ index pattern le lt is.
@@ -45,7 +45,7 @@ module _ {E : Type 0} (answer : E → List ℕ → Option Captures) (texts : Tex
       → AreRefusedBetween answer patterns texts from end
   refused-joined patterns from index end before after = λ k pattern le lt is. elim (cases_lt k index) [ inl earlier ↦ before k pattern le earlier is | inr later ↦ after k pattern later lt is ]
 
-  -- one more pattern that does not match
+  -- A pattern that does not match is appended to the range.
   refused-more : (patterns : List (PatternView E)) (from index : ℕ) (last : PatternView E) → slice_get patterns index ≡ Some last
       → AreRefusedBetween answer patterns texts from index → IsRefused answer last texts → AreRefusedBetween answer patterns texts from (index + 1)
   refused-more patterns from index last is_last before refused = λ k pattern le lt is. elim (cases_lt k index) [
@@ -55,7 +55,8 @@ module _ {E : Type 0} (answer : E → List ℕ → Option Captures) (texts : Tex
         subst (λ (p : PatternView E). IsRefused answer p texts) (same_Some last pattern (sym is_last ∙ ap (slice_get patterns) (sym same) ∙ is)) refused
   ]
 
-  -- what is found from an index on is so from an earlier one on, where the patterns between them do not match
+  -- A first match from an index on is the first from an earlier index on, if the patterns between
+  -- do not match.
   pub first-earlier : (patterns : List (PatternView E)) (from index : ℕ) (found : Option FirstView) → from ≤ index → AreRefusedBetween answer patterns texts from index
       → IsFirstMatchFrom answer patterns texts index found → IsFirstMatchFrom answer patterns texts from found
   first-earlier patterns from index (Some first) le before (later, there, refused) = (omega arith, there, refused-joined patterns from index first.0 before refused)
@@ -66,15 +67,15 @@ module _ {E : Type 0} (answer : E → List ℕ → Option Captures) (texts : Tex
   asks-earlier patterns from index le before (asking, pattern, later, is_there, asks, refused) =
       (asking, pattern, omega arith, is_there, asks, refused-joined patterns from index asking before refused)
 
-  -- ---- what is asked next
+  -- ---- the pattern that is tried next
 
-  -- the pattern at an index is asked next, or none
+  -- The pattern at an index is tried next, or none is.
   abbrev pub IsNext : List (UrlPattern E) → (from : ℕ) → Option ℕ → Type 0
   IsNext patterns from found =
       IfSome found (λ index. (from ≤ index) × (index < length patterns))
       × AreRefusedBetween answer (patterns_view patterns) texts from (unwrap_or found (length (patterns_view patterns)))
 
-  -- the next one after a pattern that does not match
+  -- The next pattern after one that does not match.
   pub next-found : (patterns : List (UrlPattern E)) (start index : ℕ) (last : PatternView E) → start ≤ index → slice_get (patterns_view patterns) index ≡ Some last
       → AreRefusedBetween answer (patterns_view patterns) texts start index → IsRefused answer last texts → (found : Option ℕ) → IsNext patterns (index + 1) found → IsNext patterns start found
   next-found patterns start index last le is_last before refused found (inside, after) = (
@@ -98,7 +99,7 @@ module _ {E : Type 0} (answer : E → List ℕ → Option Captures) (texts : Tex
   pub asks-of_all : (patterns : List (PatternView E)) → AsksBeforeMatchFrom answer patterns texts 0 → AsksBeforeMatch answer patterns texts
   asks-of_all patterns (index, pattern, le, is_there, asks, refused) = (index, pattern, is_there, asks, refused-before patterns index refused)
 
--- how many patterns may still be asked
+-- The number of patterns that may still be tried.
 abbrev pub left : (count : ℕ) → Option ℕ → ℕ
 left count (Some index) = count - index
 left count None = 0

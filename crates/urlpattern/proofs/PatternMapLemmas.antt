@@ -1,4 +1,4 @@
--- Lemmas on keys beside values, as patterns are in a map.
+-- Lemmas on keys with values, such as the patterns of a map.
 use Rattle.std.proofs.Common.{◌≡◌, ◌∙◌, ℕ, zero, suc, List, [], ◌∷◌, ◌++◌, length, arith, refl, ap, map, sym}
 use Rattle.std.specs.List.{remove}
 use Rattle.std.specs.Prelude.{OnErr, Option, None, Some, Result, Ok, Err, option_map, slice_get, zip}
@@ -9,7 +9,7 @@ module _ {K T : Type 0} where
   length-pairs (key ∷ keys) [] same = absurd (omega arith)
   length-pairs (key ∷ keys) (value ∷ values) same = ap suc (length-pairs keys values (omega arith))
 
-  -- the pair at an index
+  -- The pair at an index.
   pub pair_at : (keys : List K) (values : List T) (index : ℕ) (key : K) (value : T) → slice_get keys index ≡ Some key → slice_get values index ≡ Some value
       → slice_get (zip keys values) index ≡ Some (key, value)
   pair_at [] values index key value is_key is_value = absurd cc
@@ -24,7 +24,7 @@ module _ {K T : Type 0} where
   no_pair_at (first ∷ keys) (other ∷ values) zero none = absurd cc
   no_pair_at (first ∷ keys) (other ∷ values) (suc index) none = no_pair_at keys values index none
 
-  -- one pair more
+  -- A pair is appended.
   pub pairs-append : (keys : List K) (values : List T) (key : K) (value : T) → length values ≡ length keys
       → zip (keys ++ key ∷ []) (values ++ value ∷ []) ≡ zip keys values ++ (key, value) ∷ []
   pairs-append [] [] key value same = refl
@@ -32,7 +32,7 @@ module _ {K T : Type 0} where
   pairs-append (first ∷ keys) [] key value same = absurd (omega arith)
   pairs-append (first ∷ keys) (other ∷ values) key value same = ap (λ pairs. (first, other) ∷ pairs) (pairs-append keys values key value (omega arith))
 
-  -- a pair less
+  -- A pair is removed.
   pub pairs-remove : (keys : List K) (values : List T) (index : ℕ) → length values ≡ length keys → zip (remove keys index) (remove values index) ≡ remove (zip keys values) index
   pairs-remove [] [] zero same = refl
   pairs-remove [] [] (suc index) same = refl
@@ -41,7 +41,7 @@ module _ {K T : Type 0} where
   pairs-remove (first ∷ keys) (other ∷ values) zero same = refl
   pairs-remove (first ∷ keys) (other ∷ values) (suc index) same = ap (λ pairs. (first, other) ∷ pairs) (pairs-remove keys values index (omega arith))
 
--- where there is nothing at an index, nothing is removed
+-- An index without an element removes nothing.
 pub remove-none : {X : Type 0} (xs : List X) (index : ℕ) → slice_get xs index ≡ None → remove xs index ≡ xs
 remove-none [] zero none = refl
 remove-none [] (suc index) none = refl

@@ -7,16 +7,16 @@ use Rattle.urlpattern.specs.Unreached.{HaveAllParts}
 use Rattle.urlpattern_pattern.specs.UrlPatterns.{UrlPattern}
 use Rattle.urlpattern_compare.specs.declared.pattern.PatternParts.{PatternParts}
 
--- the parts of a pattern
+-- The parts of a pattern.
 abbrev pub parts_of : {E : Type 0} → UrlPattern E → Option PatternParts
 parts_of pattern = pattern.parts
 
--- what references lead to
+-- The values of references.
 abbrev pub all_now : List (Bor PatternParts) → List PatternParts
 all_now parts = map (λ (them : Bor PatternParts). them.now) parts
 
 module _ {E : Type 0} (patterns : List (UrlPattern E)) (i : ℕ) (pattern : UrlPattern E) (within : i < length patterns) (is : pattern ≡ get_or patterns i pattern) where
-  -- the parts of one more pattern
+  -- The parts of a pattern are appended.
   pub parts_more : (old new : List (Bor PatternParts)) (parts : Bor PatternParts) → pattern.parts ≡ Some parts.now → new ≡ old ++ parts ∷ []
       → HaveAllParts (take i patterns) (all_now old) → HaveAllParts (take (i + 1) patterns) (all_now new)
   parts_more old new parts has grown have =
@@ -27,7 +27,7 @@ module _ {E : Type 0} (patterns : List (UrlPattern E)) (i : ℕ) (pattern : UrlP
       let all : map Some (all_now new) ≡ map Some (all_now old) ++ Some parts.now ∷ [] = ap (map Some) pushed ∙ map_push Some (all_now old) parts.now in
       one_more ∙ ap (λ one. seen ++ one ∷ []) last ∙ ap (λ them. them ++ Some parts.now ∷ []) have ∙ sym all
 
-  -- a pattern without parts is among them
+  -- A pattern without parts is an element.
   pub has_none : pattern.parts ≡ None → Contains (map parts_of patterns) None
   has_none none =
       let inside : i < length (map parts_of patterns) = subst (λ count. i < count) (sym (length-map patterns parts_of)) within in

@@ -1,4 +1,4 @@
--- What the first match of a list of patterns is.
+-- The first match of a list of patterns.
 use Rattle.std.specs.Prelude.{◌≡◌, ◌⊎◌, ℕ, List, map, take, All, Option, Some, None, IfSome, option_map, slice_get}
 use Rattle.urlpattern_init.specs.declared.init.UrlPatternMatchInput.{UrlPatternMatchInput}
 use Rattle.urlpattern_components.specs.declared.eight.ComponentName.{ComponentName}
@@ -12,53 +12,56 @@ use Rattle.urlpattern_matches.specs.ResultViews.{ResultView, result_view}
 use Rattle.urlpattern_meaning.specs.PartMeaning.{Captures}
 use Rattle.urlpattern_components.specs.Eight.{Texts}
 
--- A `UrlPatternList`: what the components of each pattern are compiled to.
+-- The compiled components of each pattern of a `UrlPatternList`.
 abbrev pub patterns_view : {E : Type 0} → List (UrlPattern E) → List (PatternView E)
 patterns_view patterns = map (λ pattern. pattern_view pattern) patterns
 
--- An index with the results of its pattern's components.
+-- An index and the results of the components of the pattern at that index.
 abbrev pub FirstView : Type 0
 FirstView = ℕ × (ComponentName → ResultView)
 
+-- The view of a copied match.
 abbrev pub first_view : Option (ℕ × UrlPatternResult) → Option FirstView
 first_view found = option_map (λ first. (first.0, result_view first.1)) found
 
+-- The view of a borrowed match.
 abbrev pub first_captures_view : Option (ℕ × UrlPatternCaptures) → Option FirstView
 first_captures_view found = option_map (λ first. (first.0, pattern_captures_view first.1)) found
 
--- what is found of a list on an input: the least index whose pattern has a match of it, with that match, and none where no
--- pattern has one
+-- The first match of a list on an input: the least index whose pattern matches it, and the match.
+-- `None` if no pattern matches.
 abbrev pub IsFirstMatch : {E : Type 0} → (answer : E → List ℕ → Option Captures) → List (PatternView E) → UrlPatternMatchInput → Option FirstView → Type 0
 IsFirstMatch {E} answer patterns input (Some first) =
     ((pattern : PatternView E) × (slice_get patterns first.0 ≡ Some pattern) × IsMatch answer pattern input first.1)
     × All (λ earlier. ¬ HasMatch answer earlier input) (take first.0 patterns)
 IsFirstMatch answer patterns input None = All (λ pattern. HasNoMatch answer pattern input) patterns
 
--- the same of eight texts: the least index whose pattern matches them
+-- The first match of a list on eight texts: the least index whose pattern matches them, and the
+-- match.
 abbrev pub IsFirstMatchOf : {E : Type 0} → (answer : E → List ℕ → Option Captures) → List (PatternView E) → Texts → Option FirstView → Type 0
 IsFirstMatchOf {E} answer patterns texts (Some first) =
     ((pattern : PatternView E) × (slice_get patterns first.0 ≡ Some pattern) × IsMatchOf answer pattern texts first.1)
     × All (λ earlier. IsRefused answer earlier texts) (take first.0 patterns)
 IsFirstMatchOf answer patterns texts None = All (λ pattern. IsRefused answer pattern texts) patterns
 
--- so it is with a match that is borrowed
+-- `IsFirstMatchOf` for a borrowed match.
 abbrev pub IsFirstCaptured : {E : Type 0} → (answer : E → List ℕ → Option Captures) → List (PatternView E) → Texts → Option (ℕ × UrlPatternCaptures) → Type 0
 IsFirstCaptured answer patterns texts found = IsFirstMatchOf answer patterns texts (first_captures_view found)
 
--- where a match of eight texts is found, its groups are those of the pattern at its index, in their order
+-- The groups of a match are those of the pattern at its index, in order.
 abbrev pub HasGroupsInOrder : {E : Type 0} → (answer : E → List ℕ → Option Captures) → List (PatternView E) → Texts → Option (ℕ × UrlPatternCaptures) → Type 0
 HasGroupsInOrder {E} answer patterns texts found =
     IfSome found (λ first. (pattern : PatternView E) × (slice_get patterns first.0 ≡ Some pattern)
     × AreGroupsInOrder answer pattern texts (groups_view first.1))
 
--- a pattern asks an engine about eight texts, and none before it matches them
+-- A pattern calls an engine for eight texts, and no earlier pattern matches them.
 abbrev pub AsksBeforeMatch : {E : Type 0} → (answer : E → List ℕ → Option Captures) → List (PatternView E) → Texts → Type 0
 AsksBeforeMatch {E} answer patterns texts =
     (index : ℕ) × (pattern : PatternView E) × (slice_get patterns index ≡ Some pattern)
     × AsksAnEngine answer pattern texts
     × All (λ earlier. IsRefused answer earlier texts) (take index patterns)
 
--- a match is copied: an engine is asked before, or a pattern matches the texts
+-- A match may be copied: an engine is called before, or a pattern matches the texts.
 abbrev pub CopiesFirstMatch : {E : Type 0} → (answer : E → List ℕ → Option Captures) → List (PatternView E) → Texts → Type 0
 CopiesFirstMatch {E} answer patterns texts =
     AsksBeforeMatch answer patterns texts

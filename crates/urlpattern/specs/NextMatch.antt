@@ -14,17 +14,19 @@ use Rattle.urlpattern_syntax.specs.declared.error.Error.{Error}
 use Rattle.urlpattern_syntax.specs.declared.error.Error.TheVariants as errors
 use Rattle.urlpattern_components.specs.Eight.{Texts}
 
--- the patterns from one index on, up to another, do not match eight texts
+-- No pattern from one index up to another (exclusive) matches eight texts.
 abbrev pub AreRefusedBetween : {E : Type 0} → (answer : E → List ℕ → Option Captures) → List (PatternView E) → Texts → (from end : ℕ) → Type 0
 AreRefusedBetween {E} answer patterns texts from end =
     (index : ℕ) (pattern : PatternView E) → from ≤ index → index < end → slice_get patterns index ≡ Some pattern → IsRefused answer pattern texts
 
--- the patterns from one index on, up to what is found or to the end, do not match eight texts with these hashes
+-- No pattern from an index up to the one that is found, or up to the end, matches eight texts with
+-- these hashes.
 abbrev pub PassesRefused : {E : Type 0} → (answer : E → List ℕ → Option Captures) → List (PatternView E) → Hashes → (from : ℕ) → (found : Option ℕ) → Type 0
 PassesRefused answer patterns hashes from found =
     (texts : Texts) → hashes ≡ hashes_of (address_of texts) → AreRefusedBetween answer patterns texts from (unwrap_or found (length patterns))
 
--- the least index, not below another, whose pattern matches eight texts, with that match, and none where there is no such pattern
+-- The least index, not below `from`, whose pattern matches eight texts, and the match. `None` if no
+-- such pattern matches.
 abbrev pub IsFirstMatchFrom : {E : Type 0} → (answer : E → List ℕ → Option Captures) → List (PatternView E) → Texts → (from : ℕ) → Option FirstView → Type 0
 IsFirstMatchFrom {E} answer patterns texts from (Some first) =
     (from ≤ first.0)
@@ -32,28 +34,29 @@ IsFirstMatchFrom {E} answer patterns texts from (Some first) =
     × AreRefusedBetween answer patterns texts from first.0
 IsFirstMatchFrom answer patterns texts from None = AreRefusedBetween answer patterns texts from (length patterns)
 
--- so it is with a match that is borrowed
+-- `IsFirstMatchFrom` for a borrowed match.
 abbrev pub IsFirstCapturedFrom : {E : Type 0} → (answer : E → List ℕ → Option Captures) → List (PatternView E) → Texts → (from : ℕ) → Option (ℕ × UrlPatternCaptures) → Type 0
 IsFirstCapturedFrom answer patterns texts from found = IsFirstMatchFrom answer patterns texts from (first_captures_view found)
 
--- a pattern whose index is not below another asks an engine, and none between them matches
+-- A pattern whose index is at least `from` calls an engine, and no pattern between matches.
 abbrev pub AsksBeforeMatchFrom : {E : Type 0} → (answer : E → List ℕ → Option Captures) → List (PatternView E) → Texts → (from : ℕ) → Type 0
 AsksBeforeMatchFrom {E} answer patterns texts from =
     (index : ℕ) × (pattern : PatternView E) × (from ≤ index) × (slice_get patterns index ≡ Some pattern)
     × AsksAnEngine answer pattern texts
     × AreRefusedBetween answer patterns texts from index
 
--- What is left of the matches of a list: those by patterns from an index on.
+-- The remaining matches of a list: those by patterns from an index on.
 pub record MatchesLeft (E : Type 0) : Type 0 where
   pub patterns : List (PatternView E)
   pub texts : Texts
   pub from : ℕ
 
+-- The view of the iterator.
 abbrev pub matches_left : {E : Type 0} → UrlPatternMatches E → MatchesLeft E
 matches_left matches = record { patterns = patterns_view matches.list.now; texts = borrowed_texts matches.texts; from = matches.from }
 
--- what comes of the matches that are left, and what is then left: the first of them, and the matches by later patterns; or that
--- memory ran out, and then nothing is left
+-- Taking an item: the first of the remaining matches, after which those by later patterns
+-- remain; or an error because memory ran out, after which none remain.
 abbrev pub TakesMatch : {E : Type 0} → (answer : E → List ℕ → Option Captures) → MatchesLeft E → Option (Result (ℕ × UrlPatternCaptures) Error) → MatchesLeft E → Type 0
 TakesMatch answer old (Some (Ok first)) new =
     IsFirstMatchFrom answer old.patterns old.texts old.from (Some (first.0, pattern_captures_view first.1))

@@ -1,4 +1,4 @@
--- What is fixed of the texts that a pattern matches, by which a list finds it.
+-- The fixed texts of a pattern, by which a list finds it.
 use Rattle.std.specs.Prelude.{◌≡◌, ℕ, List, length, slice_get, Option, Some}
 use Rattle.urlpattern_index.specs.FixedTexts.{AddressTexts, FixedTexts, IsText}
 use Rattle.urlpattern_index.specs.Keys.{hashes_of}
@@ -12,17 +12,18 @@ use Rattle.urlpattern_pattern.specs.Match.{IsRefused}
 use Rattle.urlpattern_pattern.specs.Patterns.{PatternView, pattern_view}
 use Rattle.urlpattern_pattern.specs.UrlPatterns.{UrlPattern}
 
--- Whatever the pattern matches has these fixed texts.
+-- The texts that a pattern matches have these fixed texts.
 pub record AreFixed {E : Type 0} (answer : E → List ℕ → Option Captures) (pattern : PatternView E) (fixed : FixedTexts) : Type 0 where
   pub protocol : (text : List ℕ) → IsMatched answer (pattern Protocol).matcher text → IsText fixed.protocol text
   pub hostname : (text : List ℕ) → IsMatched answer (pattern Hostname).matcher text → IsText fixed.hostname text
   pub pathname : (text : List ℕ) → IsMatched answer (pattern Pathname).matcher text → FitsPath fixed.pathname text
 
--- the texts by which patterns are looked up
+-- The texts by which patterns are looked up.
 abbrev pub address_of : Texts → AddressTexts
 address_of texts = record { protocol = texts.protocol; hostname = texts.hostname; pathname = texts.pathname }
 
--- The index has as many numbers as there are patterns. A pattern whose number texts do not find does not match them.
+-- The index has one number for each pattern. A pattern whose number is not found for some texts
+-- does not match them.
 pub record AreIndexed {E : Type 0} (answer : E → List ℕ → Option Captures) (patterns : List (UrlPattern E)) (index : Listing) : Type 0 where
   pub as_many : length index.keys ≡ length patterns
   pub refuses : (number : ℕ) (pattern : UrlPattern E) → slice_get patterns number ≡ Some pattern →

@@ -1,4 +1,4 @@
--- Patterns, each with a value, and what is found of them.
+-- Patterns with values, and what is found among them.
 use Rattle.std.specs.Prelude.{◌≡◌, ℕ, List, Option, Some, IfSome, option_map, slice_get}
 use Rattle.std.specs.Borrow.{Bor}
 use Rattle.std.specs.Map.{keys_of, values_of}
@@ -8,18 +8,18 @@ use Rattle.urlpattern_matches.specs.BorrowedMatches.{pattern_captures_view}
 use Rattle.urlpattern_pattern.specs.Patterns.{PatternView}
 use Rattle.urlpattern.specs.FirstMatch.{FirstView, patterns_view}
 
--- what the components of each pattern of a `UrlPatternMap` are compiled to
+-- The compiled components of each pattern of a `UrlPatternMap`.
 abbrev pub entry_patterns : {E T : Type 0} → List (UrlPattern E × T) → List (PatternView E)
 entry_patterns entries = patterns_view (keys_of entries)
 
--- an index with the match, without the value
+-- The index and the match, without the value.
 abbrev pub without_value : {T : Type 0} → Option (ℕ × Bor T × UrlPatternCaptures) → Option (ℕ × UrlPatternCaptures)
 without_value found = option_map (λ first. (first.0, first.2)) found
 
--- the same, as a clause sees the match
+-- The index and the view of the match, without the value.
 abbrev pub first_entry_view : {T : Type 0} → Option (ℕ × Bor T × UrlPatternCaptures) → Option FirstView
 first_entry_view found = option_map (λ first. (first.0, pattern_captures_view first.2)) found
 
--- the value that is found is that of the entry at the index
+-- The value that is found is that of the entry at the index.
 abbrev pub HasValueAt : {K T M : Type 0} → List (K × T) → Option (ℕ × Bor T × M) → Type 0
 HasValueAt entries found = IfSome found (λ first. slice_get (values_of entries) first.0 ≡ Some first.1.now)

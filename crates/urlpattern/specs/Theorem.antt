@@ -1,5 +1,5 @@
--- The sentences of the main theorem, some of which are those of laws. Where one speaks of an encoding, it is any list of texts
--- with their answers.
+-- The clauses of the main theorem, some of which are those of laws. An encoding is any list of
+-- texts with their results.
 use Rattle.std.specs.Prelude.{⊤, ℕ, false, List, Option}
 use Rattle.urlpattern_matcher.specs.{Components.FlagsAgree, Components.IsEngineOf, Regexes.regex_engine, FirstWays.EachAnswersFirst}
 use Rattle.urlpattern_matcher.specs.declared.regexp.RegExp.{Ghosts as Engine}
@@ -15,59 +15,66 @@ use Rattle.urlpattern_meaning.specs.RoundTrip.{IsNotRefused, ReadsAsJoined, Read
 use Rattle.urlpattern_laws.specs.PatternLaws.{TestsAgree, TestsAreOne}
 use Rattle.urlpattern_syntax.specs.{Options.OptionsView, Parts.PartView, RegexpText.regexp_text}
 
--- A text has an outcome, parts or an error, or else it asks the encoding about a text to which that has no answer. It has one
--- outcome at most where the encoding has one answer at most to each text.
+-- A text has an outcome, parts or an error, unless parsing it needs the encoding of a text for
+-- which the encoding has no result. It has at most one outcome if the encoding has at most one
+-- result for each text.
 abbrev pub OneReading : Type 0
 OneReading = UnderEachList (λ encoding. OutcomesLackOnlyAnswers encoding × OutcomesAreOne encoding)
 
--- The regular expression of parts has one tree.
+-- The regular expression of parts without custom expressions has exactly one tree.
 abbrev pub OneTree : Type 0
 OneTree = (options : OptionsView) (parts : List PartView) →
     AreGenerated parts → (tree : Items) × IsOnlyTreeOf (regexp_text options parts) tree
 
--- A matcher that is made of parts answers what they mean.
+-- A matcher made from parts returns what the parts mean.
 abbrev pub MatchersAnswerByMeaning : {E : Type 0} → Engine E → Type 0
 MatchersAnswerByMeaning {E} engine =
     (options : OptionsView) (flags : List ℕ) (parts : List PartView) (matcher : MatcherView E) →
     IsMadeOf (IsEngineOf engine false flags) options parts matcher → AnswersByMeaning engine.answer options parts matcher
 
--- A matcher that is made of parts answers the first way of their tree, if an engine that it asks answers that of its text's.
+-- A matcher made from parts returns the first way of their tree, if an engine that it calls does so
+-- for the tree of its expression.
 abbrev pub MatchersAnswerTheFirstWay : {E : Type 0} → Engine E → Type 0
 MatchersAnswerTheFirstWay {E} engine =
     (options : OptionsView) (flags : List ℕ) (parts : List PartView) (matcher : MatcherView E) →
     IsMadeOf (IsEngineOf engine false flags) options parts matcher → AnswersByFirstWay engine.answer options parts matcher
 
--- One that `regex::Regex` made does so by itself, if `regex` took the text where it was needed, and this is what the parts mean.
+-- A matcher made by `regex::Regex` returns the first way, which is what the parts mean, if `regex`
+-- accepted the expression where one was needed.
 abbrev pub DefaultEngineAnswersTheFirstWay : Type 0
 DefaultEngineAnswersTheFirstWay = EachAnswersFirst regex_engine (λ options flags. TookText (λ regex. ⊤))
 
--- One that `PatternRegexp` made does so too, without any premise on that.
+-- A matcher made by `PatternRegexp` returns the first way, which is what the parts mean, without
+-- any premise on the engine.
 abbrev pub PatternEngineAnswersTheFirstWay : Type 0
 PatternEngineAnswersTheFirstWay = EachAnswersFirst pattern_engine (λ options flags inner. FlagsAgree options flags)
 
--- Custom parts are no exception for these two, if their expressions stand alone and capture nothing: what is answered is what the parts
--- capture, one capture for each name, or `None` where they do not take the text.
+-- The two engines match custom parts correctly, if their expressions stand alone and capture
+-- nothing: the result is what the parts capture, one capture for each name, or `None` where they do
+-- not match.
 abbrev pub CustomPartsAreAnswered : Type 0
 CustomPartsAreAnswered =
     MatchersCapture regex_engine (λ regexp. ⊤) (λ options flags. TookText (λ regex. ⊤)) × MatchersCapture pattern_engine HasNumbers TookAlone × CapturesAreAsNames
 
--- Of several captures, both return those of the first way of the parts, in which the choices of a custom expression are tried as the grammar
--- reads it by itself. Without a custom part this is the first way of their tree.
+-- When several captures are possible, both engines return those of the first way of the parts,
+-- which tries the choices of a custom expression in the order of the grammar that reads it by
+-- itself. Without a custom part this is the first way of their tree.
 abbrev pub CustomPartsAreAnsweredByTheFirstWay : Type 0
 CustomPartsAreAnsweredByTheFirstWay =
     MatchersAnswerFirstOfParts regex_engine (λ regexp. ⊤) (λ options flags. TookText (λ regex. ⊤))
     × MatchersAnswerFirstOfParts pattern_engine HasNumbers TookAlone × FirstWaysAreOfTrees
 
--- The printed pattern of parts that were read reads as these parts, joined.
+-- The printed pattern of parts that were read reads as the same parts, joined.
 abbrev pub PrintedReadsBack : Type 0
 PrintedReadsBack = OfPartsThatWereRead ReadsAsJoined
 
--- It reads as no other parts, and is not refused.
+-- The printed pattern of parts that were read reads as no other parts, and is not rejected.
 abbrev pub PrintedReadsAsNothingElse : Type 0
 PrintedReadsAsNothingElse = OfPartsThatWereRead (λ text options encoding parts.
     ReadsOnlyAsJoined text options encoding parts × IsNotRefused text options encoding parts)
 
--- A pattern has a match on an input exactly where there are eight texts and each matcher accepts its own. Where there is
--- one, no match is only found of an input that is longer than `url` is sure to take.
+-- A pattern has a match on an input exactly if the input has eight texts and each matcher accepts
+-- its own. No match is reported although there is one only for an input longer than those that
+-- `url` is sure to accept.
 abbrev pub ExecutesByMatchers : {E : Type 0} → (answer : E → List ℕ → Option Captures) → Type 0
 ExecutesByMatchers answer = TestsAgree answer × TestsAreOne answer

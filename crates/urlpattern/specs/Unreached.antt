@@ -1,4 +1,4 @@
--- Which patterns of a list are never reached, by the parts that they have.
+-- The patterns of a list that are never reached, by the parts of the patterns.
 use Rattle.std.specs.Prelude.{◌≡◌, Contains, List, map, None, Some}
 use Rattle.urlpattern_pattern.specs.UrlPatterns.{UrlPattern}
 use Rattle.urlpattern_pattern.specs.declared.pattern.compare.CompareError.{CompareError}
@@ -7,15 +7,15 @@ use Rattle.urlpattern_compare.specs.Comparing.{AreUnreachable}
 use Rattle.urlpattern_compare.specs.declared.list.Shadowed.{Shadowed}
 use Rattle.urlpattern_compare.specs.declared.pattern.PatternParts.{PatternParts}
 
--- each pattern has parts, and these are they, in their order
+-- Each pattern has parts: these, in order.
 abbrev pub HaveAllParts : {E : Type 0} → List (UrlPattern E) → List PatternParts → Type 0
 HaveAllParts patterns parts = map (λ pattern. pattern.parts) patterns ≡ map Some parts
 
--- each pattern has parts, and by these the patterns that one before them is known to cover are found
+-- Each pattern has parts, by which the patterns that an earlier one is known to cover are found.
 abbrev pub AreUnreached : {E : Type 0} → List (UrlPattern E) → List Shadowed → Type 0
 AreUnreached patterns found = (parts : List PatternParts) × HaveAllParts patterns parts × AreUnreachable parts found
 
--- one of the patterns has no parts, or memory ran out
+-- A pattern has no parts, or memory ran out.
 abbrev pub LacksParts : {E : Type 0} → List (UrlPattern E) → CompareError → Type 0
 LacksParts patterns NoParts = Contains (map (λ pattern. pattern.parts) patterns) None
 LacksParts patterns OutOfMemory = Unit {0}

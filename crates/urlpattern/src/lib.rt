@@ -1,7 +1,7 @@
-//! URL patterns: texts such as `/users/:id` that say which URLs are meant, and name their pieces.
+//! URL patterns: texts such as `/users/:id` that say which URLs match, and name parts of them.
 //!
-//! Lists and maps of patterns give the first that matches, and `quirks` is for browsers. The crate gathers what the crates below it
-//! have, so that a user names it alone.
+//! `UrlPatternList` and `UrlPatternMap` return the first pattern that matches. The module `quirks`
+//! is for browsers. This crate re-exports what users need of the crates below it.
 //!
 //! <https://urlpattern.spec.whatwg.org/>
 #![tactic(auto)]

@@ -1,8 +1,8 @@
-//! Lists of patterns, which answer the first one that matches an input.
+//! Lists of patterns, which find the first one that matches an input.
 //!
-//! The texts of the input are made once. An index finds the patterns that can match them, by the literal protocol and hostname
-//! and by the segments of the pathname. Those look at them, in the order of the list, and nothing is made of those that do not
-//! match.
+//! The texts of the input are made once. An index finds the patterns that can match them, by the
+//! literal protocol and hostname and by the segments of the pathname. Only these patterns are
+//! tried, in the order of the list. No result is built for patterns that do not match.
 ghost use Rattle.std.specs.Iterator.Adapters.{IterYieldsInOrder};
 ghost use Rattle.std.specs.List.{remove};
 ghost use Rattle.std.specs.Prelude.{◌≡◌, ◌==◌, ◌++◌, ◌<◌, [], ◌∷◌, length, option_copied, slice_get, IfErr, IfOk, OnErr, OnOk};
@@ -40,7 +40,7 @@ use urlpattern_matches::{
 use urlpattern_pattern::UrlPattern;
 use urlpattern_syntax::Error;
 
-/// Patterns in their order, as the routes of a router.
+/// A list of patterns in order, such as the routes of a router.
 ///
 /// Here `pattern` compiles a constructor string, and `add` pushes a pattern:
 ///
@@ -55,12 +55,12 @@ use urlpattern_syntax::Error;
 #[derive(Debug)]
 pub struct UrlPatternList<R: RegExp = regex::Regex> {
     patterns: Vec<UrlPattern<R>>,
-    /// Where the URLs lie that each pattern can match.
+    /// The patterns that can match a URL, by its protocol, hostname and path.
     index: Index,
 }
 
 impl<R: RegExp> Drop for UrlPatternList<R> {
-    /// Drops the patterns. Where a list goes out of scope, the prover handles one call.
+    /// Drops the patterns. The prover then handles one call where a list goes out of scope.
     fn drop(self) {
         let Self {
             patterns: _patterns,
@@ -82,7 +82,7 @@ impl<R: RegExp> Model for UrlPatternList<R> {
 }
 
 impl<R: RegExp> UrlPatternList<R> {
-    /// An empty list. It does not allocate.
+    /// Returns an empty list. Does not allocate.
     pub fn new(alloc: Global) -> Self
         ensures { result ≡ [] }
     {
@@ -92,9 +92,7 @@ impl<R: RegExp> UrlPatternList<R> {
         }
     }
 
-    /// An empty list with room for so many patterns.
-    ///
-    /// The error is that memory ran out.
+    /// Returns an empty list with room for `capacity` patterns.
     pub fn with_capacity(alloc: Global, capacity: usize) -> Result<Self, Error>
         ensures empty { IfOk result (λ list. list ≡ []) }
         ensures memory { OnlyOutOfMemory result }
@@ -107,7 +105,7 @@ impl<R: RegExp> UrlPatternList<R> {
 
     /// Appends a pattern.
     ///
-    /// Where memory runs out, the error is the pattern again, and the list is as it was.
+    /// If memory runs out, the error is the pattern, and the list is unchanged.
     pub fn push(&mut self, pattern: UrlPattern<R>) -> Result<(), UrlPattern<R>>
         ensures appended { OnOk result (self.new ≡ self.old ++ pattern ∷ []) }
         ensures unchanged { OnErr result (self.new ≡ self.old) }
@@ -127,7 +125,7 @@ impl<R: RegExp> UrlPatternList<R> {
 
     /// Appends a pattern.
     ///
-    /// The error is that memory ran out. The pattern is then dropped, and the list is as it was.
+    /// If memory runs out, the pattern is dropped, and the list is unchanged.
     pub fn try_push(&mut self, pattern: UrlPattern<R>) -> Result<(), Error>
         ensures appended { OnOk result (self.new ≡ self.old ++ pattern ∷ []) }
         ensures unchanged { OnErr result (self.new ≡ self.old) }
@@ -139,10 +137,10 @@ impl<R: RegExp> UrlPatternList<R> {
         }
     }
 
-    /// Removes the pattern at an index, and returns it. Each later pattern moves down by one. `None`: there is none at the index,
-    /// and the list is as it was.
+    /// Removes and returns the pattern at an index. Later patterns move down by one. `None`: the
+    /// index is out of range, and the list is unchanged.
     ///
-    /// It does not allocate, and takes time in proportion to the length of the list.
+    /// Does not allocate. Takes time in proportion to the length of the list.
     pub fn remove(&mut self, index: usize) -> Option<UrlPattern<R>>
         ensures removed { result ≡ slice_get self.old index }
         ensures others { self.new ≡ remove self.old index }
@@ -154,14 +152,14 @@ impl<R: RegExp> UrlPatternList<R> {
         Some(self.patterns.remove(index))
     }
 
-    /// How many patterns there are.
+    /// The number of patterns.
     pub fn len(&self) -> usize
         ensures { result ≡ length self.now }
     {
         self.patterns.len()
     }
 
-    /// Whether there is no pattern.
+    /// Whether the list is empty.
     pub fn is_empty(&self) -> bool
         ensures { result ≡ (length self.now == 0) }
     {
@@ -175,7 +173,7 @@ impl<R: RegExp> UrlPatternList<R> {
         self.patterns.get(index)
     }
 
-    /// The patterns, in their order.
+    /// Iterates over the patterns, in order.
     pub fn iter(&self) -> slice::Iter<'_, UrlPattern<R>>
         ensures rest { iter_rest result ≡ self.now }
         ensures runs { IterYieldsInOrder (UrlPattern R) }
@@ -183,12 +181,13 @@ impl<R: RegExp> UrlPatternList<R> {
         self.patterns.iter()
     }
 
-    /// The least index whose pattern matches an input, and that match. `None`: no pattern matches it.
+    /// Returns the least index whose pattern matches an input, and the match. `None`: no pattern
+    /// matches.
     ///
-    /// The answer is that of `UrlPattern::exec` on one pattern after the other until one matches. Patterns after that one are
-    /// not asked, nor are those that the index leaves out.
+    /// The result is that of calling `UrlPattern::exec` on one pattern after the other until one
+    /// matches. Later patterns are not tried, nor are those that the index rules out.
     ///
-    /// The error is that memory ran out. Of a URL an engine allocates, and the copy of a match.
+    /// If the input is a URL, only an engine allocates, and the copy of a match.
     pub fn first_match(
         &self,
         alloc: Global,
@@ -207,12 +206,13 @@ impl<R: RegExp> UrlPatternList<R> {
         }
     }
 
-    /// The least index whose pattern matches a URL, and that match, borrowed from the pattern and the URL. `None`: no pattern
-    /// matches it.
+    /// Returns the least index whose pattern matches a URL, and the match, which borrows from the
+    /// pattern and the URL. `None`: no pattern matches.
     ///
-    /// The answer is that of `UrlPattern::captures` on one pattern after the other until one matches.
+    /// The result is that of calling `UrlPattern::captures` on one pattern after the other until
+    /// one matches.
     ///
-    /// The error is that memory ran out. Only an engine allocates.
+    /// Only an engine allocates.
     ///
     /// Here `ages` has a number for each pattern:
     ///
@@ -233,7 +233,7 @@ impl<R: RegExp> UrlPatternList<R> {
         ensures memory { OnlyOutOfMemory result }
         ensures asked { IfErr result (λ _. AsksBeforeMatch R.answer (patterns_view self.now) (texts_of_url url.now)) }
     {
-        // Most of a URL's texts are made only where a pattern is asked.
+        // Most texts of the URL are made only once a pattern is tried.
         let mut hashes = AddressHashes::new();
         hashes.fill(url_address(url));
         match self.next_asked(&hashes, 0) {
@@ -242,10 +242,11 @@ impl<R: RegExp> UrlPatternList<R> {
         }
     }
 
-    /// The first match of a URL by the pattern at an index, or by a later one. `None`: none of them matches the URL.
+    /// Returns the first match of a URL by the pattern at an index or a later one. `None`: none of
+    /// them matches.
     ///
-    /// The error is that memory ran out. Only an engine allocates. A function clears its variables when it is called, so those that
-    /// only a match needs are here.
+    /// Only an engine allocates. A function of its own, since a call clears all variables of its
+    /// function, and some are needed only for a match.
     #[inline(never)]
     fn listed_captures<'p, 'u>(
         &'p self,
@@ -264,10 +265,10 @@ impl<R: RegExp> UrlPatternList<R> {
         Ok(self.first_listed(alloc, &url_texts(url), hashes, index)?)
     }
 
-    /// The least index whose pattern matches an input that has its eight texts, and that match, borrowed from the pattern and
-    /// the input. `None`: no pattern matches it.
+    /// Returns the least index whose pattern matches an input that is parsed into its eight texts,
+    /// and the match, which borrows from the pattern and the input. `None`: no pattern matches.
     ///
-    /// The error is that memory ran out. Only an engine allocates.
+    /// Only an engine allocates.
     pub fn first_captures_of_input<'p, 'u>(
         &'p self,
         alloc: Global,
@@ -281,10 +282,10 @@ impl<R: RegExp> UrlPatternList<R> {
         Ok(self.first(alloc, input_texts(input))?)
     }
 
-    /// All matches of a URL, in the order of the patterns, each with its pattern's index. They are borrowed from the patterns and
-    /// the URL.
+    /// Iterates over all matches of a URL, in the order of the patterns, each with the index of its
+    /// pattern. The matches borrow from the patterns and the URL.
     ///
-    /// An item may be the error that memory ran out, which comes only where a pattern asks an engine. It is the last.
+    /// If an engine runs out of memory, the last item is that error.
     pub fn matches<'p, 'u>(&'p self, alloc: Global, url: &'u Url) -> UrlPatternMatches<'p, 'u, R>
         ensures { matches_left result ≡ record { patterns = patterns_view self.now; texts = texts_of_url url.now; from = 0 } }
     {

@@ -1,6 +1,7 @@
-//! Patterns with values, as the routes of a router with their handlers.
+//! Maps from patterns to values, such as the handlers of a router's routes.
 //!
-//! The patterns are a list, whose index finds those that can match, and the values lie beside them.
+//! The patterns are a list, whose index finds those that can match. The values are kept in a second
+//! vector.
 ghost use Rattle.std.specs.List.{remove};
 ghost use Rattle.std.specs.Map.{keys_of};
 ghost use Rattle.std.specs.Map.Iter.{deref_pair, ShowsInOrder};
@@ -26,9 +27,9 @@ use urlpattern_matches::UrlPatternCaptures;
 use urlpattern_pattern::{CompareError, UrlPattern};
 use urlpattern_syntax::Error;
 
-/// Patterns in their order, each with a value, as the routes of a router with their handlers.
+/// Patterns in order, each with a value, such as the routes of a router with their handlers.
 ///
-/// Where several patterns match, the first of them counts.
+/// If several patterns match, the first one counts.
 ///
 /// Here `pattern` compiles a constructor string:
 ///
@@ -45,7 +46,7 @@ use urlpattern_syntax::Error;
 #[derive(Debug, Drop)]
 pub struct UrlPatternMap<T, R: RegExp = regex::Regex> {
     patterns: UrlPatternList<R>,
-    /// The value of each pattern.
+    /// The value of each pattern, in the same order.
     values: Vec<T>,
 }
 
@@ -61,7 +62,7 @@ impl<T, R: RegExp> Model for UrlPatternMap<T, R> {
 }
 
 impl<T, R: RegExp> UrlPatternMap<T, R> {
-    /// An empty map. It does not allocate.
+    /// Returns an empty map. Does not allocate.
     pub fn new(alloc: Global) -> Self
         ensures { result ≡ [] }
     {
@@ -71,9 +72,7 @@ impl<T, R: RegExp> UrlPatternMap<T, R> {
         }
     }
 
-    /// An empty map with room for so many patterns.
-    ///
-    /// The error is that memory ran out.
+    /// Returns an empty map with room for `capacity` patterns.
     pub fn with_capacity(alloc: Global, capacity: usize) -> Result<Self, Error>
         ensures empty { IfOk result (λ map. map ≡ []) }
         ensures memory { OnlyOutOfMemory result }
@@ -86,7 +85,7 @@ impl<T, R: RegExp> UrlPatternMap<T, R> {
 
     /// Appends a pattern with its value.
     ///
-    /// Where memory runs out, the error is the pattern and the value again, and the map is as it was.
+    /// If memory runs out, the error is the pattern and the value, and the map is unchanged.
     pub fn insert(&mut self, pattern: UrlPattern<R>, value: T) -> Result<(), (UrlPattern<R>, T)>
         ensures appended { OnOk result (self.new ≡ self.old ++ (pattern, value) ∷ []) }
         ensures unchanged { OnErr result (self.new ≡ self.old) }
@@ -105,10 +104,10 @@ impl<T, R: RegExp> UrlPatternMap<T, R> {
         }
     }
 
-    /// Removes the pattern at an index, and returns it with its value. Each later one moves down by one. `None`: there is none at
-    /// the index, and the map is as it was.
+    /// Removes the pattern at an index, and returns it with its value. Later entries move down by
+    /// one. `None`: the index is out of range, and the map is unchanged.
     ///
-    /// It does not allocate, and takes time in proportion to the length of the map.
+    /// Does not allocate. Takes time in proportion to the length of the map.
     pub fn remove(&mut self, index: usize) -> Option<(UrlPattern<R>, T)>
         ensures removed { result ≡ slice_get self.old index }
         ensures others { self.new ≡ remove self.old index }
@@ -119,21 +118,21 @@ impl<T, R: RegExp> UrlPatternMap<T, R> {
         }
     }
 
-    /// How many patterns there are.
+    /// The number of patterns.
     pub fn len(&self) -> usize
         ensures { result ≡ length self.now }
     {
         self.patterns.len()
     }
 
-    /// Whether there is no pattern.
+    /// Whether the map is empty.
     pub fn is_empty(&self) -> bool
         ensures { result ≡ (length self.now == 0) }
     {
         self.patterns.is_empty()
     }
 
-    /// The pattern at an index with its value, if there is one.
+    /// The pattern at an index and its value, if there is one.
     pub fn get(&self, index: usize) -> Option<(&UrlPattern<R>, &T)>
         ensures { option_map deref_pair result ≡ slice_get self.now index }
     {
@@ -143,7 +142,7 @@ impl<T, R: RegExp> UrlPatternMap<T, R> {
         }
     }
 
-    /// The patterns in their order, each with its value.
+    /// Iterates over the patterns, in order, each with its value.
     pub fn iter(&self) -> UrlPatternMapIter<'_, T, R>
         ensures rest { result ≡ self.now }
         ensures runs { ShowsInOrder (deref_pair {K = UrlPattern R} {X = T}) }
@@ -151,10 +150,10 @@ impl<T, R: RegExp> UrlPatternMap<T, R> {
         UrlPatternMapIter::new(self.patterns.iter(), self.values.iter())
     }
 
-    /// The least index whose pattern matches a URL, with the pattern's value and the match, borrowed from the map and the URL.
-    /// `None`: no pattern matches it.
+    /// Returns the least index whose pattern matches a URL, with the value of the pattern and the
+    /// match, which borrows from the map and the URL. `None`: no pattern matches.
     ///
-    /// The error is that memory ran out. Only an engine allocates.
+    /// Only an engine allocates.
     ///
     /// The value of the first route that matches, and what the group `ID` captures:
     ///
@@ -181,9 +180,10 @@ impl<T, R: RegExp> UrlPatternMap<T, R> {
         }
     }
 
-    /// Lists each pattern that one before it is known to cover, as `UrlPatternList::unreachable` does.
+    /// Lists each pattern that an earlier one is known to cover, as `UrlPatternList::unreachable`
+    /// does.
     ///
-    /// The error is that a pattern has no parts, or that memory ran out.
+    /// The error is `NoParts` if a pattern has no parts, or `OutOfMemory`.
     pub fn unreachable(&self, alloc: Global) -> Result<Vec<Shadowed>, CompareError>
         ensures found { IfOk result (λ found. AreUnreached (keys_of self.now) found.items) }
         ensures missing { IfErr result (LacksParts (keys_of self.now)) }
@@ -195,7 +195,7 @@ impl<T, R: RegExp> UrlPatternMap<T, R> {
 impl<T: Drop, R: RegExp> UrlPatternMap<T, R> {
     /// Appends a pattern with its value.
     ///
-    /// The error is that memory ran out. The pattern and the value are then dropped, and the map is as it was.
+    /// If memory runs out, the pattern and the value are dropped, and the map is unchanged.
     pub fn try_insert(&mut self, pattern: UrlPattern<R>, value: T) -> Result<(), Error>
         ensures appended { OnOk result (self.new ≡ self.old ++ (pattern, value) ∷ []) }
         ensures unchanged { OnErr result (self.new ≡ self.old) }
@@ -207,9 +207,10 @@ impl<T: Drop, R: RegExp> UrlPatternMap<T, R> {
         }
     }
 
-    /// Appends patterns with their values, in their order.
+    /// Appends patterns with their values, in order.
     ///
-    /// The error is that memory ran out. Those before the first that found no room are then appended, and the others dropped.
+    /// If memory runs out, the entries before the first one that found no room are appended, and
+    /// the others are dropped.
     pub fn extend(&mut self, entries: Vec<(UrlPattern<R>, T)>) -> Result<(), Error>
         ensures appended { OnOk result (self.new ≡ self.old ++ entries.items) }
         ensures some { OnErr result ((taken : ℕ) × (self.new ≡ self.old ++ take taken entries.items)) }

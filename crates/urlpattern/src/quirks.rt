@@ -1,5 +1,5 @@
-//! Types and calls for browsers: an engine in ECMAScript's syntax, plain data, inits and inputs as they are given, and the
-//! texts of a match input.
+//! Types and functions for browsers: an engine with ECMAScript's syntax, compiled patterns as plain
+//! data, inits and inputs with texts for URLs, and the texts of a match input.
 
 pub use crate::Error;
 pub use crate::component::Component;

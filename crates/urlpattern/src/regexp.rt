@@ -1,4 +1,4 @@
-//! Engines of regular expressions.
+//! Regular expression engines.
 
 pub use urlpattern_engine::PatternRegexp;
 pub use urlpattern_matcher::regexp::RegExp;

@@ -1,6 +1,8 @@
-//! Patterns compared by their parts: which is more specific, which covers another, and which overlap.
+//! Patterns compared by their parts: which one is more specific, whether one covers another, and
+//! whether two overlap.
 //!
-//! A compiled pattern keeps its parts: `UrlPattern::parts` borrows them, `UrlPattern::into_parts` moves them out. No URL is needed.
+//! A compiled pattern keeps its parts: `UrlPattern::parts` borrows them, `UrlPattern::into_parts`
+//! moves them out. No URL is needed.
 
 pub use urlpattern_compare::laws::parts_are_in_order;
 pub use urlpattern_compare::{

@@ -1,41 +1,50 @@
-//! The main theorem of the whole: what a pattern text is read as, what its parts mean, what is matched and what is printed.
+//! The main theorem: how a pattern text is read, what its parts mean, what is matched and what is
+//! printed.
 
 ghost use Rattle.urlpattern.specs.Theorem.{CapturesHaveNames, CustomPartsAreAnswered, CustomPartsAreAnsweredByTheFirstWay, DefaultEngineAnswersTheFirstWay, ExecutesByMatchers, FirstWayIsOne, MatchersAnswerByMeaning, MatchersAnswerTheFirstWay, OneReading, OneTree, PatternEngineAnswersTheFirstWay, PrintedReadsAsNothingElse, PrintedReadsBack, TreesMeanTheParts};
 
 use crate::regexp::RegExp;
 
-/// The main theorem, for any engine of regular expressions and for any encoding, which is a list of texts with their
-/// answers. It does nothing; what it promises speaks of the definitions that the calls are promised by.
+/// The main theorem, for any regular expression engine and any encoding, which is a list of texts
+/// with their results. The function does nothing. Its clauses are about the definitions that the
+/// contracts of the calls use.
 ///
-/// - `one_reading`: a text has an outcome under the options, parts or an error, or else it asks the encoding about a text to
-///   which that has no answer; and it has one outcome at most, wherever the encoding has one answer at most to each text. The
-///   outcome is what `parse_pattern_string` answers.
-/// - `one_tree`: the regular expression of parts, none of them custom, has one tree.
-/// - `exactly`: the tree means each text with the same captures as the parts do.
-/// - `captures`: these captures are as many as the names.
-/// - `matches`: a matcher that is made of parts answers what they mean, captures that they have or `None` where they have
-///   none, to each text of characters without line feed where case is kept. If it asks an engine, this has to follow the
-///   regular expression that it was given.
-/// - `answers`: of several captures it answers those of the first way of the parts' tree (`first_way`), which prefers an earlier
-///   choice to a later one, if an engine that it asks answers so of the regular expression that it was given.
+/// - `one_reading`: under given options a text has an outcome, parts or an error, unless parsing it
+///   needs the encoding of a text for which the encoding has no result. It has at most one outcome
+///   if the encoding has at most one result for each text. `parse_pattern_string` returns this
+///   outcome.
+/// - `one_tree`: the regular expression of parts without custom expressions has exactly one syntax
+///   tree.
+/// - `exactly`: the tree and the parts match the same texts with the same captures.
+/// - `captures`: there are as many captures as names.
+/// - `matches`: a matcher made from parts returns what the parts mean, their captures, or `None`
+///   where they don't match, for each text of characters without line feed if case is kept. An
+///   engine that the matcher calls has to follow the regular expression that it was given.
+/// - `answers`: when several captures are possible, a matcher returns those of the first way of the
+///   parts' tree (`first_way`), which prefers an earlier choice to a later one, provided that an
+///   engine that it calls does so for the regular expression that it was given.
 /// - `one_answer`: two results that are the first way are equal.
-/// - `default_engine`: a matcher that `regex::Regex` made answers the first way, and this is what the parts mean or `None` where
-///   they mean nothing, without a premise on the engine but that it took the regular expression where it was needed.
-/// - `pattern_engine`: the same of a matcher that `PatternRegexp` made, without any premise on the engine.
-/// - `custom`: custom parts are no exception for these two engines, if case is kept and the expressions stand alone and capture nothing
-///   themselves (`stands_alone`, `captures_nothing`): a matcher answers what the parts capture, where a custom part takes what its
-///   expression takes by itself. An engine that is needed has to take the regular expression, which has 2³² characters at most for
-///   `PatternRegexp`.
-/// - `custom_first`: of several captures such a matcher answers those of the first way of the parts (`parts_first_way`), in which the choices
-///   of a custom expression are tried in the order in which the grammar of `regex` prefers them. Without a custom part this is the first
-///   way of their tree.
-/// - `reads_back`: the printed pattern of parts that were read under the standard's options reads as these parts,
-///   neighbouring plain fixed texts joined, under each encoding that keeps their texts; no fixed text is empty, and none of
-///   their texts has a tab or a line end.
-/// - `nothing_else`: it reads as no other parts, and it is not refused.
-/// - `executes`: a pattern has a match on an input, with its groups, exactly where there are eight texts and each of the
-///   eight matchers accepts its own. It is what `UrlPattern::exec` answers, whose `None` excludes a match but for inputs
-///   that are longer than `url` is sure to take.
+/// - `default_engine`: a matcher made by `regex::Regex` returns the first way, which is what the
+///   parts mean, or `None` where they don't match. The only premise on the engine is that it
+///   accepted the regular expression, if one was needed.
+/// - `pattern_engine`: a matcher made by `PatternRegexp` returns the first way as well, without any
+///   premise on the engine.
+/// - `custom`: both engines match custom parts correctly, if case is kept and the expressions stand
+///   alone and capture nothing themselves (`stands_alone`, `captures_nothing`): a matcher returns
+///   what the parts capture, where a custom part matches what its expression matches by itself. An
+///   engine that is needed has to accept the regular expression, which has at most 2³² characters
+///   for `PatternRegexp`.
+/// - `custom_first`: when several captures are possible, a matcher with custom parts returns those
+///   of the first way of the parts (`parts_first_way`), which tries the choices of a custom
+///   expression in the order in which the grammar of `regex` prefers them. Without a custom part
+///   this is the first way of their tree.
+/// - `reads_back`: the printed pattern of parts that were read under the standard's options reads
+///   as the parts, neighbouring plain fixed texts joined, under each encoding that keeps their
+///   texts, provided that no fixed text is empty and no text has a tab or a line end.
+/// - `nothing_else`: the printed pattern reads as no other parts, and is not rejected.
+/// - `executes`: a pattern has a match on an input, with its groups, exactly if the input has eight
+///   texts and each of the eight matchers accepts its own. `UrlPattern::exec` returns the match.
+///   Its `None` excludes a match except for inputs longer than those that `url` is sure to accept.
 pub fn main_theorem<R: RegExp>()
     ensures one_reading { OneReading }
     ensures one_tree { OneTree }

@@ -68,7 +68,7 @@ pub slot_good : (p : Ptr) → Good (layout Slot) (single (ptr_val p))
 slot_good (block_ptr b o) = (tt, (tt, tt))
 slot_good null_ptr = (tt, (record { fits = lit< tt }, tt))
 
--- what leads somewhere leads to this
+-- A pointer that is not null points to patterns.
 pub filled : (held : Option Kept) → IsSome held → (kept : Kept) × (held ≡ Some kept)
 filled None none = absurd cc
 filled (Some kept) some = (kept, refl)

@@ -2,6 +2,6 @@
 use Rattle.urlpattern_c.specs.declared.patterns.Patterns.{Patterns}
 use Rattle.urlpattern_ffi.specs.Kept.{PatternList, kept_patterns}
 
--- the patterns of a handle
+-- The patterns of a handle, none if it is empty.
 abbrev pub patterns_in : Patterns → PatternList
 patterns_in patterns = kept_patterns patterns.slot.held

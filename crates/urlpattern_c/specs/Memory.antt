@@ -1,4 +1,4 @@
--- What a handle leads to.
+-- The memory that a handle points to.
 use Rattle.std.specs.Prelude.{Option, None, Some}
 use Rattle.std.specs.Box.Ownership.{box_owns}
 use Rattle.std.specs.Global.{Global}
@@ -8,11 +8,12 @@ use denote.RawPtr.{Ptr}
 use Rattle.urlpattern_ffi.specs.contracts.kept.Kept.{the_row}
 use Rattle.urlpattern_ffi.specs.declared.kept.Kept.{Kept}
 
--- the C library's heap
+-- The heap of the C library.
 abbrev pub heap : Global
 heap = record { memory = record { seal = tt } }
 
--- The pointer leads to what is kept, and owns it with the right to free its memory; or it leads to nothing.
+-- The pointer points to the patterns and owns them, with the right to free their memory; or it is
+-- null.
 abbrev pub leads_to : Ptr → Option Kept → Fml
 leads_to at None = ftrue
 leads_to at (Some kept) = box_owns (ghosts.dealloc_token heap) the_row at kept

@@ -1,4 +1,4 @@
--- What functions return that report of a handle's patterns: the number of a status.
+-- Outcomes for the patterns of a handle, as the number of a status.
 use Rattle.std.specs.Prelude.{ℕ, List}
 use Rattle.urlpattern_c.specs.Handles.{patterns_in}
 use Rattle.urlpattern_c.specs.declared.patterns.Patterns.{Patterns}
@@ -9,24 +9,24 @@ use Rattle.urlpattern_ffi.specs.Texts.{IsGroupNameWritten}
 use Rattle.urlpattern_ffi.specs.declared.spans.Sizes.{Sizes}
 use Rattle.urlpattern_ffi.specs.declared.spans.Span.{Span}
 
--- the captures of the pattern at an index
+-- The captures of the pattern at an index.
 abbrev pub GivesCaptures : Patterns → (index : ℕ) → (url base : List ℕ) → (old new : List ℕ) → (old_spans new_spans : List Span) → (needed : Sizes)
     → ℕ → Type 0
 GivesCaptures patterns index url base old new old_spans new_spans needed number =
     ReturnsStatus (AreCapturesReported (patterns_in patterns) index url base old new old_spans new_spans needed) number
 
--- the captures of the first pattern that matches
+-- The captures of the first pattern that matches.
 abbrev pub GivesFirst : Patterns → (url base : List ℕ) → (old_index new_index : ℕ) → (old new : List ℕ) → (old_spans new_spans : List Span)
     → (needed : Sizes) → ℕ → Type 0
 GivesFirst patterns url base old_index new_index old new old_spans new_spans needed number =
     ReturnsStatus (AreFirstCaptures (patterns_in patterns) url base old_index new_index old new old_spans new_spans needed) number
 
--- the URL of the pattern at an index, with these groups
+-- The URL of the pattern at an index, with these groups.
 abbrev pub GivesLink : Patterns → (index : ℕ) → (text : List ℕ) → List Given → (old new : List ℕ) → (needed : ℕ) → ℕ → Type 0
 GivesLink patterns index text given old new needed number =
     ReturnsStatus (IsLinkReported (patterns_in patterns) index text given old new needed) number
 
--- the name of a group of the pattern at an index
+-- The name of a group of the pattern at an index.
 abbrev pub GivesGroupName : Patterns → (index component group : ℕ) → (old new : List ℕ) → (needed : ℕ) → ℕ → Type 0
 GivesGroupName patterns index component group old new needed number =
     ReturnsStatus (IsGroupNameWritten (patterns_in patterns) index component group old new needed) number

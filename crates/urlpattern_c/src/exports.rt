@@ -17,7 +17,7 @@ use urlpattern_ffi::{
     write_group_name,
 };
 
-/// Compiles a constructor string, with a base URL unless that is empty, and appends the pattern.
+/// Compiles a constructor string, under a base URL unless `base` is empty, and appends the pattern.
 #[unsafe(no_mangle)]
 pub extern "C" fn urlpattern_add(
     alloc: Global,
@@ -34,7 +34,7 @@ pub extern "C" fn urlpattern_add(
     status.number()
 }
 
-/// Compiles an init, an object of JSON, and appends the pattern.
+/// Compiles an init, a JSON object, and appends the pattern.
 #[unsafe(no_mangle)]
 pub extern "C" fn urlpattern_add_init(
     alloc: Global,
@@ -50,7 +50,7 @@ pub extern "C" fn urlpattern_add_init(
     status.number()
 }
 
-/// Frees the patterns. The handle is then as C makes it, so that freeing it again does nothing.
+/// Frees the patterns. The handle is then empty, and freeing it again does nothing.
 #[unsafe(no_mangle)]
 pub extern "C" fn urlpattern_free(alloc: Global, patterns: &mut Patterns)
     ensures { patterns.new.slot.held ≡ None }
@@ -76,7 +76,7 @@ pub extern "C" fn urlpattern_test(
     status.number()
 }
 
-/// The index of the first pattern that matches a URL.
+/// Finds the first pattern that matches a URL, and writes its index.
 #[unsafe(no_mangle)]
 pub extern "C" fn urlpattern_first(
     alloc: Global,
@@ -94,7 +94,7 @@ pub extern "C" fn urlpattern_first(
     status.number()
 }
 
-/// The number of the first component of a URL that a pattern does not match.
+/// Writes the number of the first component of a pattern that does not match a URL.
 #[unsafe(no_mangle)]
 pub extern "C" fn urlpattern_mismatch(
     alloc: Global,
@@ -113,7 +113,7 @@ pub extern "C" fn urlpattern_mismatch(
     status.number()
 }
 
-/// Writes the match of a URL, as JSON.
+/// Writes the match of a URL as JSON.
 #[unsafe(no_mangle)]
 pub extern "C" fn urlpattern_exec(
     alloc: Global,
@@ -154,7 +154,8 @@ pub extern "C" fn urlpattern_captures(
     status.number()
 }
 
-/// Finds the first pattern that matches a URL, and writes its index, what its groups capture, and a span for each group.
+/// Finds the first pattern that matches a URL, and writes its index, what its groups capture, and a
+/// span for each group.
 #[unsafe(no_mangle)]
 pub extern "C" fn urlpattern_first_captures(
     alloc: Global,
@@ -175,7 +176,7 @@ pub extern "C" fn urlpattern_first_captures(
     status.number()
 }
 
-/// Writes the URL of a pattern with groups that are given, or why there is none.
+/// Writes the URL of a pattern, given texts for its groups, or why there is none.
 #[unsafe(no_mangle)]
 pub extern "C" fn urlpattern_link(
     alloc: Global,
@@ -195,7 +196,7 @@ pub extern "C" fn urlpattern_link(
     status.number()
 }
 
-/// Writes the name of a group, by its number in a component.
+/// Writes the name of a group, given its number in a component.
 #[unsafe(no_mangle)]
 pub extern "C" fn urlpattern_group_name(
     alloc: Global,
@@ -250,7 +251,7 @@ pub extern "C" fn urlpattern_has_regexp_groups(
     status.number()
 }
 
-/// Whether a pattern covers the asked one, which the same handle has.
+/// Whether a pattern covers another one of the same handle.
 #[unsafe(no_mangle)]
 pub extern "C" fn urlpattern_covers_within(
     alloc: Global,
@@ -268,7 +269,7 @@ pub extern "C" fn urlpattern_covers_within(
     status.number()
 }
 
-/// Whether a pattern covers the asked one, which another handle has.
+/// Whether a pattern covers one of another handle.
 #[unsafe(no_mangle)]
 pub extern "C" fn urlpattern_covers_between(
     alloc: Global,
@@ -290,7 +291,7 @@ pub extern "C" fn urlpattern_covers_between(
     status.number()
 }
 
-/// Writes why a constructor string is refused, and where it is at fault.
+/// Writes why a constructor string is rejected, and where the fault is.
 #[unsafe(no_mangle)]
 pub extern "C" fn urlpattern_diagnose(
     alloc: Global,
@@ -306,7 +307,7 @@ pub extern "C" fn urlpattern_diagnose(
     diagnose(alloc, text, base, ignore_case, buffer, needed, place).number()
 }
 
-/// Writes why an init is refused, and which text of it is at fault where.
+/// Writes why an init is rejected, in which of its texts the fault is, and where.
 #[unsafe(no_mangle)]
 pub extern "C" fn urlpattern_diagnose_init(
     alloc: Global,
@@ -321,7 +322,7 @@ pub extern "C" fn urlpattern_diagnose_init(
     diagnose_init(alloc, json, ignore_case, buffer, needed, place).number()
 }
 
-/// The version: 1,000 times its first number, and its second.
+/// The version: 1,000 times its first number, plus its second.
 #[unsafe(no_mangle)]
 pub extern "C" fn urlpattern_version() -> u32
     ensures { result ≡ 1000 }

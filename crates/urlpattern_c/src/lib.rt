@@ -1,6 +1,8 @@
-//! URL patterns for other languages: functions that C calls, of a static library. `bindings/c/urlpattern.h` declares them.
+//! URL patterns for other languages: the C functions of a static library. `bindings/c/urlpattern.h`
+//! declares them.
 //!
-//! Each passes on a call of `urlpattern_ffi`, and states its clauses again. Raw pointers stay inside of `Loose` and `Slot`.
+//! Each wraps a call of `urlpattern_ffi`, and repeats its clauses. Raw pointers stay inside of
+//! `Loose` and `Slot`.
 #![tactic(auto)]
 
 mod exports;

@@ -1,11 +1,11 @@
-//! A box as its pointer.
+//! The parts of a box.
 ghost use Rattle.std.specs.Prelude.{◌≡◌};
 ghost use Rattle.std.specs.Box.Ownership.{box_owns};
 
 use std::alloc::Allocator;
 use std::marker::Model;
 
-/// What a box owns: a value at a pointer, and the right to free its memory.
+/// A box as a pointer to a value and the right to free its memory.
 pub(crate) struct Loose<T, A: Allocator> {
     pub(crate) at: *mut T,
     pub(crate) alloc: A,

@@ -7,7 +7,8 @@ use std::alloc::Global;
 use std::mem;
 use urlpattern_ffi::Kept;
 
-/// A handle to patterns in their order. C makes one by writing zeros, which has no pattern and no memory.
+/// A handle to patterns in order. C makes one by writing zeros; it is then empty and owns no
+/// memory.
 #[repr(C)]
 #[derive(Drop)]
 pub struct Patterns {
@@ -21,7 +22,7 @@ impl Patterns {
     ghost use Rattle.urlpattern_c.specs.Handles.{patterns_in};
     ghost use Rattle.urlpattern_ffi.specs.Kept.{boxed_patterns};
 
-    /// As C makes it.
+    /// Returns an empty handle.
     fn empty() -> Patterns
         ensures { result.slot.held ≡ None }
     {
@@ -31,7 +32,7 @@ impl Patterns {
         }
     }
 
-    /// Takes the patterns out, if there are any. The handle is then as C makes it.
+    /// Takes the patterns out, if there are any. The handle is then empty.
     pub(crate) fn take(&mut self, alloc: Global) -> Option<Box<Kept>>
         ensures taken { boxed_patterns result ≡ patterns_in self.old }
         ensures none_left { self.new.slot.held ≡ None }

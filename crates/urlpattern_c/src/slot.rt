@@ -10,7 +10,7 @@ use std::marker::Model;
 use std::ptr;
 use urlpattern_ffi::Kept;
 
-/// A pointer to patterns, or to nothing.
+/// A pointer to patterns, or a null pointer.
 #[repr(C)]
 #[derive(Drop)]
 pub struct Slot {
@@ -25,7 +25,7 @@ impl Model for Slot {
 }
 
 impl Slot {
-    /// It leads to nothing.
+    /// Returns a null pointer.
     pub(crate) fn empty() -> Slot
         ensures { result.held ≡ None }
     {

@@ -1,4 +1,4 @@
--- Lemmas on what calls report.
+-- Lemmas on the outcomes of calls.
 use Rattle.std.proofs.Common.{◌≡◌, ◌∙◌, ℕ, Bool, List, length, refl, inl, inr, ◌⊎◌, ap, subst, sym}
 use Rattle.std.specs.Str.{chars}
 use Rattle.urlpattern.specs.Errors.{ErrorView, MemoryOr, error_view}
@@ -21,7 +21,7 @@ use Rattle.urlpattern_pattern.specs.KeptParts.{KeepsPartsOfText}
 use Rattle.urlpattern_pattern.specs.UrlPatterns.{UrlPattern}
 use Rattle.urlpattern_syntax.specs.declared.error.Error.{Error}
 
--- a pattern that is compiled and pushed is added
+-- A pattern that is compiled and pushed is added.
 pub added : (old : List (UrlPattern PatternRegexp)) (text base : List ℕ) (ignores : Bool) (pattern : UrlPattern PatternRegexp) (new : List (UrlPattern PatternRegexp)) (status : Status)
     → IsPatternOfText pattern_engine (chars text) (given_base base) (c_options ignores) (pattern_view pattern)
     → KeepsPartsOfText pattern_engine (chars text) (given_base base) (c_options ignores) pattern → IsPushed old pattern new status
@@ -30,18 +30,18 @@ added old text base ignores pattern new statuses.Done is keeps pushed = (pattern
 added old text base ignores pattern new statuses.OutOfMemory is keeps pushed = pushed
 added old text base ignores pattern new status is keeps pushed = absurd pushed
 
--- what holds of texts as they were read, and of the base URL that was given, holds of these
+-- A fact of the texts as they were read is one of the texts as they were passed.
 pub of_texts : (Holds : List ℕ → Option (List ℕ) → Type 0) (text base read read_base : List ℕ) (url : Option (List ℕ)) → read ≡ text → read_base ≡ base → url ≡ given_base read_base
     → Holds read url → Holds text (given_base base)
 of_texts Holds text base read read_base url is base_is url_is holds =
     subst (λ bytes. Holds bytes (given_base base)) is (subst (Holds read) (url_is ∙ ap given_base base_is) holds)
 
--- an error is reported in one of two ways
+-- The two statuses for an error.
 two_statuses : (error : ErrorView) → (error_status error ≡ statuses.OutOfMemory) ⊎ (error_status error ≡ statuses.Refused)
 two_statuses views.OutOfMemory = inl refl
 two_statuses error = inr refl
 
--- what holds where memory ran out, and where there is a reason, holds of the status that is reported
+-- The status that is reported has a property that both of its cases have.
 pub reported : (Holds : Status → Type 0) (Reason : ErrorView → Type 0) (error : Error) → Holds statuses.OutOfMemory → (Reason (error_view error) → Holds statuses.Refused)
     → MemoryOr Reason error → Holds (error_status (error_view error))
 reported Holds Reason error memory refused (inl out) = subst Holds (sym (ap error_status out)) memory
@@ -57,7 +57,7 @@ refused old text base ignores error why =
     reported (IsAdded old text base ignores old) (RefusesPatternOfText pattern_engine (chars text) (given_base base) (c_options ignores)) error refl
     (λ reason. (error_view error, reason, refl)) why
 
--- ---- answers of the pattern at an index
+-- ---- outcomes for the pattern at an index
 
 pub tested : (patterns : List (UrlPattern PatternRegexp)) (index : ℕ) (pattern : UrlPattern PatternRegexp) (text base : List ℕ) (status : Status)
     → slice_get patterns index ≡ Some pattern → IsUrlTested (pattern_view pattern) text base status → IsTested patterns index text base status

@@ -14,14 +14,14 @@ some_and : {X : Type 0} (found : Option X) (P Q : X → Type 0) → ((x : X) →
 some_and None P Q weaker is = absurd is
 some_and (Some x) P Q weaker is = weaker x is
 
--- what holds of the parts of both, and follows from that
+-- A fact of the parts of both patterns implies a weaker fact.
 pub of_both : {E : Type 0} (pattern other : UrlPattern E) (P Q : (parts others : PatternParts) → Type 0)
     → ((parts others : PatternParts) → P parts others → Q parts others) → OfBoth pattern other P → OfBoth pattern other Q
 of_both pattern other P Q weaker =
     some_and pattern.parts (λ parts. IsSomeAnd other.parts (P parts)) (λ parts. IsSomeAnd other.parts (Q parts))
     (λ parts. some_and other.parts (P parts) (Q parts) (weaker parts))
 
--- what is reported of two patterns is that of the patterns at their indices
+-- The outcome for two patterns is the one for the patterns at their indices.
 pub covering_reported : (patterns : PatternList) (index : ℕ) (others : PatternList) (asked : ℕ) (pattern other : UrlPattern PatternRegexp) (number : ℕ) (status : Status)
     → slice_get patterns index ≡ Some pattern → slice_get others asked ≡ Some other → AreCompared pattern other number status
     → IsCoveringReported patterns index others asked number status

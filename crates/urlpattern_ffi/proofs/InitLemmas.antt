@@ -23,7 +23,7 @@ init_added old json ignores init pattern new statuses.Done is compiled keeps pus
 init_added old json ignores init pattern new statuses.OutOfMemory is compiled keeps pushed = pushed
 init_added old json ignores init pattern new status is compiled keeps pushed = absurd pushed
 
--- where there is no init, the patterns are as they were
+-- If there is no init, the patterns are unchanged.
 pub no_init : (old : PatternList) (json : List ℕ) (ignores : Bool) (status : Status) → IsNoInit json status → IsInitAdded old json ignores old status
 no_init old json ignores statuses.NotUtf8 none = (none, refl)
 no_init old json ignores statuses.Refused none = (inl none, refl)

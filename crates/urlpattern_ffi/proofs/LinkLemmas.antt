@@ -1,4 +1,4 @@
--- Lemmas on links that are reported.
+-- Lemmas on links.
 use Rattle.std.proofs.Common.{◌≡◌, ℕ, List, length, inl, inr}
 use Rattle.std.specs.Prelude.{slice_get, Some}
 use Rattle.url.specs.Parts.{Parts, serialize}

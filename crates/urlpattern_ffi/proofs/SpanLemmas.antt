@@ -15,7 +15,7 @@ use Rattle.urlpattern_ffi.specs.declared.status.Status.TheVariants as statuses
 use Rattle.urlpattern_engine.specs.declared.pattern_regexp.PatternRegexp.{PatternRegexp}
 use Rattle.urlpattern_pattern.specs.UrlPatterns.{UrlPattern}
 
--- ---- lists that are written one after the other
+-- ---- lists written one after the other
 
 pub put_none : {A : Type 0} (at : ℕ) (old : List A) → IsPut at [] old old
 put_none at old _ =
@@ -42,7 +42,7 @@ put_more at next xs ys old mid new same is_next first second fits =
     is ∙ ap (λ front. front ++ ys ++ drop (next + length ys) mid) begins ∙ ap (λ rest. take at old ++ xs ++ ys ++ rest) ends
     ∙ ap (λ front. front ++ drop (next + length ys) old) (append_assoc (take at old) xs ys) ∙ ap (λ n. take at old ++ (xs ++ ys) ++ drop n old) (sym both)
 
--- ---- groups that are written one after the other
+-- ---- groups written one after the other
 
 pub spans-append : (start : ℕ) (xs ys : List NumberedGroup) → spans_from start (xs ++ ys) ≡ spans_from start xs ++ spans_from (start + length (texts_of_groups xs)) ys
 spans-append start [] ys = ap (λ n. spans_from n ys) (sym (add-zero start))
@@ -76,7 +76,7 @@ groups_more xs ys a b c old mid new old_spans mid_spans new_spans same same_span
       spans_put = subst (λ added. IsPut a.spans added old_spans new_spans) (sym all) (put_more a.spans b.spans (spans_from a.bytes xs) (spans_from b.bytes ys) old_spans mid_spans new_spans same_spans first.spans first.spans_put second.spans_put);
     }
 
--- one more component
+-- A component is appended.
 pub component_more : (groups : ComponentName → List (List ℕ × Option (List ℕ))) (names : List ComponentName) (i : ℕ) (d : ComponentName) → i < length names
     → numbered_groups groups (take (i + 1) names) ≡ numbered_groups groups (take i names) ++ numbered (get_or names i d) 0 (groups (get_or names i d))
 component_more groups names i d within =
@@ -84,7 +84,7 @@ component_more groups names i d within =
     ap (flat_map one) (take_more names i d within) ∙ flat_map-append one (take i names) (get_or names i d ∷ [])
     ∙ ap (λ more. numbered_groups groups (take i names) ++ more) (append-nil (one (get_or names i d)))
 
--- ---- what is reported
+-- ---- outcomes
 
 pub url_captured : (pattern : PatternView PatternRegexp) (url base : List ℕ) (groups : List NumberedGroup) (old new : List ℕ) (old_spans new_spans : List Span) (needed : Sizes) (status : Status)
     → AreGroupsOf pattern url base groups → AreWritten groups old new old_spans new_spans needed status → AreUrlCaptures pattern url base old new old_spans new_spans needed status

@@ -1,4 +1,4 @@
--- What calls report, of texts that are bytes.
+-- Outcomes of calls, whose texts are bytes.
 use Rattle.std.specs.Prelude.{◌≡◌, ◌⊎◌, ◌++◌, ℕ, Bool, List, [], ◌∷◌, slice_get, Option, None, Some}
 use Rattle.std.specs.Str.{chars, IsUtf8}
 use Rattle.url.specs.Parts.{Parts}
@@ -22,44 +22,46 @@ use Rattle.urlpattern_pattern.specs.KeptParts.{KeepsPartsOfText}
 use Rattle.urlpattern_pattern.specs.UrlPatterns.{UrlPattern}
 use Rattle.urlpattern_syntax.specs.declared.parser.RegexSyntax.TheVariants.{Rust}
 
--- the number is that of a status of which this holds
+-- The number is that of a status for which `Holds` is true.
 abbrev pub ReturnsStatus : (Holds : Status → Type 0) → ℕ → Type 0
 ReturnsStatus Holds number = (status : Status) × (number ≡ status_number status) × Holds status
 
 -- ---- patterns
 
--- no base URL is an empty text
+-- The base URL as an option: an empty text is none.
 abbrev pub given_base : List ℕ → Option (List ℕ)
 given_base [] = None
 given_base (byte ∷ bytes) = Some (byte ∷ bytes)
 
+-- The options of a pattern that C compiles.
 abbrev pub c_options : (ignore_case : Bool) → UrlPatternOptions
 c_options ignores = record { regex_syntax = Rust; ignore_case = ignores }
 
--- the constructor string with this base URL is compiled to the pattern
+-- The constructor string with this base URL is compiled to the pattern.
 abbrev pub IsCompiledFromText : (text : List ℕ) → (base : Option (List ℕ)) → (ignore_case : Bool) → UrlPattern PatternRegexp → Type 0
 IsCompiledFromText text base ignores pattern = IsPatternOfText pattern_engine (chars text) base (c_options ignores) (pattern_view pattern)
 
--- the pattern keeps the parts that the texts of the constructor string read as
+-- The pattern keeps the parts that the component texts of the constructor string read as.
 abbrev pub KeepsItsParts : (text : List ℕ) → (base : Option (List ℕ)) → (ignore_case : Bool) → UrlPattern PatternRegexp → Type 0
 KeepsItsParts text base ignores pattern = KeepsPartsOfText pattern_engine (chars text) base (c_options ignores) pattern
 
--- it is refused with this error
+-- The constructor string with this base URL is rejected with this error.
 abbrev pub RefusesToCompile : (text : List ℕ) → (base : Option (List ℕ)) → (ignore_case : Bool) → ErrorView → Type 0
 RefusesToCompile text base ignores = RefusesPatternOfText pattern_engine (chars text) base (c_options ignores)
 
--- what is reported of an error with which a pattern is refused
+-- The status for an error with which a pattern is rejected.
 abbrev pub error_status : ErrorView → Status
 error_status views.OutOfMemory = statuses.OutOfMemory
 error_status error = statuses.Refused
 
--- the pattern is appended, or memory ran out and the patterns are as they were
+-- The pattern is appended, or memory ran out and the patterns are unchanged.
 abbrev pub IsPushed : (old : List (UrlPattern PatternRegexp)) → UrlPattern PatternRegexp → (new : List (UrlPattern PatternRegexp)) → Status → Type 0
 IsPushed old pattern new statuses.Done = new ≡ old ++ pattern ∷ []
 IsPushed old pattern new statuses.OutOfMemory = new ≡ old
 IsPushed old pattern new status = ⊥
 
--- the constructor string with this base URL is compiled, and its pattern, which keeps its parts, appended; else the patterns are as they were
+-- The constructor string with this base URL is compiled, and its pattern, which keeps its parts, is
+-- appended. Otherwise the patterns are unchanged.
 abbrev pub IsAdded : (old : List (UrlPattern PatternRegexp)) → (text base : List ℕ) → (ignore_case : Bool) → (new : List (UrlPattern PatternRegexp)) → Status → Type 0
 IsAdded old text base ignores new statuses.Done =
     (pattern : UrlPattern PatternRegexp) × IsCompiledFromText text (given_base base) ignores pattern
@@ -72,11 +74,11 @@ IsAdded old text base ignores new status = ⊥
 
 -- ---- URLs
 
--- the text is this URL, under the base URL unless that is empty
+-- The text is parsed as this URL, under the base URL unless that is empty.
 abbrev pub IsUrlUnderBase : (text base : List ℕ) → Parts → Type 0
 IsUrlUnderBase text base url = IsUrlOf text (given_base base) url
 
--- why the text is no URL
+-- The reason why the text is not a URL.
 abbrev pub IsNoUrl : (text base : List ℕ) → Status → Type 0
 IsNoUrl text base statuses.NotUtf8 = (¬ IsUtf8 text) ⊎ (¬ IsUtf8 base)
 IsNoUrl text base statuses.NoMatch = IsRefusedText text (given_base base)
@@ -85,7 +87,7 @@ IsNoUrl text base status = ⊥
 
 -- ---- matches
 
--- Whether the pattern matches the URL of the text. A text that is no URL is not matched.
+-- Whether the pattern matches the URL. A text that is not a URL does not match.
 abbrev pub IsUrlTested : PatternView PatternRegexp → (text base : List ℕ) → Status → Type 0
 IsUrlTested pattern text base statuses.Done = (url : Parts) × IsUrlUnderBase text base url × HasMatch pattern_answer pattern (match_inputs.Url url)
 IsUrlTested pattern text base statuses.NoMatch =
@@ -93,13 +95,13 @@ IsUrlTested pattern text base statuses.NoMatch =
     ⊎ ((url : Parts) × IsUrlUnderBase text base url × HasNoMatch pattern_answer pattern (match_inputs.Url url))
 IsUrlTested pattern text base status = IsNoUrl text base status
 
--- the same of the pattern at an index
+-- Whether the pattern at an index matches the URL.
 abbrev pub IsTested : List (UrlPattern PatternRegexp) → (index : ℕ) → (text base : List ℕ) → Status → Type 0
 IsTested patterns index text base statuses.NoPattern = slice_get patterns index ≡ None
 IsTested patterns index text base status =
     (pattern : UrlPattern PatternRegexp) × (slice_get patterns index ≡ Some pattern) × IsUrlTested (pattern_view pattern) text base status
 
--- the first pattern that matches, or none
+-- The first pattern that matches the URL, or none.
 abbrev pub IsFirstReported : List (UrlPattern PatternRegexp) → (text base : List ℕ) → (old new : ℕ) → Status → Type 0
 IsFirstReported patterns text base old new statuses.Done =
     (url : Parts) × IsUrlUnderBase text base url

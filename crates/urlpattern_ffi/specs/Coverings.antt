@@ -1,4 +1,4 @@
--- Whether a pattern covers another one, as it is reported.
+-- Whether a pattern covers another one, as reported to C.
 use Rattle.std.specs.Prelude.{◌≡◌, ◌⊎◌, ℕ, slice_get, None, Some}
 use Rattle.urlpattern_ffi.specs.Kept.{PatternList}
 use Rattle.urlpattern_ffi.specs.Mismatches.{component_number, no_component}
@@ -13,16 +13,17 @@ use Rattle.urlpattern_pattern.specs.declared.pattern.compare.CompareError.TheVar
 use Rattle.urlpattern_compare.specs.Comparing.{IsCovered, IsParting, IsReasonIn}
 use Rattle.urlpattern_compare.specs.declared.pattern.{Parting.Parting, PatternParts.PatternParts}
 
--- eight texts part the two, and the number is that of the component in which they do
+-- Eight texts tell the two patterns apart, in the component with this number.
 abbrev pub IsPartedIn : (number : ℕ) → (parts asked : PatternParts) → Type 0
 IsPartedIn number parts asked = (parting : Parting) × IsParting parts asked parting × (number ≡ component_number parting.component)
 
--- it is not known whether the one covers the other, because of the component of this number
+-- Whether the pattern covers the asked one is not known, because of the component with this number.
 abbrev pub IsUnknownIn : (number : ℕ) → (parts asked : PatternParts) → Type 0
 IsUnknownIn number parts asked = (name : ComponentName) × (reason : Reason) × IsReasonIn parts asked name reason × (number ≡ component_number name)
 
--- Done: by their parts, the pattern covers the asked one. NoMatch: it does not, and a component in which they part is reported. Unknown: it
--- is not known, because of the component that is reported, or because one of the two has no parts.
+-- Done: by their parts, the pattern covers the asked one. NoMatch: it does not, and a component in
+-- which they differ is reported. Unknown: it is not known, because of the component that is
+-- reported, or because a pattern has no parts.
 abbrev pub AreCompared : (pattern asked : UrlPattern PatternRegexp) → (number : ℕ) → Status → Type 0
 AreCompared pattern asked number statuses.Done = (number ≡ no_component) × OfBoth pattern asked IsCovered
 AreCompared pattern asked number statuses.NoMatch = OfBoth pattern asked (IsPartedIn number)
@@ -30,7 +31,7 @@ AreCompared pattern asked number statuses.Unknown = OfBoth pattern asked (IsUnkn
 AreCompared pattern asked number statuses.OutOfMemory = number ≡ no_component
 AreCompared pattern asked number status = ⊥
 
--- the same of the pattern at an index and of the one at the asked index, which may be in other patterns
+-- The comparison of the pattern at `index` with the one at `asked`, which may be in another list.
 abbrev pub IsCoveringReported : PatternList → (index : ℕ) → (others : PatternList) → (asked : ℕ) → (number : ℕ) → Status → Type 0
 IsCoveringReported patterns index others asked number statuses.NoPattern =
     ((slice_get patterns index ≡ None) ⊎ (slice_get others asked ≡ None)) × (number ≡ no_component)

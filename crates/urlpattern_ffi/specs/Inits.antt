@@ -1,4 +1,4 @@
--- Inits that are given as JSON.
+-- Inits in JSON.
 use Rattle.std.specs.Prelude.{◌≡◌, ◌⊎◌, ◌++◌, ℕ, Bool, List, [], ◌∷◌, Option, None, Some, option_and_then}
 use Rattle.std.specs.Str.{IsUtf8}
 use Rattle.serde_json.specs.Read.{read}
@@ -20,32 +20,33 @@ use Rattle.urlpattern_pattern.specs.KeptParts.{KeepsPartsOf}
 use Rattle.urlpattern_pattern.specs.UrlPatterns.{UrlPattern}
 use Rattle.urlpattern_quirks.specs.Inputs.{IsInitOf, RefusesInput}
 
--- the texts that the JSON gives: an object, in which each may be missing or null
+-- The texts of an init in JSON: an object, in which each text may be missing or null.
 abbrev pub plain_init_of : (json : List ℕ) → Option InitView
 plain_init_of json = option_and_then init_read (read json)
 
--- The init has the texts of the JSON, and its base URL.
+-- The init has the texts in the JSON, and its base URL.
 pub record IsInitOfJson (json : List ℕ) (init : UrlPatternInit) : Type 0 where
   pub plain : PlainInit
   pub is_read : plain_init_of json ≡ Some (init_view plain)
   pub is_init : IsInitOf plain init
 
--- `url` refuses the base URL that the JSON gives
+-- `url` rejects the base URL in the JSON.
 abbrev pub HasRefusedBase : (json : List ℕ) → ErrorView → Type 0
 HasRefusedBase json error = (plain : PlainInit) × (plain_init_of json ≡ Some (init_view plain)) × RefusesInput (inputs.Init plain) None error
 
--- why the JSON is no init
+-- The reason why the JSON is not an init.
 abbrev pub IsNoInit : (json : List ℕ) → Status → Type 0
 IsNoInit json statuses.NotUtf8 = ¬ IsUtf8 json
 IsNoInit json statuses.Refused = (plain_init_of json ≡ None) ⊎ ((error : ErrorView) × HasRefusedBase json error)
 IsNoInit json statuses.OutOfMemory = Unit {0}
 IsNoInit json status = ⊥
 
--- the init is refused, with this error
+-- The init is rejected with this error.
 abbrev pub IsInitRefused : (json : List ℕ) → (ignore_case : Bool) → ErrorView → Type 0
 IsInitRefused json ignores error = (init : UrlPatternInit) × IsInitOfJson json init × RefusesInit pattern_engine init (c_options ignores) error
 
--- the init is compiled, and its pattern, which keeps its parts, appended; else the patterns are as they were
+-- The init is compiled, and its pattern, which keeps its parts, is appended. Otherwise the patterns
+-- are unchanged.
 abbrev pub IsInitAdded : (old : PatternList) → (json : List ℕ) → (ignore_case : Bool) → (new : PatternList) → Status → Type 0
 IsInitAdded old json ignores new statuses.Done =
     (init : UrlPatternInit) × (pattern : UrlPattern PatternRegexp) × IsInitOfJson json init

@@ -1,4 +1,4 @@
--- The patterns that a handle has.
+-- The patterns of a handle.
 use Rattle.std.specs.Prelude.{List, [], Option, None, Some}
 use Rattle.std.specs.Global.{Global}
 use Rattle.std.specs.declared.boxed.Box.{Box}
@@ -6,16 +6,16 @@ use Rattle.urlpattern_ffi.specs.declared.kept.Kept.{Kept}
 use Rattle.urlpattern_engine.specs.declared.pattern_regexp.PatternRegexp.{PatternRegexp}
 use Rattle.urlpattern_pattern.specs.UrlPatterns.{UrlPattern}
 
--- patterns in their order
+-- Patterns in order.
 abbrev pub PatternList : Type 0
 PatternList = List (UrlPattern PatternRegexp)
 
--- the patterns of what is kept
+-- The patterns of a handle, none if it is empty.
 abbrev pub kept_patterns : Option Kept → PatternList
 kept_patterns None = []
 kept_patterns (Some kept) = kept.list
 
--- the same where it is in a box
+-- The patterns of a handle in a box, none if it is empty.
 abbrev pub boxed_patterns : Option (Box Kept Global) → PatternList
 boxed_patterns None = []
 boxed_patterns (Some kept) = kept.value.list

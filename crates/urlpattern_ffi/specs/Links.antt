@@ -1,4 +1,4 @@
--- What is written of URLs of patterns whose groups are given.
+-- URLs of patterns, given texts for the groups.
 use Rattle.std.specs.Prelude.{◌≡◌, ◌⊎◌, ℕ, Any, List, IfSome, None, Some, slice_get}
 use Rattle.url.specs.Parts.{Parts, serialize}
 use Rattle.urlpattern_ffi.specs.Kept.{PatternList}
@@ -13,26 +13,27 @@ use Rattle.urlpattern_pattern.specs.UrlPatterns.{UrlPattern}
 use Rattle.urlpattern_generate.specs.NoLinkText.{no_link_text}
 use Rattle.urlpattern_generate.specs.declared.no_link.NoLink.{NoLink}
 
--- the text says this; of the words of `url` nothing is promised
+-- The text says why there is no URL. Nothing is promised about messages of `url`.
 abbrev pub SaysWhy : NoLink → (text : List ℕ) → Type 0
 SaysWhy reason text = IfSome (no_link_text reason) (λ words. text ≡ words)
 
--- Refused: why there is no URL is written. TooSmall: there is no room for it.
+-- Refused: the reason why there is no URL is written. TooSmall: there is no room for it.
 abbrev pub IsReasonWritten : NoLink → (old new : List ℕ) → (needed : ℕ) → Status → Type 0
 IsReasonWritten reason old new needed statuses.Refused = WritesToBuffer (SaysWhy reason) old new needed statuses.Done
 IsReasonWritten reason old new needed statuses.TooSmall = WritesToBuffer (SaysWhy reason) old new needed statuses.TooSmall
 IsReasonWritten reason old new needed statuses.OutOfMemory = new ≡ old
 IsReasonWritten reason old new needed status = ⊥
 
--- the text is that of the pattern's URL
+-- The text is that of the pattern's URL.
 abbrev pub IsTextOfLink : UrlPattern PatternRegexp → (text : List ℕ) → List Given → (written : List ℕ) → Type 0
 IsTextOfLink pattern text given written = (url : Parts) × IsLinkOf pattern text given url × (written ≡ serialize url)
 
--- the text says why the pattern has no URL
+-- The text says why the pattern has no URL.
 abbrev pub IsTextOfNoLink : UrlPattern PatternRegexp → (text : List ℕ) → List Given → (written : List ℕ) → Type 0
 IsTextOfNoLink pattern text given written = (reason : NoLink) × RefusesLinkOf pattern text given reason × SaysWhy reason written
 
--- Done: the URL is written. Refused: why there is none. TooSmall: there is no room for the one or the other.
+-- Done: the URL is written. Refused: the reason why there is none is written. TooSmall: there is no
+-- room for the URL or the reason.
 abbrev pub IsUrlLinked : UrlPattern PatternRegexp → (text : List ℕ) → List Given → (old new : List ℕ) → (needed : ℕ) → Status → Type 0
 IsUrlLinked pattern text given old new needed statuses.Done = WritesToBuffer (IsTextOfLink pattern text given) old new needed statuses.Done
 IsUrlLinked pattern text given old new needed statuses.Refused = WritesToBuffer (IsTextOfNoLink pattern text given) old new needed statuses.Done
@@ -42,7 +43,8 @@ IsUrlLinked pattern text given old new needed statuses.NoPattern = Any (GivesNot
 IsUrlLinked pattern text given old new needed statuses.OutOfMemory = new ≡ old
 IsUrlLinked pattern text given old new needed status = ⊥
 
--- the same of the pattern at an index; NoPattern: there is none, or a part of the text gives nothing
+-- The outcome for the pattern at an index. NoPattern: there is no pattern, or a part of the text
+-- gives no group.
 abbrev pub IsLinkReported : PatternList → (index : ℕ) → (text : List ℕ) → List Given → (old new : List ℕ) → (needed : ℕ) → Status → Type 0
 IsLinkReported patterns index text given old new needed statuses.NoPattern =
     ((slice_get patterns index ≡ None) ⊎ Any (GivesNothing text) given) × (new ≡ old)

@@ -1,4 +1,4 @@
--- What is reported of a pattern's components.
+-- Components as reported to C.
 use Rattle.std.specs.Prelude.{◌≡◌, ◌⊎◌, ℕ, true, false, List, slice_get, None, Some}
 use Rattle.url.specs.Parts.{Parts}
 use Rattle.urlpattern.specs.Eight.{components}
@@ -15,11 +15,11 @@ use Rattle.urlpattern_init.specs.Inheritance.{texts_of_url}
 use Rattle.urlpattern_pattern.specs.Mismatch.{FindsMismatch}
 use Rattle.urlpattern_pattern.specs.UrlPatterns.{UrlPattern}
 
--- the number that is no component's
+-- The number that is written if there is no component.
 abbrev pub no_component : ℕ
 no_component = 8
 
--- the number of a component, its place in the order of the standard
+-- The number of a component: its place in the order of the standard.
 abbrev pub component_number : ComponentName → ℕ
 component_number names.Protocol = 0
 component_number names.Username = 1
@@ -30,13 +30,14 @@ component_number names.Pathname = 5
 component_number names.Search = 6
 component_number names.Hash = 7
 
--- the number is that of the first component that does not match the URL of the text
+-- The number is that of the first component that does not match the URL.
 abbrev pub IsMismatchNumber : PatternView PatternRegexp → (text base : List ℕ) → (number : ℕ) → Type 0
 IsMismatchNumber pattern text base number =
     (url : Parts) × (name : ComponentName) × IsUrlUnderBase text base url × (slice_get components number ≡ Some name)
     × FindsMismatch pattern_answer pattern (texts_of_url url) (Some name)
 
--- Done: each component matches. NoMatch: the first that does not is reported, and none where the text is no URL.
+-- Done: each component matches. NoMatch: the first one that does not match is reported, or none if
+-- the text is not a URL.
 abbrev pub IsUrlMismatched : PatternView PatternRegexp → (text base : List ℕ) → (number : ℕ) → Status → Type 0
 IsUrlMismatched pattern text base number statuses.Done =
     (number ≡ no_component) × ((url : Parts) × IsUrlUnderBase text base url × FindsMismatch pattern_answer pattern (texts_of_url url) None)
@@ -44,13 +45,13 @@ IsUrlMismatched pattern text base number statuses.NoMatch =
     ((number ≡ no_component) × IsNoUrl text base statuses.NoMatch) ⊎ IsMismatchNumber pattern text base number
 IsUrlMismatched pattern text base number status = (number ≡ no_component) × IsNoUrl text base status
 
--- the same of the pattern at an index
+-- The first component of the pattern at an index that does not match.
 abbrev pub IsMismatchReported : PatternList → (index : ℕ) → (text base : List ℕ) → (number : ℕ) → Status → Type 0
 IsMismatchReported patterns index text base number statuses.NoPattern = (slice_get patterns index ≡ None) × (number ≡ no_component)
 IsMismatchReported patterns index text base number status =
     (pattern : UrlPattern PatternRegexp) × (slice_get patterns index ≡ Some pattern) × IsUrlMismatched (pattern_view pattern) text base number status
 
--- whether the pattern at an index has a custom regular expression
+-- Whether the pattern at an index has a custom regular expression.
 abbrev pub IsCustomReported : PatternList → (index : ℕ) → Status → Type 0
 IsCustomReported patterns index statuses.NoPattern = slice_get patterns index ≡ None
 IsCustomReported patterns index statuses.Done =

@@ -1,4 +1,4 @@
--- What groups capture, as a text and spans of it.
+-- Captures as a text and spans of it.
 use Rattle.std.specs.Prelude.{◌≡◌, ◌⊎◌, ◌++◌, ◌+◌, ◌<◌, ◌≤◌, ℕ, List, [], ◌∷◌, length, drop, take, flat_map, slice_get, encode_utf8_all, unwrap_or, is_some, Option, None, Some, if◌then◌else◌}
 use Rattle.std.specs.Global.{Global}
 use Rattle.std.specs.declared.boxed.Box.{Box}
@@ -27,24 +27,24 @@ use Rattle.urlpattern_pattern.specs.UrlPatterns.{UrlPattern}
 
 -- ---- groups
 
--- a group: its component, its number in that, and what it captured
+-- A group: its component, its number in the component, and its capture.
 abbrev pub NumberedGroup : Type 0
 NumberedGroup = ComponentName × ℕ × Option (List ℕ)
 
--- the groups of a component, numbered from here on
+-- The groups of a component, numbered from an index on.
 abbrev pub numbered : ComponentName → (from : ℕ) → List (List ℕ × Option (List ℕ)) → List NumberedGroup
 numbered component from [] = []
 numbered component from (group ∷ groups) = (component, from, group.1) ∷ numbered component (from + 1) groups
 
--- the groups of these components, each numbered from 0 on
+-- The groups of these components, each component's numbered from 0 on.
 abbrev pub numbered_groups : (groups : ComponentName → List (List ℕ × Option (List ℕ))) → List ComponentName → List NumberedGroup
 numbered_groups groups names = flat_map (λ name. numbered name 0 (groups name)) names
 
--- the groups of a match, in the order of the components
+-- The groups of a match, in the order of the components.
 abbrev pub found_groups : UrlPatternCaptures → List NumberedGroup
 found_groups found = numbered_groups (groups_view found) components
 
--- the groups of a match of the URL, in that order
+-- The groups are those of a match of the URL, in the order of the components.
 pub record AreGroupsOf (pattern : PatternView PatternRegexp) (url base : List ℕ) (groups : List NumberedGroup) : Type 0 where
   pub parts : Parts
   pub captures : ComponentName → List (List ℕ × Option (List ℕ))
@@ -54,15 +54,15 @@ pub record AreGroupsOf (pattern : PatternView PatternRegexp) (url base : List �
 
 -- ---- texts and spans
 
--- what a group captured, in UTF-8; nothing where it took no part
+-- The capture of a group in UTF-8. Empty if the group took no part.
 abbrev pub capture_bytes : Option (List ℕ) → List ℕ
 capture_bytes capture = encode_utf8_all (unwrap_or capture [])
 
--- what groups captured, one after the other
+-- The captures of groups, one after the other.
 abbrev pub texts_of_groups : List NumberedGroup → List ℕ
 texts_of_groups groups = flat_map (λ group. capture_bytes group.2) groups
 
--- the span of a group whose text begins here
+-- The span of a group whose text begins at `start`.
 abbrev pub span_at : (start : ℕ) → NumberedGroup → Span
 span_at start group = record {
   component = component_number group.0;
@@ -72,38 +72,40 @@ span_at start group = record {
   length = length (capture_bytes group.2);
 }
 
--- the spans of groups, of which the first begins here, and each other one where the one before it ends
+-- The spans of groups whose texts follow each other from `start` on.
 abbrev pub spans_from : (start : ℕ) → List NumberedGroup → List Span
 spans_from start [] = []
 spans_from start (group ∷ groups) = span_at start group ∷ spans_from (start + length (capture_bytes group.2)) groups
 
--- nothing is written yet
+-- The sizes before anything is written.
 abbrev pub no_sizes : Sizes
 no_sizes = record { bytes = 0; spans = 0 }
 
--- how much groups take
+-- The sizes that groups need.
 abbrev pub sizes_of : List NumberedGroup → Sizes
 sizes_of groups = record { bytes = length (texts_of_groups groups); spans = length (spans_from 0 groups) }
 
--- ---- memory
+-- ---- buffers
 
--- if these elements fit into the list from here on, they are written there, and the rest is as it was
+-- If the elements fit into the list from `at` on, they are written there, and the rest is
+-- unchanged.
 abbrev pub IsPut : {A : Type 0} → (at : ℕ) → (added old new : List A) → Type 0
 IsPut at added old new = at + length added ≤ length old → new ≡ take at old ++ added ++ drop (at + length added) old
 
--- After what takes so much, the texts and the spans of these groups are written, as far as there is room.
+-- The texts and the spans of the groups are written after the sizes `from`, as far as there is
+-- room.
 pub record ArePut (groups : List NumberedGroup) (from to : Sizes) (old new : List ℕ) (old_spans new_spans : List Span) : Type 0 where
   pub bytes : to.bytes ≡ from.bytes + length (texts_of_groups groups)
   pub spans : to.spans ≡ from.spans + length (spans_from from.bytes groups)
   pub texts_put : IsPut from.bytes (texts_of_groups groups) old new
   pub spans_put : IsPut from.spans (spans_from from.bytes groups) old_spans new_spans
 
--- the same of one group
+-- A group is written after the sizes `from`.
 abbrev pub IsGroupPut : ComponentName → (group : ℕ) → (capture : Option (List ℕ)) → (from to : Sizes) → (old new : List ℕ)
     → (old_spans new_spans : List Span) → Type 0
 IsGroupPut component group capture from to old new old_spans new_spans = ArePut ((component, group, capture) ∷ []) from to old new old_spans new_spans
 
--- the list begins with these elements, and the rest of it is as it was
+-- The list begins with these elements, and the rest is unchanged.
 abbrev pub BeginsWithElements : {A : Type 0} → (elements old new : List A) → Type 0
 BeginsWithElements elements old new = (length elements ≤ length old) × (new ≡ elements ++ drop (length elements) old)
 
@@ -118,7 +120,7 @@ AreWritten groups old new old_spans new_spans needed status = ⊥
 
 -- ---- matches
 
--- the groups of the match are written, or there is no match
+-- The groups of the match are written, or there is no match.
 abbrev pub AreUrlCaptures : PatternView PatternRegexp → (url base : List ℕ) → (old new : List ℕ) → (old_spans new_spans : List Span) → (needed : Sizes)
     → Status → Type 0
 AreUrlCaptures pattern url base old new old_spans new_spans needed statuses.Done =
@@ -129,7 +131,7 @@ AreUrlCaptures pattern url base old new old_spans new_spans needed statuses.OutO
 AreUrlCaptures pattern url base old new old_spans new_spans needed status =
     IsUrlTested pattern url base status × (new ≡ old) × (new_spans ≡ old_spans)
 
--- the same of the pattern at an index
+-- The captures of the pattern at an index.
 abbrev pub AreCapturesReported : PatternList → (index : ℕ) → (url base : List ℕ) → (old new : List ℕ) → (old_spans new_spans : List Span)
     → (needed : Sizes) → Status → Type 0
 AreCapturesReported patterns index url base old new old_spans new_spans needed statuses.NoPattern =
@@ -140,7 +142,7 @@ AreCapturesReported patterns index url base old new old_spans new_spans needed s
 
 -- ---- first matches
 
--- the groups of the first pattern of the list that matches the URL, which has this index
+-- The groups of the first pattern of the list that matches the URL, which has this index.
 pub record AreFirstGroupsOf (patterns : PatternList) (url base : List ℕ) (index : ℕ) (groups : List NumberedGroup) : Type 0 where
   pub parts : Parts
   pub pattern : PatternView PatternRegexp
@@ -152,7 +154,7 @@ pub record AreFirstGroupsOf (patterns : PatternList) (url base : List ℕ) (inde
   pub are_captures : AreGroupsInOrder pattern_answer pattern (texts_of_url parts) captures
   pub are_groups : groups ≡ numbered_groups captures components
 
--- the index of the first match and its groups are written, or there is none
+-- The index of the first match and its groups are written, or there is no match.
 abbrev pub AreFirstCaptures : PatternList → (url base : List ℕ) → (old_index new_index : ℕ) → (old new : List ℕ) → (old_spans new_spans : List Span)
     → (needed : Sizes) → Status → Type 0
 AreFirstCaptures patterns url base old_index new_index old new old_spans new_spans needed statuses.Done =
@@ -165,7 +167,7 @@ AreFirstCaptures patterns url base old_index new_index old new old_spans new_spa
 AreFirstCaptures patterns url base old_index new_index old new old_spans new_spans needed status =
     IsFirstReported patterns url base old_index new_index status × (new ≡ old) × (new_spans ≡ old_spans)
 
--- the same of the patterns in a box
+-- The first match of the patterns of a handle.
 abbrev pub AreFirstInBox : Option (Box Kept Global) → (url base : List ℕ) → (old_index new_index : ℕ) → (old new : List ℕ)
     → (old_spans new_spans : List Span) → (needed : Sizes) → Status → Type 0
 AreFirstInBox kept url base old_index new_index old new old_spans new_spans needed status =

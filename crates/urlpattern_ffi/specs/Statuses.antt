@@ -1,8 +1,9 @@
--- The numbers of statuses, as C sees them.
+-- The numbers of statuses for C.
 use Rattle.std.specs.Prelude.{ℕ}
 use Rattle.urlpattern_ffi.specs.declared.status.Status.{Status}
 use Rattle.urlpattern_ffi.specs.declared.status.Status.TheVariants.{Done, NoMatch, NotUtf8, Refused, OutOfMemory, NoPattern, TooSmall, Unknown}
 
+-- The number of a status for C.
 abbrev pub status_number : Status → ℕ
 status_number Done = 0
 status_number NoMatch = 1

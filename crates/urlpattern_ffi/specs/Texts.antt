@@ -1,4 +1,4 @@
--- What calls write to memory of C's, of texts that are bytes.
+-- Texts that calls write to memory that C owns.
 use Rattle.std.specs.Prelude.{◌≡◌, ◌⊎◌, ◌++◌, ◌<◌, ◌≤◌, ℕ, List, length, drop, slice_get, Option, None, Some, option_and_then}
 use Rattle.std.specs.Str.{chars}
 use Rattle.serde_json.specs.Data.{Data, depth}
@@ -20,24 +20,26 @@ use Rattle.urlpattern_matches.specs.ResultJson.{IsResultTree, plain_results_view
 use Rattle.urlpattern_matches.specs.declared.result.UrlPatternResult.{UrlPatternResult}
 use Rattle.urlpattern_pattern.specs.UrlPatterns.{UrlPattern}
 
--- The buffer begins with the text, and the rest of it is as it was; or the text has more bytes, and the buffer is as it was.
+-- Done: the buffer begins with the text, and the rest is unchanged. TooSmall: the text is longer
+-- than the buffer, which is unchanged.
 abbrev pub IsWritten : (text old new : List ℕ) → Status → Type 0
 IsWritten text old new statuses.Done = (length text ≤ length old) × (new ≡ text ++ drop (length text) old)
 IsWritten text old new statuses.TooSmall = (length old < length text) × (new ≡ old)
 IsWritten text old new status = ⊥
 
--- such a text is written, of so many bytes
+-- A text for which `IsText` is true is written, of `needed` bytes.
 abbrev pub WritesToBuffer : (IsText : List ℕ → Type 0) → (old new : List ℕ) → (needed : ℕ) → Status → Type 0
 WritesToBuffer IsText old new needed status = (text : List ℕ) × IsText text × (needed ≡ length text) × IsWritten text old new status
 
 -- ---- components
 
--- the pattern text of a component, by its number
+-- The pattern text of a component, given its number.
 abbrev pub IsTextOfComponent : List (UrlPattern PatternRegexp) → (index component : ℕ) → (text : List ℕ) → Type 0
 IsTextOfComponent patterns index component text =
     (pattern : UrlPattern PatternRegexp) × (name : ComponentName) × (slice_get patterns index ≡ Some pattern) × (slice_get components component ≡ Some name)
     × (chars text ≡ (pattern_view pattern name).pattern_string)
 
+-- The pattern text of a component is written. NoPattern: there is no such pattern or component.
 abbrev pub IsComponentWritten : List (UrlPattern PatternRegexp) → (index component : ℕ) → (old new : List ℕ) → (needed : ℕ) → Status → Type 0
 IsComponentWritten patterns index component old new needed statuses.NoPattern =
     ((slice_get patterns index ≡ None) ⊎ (slice_get components component ≡ None)) × (new ≡ old)
@@ -45,12 +47,13 @@ IsComponentWritten patterns index component old new needed status = WritesToBuff
 
 -- ---- names of groups
 
--- the name of a group, by its number in a component
+-- The name of a group, given its number in a component.
 abbrev pub group_name_at : PatternList → (index component group : ℕ) → Option (List ℕ)
 group_name_at patterns index component group =
     option_and_then (λ pattern. option_and_then (λ name. slice_get (pattern_view pattern name).group_name_list group) (slice_get components component))
     (slice_get patterns index)
 
+-- The name of a group is written. NoPattern: there is no such group.
 abbrev pub IsGroupNameWritten : PatternList → (index component group : ℕ) → (old new : List ℕ) → (needed : ℕ) → Status → Type 0
 IsGroupNameWritten patterns index component group old new needed statuses.NoPattern =
     (group_name_at patterns index component group ≡ None) × (new ≡ old)
@@ -59,11 +62,11 @@ IsGroupNameWritten patterns index component group old new needed status =
 
 -- ---- matches
 
--- the text is JSON that reads as the tree
+-- The text is JSON that reads as the tree, unless the tree is too deep.
 abbrev pub IsTextOf : Data → (text : List ℕ) → Type 0
 IsTextOf tree text = depth tree ≤ max_depth → read text ≡ Some tree
 
--- the text is the JSON of the result
+-- The text is the JSON of the result.
 abbrev pub IsResultText : UrlPatternResult → (text : List ℕ) → Type 0
 IsResultText result text = (tree : Data) × IsResultTree (plain_results_view result) tree × IsTextOf tree text
 
@@ -75,13 +78,13 @@ pub record IsJsonOfMatch (pattern : PatternView PatternRegexp) (url base text : 
   pub is_match : IsMatch pattern_answer pattern (match_inputs.Url parts) (result_view result)
   pub is_text : IsResultText result text
 
--- the match of the URL is written, or there is none
+-- The match of the URL is written, or there is no match.
 abbrev pub IsUrlExecuted : PatternView PatternRegexp → (url base : List ℕ) → (old new : List ℕ) → (needed : ℕ) → Status → Type 0
 IsUrlExecuted pattern url base old new needed statuses.Done = WritesToBuffer (IsJsonOfMatch pattern url base) old new needed statuses.Done
 IsUrlExecuted pattern url base old new needed statuses.TooSmall = WritesToBuffer (IsJsonOfMatch pattern url base) old new needed statuses.TooSmall
 IsUrlExecuted pattern url base old new needed status = IsUrlTested pattern url base status × (new ≡ old)
 
--- the same of the pattern at an index
+-- The match by the pattern at an index.
 abbrev pub IsExecReported : List (UrlPattern PatternRegexp) → (index : ℕ) → (url base : List ℕ) → (old new : List ℕ) → (needed : ℕ) → Status → Type 0
 IsExecReported patterns index url base old new needed statuses.NoPattern = (slice_get patterns index ≡ None) × (new ≡ old)
 IsExecReported patterns index url base old new needed status =

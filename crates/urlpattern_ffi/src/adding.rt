@@ -11,7 +11,7 @@ use std::str;
 use urlpattern::regexp::PatternRegexp;
 use urlpattern::{Error, RegexSyntax, UrlPattern, UrlPatternOptions};
 
-/// Compiles a constructor string, with a base URL unless that is empty, and appends the pattern.
+/// Compiles a constructor string, under a base URL unless `base` is empty, and appends the pattern.
 pub fn add(
     alloc: Global,
     kept: &mut Option<Box<Kept>>,
@@ -37,7 +37,7 @@ pub fn add(
     }
 }
 
-/// What is reported of the error with which a pattern is refused.
+/// The status for the error with which a pattern is rejected.
 pub(crate) fn refusal(error: &Error) -> Status
     ensures { result ≡ error_status (error_view error.now) }
 {
@@ -47,14 +47,14 @@ pub(crate) fn refusal(error: &Error) -> Status
     }
 }
 
-/// The base URL of a text. `None`: the text is empty.
+/// The base URL as an option. `None`: the text is empty.
 pub(crate) fn given_base(text: &str) -> Option<&str>
     ensures { option_copied result ≡ given_base text.now }
 {
     if text.is_empty() { None } else { Some(text) }
 }
 
-/// The pattern of a constructor string.
+/// Compiles a constructor string.
 fn compiled(
     alloc: Global,
     text: &str,

@@ -1,4 +1,4 @@
-//! Matches URLs, and writes what groups capture.
+//! Matches URLs, and writes the captures of groups.
 ghost use Rattle.urlpattern.specs.Patterns.{pattern_view};
 ghost use Rattle.urlpattern_ffi.specs.Kept.{boxed_patterns};
 ghost use Rattle.urlpattern_ffi.specs.Spans.{AreCapturesReported, AreFirstCaptures, AreFirstInBox, AreUrlCaptures};
@@ -11,7 +11,7 @@ use std::alloc::Global;
 use urlpattern::regexp::PatternRegexp;
 use urlpattern::{UrlPattern, UrlPatternList};
 
-/// Writes what the groups of the pattern at an index capture of the URL of a text, and a span for each group.
+/// Writes what the groups of the pattern at an index capture of a URL, and a span for each group.
 pub fn captures(
     alloc: Global,
     kept: &Option<Box<Kept>>,
@@ -31,7 +31,7 @@ pub fn captures(
     }
 }
 
-/// The same of a pattern.
+/// Writes what the groups of a pattern capture of a URL, and a span for each group.
 fn pattern_captures(
     alloc: Global,
     pattern: &UrlPattern<PatternRegexp>,
@@ -54,7 +54,8 @@ fn pattern_captures(
     }
 }
 
-/// Finds the first pattern that matches the URL of a text, and writes its index, what its groups capture, and their spans.
+/// Finds the first pattern that matches a URL, and writes its index, what its groups capture, and a
+/// span for each group.
 pub fn first_captures(
     alloc: Global,
     kept: &Option<Box<Kept>>,
@@ -73,7 +74,8 @@ pub fn first_captures(
     }
 }
 
-/// The same of a list.
+/// Finds the first pattern of a list that matches a URL, and writes its index, what its groups
+/// capture, and a span for each group.
 fn list_captures(
     alloc: Global,
     list: &UrlPatternList<PatternRegexp>,

@@ -1,4 +1,4 @@
-//! Says whether a pattern covers another one.
+//! Whether a pattern covers another one.
 ghost use Rattle.std.specs.Prelude.{◌≡◌};
 ghost use Rattle.urlpattern_ffi.specs.Coverings.{AreCompared, IsCoveringReported};
 ghost use Rattle.urlpattern_ffi.specs.Kept.{boxed_patterns};
@@ -12,8 +12,9 @@ use urlpattern::regexp::PatternRegexp;
 use urlpattern::rules::PatternCovering;
 use urlpattern::{CompareError, UrlPattern};
 
-/// Whether the pattern at an index covers the one at the asked index, of the same patterns or of others. Writes the number of a
-/// component in which they part, or because of which it is not known, or the number of none.
+/// Whether the pattern at `index` covers the one at `asked`, of the same patterns or of others.
+/// Writes the number of a component in which the two differ, or because of which it is not known,
+/// or else `NO_COMPONENT`.
 pub fn covers(
     alloc: Global,
     kept: &Option<Box<Kept>>,
@@ -36,7 +37,7 @@ pub fn covers(
     compare(alloc, pattern, other, component)
 }
 
-/// Whether a pattern covers the asked one. The number of none is written before.
+/// Whether `pattern` covers `asked`. The caller has written `NO_COMPONENT` before.
 fn compare(
     alloc: Global,
     pattern: &UrlPattern<PatternRegexp>,

@@ -1,4 +1,4 @@
-//! Says what is wrong with a pattern that is refused.
+//! Diagnoses patterns that are rejected.
 ghost use Rattle.std.specs.Prelude.{◌≡◌, length, string_bytes};
 ghost use Rattle.urlpattern_ffi.specs.Diagnoses.{init_subject_number, place_of_diagnosis, subject_number, IsDiagnosed, IsInitDiagnosed};
 ghost use Rattle.urlpattern_ffi.specs.Texts.{IsWritten};
@@ -13,19 +13,20 @@ use std::str;
 use urlpattern::regexp::PatternRegexp;
 use urlpattern::{Diagnosis, Subject, UrlPattern};
 
-/// The part of a text that is at fault, in bytes.
+/// The part of a text at which the fault is, in bytes.
 #[repr(C)]
 #[derive(Drop)]
 pub struct Place {
-    /// 0: the pattern's text, 1: the base URL. Of an init, 2 and the number of the component whose text it is.
+    /// 0: the pattern's text, 1: the base URL. For an init, 2 plus the number of the component
+    /// whose text it is.
     pub subject: u32,
-    /// Where the part begins.
+    /// The byte at which the part begins.
     pub start: usize,
-    /// Where it ends.
+    /// The byte at which the part ends.
     pub end: usize,
 }
 
-/// Writes why a constructor string is refused, and where it is at fault.
+/// Writes why a constructor string is rejected, and where the fault is.
 pub fn diagnose(
     alloc: Global,
     text: &[u8],
@@ -54,7 +55,7 @@ pub fn diagnose(
     }
 }
 
-/// Writes why an init of JSON is refused, and which text of it is at fault where.
+/// Writes why an init in JSON is rejected, in which of its texts the fault is, and where.
 pub fn diagnose_init(
     alloc: Global,
     json: &[u8],
@@ -79,7 +80,7 @@ pub fn diagnose_init(
     }
 }
 
-/// Writes the reason of a diagnosis, and its place in the text of this number.
+/// Writes the reason of a diagnosis, and its place in the text with this number.
 fn write_diagnosis(
     diagnosis: &Diagnosis,
     subject: u32,
@@ -99,7 +100,7 @@ fn write_diagnosis(
     write(&diagnosis.reason, buffer, needed)
 }
 
-/// Which text is at fault, as C sees it.
+/// The number, for C, of the text at fault.
 fn subject_number(subject: Subject) -> u32
     ensures { result ≡ subject_number subject }
 {
@@ -109,7 +110,7 @@ fn subject_number(subject: Subject) -> u32
     }
 }
 
-/// Which text of an init is at fault, as C sees it.
+/// The number, for C, of the text of an init at fault.
 fn init_subject_number(subject: Subject) -> u32
     ensures { result ≡ init_subject_number subject }
 {

@@ -1,4 +1,4 @@
-//! Compiles inits, which C gives as JSON.
+//! Compiles inits, which C passes as JSON.
 ghost use Rattle.std.specs.Prelude.{◌≡◌, IfErr, IfOk, Some};
 ghost use Rattle.urlpattern_ffi.specs.Inits.{plain_init_of, IsInitAdded, IsInitOfJson, IsNoInit};
 ghost use Rattle.urlpattern_ffi.specs.Kept.{boxed_patterns};
@@ -13,7 +13,8 @@ use std::str;
 use urlpattern::quirks::{self, StringOrInit, process_construct_pattern_input};
 use urlpattern::{UrlPattern, UrlPatternInit};
 
-/// Compiles an init, an object of JSON with the texts of components and of a base URL, and appends the pattern.
+/// Compiles an init, a JSON object with the texts of components and of a base URL, and appends the
+/// pattern.
 #[tactic(auto, using(crate::proofs::InitLemmas::init_added))]
 pub fn add_init(
     alloc: Global,
@@ -37,9 +38,9 @@ pub fn add_init(
     }
 }
 
-/// The init of JSON, whose base URL is parsed.
+/// Parses an init in JSON, and its base URL.
 ///
-/// The error is why there is none.
+/// The error is the status that says why there is no init.
 pub(crate) fn init_of(alloc: Global, json: &[u8]) -> Result<UrlPatternInit, Status>
     ensures found { IfOk result (IsInitOfJson json.now) }
     ensures missing { IfErr result (IsNoInit json.now) }
@@ -58,9 +59,9 @@ pub(crate) fn init_of(alloc: Global, json: &[u8]) -> Result<UrlPatternInit, Stat
     }
 }
 
-/// The init of JSON, with texts alone.
+/// Parses an init in JSON, without parsing its base URL.
 ///
-/// The error is why there is none.
+/// The error is the status that says why there is no init.
 fn plain_init(alloc: Global, json: &[u8]) -> Result<quirks::UrlPatternInit, Status>
     ensures found { IfOk result (λ init. plain_init_of json.now ≡ Some (init_view init)) }
     ensures missing { IfErr result (IsNoInit json.now) }

@@ -1,4 +1,4 @@
-//! The patterns that a handle leads to.
+//! The patterns of a handle.
 ghost use Rattle.std.specs.Prelude.{◌≡◌, [], option_copied, slice_get, IfErr, IfOk};
 ghost use Rattle.urlpattern_ffi.specs.Kept.{boxed_patterns};
 
@@ -6,7 +6,7 @@ use std::alloc::{AllocError, Global};
 use urlpattern::regexp::PatternRegexp;
 use urlpattern::{UrlPattern, UrlPatternList};
 
-/// Patterns in their order, in memory of their own.
+/// Patterns in order, in memory of their own.
 #[derive(Drop)]
 pub struct Kept {
     pub(crate) list: UrlPatternList<PatternRegexp>,
@@ -27,7 +27,7 @@ pub(crate) fn pattern_at(
 
 /// Takes the patterns out, or makes an empty list.
 ///
-/// The error is that memory ran out. There are then no patterns, as before.
+/// If memory runs out, there were no patterns, and there are none.
 pub(crate) fn take_or_new(
     alloc: Global,
     kept: &mut Option<Box<Kept>>,

@@ -1,4 +1,4 @@
-//! Writes URLs of patterns whose groups are given.
+//! Writes URLs of patterns, given texts for the groups.
 ghost use Rattle.std.specs.Prelude.{◌≡◌, length, string_bytes};
 ghost use Rattle.urlpattern_ffi.specs.Kept.{boxed_patterns};
 ghost use Rattle.urlpattern_ffi.specs.Links.{IsLinkReported, IsReasonWritten, IsUrlLinked};
@@ -11,7 +11,8 @@ use urlpattern::regexp::PatternRegexp;
 use urlpattern::{NoLink, UrlPattern};
 use urlpattern_ffi_links::{Given, Unlinked};
 
-/// Writes the URL of the pattern at an index, with what parts of a text give for its groups, or why there is none.
+/// Writes the URL of the pattern at an index, with parts of a text for its groups, or why there is
+/// none.
 pub fn link(
     alloc: Global,
     kept: &Option<Box<Kept>>,
@@ -29,7 +30,7 @@ pub fn link(
     }
 }
 
-/// The same of a pattern.
+/// Writes the URL of a pattern, with parts of a text for its groups, or why there is none.
 fn link_pattern(
     alloc: Global,
     pattern: &UrlPattern<PatternRegexp>,

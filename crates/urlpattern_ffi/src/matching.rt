@@ -14,7 +14,7 @@ use std::alloc::Global;
 use urlpattern::regexp::PatternRegexp;
 use urlpattern::{Error, UrlPattern, UrlPatternList, UrlPatternResult};
 
-/// Whether the pattern at an index matches the URL of a text.
+/// Whether the pattern at an index matches a URL.
 pub fn test(
     alloc: Global,
     kept: &Option<Box<Kept>>,
@@ -30,7 +30,7 @@ pub fn test(
     }
 }
 
-/// Whether a pattern matches the URL of a text.
+/// Whether a pattern matches a URL.
 fn test_pattern(
     alloc: Global,
     pattern: &UrlPattern<PatternRegexp>,
@@ -50,7 +50,7 @@ fn test_pattern(
     }
 }
 
-/// The index of the first pattern that matches the URL of a text.
+/// Finds the first pattern that matches a URL, and writes its index.
 pub fn first(
     alloc: Global,
     kept: &Option<Box<Kept>>,
@@ -66,7 +66,7 @@ pub fn first(
     }
 }
 
-/// The same of a list.
+/// Finds the first pattern of a list that matches a URL, and writes its index.
 fn first_in(
     alloc: Global,
     list: &UrlPatternList<PatternRegexp>,
@@ -91,7 +91,7 @@ fn first_in(
     }
 }
 
-/// Writes the match of the URL of a text by the pattern at an index, as JSON.
+/// Writes the match of a URL by the pattern at an index, as JSON.
 pub fn execute(
     alloc: Global,
     kept: &Option<Box<Kept>>,
@@ -109,7 +109,7 @@ pub fn execute(
     }
 }
 
-/// Writes the match of the URL of a text by a pattern.
+/// Writes the match of a URL by a pattern, as JSON.
 fn execute_pattern(
     alloc: Global,
     pattern: &UrlPattern<PatternRegexp>,
@@ -126,9 +126,10 @@ fn execute_pattern(
     }
 }
 
-/// The match of the URL of a text, as JSON.
+/// The match of a URL by a pattern, as JSON.
 ///
-/// The error is that there is none, or why.
+/// The error is `NoMatch` if the pattern does not match, or else the status that says why there is
+/// no URL.
 fn match_text(
     alloc: Global,
     pattern: &UrlPattern<PatternRegexp>,

@@ -1,4 +1,4 @@
-//! Says which component does not match, and whether a pattern has custom regular expressions.
+//! Which component does not match, and whether a pattern has custom regular expressions.
 ghost use Rattle.std.specs.Prelude.{◌≡◌, ◌<◌, slice_get, Some};
 ghost use Rattle.urlpattern.specs.Eight.{components};
 ghost use Rattle.urlpattern.specs.Patterns.{pattern_view};
@@ -12,10 +12,11 @@ use std::alloc::Global;
 use urlpattern::regexp::PatternRegexp;
 use urlpattern::{ComponentName, UrlPattern};
 
-/// The number that is no component's.
+/// The number that is written if there is no component.
 pub(crate) const NO_COMPONENT: u32 = 8;
 
-/// Writes the number of the first component that the pattern at an index does not match, or the number of none.
+/// Writes the number of the first component of the pattern at an index that does not match, or else
+/// `NO_COMPONENT`.
 pub fn mismatch(
     alloc: Global,
     kept: &Option<Box<Kept>>,
@@ -35,7 +36,8 @@ pub fn mismatch(
     }
 }
 
-/// The same of a pattern.
+/// Writes the number of the first component of a pattern that does not match, or else
+/// `NO_COMPONENT`.
 fn pattern_mismatch(
     alloc: Global,
     pattern: &UrlPattern<PatternRegexp>,

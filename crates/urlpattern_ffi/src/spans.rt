@@ -1,4 +1,4 @@
-//! Spans of what groups captured, in memory of C's.
+//! Spans of captures, in memory that C owns.
 ghost use Rattle.std.specs.Prelude.{◌≡◌, ◌+◌, [], ◌∷◌, length, encode_utf8_all, if◌then◌else◌, is_some, IfSome};
 ghost use Rattle.std.specs.Str.{chars};
 ghost use Rattle.urlpattern_ffi.specs.Spans.{capture_bytes, found_groups, no_sizes, numbered, ArePut, AreWritten, IsGroupPut, IsPut};
@@ -9,33 +9,34 @@ use crate::mismatching::component_number;
 use crate::status::Status;
 use urlpattern::{ComponentName, UrlPatternCaptures, UrlPatternGroups};
 
-/// Where the text of a group lies in the text that is written.
+/// The place of a capture in the text that is written.
 #[repr(C)]
 #[derive(Clone, Copy)]
 pub struct Span {
     /// The number of the component, in the order of the standard.
     pub component: u32,
-    /// 1: the group took part in the match, 0: it took no part.
+    /// 1: the group took part in the match, 0: it did not.
     pub took_part: u32,
     /// The number of the group in its component.
     pub group: usize,
-    /// The byte at which its text begins.
+    /// The byte at which the capture begins.
     pub start: usize,
-    /// How many bytes its text has.
+    /// The length of the capture in bytes.
     pub length: usize,
 }
 
-/// How much a match takes.
+/// The room that a match needs.
 #[repr(C)]
 #[derive(Clone, Copy)]
 pub struct Sizes {
-    /// How many bytes its text has.
+    /// The length of the text in bytes.
     pub bytes: usize,
-    /// How many spans it has.
+    /// The number of spans.
     pub spans: usize,
 }
 
-/// Writes what the groups of a match captured, and their spans, if there is room for both, and says how much they take.
+/// Writes the captures of a match and their spans, if there is room for both. Writes the room that
+/// they need to `needed`.
 pub(crate) fn write_groups(
     found: &UrlPatternCaptures<'_, '_>,
     buffer: &mut [u8],
@@ -55,9 +56,10 @@ pub(crate) fn write_groups(
     }
 }
 
-/// Writes what the groups of a match captured, and their spans, as far as there is room. Returns how much they take.
+/// Writes the captures of a match and their spans, as far as there is room. Returns the room that
+/// they need.
 ///
-/// `None`: more than a number can say.
+/// `None`: a size exceeds `usize`.
 fn put_all(
     found: &UrlPatternCaptures<'_, '_>,
     buffer: &mut [u8],
@@ -72,7 +74,8 @@ fn put_all(
     Some(sizes)
 }
 
-/// Writes the groups of a component after what takes so much. Returns how much all takes.
+/// Writes the groups of a component after the first `from` bytes and spans. Returns the sizes with
+/// them.
 fn put_groups(
     groups: UrlPatternGroups<'_, '_, '_>,
     component: ComponentName,
@@ -91,7 +94,7 @@ fn put_groups(
     Some(sizes)
 }
 
-/// Writes a group after what takes so much. Returns how much all takes.
+/// Writes a group after the first `from` bytes and spans. Returns the sizes with it.
 fn put_group(
     component: ComponentName,
     group: usize,
@@ -116,7 +119,7 @@ fn put_group(
     Some(Sizes { bytes, spans })
 }
 
-/// Writes a text from a place on, if it fits. Returns where it ends.
+/// Writes a text from a place on, if it fits. Returns the place after it.
 fn put_text(text: &[u8], at: usize, buffer: &mut [u8]) -> Option<usize>
     ensures end { IfSome result (λ end. end ≡ at + length text.now) }
     ensures text { IfSome result (λ _. IsPut at text.now buffer.old buffer.new) }
@@ -143,7 +146,7 @@ fn put_span(span: Span, at: usize, spans: &mut [Span]) -> Option<usize>
     Some(end)
 }
 
-/// 1 where the group took part in the match, and 0 where it took none.
+/// 1 if the group took part in the match, 0 if it did not.
 fn took_part(capture: Option<&str>) -> u32
     ensures { result ≡ (if is_some (option_text capture.entry) then 1 else 0) }
 {
@@ -153,7 +156,7 @@ fn took_part(capture: Option<&str>) -> u32
     }
 }
 
-/// What a group captured. It is nothing where the group took no part.
+/// The capture of a group. Empty if the group took no part.
 fn capture_bytes(capture: Option<&str>) -> &[u8]
     ensures { result.now ≡ capture_bytes (option_text capture.entry) }
 {

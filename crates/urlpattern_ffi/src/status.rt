@@ -1,30 +1,30 @@
-//! What a call reports to C.
+//! The outcome of a call, as C sees it.
 ghost use Rattle.std.specs.Prelude.{◌≡◌};
 ghost use Rattle.urlpattern_ffi.specs.Statuses.{status_number};
 
-/// What a call reports.
+/// The outcome of a call.
 #[derive(Clone, Copy)]
 pub enum Status {
-    /// It is done, or there is a match.
+    /// The call succeeded, or there is a match.
     Done,
-    /// There is no match.
+    /// No match.
     NoMatch,
     /// A text is not UTF-8.
     NotUtf8,
-    /// The pattern is refused.
+    /// The pattern is rejected.
     Refused,
     /// Memory ran out.
     OutOfMemory,
-    /// The handle has no pattern of this index.
+    /// The handle has no pattern at this index.
     NoPattern,
     /// The buffer is too small.
     TooSmall,
-    /// It is not known whether a pattern covers another one.
+    /// Whether a pattern covers another one is not known.
     Unknown,
 }
 
 impl Status {
-    /// The number that C sees.
+    /// The number of the status for C.
     pub fn number(self) -> u32
         ensures { result ≡ status_number self }
     {

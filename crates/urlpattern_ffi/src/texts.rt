@@ -1,4 +1,4 @@
-//! Texts that are written to memory of C's.
+//! Texts that are written to memory that C owns.
 ghost use Rattle.std.specs.Prelude.{◌≡◌, length, slice_get};
 ghost use Rattle.std.specs.Str.{chars};
 ghost use Rattle.urlpattern.specs.Eight.{components};
@@ -12,7 +12,7 @@ use crate::status::Status;
 use urlpattern::regexp::PatternRegexp;
 use urlpattern::{ComponentName, UrlPattern};
 
-/// Writes a text to the start of a buffer, if the buffer has room for it, and says how many bytes it has.
+/// Writes a text to the start of a buffer, if it fits, and its length in bytes to `needed`.
 pub(crate) fn write(text: &str, buffer: &mut [u8], needed: &mut usize) -> Status
     ensures written { IsWritten text.now buffer.old buffer.new result }
     ensures needed { needed.new ≡ length text.now }
@@ -52,7 +52,7 @@ fn pattern_text(pattern: &UrlPattern<PatternRegexp>, name: ComponentName) -> &st
     &pattern.get(name).pattern_string
 }
 
-/// Writes the name of a group of the pattern at an index, by its number in a component.
+/// Writes the name of a group of the pattern at an index, given its number in a component.
 pub fn write_group_name(
     kept: &Option<Box<Kept>>,
     index: usize,
@@ -69,7 +69,7 @@ pub fn write_group_name(
     }
 }
 
-/// The name of a group.
+/// The name of a group of the pattern at an index, given its number in a component.
 fn group_name(kept: &Option<Box<Kept>>, index: usize, component: u32, group: usize) -> Option<&str>
     ensures { option_text result ≡ group_name_at (boxed_patterns kept.now) index component group }
 {
@@ -79,7 +79,7 @@ fn group_name(kept: &Option<Box<Kept>>, index: usize, component: u32, group: usi
     Some(group.as_str())
 }
 
-/// The component of a number, in the order of the standard.
+/// The component with a number, in the order of the standard.
 fn component_of(number: u32) -> Option<ComponentName>
     ensures { result ≡ slice_get components number }
 {

@@ -9,9 +9,9 @@ use std::str;
 use url::Url;
 use urlpattern_canonical::find_url;
 
-/// The URL of a text, under a base URL unless that is empty.
+/// Parses a URL, under a base URL unless `base` is empty.
 ///
-/// The error is why there is none.
+/// The error is the status that says why there is no URL.
 pub(crate) fn url_of(alloc: Global, text: &[u8], base: &[u8]) -> Result<Url, Status>
     ensures found { IfOk result (λ url. IsUrlUnderBase text.now base.now url) }
     ensures missing { IfErr result (IsNoUrl text.now base.now) }

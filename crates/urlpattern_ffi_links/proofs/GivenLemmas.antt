@@ -1,4 +1,4 @@
--- Lemmas on what is given for groups.
+-- Lemmas on the texts for groups.
 use Rattle.std.proofs.Common.{◌≡◌, ◌+◌, ◌<◌, ◌≤◌, ℕ, List, [], ◌∷◌, ◌++◌, get_or, length, subst, sym, take, take_all}
 use Rattle.std.proofs.lemmas.List.{get_or_default, take_more}
 use Rattle.std.proofs.lemmas.Slice.Zip.{all_zipped_more}
@@ -8,7 +8,7 @@ use Rattle.urlpattern_ffi_links.specs.Given.{GivesGroup, GivesNothing, Group}
 use Rattle.urlpattern_ffi_links.specs.declared.given.Given.{Given}
 
 module _ (text : List ℕ) where
-  -- one more part that gives something
+  -- A part that gives a group is appended.
   pub given_more : (parts : List Given) (i : ℕ) (d : Given) (old new : List Group) (group : Group) → i < length parts → new ≡ old ++ group ∷ [] → GivesGroup text (get_or parts i d) group
       → AllZip (GivesGroup text) (take i parts) old → AllZip (GivesGroup text) (take (i + 1) parts) new
   given_more parts i d old new group within is_new gives was =
@@ -19,6 +19,6 @@ module _ (text : List ℕ) where
   pub given_all : (parts : List Given) (i : ℕ) (groups : List Group) → length parts ≤ i → AllZip (GivesGroup text) (take i parts) groups → AllZip (GivesGroup text) parts groups
   given_all parts i groups past was = subst (λ (taken : List Given). AllZip (GivesGroup text) taken groups) (take_all i parts past) was
 
-  -- a part that gives nothing is one of them
+  -- A part that gives no group is an element.
   pub nothing_given : (parts : List Given) (i : ℕ) (d : Given) → i < length parts → GivesNothing text (get_or parts i d) → Any (GivesNothing text) parts
   nothing_given parts i d within nothing = (i, get_or parts i d, within, get_or_default parts i (get_or parts i d) d within, nothing)

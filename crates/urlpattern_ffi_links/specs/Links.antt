@@ -1,4 +1,4 @@
--- The URL of a pattern with groups that are given as parts of a text, and why there is none.
+-- The URL of a pattern with parts of a text for its groups, or why there is none.
 use Rattle.std.specs.Prelude.{◌≢◌, ℕ, Any, List}
 use Rattle.std.specs.List.{AllZip}
 use Rattle.url.specs.Parts.{Parts}
@@ -14,18 +14,18 @@ use Rattle.urlpattern_pattern.specs.UrlPatterns.{UrlPattern}
 use Rattle.urlpattern_generate.specs.declared.no_link.NoLink.{NoLink}
 use Rattle.urlpattern_generate.specs.declared.no_link.NoLink.TheVariants as no_link
 
--- the URL is that of the pattern with the groups that the parts give
+-- The URL is that of the pattern with these parts of the text for its groups.
 abbrev pub IsLinkOf : UrlPattern PatternRegexp → (text : List ℕ) → List Given → Parts → Type 0
 IsLinkOf pattern text given url =
     (groups : List Group) × AllZip (GivesGroup text) given groups × IsLink pattern_answer pattern (given_groups groups) url
 
--- the pattern has no URL with them, for this reason
+-- The pattern has no URL with these parts of the text for its groups, for this reason.
 abbrev pub RefusesLinkOf : UrlPattern PatternRegexp → (text : List ℕ) → List Given → NoLink → Type 0
 RefusesLinkOf pattern text given error =
     (error ≢ no_link.OutOfMemory)
     × ((groups : List Group) × AllZip (GivesGroup text) given groups × RefusesLink pattern_answer pattern (given_groups groups) error)
 
--- why there is no URL
+-- The reason why there is no URL.
 abbrev pub IsUnlinked : UrlPattern PatternRegexp → (text : List ℕ) → List Given → Unlinked → Type 0
 IsUnlinked pattern text given unlinked.Given = Any (GivesNothing text) given
 IsUnlinked pattern text given (unlinked.NoLink error) = RefusesLinkOf pattern text given error

@@ -1,4 +1,4 @@
-//! What is given for the groups of a pattern.
+//! The texts that C passes for the groups of a pattern.
 ghost use Rattle.std.specs.Prelude.{◌≡◌, slice_get, IfErr, IfNone, IfOk, IfSome};
 ghost use Rattle.std.specs.List.{AllZip};
 ghost use Rattle.urlpattern_components.specs.Eight.{components};
@@ -10,25 +10,25 @@ use std::str;
 use urlpattern_components::ComponentName;
 use urlpattern_generate::GivenGroup;
 
-/// What is given for a group: parts of a text, in bytes.
+/// The name of a group and the text for it, as parts of a text, in bytes.
 #[repr(C)]
 #[derive(Clone, Copy)]
 pub struct Given {
     /// The number of the component, in the order of the standard.
     pub component: u32,
-    /// Where the name of the group begins.
+    /// The byte at which the name of the group begins.
     pub name_start: usize,
-    /// How many bytes the name has.
+    /// The length of the name in bytes.
     pub name_length: usize,
-    /// Where the text for the group begins.
+    /// The byte at which the text for the group begins.
     pub start: usize,
-    /// How many bytes the text for the group has.
+    /// The length of the text for the group in bytes.
     pub length: usize,
 }
 
-/// What these parts of a text give for groups.
+/// The groups that parts of a text name, with their texts.
 ///
-/// The error is that one of them gives nothing, or that memory ran out.
+/// The error is `Given` if a part gives no group, or `OutOfMemory`.
 pub(crate) fn groups_of<'t>(
     alloc: Global,
     text: &'t [u8],
@@ -53,7 +53,8 @@ pub(crate) fn groups_of<'t>(
     Ok(groups)
 }
 
-/// What is given for a group. `None`: there is no component of this number, or a part lies outside of the text or is not UTF-8.
+/// The group that a part of a text names, with its text. `None`: no component has the number, or a
+/// part is out of range or not UTF-8.
 fn group_of<'t>(text: &'t [u8], given: &Given) -> Option<GivenGroup<'t>>
     ensures group { IfSome result (GivesGroup text.now given.now) }
     ensures nothing { IfNone result (GivesNothing text.now given.now) }
@@ -64,14 +65,15 @@ fn group_of<'t>(text: &'t [u8], given: &Given) -> Option<GivenGroup<'t>>
     Some((component, name, value))
 }
 
-/// The component of a number, in the order of the standard.
+/// The component with a number, in the order of the standard.
 fn component_of(number: u32) -> Option<ComponentName>
     ensures { result ≡ slice_get components number }
 {
     ComponentName::all().get(number as usize).copied()
 }
 
-/// The part of a text that begins here and has so many bytes. `None`: it lies outside of the text, or is not UTF-8.
+/// The part of a text that begins at `start` and has `count` bytes. `None`: it is out of range, or
+/// not UTF-8.
 fn part_of(text: &[u8], start: usize, count: usize) -> Option<&str>
     ensures part { IfSome result (λ part. IsPart text.now start count part.now) }
     ensures none { IfNone result (IsNoPart text.now start count) }

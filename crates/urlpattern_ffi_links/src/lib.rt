@@ -1,4 +1,4 @@
-//! Links of patterns, with groups that are given as C gives them: as parts of one text.
+//! URLs of patterns whose groups C passes as parts of one text.
 #![tactic(auto)]
 
 mod given;

@@ -1,4 +1,4 @@
-//! The URL of a pattern with groups that are given.
+//! The URL of a pattern, given texts for its groups.
 ghost use Rattle.std.specs.Prelude.{IfErr, IfOk};
 ghost use Rattle.urlpattern_ffi_links.specs.Links.{IsLinkOf, IsUnlinked};
 
@@ -9,10 +9,10 @@ use urlpattern_engine::PatternRegexp;
 use urlpattern_generate::NoLink;
 use urlpattern_pattern::UrlPattern;
 
-/// Why there is no URL.
+/// The reason why there is no URL.
 #[derive(Drop)]
 pub enum Unlinked {
-    /// One of the parts gives nothing: its component has no such number, or it lies outside of the text or is not UTF-8.
+    /// A part gives no group: no component has its number, or it is out of range or not UTF-8.
     Given,
     /// The pattern has no URL with these groups.
     NoLink(NoLink),
@@ -20,9 +20,9 @@ pub enum Unlinked {
     OutOfMemory,
 }
 
-/// The URL that the pattern matches, with what these parts of a text give for its groups.
+/// Returns the URL that the pattern matches when its groups capture these parts of a text.
 ///
-/// The error is why there is none.
+/// The error is the reason why there is none.
 pub fn link(
     alloc: Global,
     pattern: &UrlPattern<PatternRegexp>,

@@ -1,4 +1,4 @@
-//! Matches that borrow: their texts and groups. Without an engine they do not allocate.
+//! Borrowed matches: their texts and groups. Without an engine they do not allocate.
 
 use crate::given::{expect_same, pattern_of, url_of};
 use std::alloc::Global;
@@ -7,7 +7,8 @@ use std::test::Fail;
 use url::Url;
 use urlpattern::{ComponentName, Error, UrlPattern, UrlPatternCaptures};
 
-/// The groups of all components. Of a component that is left out it is a wildcard, whose name is a number.
+/// The groups of all components. A component that is left out has a wildcard, whose name is a
+/// number.
 const EACH: &[(ComponentName, &str, Option<&str>)] = &[
     (ComponentName::Protocol, "0", Some("https")),
     (ComponentName::Username, "0", Some("")),
@@ -20,7 +21,7 @@ const EACH: &[(ComponentName, &str, Option<&str>)] = &[
     (ComponentName::Hash, "0", Some("")),
 ];
 
-/// Compares the path that a match borrows, and its groups.
+/// Compares the borrowed path of a match, and its groups.
 fn expect_borrowed(rt: &impl Abort, found: &UrlPatternCaptures<'_, '_>) {
     expect_same(rt, found.input(ComponentName::Pathname), "/a/b", "the path");
     let groups = [
@@ -40,7 +41,7 @@ fn expect_borrowed(rt: &impl Abort, found: &UrlPatternCaptures<'_, '_>) {
     }
 }
 
-/// Compares the groups of a component, and those of all, in their order.
+/// Compares the groups of a component, and those of all components, in order.
 fn expect_groups(rt: &impl Abort, found: &UrlPatternCaptures<'_, '_>) {
     // docs: groups
     let mut groups = found.groups(ComponentName::Pathname);

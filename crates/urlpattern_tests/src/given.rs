@@ -1,4 +1,4 @@
-//! URLs, inits, components and patterns that tests ask about, and a comparison.
+//! The URLs, inits, components and patterns of tests, and a comparison.
 
 use std::alloc::{AllocError, Global};
 use std::fmt::Debug;
@@ -12,7 +12,7 @@ use urlpattern::{
     UrlPatternOptions,
 };
 
-/// Compares what was found of something with what is expected.
+/// Compares a value with the expected one.
 pub fn expect_same<T: Debug + PartialEq + Drop>(rt: &impl Abort, found: T, expected: T, of: &str) {
     assert_eq!(rt; found, expected, "of {of:?}");
 }
@@ -20,7 +20,7 @@ pub fn expect_same<T: Debug + PartialEq + Drop>(rt: &impl Abort, found: T, expec
 /// The texts of an init, by the names of its components.
 pub type Fields<'a> = &'a [(&'a str, &'a str)];
 
-/// The URL of a text.
+/// Parses a URL.
 pub fn url_of(alloc: Global, text: &str) -> Result<Url, Error> {
     match Url::parse(alloc, text) {
         Ok(url) => Ok(url),
@@ -29,7 +29,7 @@ pub fn url_of(alloc: Global, text: &str) -> Result<Url, Error> {
     }
 }
 
-/// The URL of a text as an input.
+/// Parses a URL as an input.
 // docs: url_input
 pub fn url_input(alloc: Global, text: &str) -> Result<UrlPatternMatchInput, Error> {
     Ok(UrlPatternMatchInput::Url(url_of(alloc, text)?))
@@ -44,7 +44,7 @@ pub fn init_of(alloc: Global, fields: Fields<'_>) -> Result<UrlPatternInit, Erro
 }
 // docs: end
 
-/// The text that is given for a component.
+/// The text for a component.
 fn text_of(
     alloc: Global,
     fields: Fields<'_>,
@@ -58,12 +58,12 @@ fn text_of(
     Ok(None)
 }
 
-/// A pattern with these texts, whose other components take any text.
+/// A pattern with these texts, whose other components match any text.
 pub fn pattern_of<R: RegExp>(alloc: Global, fields: Fields<'_>) -> Result<UrlPattern<R>, Error> {
     UrlPattern::parse(alloc, init_of(alloc, fields)?, UrlPatternOptions::default())
 }
 
-/// The component of a path, whose texts stay as they are.
+/// The component of a path, whose texts are kept as they are.
 // docs: path_of
 pub fn path_of<R: RegExp>(alloc: Global, pattern: &str) -> Result<Component<R>, Error> {
     let unchanged = |text: &str| -> Result<String, Error> { Ok(String::from_str(alloc, text)?) };
@@ -71,7 +71,7 @@ pub fn path_of<R: RegExp>(alloc: Global, pattern: &str) -> Result<Component<R>, 
 }
 // docs: end
 
-/// The parts of a pattern whose texts stay as they are.
+/// The parts of a pattern whose texts are kept as they are.
 pub fn parts_of(alloc: Global, pattern: &str, options: &Options) -> Result<Vec<Part>, Error> {
     let unchanged = |text: &str| -> Result<String, Error> { Ok(String::from_str(alloc, text)?) };
     parse_pattern_string(alloc, pattern, options, unchanged)

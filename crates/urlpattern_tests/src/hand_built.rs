@@ -1,4 +1,4 @@
-//! Patterns with components put together by hand, and engines of regular expressions that answer what no engine should, or refuse
+//! Patterns with components built by hand, and engines that return what no engine should, or reject
 //! each text.
 
 use crate::given::{expect_same, parts_of, pattern_of, url_input};
@@ -19,7 +19,7 @@ use urlpattern::{
 /// A URL with a path.
 const URL: &str = "https://example.com/path";
 
-/// What groups are expected to capture, by name.
+/// The expected captures of groups, by name.
 type Groups<'a> = &'a [(&'a str, Option<&'a str>)];
 
 /// Copies of names.
@@ -31,7 +31,7 @@ fn names_of(alloc: Global, names: &[&str]) -> Result<Vec<String>, Error> {
     Ok(copies)
 }
 
-/// A component of which an engine, or an error in place of one, is asked about the whole text.
+/// A component whose engine, or error in place of one, is called with the whole text.
 fn by_hand<R: RegExp>(
     alloc: Global,
     group_name_list: Vec<String>,
@@ -51,7 +51,7 @@ fn by_hand<R: RegExp>(
     }
 }
 
-/// A pattern with this component for the path, whose other components take any text.
+/// A pattern with this component for the path, whose other components match any text.
 fn with_pathname<R: RegExp>(alloc: Global, pathname: Component<R>) -> Result<UrlPattern<R>, Error> {
     let mut pattern = pattern_of(alloc, &[])?;
     pattern.parts = None;
@@ -59,13 +59,13 @@ fn with_pathname<R: RegExp>(alloc: Global, pathname: Component<R>) -> Result<Url
     Ok(pattern)
 }
 
-/// The pattern of a path, put together of its components.
+/// A pattern with this path, built from its components.
 fn without_parts(alloc: Global, pathname: &str) -> Result<UrlPattern, Error> {
     let pattern = pattern_of(alloc, &[("pathname", pathname)])?;
     Ok(UrlPattern::from_eight(pattern.into_eight()))
 }
 
-/// Compares the groups of a component by name: there are no others.
+/// Compares the groups of a component by name. The component has no other groups.
 fn expect_captured(rt: &impl Abort, found: &UrlPatternComponentResult, groups: Groups<'_>) {
     expect_same(rt, found.groups.len(), groups.len(), "all groups");
     for (name, expected) in groups {
@@ -76,7 +76,7 @@ fn expect_captured(rt: &impl Abort, found: &UrlPatternComponentResult, groups: G
     }
 }
 
-/// A pattern whose path has these names, of which an engine captures this.
+/// A pattern whose path has groups with these names, for which an engine returns these captures.
 fn capturing(
     alloc: Global,
     names: &[&str],
@@ -90,7 +90,7 @@ fn capturing(
     with_pathname(alloc, by_hand(alloc, names, Ok(engine)))
 }
 
-/// The match of a URL by such a pattern.
+/// The match of a URL by a pattern whose path has groups with these names and captures.
 fn captured(
     alloc: Global,
     names: &[&str],
@@ -103,7 +103,7 @@ fn captured(
     found
 }
 
-/// Compares the groups of a path: what an engine captures of it, beside these names.
+/// Compares the groups of a path, given the names of its groups and the captures of an engine.
 fn expect_groups(
     rt: &impl Abort,
     alloc: Global,
@@ -157,7 +157,7 @@ fn an_error_in_place_of_an_engine_matches_nothing(rt: HostRuntime) -> Result<(),
     Ok(())
 }
 
-/// A matcher that asks an engine about what is before `b`.
+/// A matcher that calls an engine with the text before `b`.
 fn matcher_of<R: RegExp>(alloc: Global) -> Result<Matcher<R>, Error> {
     // docs: matcher_of
     let options = Options::default(alloc);
@@ -166,7 +166,7 @@ fn matcher_of<R: RegExp>(alloc: Global) -> Result<Matcher<R>, Error> {
     // docs: end
 }
 
-/// Whether the pattern of an empty init is refused because its regular expressions are.
+/// Whether the pattern of an empty init is rejected because its regular expressions are.
 fn is_pattern_refused<R: RegExp>(alloc: Global) -> Result<bool, Error> {
     let found = pattern_of::<R>(alloc, &[]);
     let is_refused = match &found {
@@ -178,7 +178,8 @@ fn is_pattern_refused<R: RegExp>(alloc: Global) -> Result<bool, Error> {
     is_refused
 }
 
-/// Compares a matcher whose engine refused its text: it keeps the error, and matches nothing.
+/// Compares a matcher whose engine rejected its expression: it keeps the error, and matches
+/// nothing.
 fn expect_refused(
     rt: &impl Abort,
     alloc: Global,
@@ -210,7 +211,8 @@ fn what_an_engine_refuses_is_kept_and_matches_nothing(rt: HostRuntime) -> Result
     Ok(())
 }
 
-/// Compares a matcher whose engine finds no memory: it asks the engine about what ends with `b`.
+/// Compares a matcher whose engine runs out of memory. The engine is called for texts that end with
+/// `b`.
 fn expect_wanting(
     rt: &impl Abort,
     alloc: Global,
@@ -239,7 +241,7 @@ fn an_engine_without_memory_is_reported_as_such(rt: HostRuntime) -> Result<(), F
     Ok(())
 }
 
-/// Whether nothing is compared, as a pattern has no parts.
+/// Whether a comparison fails because a pattern has no parts.
 fn lacks_parts<T: Drop>(found: Result<T, CompareError>) -> Result<bool, Error> {
     match found {
         Ok(_) => Ok(false),

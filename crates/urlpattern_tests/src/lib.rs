@@ -1,6 +1,7 @@
-//! Tests that no line of data that `bench` replays can say: components that are put together by hand, engines that answer what no engine
-//! should, what lists and maps hold, matches that borrow, copies and comparisons of small values, calls that need no memory, or no more
-//! than they promise, and lines that are too long. It has tests alone.
+//! Tests that the data replayed by `bench` cannot express: components built by hand, engines that
+//! return what no engine should, the elements of lists and maps, borrowed matches, copies and
+//! comparisons of small values, calls with no or a bounded number of requests for memory, and lines
+//! that are too long. The crate has tests only.
 #![tactic(auto)]
 
 #[cfg(test)]

@@ -1,4 +1,4 @@
-//! The lines of texts, answered by a rule that a reader sees at a glance.
+//! The lines of texts, selected by a rule that is easily read.
 ghost use Rattle.std.specs.Prelude.{⊤};
 
 use std::alloc::AllocError;

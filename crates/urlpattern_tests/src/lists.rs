@@ -1,4 +1,5 @@
-//! Lists of patterns: what they hold, which patterns are asked, components put together by hand, and a list that finds no room.
+//! Lists of patterns: their elements, which patterns are tried, components built by hand, and a
+//! list that finds no room.
 
 use crate::given::{expect_same, pattern_of, url_input, url_of};
 use crate::stubborn::KeptText;
@@ -9,10 +10,10 @@ use std::test::Fail;
 use urlpattern::regexp::RegExp;
 use urlpattern::{ComponentName, Error, UrlPattern, UrlPatternList};
 
-/// A path that no engine is asked about, and that matches two segments.
+/// A path that needs no engine, and matches two segments.
 const NAME: &str = "/a/:x";
 
-/// A path that an engine is asked about.
+/// A path that needs an engine.
 const ASKS: &str = "/(.+)";
 
 /// The patterns with these paths.
@@ -48,13 +49,13 @@ fn first_index<R: RegExp>(
     index
 }
 
-/// Whether something is written for a list.
+/// Whether the `Debug` output of a list is not empty.
 fn is_shown(alloc: Global, list: &UrlPatternList) -> Result<bool, Error> {
     let written = format!(in alloc; "{list:?}")?;
     Ok(!written.is_empty())
 }
 
-/// Compares what a list holds.
+/// Compares the elements of a list.
 fn expect_held(
     rt: &impl Abort,
     alloc: Global,
@@ -84,8 +85,8 @@ fn a_list_holds_its_patterns_in_their_order(rt: HostRuntime) -> Result<(), Fail>
     Ok(())
 }
 
-/// The index of the first pattern with one of these paths that matches a URL of two segments. Each engine that is asked finds no
-/// memory.
+/// The index of the first pattern with one of these paths that matches a URL of two segments. Each
+/// call of an engine runs out of memory.
 fn first_unasked(alloc: Global, pathnames: &[&str]) -> Result<Option<usize>, Error> {
     let list = list_of::<KeptText>(alloc, pathnames)?;
     let index = first_index(alloc, &list, "https://example.com/a/b");
@@ -106,7 +107,8 @@ fn patterns_are_asked_up_to_the_first_match(rt: HostRuntime) -> Result<(), Fail>
     Ok(())
 }
 
-/// A pattern with a component that was made to ignore case. Its parts are no longer those of its components.
+/// A pattern with a component that was changed to ignore case. Its parts are no longer those of its
+/// components.
 fn pattern_ignoring_case(alloc: Global) -> Result<UrlPattern, Error> {
     let mut pattern = pattern_of(alloc, &[("pathname", NAME)])?;
     pattern.parts = None;
@@ -122,7 +124,7 @@ fn pattern_of_a_changed_host(alloc: Global) -> Result<UrlPattern, Error> {
     Ok(pattern)
 }
 
-/// Two patterns with components put together by hand.
+/// Two patterns with components built by hand.
 fn list_by_hand(alloc: Global) -> Result<UrlPatternList, Error> {
     let mut list = UrlPatternList::new(alloc);
     add(&mut list, pattern_ignoring_case(alloc)?)?;
@@ -146,7 +148,7 @@ fn a_component_put_together_by_hand_is_found(rt: HostRuntime) -> Result<(), Fail
 /// Paths, of which all but the second match a path of two segments.
 const SEVERAL: [&str; 4] = [NAME, "/b/:x", "/a/*", "/:x/:y"];
 
-/// Removes the first pattern and the last of some.
+/// Removes the first and the last pattern.
 fn expect_removed(rt: &impl Abort, alloc: Global, list: &mut UrlPatternList) -> Result<(), Error> {
     let url = "https://example.com/a/b";
     expect_same(rt, first_index(alloc, list, url)?, Some(0), url);
@@ -204,7 +206,7 @@ fn all_matches_come_in_order(rt: HostRuntime) -> Result<(), Fail> {
     Ok(())
 }
 
-/// Compares a list that holds a pattern, or is empty where the pattern came back.
+/// Compares a list that holds a pattern, or is empty if the pattern was returned as the error.
 fn expect_back<R: RegExp>(
     rt: &impl Abort,
     list: &UrlPatternList<R>,
@@ -219,7 +221,7 @@ fn expect_back<R: RegExp>(
     }
 }
 
-/// Holds whichever request for memory is refused.
+/// Holds whichever request for memory fails.
 #[test]
 fn a_pattern_that_finds_no_room_comes_back(rt: HostRuntime) {
     let Ok(pattern) = pattern_of::<Regex>(rt.alloc(), &[("pathname", NAME)]) else {

@@ -1,4 +1,4 @@
-//! Maps of patterns: what they hold, and which value the first match has.
+//! Maps of patterns: their elements, and the value of the first match.
 
 use crate::given::{expect_same, pattern_of, url_of};
 use std::alloc::Global;
@@ -36,7 +36,7 @@ fn first_value(
     first
 }
 
-/// Compares what a map holds with the routes.
+/// Compares the elements of a map with the routes.
 fn expect_held(rt: &impl Abort, map: &UrlPatternMap<u32>) {
     expect_same(rt, map.len(), ROUTES.len(), "the map");
     // docs: map_entries
@@ -55,7 +55,7 @@ fn expect_held(rt: &impl Abort, map: &UrlPatternMap<u32>) {
     assert!(rt; map.get(ROUTES.len()).is_none());
 }
 
-/// Compares the first values of some URLs.
+/// Compares the values of the first matches of some URLs.
 fn expect_first(rt: &impl Abort, alloc: Global, map: &UrlPatternMap<u32>) -> Result<(), Error> {
     for (url, expected) in [
         ("https://example.com/users/me", Some((0, 1))),
@@ -81,7 +81,7 @@ fn a_map_holds_its_routes_and_finds_the_first(rt: HostRuntime) -> Result<(), Fai
     Ok(())
 }
 
-/// Some routes as entries, in their order.
+/// Some routes as entries, in order.
 fn entries(alloc: Global, routes: &[(&str, u32)]) -> Result<Vec<(UrlPattern, u32)>, Error> {
     let mut entries = Vec::new(alloc);
     for (pathname, value) in routes {
@@ -90,7 +90,7 @@ fn entries(alloc: Global, routes: &[(&str, u32)]) -> Result<Vec<(UrlPattern, u32
     Ok(entries)
 }
 
-/// A map of the first route, to which the others are appended at once.
+/// A map with the first route, to which the others are appended in one call.
 fn extended(alloc: Global) -> Result<UrlPatternMap<u32>, Error> {
     let mut map = UrlPatternMap::new(alloc);
     map.extend(entries(alloc, &ROUTES[..1])?)?;
@@ -109,7 +109,7 @@ fn routes_are_appended_in_their_order(rt: HostRuntime) -> Result<(), Fail> {
     Ok(())
 }
 
-/// Compares a map with all routes, or with the first of them if there was no room for all.
+/// Compares a map with all routes, or with the first ones if there was no room for all.
 fn expect_front(rt: &impl Abort, map: &UrlPatternMap<u32>, appended: &Result<(), Error>) {
     expect_same(
         rt,
@@ -124,7 +124,7 @@ fn expect_front(rt: &impl Abort, map: &UrlPatternMap<u32>, appended: &Result<(),
     assert!(rt; matches!(appended, Ok(()) | Err(Error::OutOfMemory)));
 }
 
-/// Holds whichever request for memory is refused.
+/// Holds whichever request for memory fails.
 #[test]
 fn the_first_routes_are_held_if_there_is_no_room_for_all(rt: HostRuntime) {
     let Ok(entries) = entries(rt.alloc(), &ROUTES) else {

@@ -52,7 +52,7 @@ const URLS: &[(&str, Option<ComponentName>)] = &[
     ),
 ];
 
-/// Compares the first component that does not match a URL, by both calls.
+/// Compares the first component that does not match a URL, for each of two calls.
 fn expect_mismatch(
     rt: &impl Abort,
     alloc: Global,
@@ -71,7 +71,7 @@ fn expect_mismatch(
     Ok(())
 }
 
-/// Compares those of all URLs.
+/// Compares the first component that does not match, for all URLs.
 fn expect_mismatches(rt: &impl Abort, alloc: Global, pattern: &UrlPattern) -> Result<(), Error> {
     for (url, expected) in URLS {
         expect_mismatch(rt, alloc, pattern, url, *expected)?;
@@ -91,7 +91,7 @@ fn the_first_component_that_does_not_match(rt: HostRuntime) -> Result<(), Fail> 
 /// Users by their paths.
 const USERS: &str = "/users/:id";
 
-/// The id of a user, by the path alone. What was captured outlives the pattern.
+/// The id of a user, by the path alone. The capture outlives the pattern.
 fn id_of(alloc: Global, pathname: &str) -> Result<Option<&str>, Error> {
     let users: UrlPattern = pattern_of(alloc, &[("pathname", USERS)])?;
     let found = users.captures_of_texts(alloc, &pathname_texts(pathname));
@@ -105,7 +105,7 @@ fn id_of(alloc: Global, pathname: &str) -> Result<Option<&str>, Error> {
     id
 }
 
-/// Whether a path alone is that of a user.
+/// Whether a path is that of a user.
 fn is_user(alloc: Global, pathname: &str) -> Result<bool, Error> {
     let users: UrlPattern = pattern_of(alloc, &[("pathname", USERS)])?;
     let is_user = users.test_texts(alloc, &pathname_texts(pathname));

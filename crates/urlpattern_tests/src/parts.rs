@@ -1,4 +1,4 @@
-//! Patterns that are read with no request for memory.
+//! Patterns that are read without a request for memory.
 
 use crate::given::parts_of;
 use std::alloc::{AllocError, Global};
@@ -12,7 +12,8 @@ fn push_copies(text: &mut String, piece: &str, count: usize) -> Result<(), Alloc
     Ok(())
 }
 
-/// Groups without a text are read with no request for memory, so that refusing one changes nothing once the pattern is there.
+/// Groups without a text are read without a request for memory. Once the pattern is built, a
+/// failing request therefore changes nothing.
 #[test]
 fn empty_groups_are_read_without_memory(rt: HostRuntime) {
     let alloc = rt.alloc();

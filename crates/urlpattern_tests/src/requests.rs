@@ -1,7 +1,8 @@
-//! Calls that promise how often they ask for memory at most.
+//! Calls that promise an upper bound on their requests for memory.
 //!
-//! Of each pattern one test makes the parts alone, and each other one makes the parts and then one call. The difference of both
-//! numbers of requests is what the call makes; `.ci/refuse` counts it and has the bounds.
+//! For each pattern one test makes the parts alone, and each other test makes the parts and then
+//! one call. The difference of the two numbers of requests is that of the call; `.ci/refuse` counts
+//! it and has the bounds.
 
 use crate::given::{expect_same, parts_of};
 use std::alloc::Global;
@@ -13,7 +14,7 @@ use urlpattern_matcher::component::{
 use urlpattern_parser::parser::{Options, Part};
 use urlpattern_syntax::Error;
 
-/// A pathname pattern, its regular expression, and the bytes of that.
+/// A pathname pattern, its regular expression, and the length of that in bytes.
 type Case = (&'static str, &'static str, usize);
 
 const REPEATED: Case = ("{a/:x/b}+", "^(?:a/((?:[^/]+?)(?:/ba/(?:[^/]+?))*)/b)$", 41);
@@ -29,7 +30,7 @@ fn made(alloc: Global, (pattern, _, _): Case) -> Result<(Options, Vec<Part>), Er
     Ok((options, parts))
 }
 
-/// Makes the parts of a pattern, and nothing of them.
+/// Makes the parts of a pattern alone.
 fn make(alloc: Global, case: Case) -> Result<(), Fail> {
     drop(made(alloc, case)?);
     Ok(())

@@ -1,4 +1,4 @@
-//! Results that are owned: names in their order, copies and comparisons.
+//! Owned results: names in order, copies and comparisons.
 
 use crate::given::{Fields, pattern_of, url_input, url_of};
 use serde_json::Value;
@@ -21,7 +21,7 @@ fn found_by(alloc: Global, fields: Fields<'_>, url: &str) -> Result<UrlPatternRe
     // docs: end
 }
 
-/// Compares the names of a component's groups, in their order, and what each captures.
+/// Compares the names of a component's groups, in order, and their captures.
 fn expect_named(
     rt: &impl Abort,
     alloc: Global,
@@ -58,7 +58,7 @@ fn names_are_sorted(rt: HostRuntime) -> Result<(), Fail> {
     Ok(())
 }
 
-/// The JSON of the match of a URL that is borrowed.
+/// The JSON of a borrowed match of a URL.
 fn borrowed_tree(alloc: Global, fields: Fields<'_>, url: &str) -> Result<Option<Value>, Error> {
     let url = url_of(alloc, url)?;
     let pattern: UrlPattern = pattern_of(alloc, fields)?;

@@ -1,28 +1,30 @@
-//! An engine of regular expressions that does the same with each text.
+//! A regular expression engine that treats all texts alike.
 
 use std::alloc::Global;
 use urlpattern::RegexSyntax;
 use urlpattern::error::{OutOfMemory, RegExpError};
 use urlpattern::regexp::RegExp;
 
-/// What an engine captures of each text.
+/// The captures that an engine returns for each text.
 pub type Captures = &'static [Option<&'static str>];
 
-/// An engine that takes or refuses each text, and captures the same of all texts. These captures need be no slices of the texts.
-/// A value without captures finds no memory when it is asked.
+/// An engine that accepts or rejects each expression, and returns the same captures for all texts.
+/// The captures need not be slices of the texts. A value without captures runs out of memory when
+/// it is called.
 #[derive(Debug, Drop)]
 pub struct Stubborn<const TAKES_TEXTS: bool, const HAS_MEMORY: bool> {
     pub text: String,
     pub captures: Option<Captures>,
 }
 
-/// An engine that keeps each text. A value that it makes finds no memory when it is asked.
+/// An engine that keeps the text of each expression. A value that it compiles runs out of memory
+/// when it is called.
 pub type KeptText = Stubborn<true, true>;
 
-/// An engine that refuses each text.
+/// An engine that rejects each expression.
 pub type Refusing = Stubborn<false, true>;
 
-/// An engine that finds no memory for any text.
+/// An engine that runs out of memory for each expression.
 pub type Starved = Stubborn<false, false>;
 
 impl<const TAKES_TEXTS: bool, const HAS_MEMORY: bool> RegExp for Stubborn<TAKES_TEXTS, HAS_MEMORY> {

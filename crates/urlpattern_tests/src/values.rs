@@ -1,4 +1,5 @@
-//! Copies, comparisons, defaults and written forms of small values, and values that are set on one URL.
+//! Copies, comparisons, defaults and text forms of small values, and values that are set on one
+//! URL.
 
 use crate::given::{expect_same, path_of};
 use std::test::Fail;
@@ -41,7 +42,7 @@ fn a_copy_of_a_token_has_each_field(rt: HostRuntime) -> Result<(), Fail> {
     Ok(())
 }
 
-/// Of the whole expression of a component `PatternRegexp` keeps the text, and matches by it all the same.
+/// `PatternRegexp` keeps the text of a component's whole expression, and matches with it as well.
 #[test]
 fn a_whole_expression_matches(rt: HostRuntime) -> Result<(), Fail> {
     let alloc = rt.alloc();

@@ -1,4 +1,4 @@
-//! Builds the lists of patterns that were built when a case was recorded, and asks for the first match of the same inputs.
+//! Builds lists of patterns as in a recorded case, and finds the first match of the same inputs.
 
 use crate::calls::{found_for, found_of_texts, found_of_url};
 use crate::patterns::{are_same_components, built, is_same_error};
@@ -11,17 +11,17 @@ use urlpattern::{
     Error, UrlPattern, UrlPatternCaptures, UrlPatternList, UrlPatternMatchInput, UrlPatternResult,
 };
 
-/// The first match of an input: an index and its match. `None`: there is none.
+/// The first match of an input: an index and its match. `None`: there is no match.
 type First = Option<(usize, UrlPatternResult)>;
 
-/// A call that finds the first match. The one of a URL finds none of an init.
+/// A call that finds the first match. The call for URLs finds none for an init.
 #[derive(Clone, Copy)]
 enum Call {
     /// `first_match`.
     FirstMatch,
-    /// `first_captures`, and an owned copy of what it returns.
+    /// `first_captures`, and an owned copy of its result.
     FirstCaptures,
-    /// `first_captures_of_input`, and an owned copy of what it returns.
+    /// `first_captures_of_input`, and an owned copy of its result.
     FirstCapturesOfInput,
 }
 
@@ -32,7 +32,7 @@ const CALLS: &[(&str, Call)] = &[
     ("first_captures_of_input", Call::FirstCapturesOfInput),
 ];
 
-/// Whether the first matches of the inputs in a list over this engine are what was recorded.
+/// Whether the first matches of the inputs in a list over this engine are the recorded ones.
 pub fn is_same<R: RegExp>(case: &Case<'_>) -> Result<bool, Fault> {
     let found = built_list::<R>(case.alloc, case.question)?;
     case.is_answer(
@@ -41,7 +41,7 @@ pub fn is_same<R: RegExp>(case: &Case<'_>) -> Result<bool, Fault> {
     )
 }
 
-/// The list of the patterns that a question gives, or why the first that is refused is so.
+/// The list of the patterns of a question, or the error of the first pattern that is rejected.
 fn built_list<R: RegExp>(
     alloc: Global,
     question: &Value,
@@ -54,7 +54,7 @@ fn built_list<R: RegExp>(
     }
 }
 
-/// Appends patterns, up to the first that is refused.
+/// Appends patterns, up to the first that is rejected.
 fn add_patterns<R: RegExp>(
     alloc: Global,
     patterns: &mut UrlPatternList<R>,
@@ -73,7 +73,8 @@ fn add_patterns<R: RegExp>(
     Ok(Ok(()))
 }
 
-/// Whether what comes of each input of a question is the recorded result, by the call that the question names.
+/// Whether the outcome for each input of a question is the recorded one, by the call that the
+/// question names.
 fn has_same_results<R: RegExp>(
     case: &Case<'_>,
     patterns: &UrlPatternList<R>,
@@ -91,7 +92,7 @@ fn has_same_results<R: RegExp>(
     })
 }
 
-/// The first match of an input that a question gives.
+/// The first match of an input of a question.
 fn first_match<R: RegExp>(
     alloc: Global,
     patterns: &UrlPatternList<R>,
@@ -104,7 +105,7 @@ fn first_match<R: RegExp>(
         None,
         |input| found_by(alloc, patterns, call, input),
     )?;
-    // Where answers were recorded, each pattern looked at the input anew, and an empty list did not.
+    // In the recorded cases each pattern parsed the input anew, and an empty list did not.
     if patterns.is_empty() && !matches!(found, Err(Error::OutOfMemory)) {
         drop(found);
         return Ok(Ok(None));
@@ -134,7 +135,7 @@ fn found_by<R: RegExp>(
     }
 }
 
-/// An owned copy of a first match that borrows. The error is that memory ran out.
+/// An owned copy of a borrowed first match.
 fn copied(
     alloc: Global,
     found: Result<Option<(usize, UrlPatternCaptures<'_, '_>)>, Error>,
@@ -151,7 +152,7 @@ fn copied(
     copy
 }
 
-/// Whether the first match is the recorded one: null where there is none.
+/// Whether the first match is the recorded one: null if there is none.
 fn is_same_result(
     alloc: Global,
     found: &Result<First, Error>,

@@ -1,4 +1,5 @@
-//! Whether both calls that split a constructor string agree, within two turns for each token.
+//! Whether the two calls that split a constructor string agree, with at most two turns for each
+//! token.
 
 use super::making::Maker;
 use super::{Outcome, given, same};
@@ -34,7 +35,7 @@ pub fn ask(maker: &mut Maker) -> Result<Outcome, Error> {
     outcome
 }
 
-/// The URL of a text, if there is one.
+/// Parses a URL, if there is one.
 fn parsed(alloc: Global, base: Option<&str>) -> Result<Option<Url>, Error> {
     match base {
         Some(base) => Ok(Some(Url::parse(alloc, base).map_err(Error::Url)?)),
@@ -42,13 +43,13 @@ fn parsed(alloc: Global, base: Option<&str>) -> Result<Option<Url>, Error> {
     }
 }
 
-/// Whether the turns are at most two for each token.
+/// Whether there are at most two turns for each token.
 fn are_few(alloc: Global, string: &str, turns: usize) -> Result<bool, Error> {
     let tokens = tokenize(alloc, string, TokenizePolicy::Lenient)?;
     Ok(turns / 2 < tokens.len() || turns == 2 * tokens.len())
 }
 
-/// What comes of two errors.
+/// The outcome for two errors.
 fn refused(alloc: Global, error: &Error, other: &Error) -> Result<Outcome, Error> {
     if format!(in alloc; "{error}")? != format!(in alloc; "{other}")? {
         return Ok(Outcome::Differs);

@@ -1,4 +1,4 @@
-//! Whether the other engines answer what `regex::Regex` answers.
+//! Whether the other engines return what `regex::Regex` returns.
 
 use super::Outcome;
 use super::given::{self, Given};
@@ -12,16 +12,16 @@ use urlpattern::quirks::EcmaRegexp;
 use urlpattern::regexp::{PatternRegexp, RegExp};
 use urlpattern::{Error, RegexSyntax};
 
-/// What regular expressions are made of.
+/// The pieces of regular expressions.
 const PIECES: [&str; 19] = [
     "^", "$", "(", ")", "(?:", "a", "b", "/", ".", ".*", "[^/]+?", "([^/]+?)", "(.*)", "|", "?",
     "*", "+", "\\.", "é",
 ];
 
-/// How many texts an engine is asked about.
+/// The number of texts for an engine.
 const TEXTS: usize = 4;
 
-/// Asks the engines about texts.
+/// Calls the engines with texts.
 pub fn ask(maker: &mut Maker) -> Result<Outcome, Error> {
     let given = Given::new(maker, RegexSyntax::Rust)?;
     let Some(regexp) = regular_expression(maker, &given)? else {
@@ -45,8 +45,8 @@ pub fn ask(maker: &mut Maker) -> Result<Outcome, Error> {
     outcome
 }
 
-/// A regular expression: one that a pattern is made of, a changed form of it, or one of pieces. `None` where what was made is no
-/// pattern.
+/// A regular expression: one that is made from a pattern, a changed form of it, or one made from
+/// pieces. `None`: the text that was made is not a pattern.
 fn regular_expression(maker: &mut Maker, given: &Given) -> Result<Option<String>, Error> {
     if maker.is_one_in(4) {
         return Ok(Some(maker.text(&PIECES, 9)?));
@@ -65,7 +65,7 @@ fn regular_expression(maker: &mut Maker, given: &Given) -> Result<Option<String>
     }
 }
 
-/// What comes of the answers of the engines.
+/// The outcome for the results of the engines.
 fn are_answered_alike(
     maker: &mut Maker,
     by_regex: &Regex,
@@ -82,7 +82,7 @@ fn are_answered_alike(
     Ok(Outcome::Same)
 }
 
-/// Whether the engines answer a text alike.
+/// Whether the engines return the same for a text.
 fn is_answered_alike(
     alloc: Global,
     by_regex: &Regex,

@@ -1,4 +1,4 @@
-//! What patterns are made of and what they are asked about: texts of a small alphabet, and changed forms of real ones.
+//! The texts of questions: random texts over a small alphabet, and changed forms of real ones.
 
 use super::making::Maker;
 use std::alloc::AllocError;
@@ -10,23 +10,23 @@ use urlpattern::{Error, RegexSyntax};
 /// The base URL of patterns and inputs that have one.
 pub const BASE: &str = "https://example.com/a/b?q#h";
 
-/// What the patterns of components are made of, mostly well formed.
+/// The pieces of component patterns, mostly well formed.
 const GROUPS: [&str; 16] = [
     "/a", "/b", "/:x", "/:y", "/*", "{/:z}?", "{a}*", "{b:w/}+", "(a|b)", "([^/]+?)", "*", ".",
     "-", "b", "é", "\\:",
 ];
 
-/// What the patterns of components are made of, character by character.
+/// The characters of component patterns.
 const MARKS: [&str; 16] = [
     "a", "b", "/", ".", ":x", ":y", "*", "{", "}", "?", "+", "(a)", "(", ")", "\\", "é",
 ];
 
-/// What the texts are made of that a component is asked about.
+/// The pieces of the texts for a component.
 const LETTERS: [&str; 12] = [
     "a", "b", "ab", "/", "/a", "/b", ".", "-", "é", "A", "c", ":",
 ];
 
-/// What constructor strings and URLs are made of.
+/// The pieces of constructor strings and URLs.
 const URL_PIECES: [&str; 24] = [
     "a",
     "b",
@@ -119,7 +119,7 @@ const STRINGS: Pairs = &[
     ("*://:host.com/{a/:x}+", "ftp://b.com/a/1a/2"),
 ];
 
-/// How a component's pattern is made, and what it is asked about.
+/// The patterns and the texts of a kind of component.
 #[derive(Clone, Copy)]
 enum Place {
     Default,
@@ -128,7 +128,7 @@ enum Place {
 }
 
 impl Place {
-    /// The options of this place.
+    /// The options of this kind.
     fn options(self, maker: &Maker) -> Result<Options, Error> {
         match self {
             Place::Default => Ok(Options::default(maker.alloc)),
@@ -137,7 +137,7 @@ impl Place {
         }
     }
 
-    /// Real patterns of this place.
+    /// The real patterns of this kind.
     fn pairs(self) -> Pairs {
         match self {
             Place::Default => DEFAULTS,
@@ -147,19 +147,19 @@ impl Place {
     }
 }
 
-/// A component's pattern, its options, and a text that is near to what it matches.
+/// A component's pattern, its options, and a text that almost matches.
 #[derive(Drop)]
 pub struct Given {
-    /// How the pattern is read.
+    /// The options of the pattern.
     pub options: Options,
     /// The pattern.
     pub pattern: String,
-    /// A text that a pattern like it matches.
+    /// A text that the original pattern matches.
     pub near: &'static str,
 }
 
 impl Given {
-    /// One that is made, in this syntax.
+    /// A random pattern, in this syntax.
     pub fn new(maker: &mut Maker, syntax: RegexSyntax) -> Result<Given, Error> {
         let places = [Place::Default, Place::Host, Place::Path, Place::Path];
         let place = maker.one_of(&places, Place::Path);
@@ -175,7 +175,7 @@ impl Given {
     }
 }
 
-/// A syntax.
+/// A random syntax.
 pub fn syntax(maker: &mut Maker) -> RegexSyntax {
     if maker.is_one_in(4) {
         RegexSyntax::EcmaScript
@@ -184,7 +184,7 @@ pub fn syntax(maker: &mut Maker) -> RegexSyntax {
     }
 }
 
-/// A component's pattern, and a text that is near to what it matches.
+/// A component's pattern, and a text that almost matches.
 fn component(maker: &mut Maker, pairs: Pairs) -> Result<(String, &'static str), AllocError> {
     let (real, near) = maker.one_of(pairs, ("", ""));
     let pattern = match maker.below(8) {
@@ -195,7 +195,7 @@ fn component(maker: &mut Maker, pairs: Pairs) -> Result<(String, &'static str), 
     Ok((pattern, near))
 }
 
-/// A text that a component is asked about.
+/// A text for a component.
 pub fn text(maker: &mut Maker, near: &str) -> Result<String, AllocError> {
     if maker.is_one_in(3) {
         return maker.text(&LETTERS, 7);
@@ -203,7 +203,7 @@ pub fn text(maker: &mut Maker, near: &str) -> Result<String, AllocError> {
     maker.mutant(near, &LETTERS, 3)
 }
 
-/// A constructor string, and a URL that is near to what it matches.
+/// A constructor string, and a URL that almost matches.
 pub fn constructor_string(maker: &mut Maker) -> Result<(String, &'static str), AllocError> {
     let (real, near) = maker.one_of(STRINGS, ("", ""));
     let string = if maker.is_one_in(8) {
@@ -258,7 +258,7 @@ fn fill(maker: &mut Maker, init: &mut UrlPatternInit, is_pattern: bool) -> Resul
     Ok(())
 }
 
-/// A field of an init, beside the path: the fourth is the host.
+/// A field of an init other than the path: the fourth is the host.
 fn field(init: &mut UrlPatternInit, component: usize) -> &mut Option<String> {
     match component {
         0 => &mut init.protocol,
@@ -271,7 +271,7 @@ fn field(init: &mut UrlPatternInit, component: usize) -> &mut Option<String> {
     }
 }
 
-/// The text of a field: a pattern or, for an input, a text that is near to what one matches.
+/// The text of a field: a pattern or, for an input, a text that almost matches one.
 fn field_text(maker: &mut Maker, pairs: Pairs, is_pattern: bool) -> Result<String, AllocError> {
     if is_pattern {
         let (pattern, _) = component(maker, pairs)?;
@@ -281,7 +281,7 @@ fn field_text(maker: &mut Maker, pairs: Pairs, is_pattern: bool) -> Result<Strin
     text(maker, near)
 }
 
-/// What a pattern is given as, and a URL that is near to what it matches.
+/// The text or init of a pattern, and a URL that almost matches.
 pub fn pattern(maker: &mut Maker) -> Result<(StringOrInit<'static>, &'static str), AllocError> {
     if maker.is_one_in(3) {
         return Ok((StringOrInit::Init(init(maker, true)?), BASE));

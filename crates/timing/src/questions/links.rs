@@ -1,4 +1,4 @@
-//! Whether the link of what a pattern captured of a URL is that URL.
+//! Whether the link of a URL's captures by a pattern is that URL.
 
 use super::making::Maker;
 use crate::calls::{built, parts_of};
@@ -14,13 +14,13 @@ use urlpattern::{
     ComponentName, Error, GenerateError, GivenGroup, NoLink, UrlPattern, UrlPatternOptions,
 };
 
-/// A pattern over the engine for patterns.
+/// A pattern over `PatternRegexp`.
 type Pattern = UrlPattern<PatternRegexp>;
 
-/// Pieces of a pattern, each with one of a URL that it matches.
+/// Pieces of a pattern, each with a piece of a URL that it matches.
 type Pairs = &'static [(&'static str, &'static str)];
 
-/// How patterns and URLs begin.
+/// The beginnings of patterns and URLs.
 const FRONTS: Pairs = &[
     ("https://example.com", "https://example.com"),
     ("https://*.example.com", "https://a.b.example.com"),
@@ -35,7 +35,7 @@ const FRONTS: Pairs = &[
     ("https://[\\:\\:1]\\:*", "https://[::1]:81"),
 ];
 
-/// What their paths are made of. A name that stands in a path twice is refused.
+/// The pieces of paths. A name that is in a path twice is rejected.
 const STEPS: Pairs = &[
     ("/a", "/a"),
     ("/:x", "/1"),
@@ -58,7 +58,7 @@ const STEPS: Pairs = &[
     ("/", "/"),
 ];
 
-/// How they end.
+/// The ends of patterns and URLs.
 const ENDS: Pairs = &[
     ("", ""),
     ("", "?q"),
@@ -68,37 +68,37 @@ const ENDS: Pairs = &[
     ("?*#*", "?a?b#c#d"),
 ];
 
-/// How many pieces a path has at most.
+/// The maximum number of pieces of a path.
 const STEPS_AT_MOST: usize = 4;
 
-/// What comes of a pattern and a URL.
+/// The outcome for a pattern and a URL.
 #[derive(Clone, Copy, PartialEq, Eq)]
 enum Came {
     /// The link is the URL.
     Same,
-    /// It is another, as a text that was captured is not its own canonical form.
+    /// The link is another URL, since a capture is not its own canonical form.
     Recoded,
-    /// It is another, as copies of a fixed text are not captured.
+    /// The link is another URL, since copies of a fixed text are not captured.
     Copies,
-    /// It is another, for no such reason.
+    /// The link is another URL, for no known reason.
     Differs,
-    /// There is none: a group is missing.
+    /// No link: a group is missing.
     Missing,
-    /// There is none: a group may not capture its text.
+    /// No link: a group may not capture its text.
     NotCaptured,
-    /// There is none: the text of a component is read otherwise.
+    /// No link: the text of a component is read differently.
     ReadOtherwise,
-    /// There is none: `url` refuses the texts.
+    /// No link: `url` rejects the texts.
     NoUrl,
-    /// There is none: a URL of these texts has others.
+    /// No link: the URL of these texts has other texts.
     OtherText,
     /// The pattern does not match the URL.
     Unmatched,
-    /// The pattern or the URL is refused.
+    /// The pattern or the URL is rejected.
     Refused,
 }
 
-/// All that may come, with the words for it.
+/// All outcomes, each with its name.
 const WORDS: [(Came, &str); 11] = [
     (Came::Same, "the same URL"),
     (
@@ -119,8 +119,9 @@ const WORDS: [(Came, &str); 11] = [
     (Came::Refused, "refused"),
 ];
 
-/// Makes so many patterns and URLs, of the seed and the numbers after it, and prints those of which the link is another URL for no
-/// known reason, and how often each came. Says whether there is no such.
+/// Makes `count` patterns and URLs, from the seed and the numbers after it. Prints those of which
+/// the link is another URL for no known reason, and the count of each outcome. Returns whether
+/// there are no such links.
 pub fn run<O: Write>(alloc: Global, seed: u64, count: u64, out: &mut O) -> io::Result<bool> {
     let mut counts = [0u64; 11];
     for index in 0..count {
@@ -142,7 +143,7 @@ pub fn run<O: Write>(alloc: Global, seed: u64, count: u64, out: &mut O) -> io::R
     Ok(counts[3] == 0)
 }
 
-/// Makes a pattern and a URL that is near to what it matches.
+/// Makes a pattern and a URL that almost matches.
 fn ask(maker: &mut Maker) -> Result<Came, Error> {
     let (text, near) = made(maker)?;
     let given = StringOrInit::String(CowStr::Owned(text));
@@ -184,7 +185,7 @@ fn push_one(
     Ok(())
 }
 
-/// What comes of a pattern and the text of a URL.
+/// The outcome for a pattern and the text of a URL.
 fn of_pattern(alloc: Global, pattern: &Pattern, text: &str) -> Result<Came, Error> {
     let Ok(url) = Url::parse(alloc, text) else {
         return Ok(Came::Refused);
@@ -200,7 +201,7 @@ fn of_pattern(alloc: Global, pattern: &Pattern, text: &str) -> Result<Came, Erro
     came
 }
 
-/// What comes of the link of these groups.
+/// The outcome for the link of these groups.
 fn of_groups(
     alloc: Global,
     pattern: &Pattern,
@@ -216,7 +217,7 @@ fn of_groups(
     }
 }
 
-/// What comes of a component without text.
+/// The outcome for a component without a text.
 fn of_error(error: &GenerateError) -> Result<Came, Error> {
     match error {
         GenerateError::Missing(_, _) => Ok(Came::Missing),
@@ -226,7 +227,7 @@ fn of_error(error: &GenerateError) -> Result<Came, Error> {
     }
 }
 
-/// What comes of a link.
+/// The outcome for a link.
 fn of_link(
     alloc: Global,
     pattern: &Pattern,

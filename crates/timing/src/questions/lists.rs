@@ -18,7 +18,7 @@ use urlpattern::{
 /// The first match in a list: its index and its result.
 type First = Option<(usize, UrlPatternResult)>;
 
-/// How the patterns of a list begin.
+/// The beginnings of the patterns of a list.
 const FRONTS: [&str; 10] = [
     "https://example.com/a",
     "https://example.com/a/b",
@@ -32,31 +32,31 @@ const FRONTS: [&str; 10] = [
     "http{s}?://example.com/a",
 ];
 
-/// What the paths of its patterns are made of after that. A name that stands in a path twice is refused.
+/// The pieces of the patterns' paths after that. A name that is in a path twice is rejected.
 const ENDS: [&str; 14] = [
     "/a", "/b", "/:y", "/c", "/*", "/1", "/2", "/:z?", "/(1|2)", "-b", "/:u-:v", "/b/:t", "{/c}?", "/",
 ];
 
-/// How the URLs begin that it is asked about.
+/// The beginnings of the URLs for a list.
 const HOSTS: [&str; 3] = [
     "https://example.com",
     "http://example.com",
     "https://cdn.example.com",
 ];
 
-/// What their paths are made of.
+/// The pieces of the URLs' paths.
 const STEPS: [&str; 10] = ["/a", "/b", "/c", "/1", "/2", "/users", "-b", "/a/b", "/x", "/"];
 
-/// How many patterns most lists have at most.
+/// The maximum number of patterns in most lists.
 const FEW: usize = 8;
 
-/// How many patterns a list has at most.
+/// The maximum number of patterns in a list.
 const MANY: usize = 200;
 
-/// How many URLs a list is asked about.
+/// The number of URLs for a list.
 const URLS: usize = 20;
 
-/// Asks a list for the first match of URLs, over one of two engines.
+/// Finds the first match of URLs in a list, over one of two engines.
 pub fn ask(maker: &mut Maker) -> Result<Outcome, Error> {
     if maker.is_one_in(2) {
         ask_over::<Regex>(maker)
@@ -65,7 +65,7 @@ pub fn ask(maker: &mut Maker) -> Result<Outcome, Error> {
     }
 }
 
-/// Asks a list for the first match of URLs, and again after some of its patterns were removed.
+/// Finds the first match of URLs in a list, and again after some of its patterns were removed.
 fn ask_over<E: RegExp>(maker: &mut Maker) -> Result<Outcome, Error> {
     let most = if maker.is_one_in(8) { MANY } else { FEW };
     let size = maker.below(most + 1);
@@ -88,7 +88,7 @@ fn ask_over<E: RegExp>(maker: &mut Maker) -> Result<Outcome, Error> {
     outcome
 }
 
-/// Adds so many patterns to a list, but for those that are refused.
+/// Appends `count` patterns to a list, except those that are rejected.
 fn fill<E: RegExp>(maker: &mut Maker, list: &mut UrlPatternList<E>, size: usize) -> Result<(), Error> {
     for _ in 0..size {
         let front = maker.one_of(&FRONTS, "");
@@ -108,7 +108,7 @@ fn fill<E: RegExp>(maker: &mut Maker, list: &mut UrlPatternList<E>, size: usize)
     Ok(())
 }
 
-/// What comes of a list's answers.
+/// The outcome for the results of a list.
 fn asked<E: RegExp>(maker: &mut Maker, list: &UrlPatternList<E>) -> Result<Outcome, Error> {
     for _ in 0..URLS {
         let host = maker.one_of(&HOSTS, "");
@@ -132,7 +132,7 @@ fn first_index<E: RegExp>(alloc: Global, list: &UrlPatternList<E>, url: &Url) ->
     Ok(None)
 }
 
-/// Whether all calls of a list answer a URL as a loop does.
+/// Whether all calls of a list return for a URL what a loop returns.
 fn is_answered_alike<E: RegExp>(alloc: Global, list: &UrlPatternList<E>, url: Url) -> Result<bool, Error> {
     let expected = first_index(alloc, list, &url)?;
     let found = list.first_match(alloc, UrlPatternMatchInput::Url(url.clone()?));
@@ -144,7 +144,7 @@ fn is_answered_alike<E: RegExp>(alloc: Global, list: &UrlPatternList<E>, url: Ur
     is_same
 }
 
-/// Whether the first match of a URL is at this index, and the calls of a list that borrow answer it too.
+/// Whether the first match of a URL is at this index, also by the calls of a list that borrow.
 fn is_found_alike<E: RegExp>(
     alloc: Global,
     list: &UrlPatternList<E>,
@@ -189,7 +189,7 @@ fn is_match_at<E: RegExp>(
     is_same
 }
 
-/// Whether a copy of what is borrowed is the first match.
+/// Whether a copy of a borrowed match is the first match.
 fn is_borrowed(
     alloc: Global,
     answer: Result<Option<(usize, UrlPatternCaptures<'_, '_>)>, Error>,

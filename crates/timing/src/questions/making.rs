@@ -1,20 +1,20 @@
-//! What questions are made of: numbers that are drawn by a seed, and texts of pieces.
+//! Random numbers from a seed, and random texts made from pieces.
 
 use rand_core::{Rng, SeedableRng};
 use rand_xoshiro::SplitMix64;
 use std::alloc::{AllocError, Global};
 
-/// Draws what a question is made of, and keeps what was made for it.
+/// The random source of a question, and the texts that were made for it.
 #[derive(Drop)]
 pub struct Maker {
-    /// The allocator of all that is made.
+    /// The allocator of everything that is made.
     pub alloc: Global,
     numbers: SplitMix64,
     made: String,
 }
 
 impl Maker {
-    /// Draws by this seed.
+    /// The random numbers.
     pub fn new(alloc: Global, seed: u64) -> Self {
         Maker {
             alloc,
@@ -23,12 +23,12 @@ impl Maker {
         }
     }
 
-    /// The texts that were made for the question, one after the other.
+    /// The texts that were made for the question, in order.
     pub fn made(&self) -> &str {
         &self.made
     }
 
-    /// A number below a bound, and 0 below none.
+    /// A number below a bound, or 0 if the bound is 0.
     pub fn below(&mut self, bound: usize) -> usize {
         match bound {
             0 => 0,
@@ -36,12 +36,12 @@ impl Maker {
         }
     }
 
-    /// Whether the one case of so many is drawn.
+    /// True in one of `cases` cases.
     pub fn is_one_in(&mut self, cases: usize) -> bool {
         self.below(cases) == 0
     }
 
-    /// One of these, or the other value where there are none.
+    /// An element of `choices`, or `none` if there are none.
     pub fn one_of<T: Copy>(&mut self, choices: &[T], none: T) -> T {
         match choices.get(self.below(choices.len())) {
             Some(choice) => *choice,
@@ -77,8 +77,8 @@ impl Maker {
         Ok(mutant)
     }
 
-    /// A text of which a character is left out, stands twice, or gives way to a piece or stands after one. Where the byte
-    /// that is drawn begins no character the text is as it was.
+    /// A text in which a character is removed, repeated, replaced by a piece or preceded by one.
+    /// The text is unchanged if no character begins at the random byte.
     fn changed(&mut self, text: &str, pieces: &[&str]) -> Result<String, AllocError> {
         let place = self.below(text.len());
         let (is_kept, added) = match self.below(4) {
@@ -102,7 +102,7 @@ impl Maker {
         Ok(changed)
     }
 
-    /// Keeps a text among those that were made.
+    /// Adds a text to those that were made.
     pub fn keep(&mut self, text: &str) -> Result<(), AllocError> {
         write!(self.made, " {text:?}")
     }

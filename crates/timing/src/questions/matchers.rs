@@ -1,4 +1,4 @@
-//! Whether a matcher accepts what it matches, and answers the same over each engine.
+//! Whether a matcher accepts what it matches, and returns the same over each engine.
 
 use super::given::{self, Given};
 use super::making::Maker;
@@ -12,10 +12,10 @@ use urlpattern::parser::Part;
 use urlpattern::regexp::{PatternRegexp, RegExp};
 use urlpattern::{Error, RegexSyntax};
 
-/// How many texts a matcher is asked about.
+/// The number of texts for a matcher.
 const TEXTS: usize = 4;
 
-/// Asks the matchers of a pattern about texts.
+/// Matches texts by the matchers of a pattern.
 pub fn ask(maker: &mut Maker) -> Result<Outcome, Error> {
     let given = Given::new(maker, RegexSyntax::Rust)?;
     match parts_of(maker.alloc, &given.pattern, &given.options) {
@@ -24,7 +24,7 @@ pub fn ask(maker: &mut Maker) -> Result<Outcome, Error> {
     }
 }
 
-/// Whether the matchers of parts answer texts alike.
+/// Whether the matchers of parts return the same for texts.
 fn asked(maker: &mut Maker, given: &Given, parts: &[Part]) -> Result<bool, Error> {
     let flags = if given.options.ignore_case { "ui" } else { "u" };
     let by_regex: Matcher<Regex> = generate_matcher(maker.alloc, parts, &given.options, flags)?;
@@ -43,7 +43,7 @@ fn asked(maker: &mut Maker, given: &Given, parts: &[Part]) -> Result<bool, Error
     is_same
 }
 
-/// Whether two matchers answer texts alike.
+/// Whether two matchers return the same for texts.
 fn are_answered_alike<R: RegExp, S: RegExp>(
     maker: &mut Maker,
     one: &Matcher<R>,
@@ -59,7 +59,7 @@ fn are_answered_alike<R: RegExp, S: RegExp>(
     Ok(true)
 }
 
-/// Whether two matchers answer a text alike.
+/// Whether two matchers return the same for a text.
 fn is_answered_alike<R: RegExp, S: RegExp>(
     alloc: Global,
     one: &Matcher<R>,

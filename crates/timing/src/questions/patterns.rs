@@ -17,10 +17,10 @@ use urlpattern::{
 /// The result of a match. `None`: there is no match.
 type Found = Option<UrlPatternResult>;
 
-/// How many inputs a pattern is asked about.
+/// The number of inputs for a pattern.
 const INPUTS: usize = 3;
 
-/// Asks a pattern about inputs, in each way.
+/// Matches inputs by a pattern, with each call.
 pub fn ask(maker: &mut Maker) -> Result<Outcome, Error> {
     match maker.below(4) {
         0 => ask_over::<EcmaRegexp>(maker),
@@ -29,7 +29,7 @@ pub fn ask(maker: &mut Maker) -> Result<Outcome, Error> {
     }
 }
 
-/// Asks a pattern over this engine.
+/// Matches inputs by a pattern over this engine.
 fn ask_over<R: RegExp>(maker: &mut Maker) -> Result<Outcome, Error> {
     let options = UrlPatternOptions {
         ignore_case: maker.is_one_in(4),
@@ -49,7 +49,7 @@ fn ask_over<R: RegExp>(maker: &mut Maker) -> Result<Outcome, Error> {
     outcome
 }
 
-/// What comes of a pattern's answers.
+/// The outcome for the results of a pattern.
 fn asked<R: RegExp>(
     maker: &mut Maker,
     pattern: &UrlPattern<R>,
@@ -67,7 +67,7 @@ fn asked<R: RegExp>(
     Ok(Outcome::Same)
 }
 
-/// What a pattern is asked about, with its base.
+/// The input for a pattern, with its base.
 fn input(
     maker: &mut Maker,
     near: &str,
@@ -79,7 +79,7 @@ fn input(
     Ok((StringOrInit::String(CowStr::Owned(url)), given::base(maker)))
 }
 
-/// Whether all calls answer the same of an input.
+/// Whether all calls return the same for an input.
 fn is_answered_alike<R: RegExp>(
     alloc: Global,
     pattern: &UrlPattern<R>,
@@ -95,7 +95,7 @@ fn is_answered_alike<R: RegExp>(
     is_same
 }
 
-/// Whether the calls that borrow answer an input as those that do not.
+/// Whether the calls that borrow return for an input what the others return.
 fn is_found_alike<R: RegExp>(
     alloc: Global,
     pattern: &UrlPattern<R>,
@@ -131,7 +131,7 @@ fn is_url_found_alike<R: RegExp>(
     )
 }
 
-/// Whether copies of what is borrowed are this match.
+/// Whether copies of borrowed matches are this match.
 fn is_copied(
     alloc: Global,
     captures: Result<Option<UrlPatternCaptures<'_, '_>>, Error>,

@@ -1,4 +1,4 @@
-//! Whether a printed pattern reads as its parts again, and prints as it is.
+//! Whether a printed pattern reads as its parts again, and prints as the same text.
 
 use super::given::{Given, syntax};
 use super::making::Maker;
@@ -19,7 +19,8 @@ pub fn ask(maker: &mut Maker) -> Result<Outcome, Error> {
     }
 }
 
-/// Whether printed parts read as these parts, with neighbouring plain texts joined, and print as they were.
+/// Whether printed parts read as these parts, with neighbouring plain texts joined, and print as
+/// the same text.
 fn reads_back(alloc: Global, given: &Given, parts: &[Part]) -> Result<bool, Error> {
     let printed = generate_pattern_string(alloc, parts, &given.options)?;
     let joined = match parts_of(alloc, &printed, &given.options) {
@@ -60,7 +61,7 @@ fn text_of_parts(alloc: Global, parts: &[Part], joins: bool) -> Result<String, A
     Ok(text_of_parts)
 }
 
-/// Whether a part is a fixed text that stands once.
+/// Whether a part is a fixed text without a modifier.
 fn is_plain(part: &Part) -> bool {
     matches!(
         (&part.kind, &part.modifier),

@@ -1,4 +1,5 @@
-//! Whether what is said of two patterns holds for texts: that the one covers the other, and that they overlap.
+//! Whether the results of comparing two patterns hold for texts: that one covers the other, and
+//! that they overlap.
 
 use super::Outcome;
 use super::making::Maker;
@@ -10,19 +11,19 @@ use urlpattern::{
     pathname_texts,
 };
 
-/// What the patterns of paths are made of.
+/// The pieces of path patterns.
 const PIECES: [&str; 20] = [
     "/a", "/b", "/:x", "/:y", "/*", "{/:z}?", "{a}*", "{b:w/}+", "{/a}+", "*", ".", "-", "b", "é", "/:u?", "/:v*",
     "/:t+", "{ab}*", "{/*}?", "/:s.a",
 ];
 
-/// What texts are made of.
+/// The pieces of texts.
 const LETTERS: [&str; 10] = ["a", "b", "ab", "/", "/a", "/b", ".", "-", "é", "c"];
 
-/// The names in patterns. A wildcard's is a number.
+/// The names in patterns. The name of a wildcard is a number.
 const NAMES: [&str; 12] = ["x", "y", "z", "w", "u", "v", "t", "s", "0", "1", "2", "3"];
 
-/// How many texts are tried on a pair.
+/// The number of texts for a pair.
 const TEXTS: usize = 100;
 
 /// A pattern for paths, compiled, and its parts.
@@ -44,7 +45,7 @@ fn init_of(alloc: Global, pathname: &str) -> Result<UrlPatternInit, AllocError> 
     Ok(UrlPatternInit::from_eight(Eight::try_from_fn(text)?, None))
 }
 
-/// A pattern that is made, or why it is refused.
+/// A random pattern, or the reason why it is rejected.
 fn make_pattern(maker: &mut Maker) -> Result<Made, Error> {
     let alloc = maker.alloc;
     let text = maker.text(&PIECES, 6)?;
@@ -58,7 +59,8 @@ fn make_pattern(maker: &mut Maker) -> Result<Made, Error> {
     })
 }
 
-/// Asks whether a pattern covers another, and whether they overlap, and tries texts on the answers.
+/// Compares two patterns, and tests the results with texts: whether one covers the other, and
+/// whether they overlap.
 pub fn ask(maker: &mut Maker) -> Result<Outcome, Error> {
     match make_pattern(maker) {
         Ok(covering) => {
@@ -70,7 +72,7 @@ pub fn ask(maker: &mut Maker) -> Result<Outcome, Error> {
     }
 }
 
-/// Asks of this pattern whether it covers one that is made.
+/// Whether this pattern covers a random one.
 fn ask_about(maker: &mut Maker, covering: &Made) -> Result<Outcome, Error> {
     match make_pattern(maker) {
         Ok(asked) => {
@@ -82,7 +84,7 @@ fn ask_about(maker: &mut Maker, covering: &Made) -> Result<Outcome, Error> {
     }
 }
 
-/// Tries texts on what is said of two patterns.
+/// Tests the results of comparing two patterns with texts.
 fn try_texts(maker: &mut Maker, covering: &Made, asked: &Made) -> Result<Outcome, Error> {
     let (covers, is_parting) = covering_of(maker.alloc, covering, asked)?;
     let (apart, is_common) = overlap_of(maker.alloc, covering, asked)?;
@@ -99,7 +101,8 @@ fn try_texts(maker: &mut Maker, covering: &Made, asked: &Made) -> Result<Outcome
     Ok(Outcome::Same)
 }
 
-/// Whether the one covers the other, and whether the texts that tell otherwise, if there are any, do so.
+/// Whether one covers the other, and whether the texts that show the opposite, if there are any, do
+/// so.
 fn covering_of(alloc: Global, covering: &Made, asked: &Made) -> Result<(bool, bool), Error> {
     let found = covering.parts.covers(alloc, &asked.parts)?;
     let answer = match &found {
@@ -117,7 +120,8 @@ fn covering_of(alloc: Global, covering: &Made, asked: &Made) -> Result<(bool, bo
     answer
 }
 
-/// Whether no text is matched by both, and whether the texts that tell otherwise, if there are any, do so.
+/// Whether no text is matched by both, and whether the texts that show the opposite, if there are
+/// any, do so.
 fn overlap_of(alloc: Global, covering: &Made, asked: &Made) -> Result<(bool, bool), Error> {
     let found = covering.parts.overlaps(alloc, &asked.parts)?;
     let answer = match &found {
@@ -146,7 +150,7 @@ fn matches_of(
     Ok((by_covering, asked.pattern.test_texts(alloc, &texts)?))
 }
 
-/// A path that the asked pattern matches, where groups are drawn that it captures, or else any.
+/// A path that the asked pattern matches, made from random captures, or else any path.
 fn text_for(maker: &mut Maker, asked: &Made) -> Result<String, Error> {
     let alloc = maker.alloc;
     let mut values = Vec::new(alloc);

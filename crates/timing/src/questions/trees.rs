@@ -1,4 +1,4 @@
-//! Whether what is written as JSON is read again.
+//! Whether values that are written as JSON are parsed as the same values.
 
 use super::making::Maker;
 use super::{Outcome, given, same};
@@ -11,7 +11,7 @@ use urlpattern::quirks::{
 };
 use urlpattern::{Error, UrlPatternOptions};
 
-/// Writes a plain value of one of the types, and reads it again.
+/// Writes a plain value of one of the types, and parses it again.
 pub fn ask(maker: &mut Maker) -> Result<Outcome, Error> {
     match maker.below(5) {
         0 => ask_init(maker),
@@ -91,7 +91,7 @@ fn plain_pattern(alloc: Global, pattern: StringOrInit<'_>) -> Result<UrlPattern,
     parse_pattern::<Regex>(alloc, init, UrlPatternOptions::default())
 }
 
-/// Whether a value is read again of the text of the tree that is written of it.
+/// Whether a value is parsed again from the text of the tree to which it is written.
 fn is_read_again<T: PartialEq + Drop, F: FnOnce(Global, &Value) -> Result<Option<T>, Error>>(
     alloc: Global,
     value: T,
@@ -108,7 +108,7 @@ fn is_read_again<T: PartialEq + Drop, F: FnOnce(Global, &Value) -> Result<Option
     Ok(same(is_same?))
 }
 
-/// The tree that the text of a tree is read as. Null where it is no JSON, of which no value is read.
+/// The tree parsed from the text of a tree. Null if it is not JSON, which no value is parsed from.
 fn read_again(alloc: Global, written: Result<Value, Error>) -> Result<Value, Error> {
     let text = written?.to_string(alloc)?;
     match Value::from_str(alloc, &text) {
@@ -118,7 +118,7 @@ fn read_again(alloc: Global, written: Result<Value, Error>) -> Result<Value, Err
     }
 }
 
-/// Whether this value was read.
+/// Whether this value was parsed.
 fn is_read<T: PartialEq + Drop>(found: Result<Option<T>, Error>, value: &T) -> Result<bool, Error> {
     match found? {
         Some(found) => Ok(found == *value),

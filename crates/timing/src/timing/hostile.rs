@@ -1,5 +1,5 @@
-//! Times engines on the regular expressions of patterns that leave them many choices, and long texts that are matched but for the
-//! end, in nanoseconds for each call.
+//! Times engines on the regular expressions of patterns that leave them many choices, and on long
+//! texts that match except for the end, in nanoseconds for each call.
 
 use super::rounds::{Timed, least};
 use crate::calls::parts_of;
@@ -14,24 +14,25 @@ use urlpattern::error::RegExpError;
 use urlpattern::parser::Options;
 use urlpattern::regexp::{PatternRegexp, RegExp};
 
-/// How many characters the texts have.
+/// The lengths of the texts in characters.
 const LENGTHS: [usize; 2] = [2_000, 16_000];
 
-/// Pathname patterns, each with what its text repeats. Each lacks its last character in the text.
+/// Pathname patterns, each with the text that is repeated. The last character of each pattern is
+/// missing in the text.
 const PATTERNS: [(&str, &str); 10] = [
     // Wildcards in a row, and with a text between them.
     ("/(.*)(.*)(.*)(.*)(.*)!", "a"),
     ("/*a*a*a*a*!", "a"),
-    // Names that take as little as they can, one after the other.
+    // Lazy names, one after the other.
     ("/:a.:b.:c!", "a."),
     ("/:a.:b.:c.:d.:e!", "a."),
-    // Names that occur as often as they can.
+    // Names that are repeated greedily.
     ("/:a+!", "a/"),
     ("/:a+/:b+/:c+/!", "a/"),
-    // Fixed texts that do.
+    // Fixed texts that are repeated greedily.
     ("/{a}+!", "a"),
     ("/{a}*{aa}*{aaa}*!", "a"),
-    // Twenty letters that may be missing, alone, and before a wildcard.
+    // Twenty optional letters, alone, and before a wildcard.
     (
         "/{a}?{a}?{a}?{a}?{a}?{a}?{a}?{a}?{a}?{a}?{a}?{a}?{a}?{a}?{a}?{a}?{a}?{a}?{a}?{a}?!",
         "a",
@@ -42,7 +43,7 @@ const PATTERNS: [(&str, &str); 10] = [
     ),
 ];
 
-/// An engine's value, and a text that it is asked about.
+/// An engine's value, and the text that it matches.
 #[derive(Drop)]
 struct Asked<'t, E: RegExp> {
     engine: E,
@@ -56,7 +57,7 @@ impl<'t, E: RegExp> Timed for Asked<'t, E> {
     }
 }
 
-/// A slash, and then this text again and again, up to a length.
+/// A slash, and a repeated text, up to a length.
 fn long_text(alloc: Global, repeated: &str, length: usize) -> Result<String, Error> {
     let mut text = String::from_str(alloc, "/")?;
     for _ in 0..length {
@@ -68,7 +69,7 @@ fn long_text(alloc: Global, repeated: &str, length: usize) -> Result<String, Err
     Ok(text)
 }
 
-/// Prints what the patterns take, on a text of each length: a column for each engine.
+/// Prints the times of the patterns, on a text of each length: a column for each engine.
 pub fn run<R: AllocGlobal + Clock, O: Write>(rt: &R, out: &mut O) -> io::Result<()> {
     writeln!(
         out,
@@ -90,7 +91,7 @@ pub fn run<R: AllocGlobal + Clock, O: Write>(rt: &R, out: &mut O) -> io::Result<
     Ok(())
 }
 
-/// Prints what an engine takes for a pattern and a text.
+/// Prints the time of an engine for a pattern and a text.
 fn time_over<E: RegExp, R: AllocGlobal + Clock, O: Write>(
     rt: &R,
     pattern: &str,
@@ -108,7 +109,7 @@ fn time_over<E: RegExp, R: AllocGlobal + Clock, O: Write>(
     }
 }
 
-/// What an engine makes of a pathname pattern, with a text.
+/// The value that an engine compiles from a pathname pattern, with a text.
 fn question<'t, E: RegExp>(
     alloc: Global,
     pattern: &str,

@@ -1,4 +1,5 @@
-//! Times the links of what patterns capture, beside `Url::parse` of their texts, in nanoseconds for each call.
+//! Times linking the captures of patterns, next to `Url::parse` of their texts, in nanoseconds for
+//! each call.
 
 use super::Subject;
 use super::rounds::{Timed, least};
@@ -12,7 +13,7 @@ use url::Url;
 use urlpattern::regexp::PatternRegexp;
 use urlpattern::{Error, GivenGroup, NoLink, UrlPattern};
 
-/// A pattern, and what is given for its groups.
+/// A pattern, and the texts for its groups.
 #[derive(Drop)]
 struct Link<'a> {
     pattern: &'a UrlPattern<PatternRegexp>,
@@ -39,7 +40,8 @@ impl<'a> Timed for Text<'a> {
     }
 }
 
-/// Links what a pair captures so many times. Returns whether it captures something that is linked.
+/// Links the captures of a pair this many times. Returns whether there are captures that are
+/// linked.
 pub fn repeat_pair(alloc: Global, pair: &Value, count: u64) -> Result<bool, Error> {
     let Some(given) = pair.get("pattern") else {
         return Ok(false);
@@ -56,7 +58,7 @@ pub fn repeat_pair(alloc: Global, pair: &Value, count: u64) -> Result<bool, Erro
     linked
 }
 
-/// Links these groups so many times. Returns whether there is a link.
+/// Links these groups this many times. Returns whether there is a link.
 fn repeat_link(
     alloc: Global,
     pattern: &UrlPattern<PatternRegexp>,
@@ -71,7 +73,7 @@ fn repeat_link(
     Ok(is_linked)
 }
 
-/// Prints what the link of the pair of a line takes: its name, the link, and the parse of its text.
+/// Prints the times of linking the pair in a line: its name, the link, and the parse of its text.
 pub fn time_line<R: AllocGlobal + Clock, O: Write>(
     rt: &R,
     line: &str,
@@ -95,7 +97,7 @@ pub fn time_line<R: AllocGlobal + Clock, O: Write>(
     }
 }
 
-/// Prints what the link of a subject takes.
+/// Prints the times of linking a subject.
 fn time_subject<R: AllocGlobal + Clock, O: Write>(
     rt: &R,
     subject: &Subject<'_, PatternRegexp>,
@@ -114,7 +116,7 @@ fn time_subject<R: AllocGlobal + Clock, O: Write>(
     timed
 }
 
-/// Prints what the link of these groups takes, or why there is none.
+/// Prints the times of linking these groups, or why there is no link.
 fn time_groups<R: AllocGlobal + Clock, O: Write>(
     rt: &R,
     pattern: &UrlPattern<PatternRegexp>,

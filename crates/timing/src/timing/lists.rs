@@ -1,4 +1,5 @@
-//! Times the first match of lists of routes, and the same paths in a `matchit::Router`, in nanoseconds for each call.
+//! Times the first match of lists of routes, and of the same paths in a `matchit::Router`, in
+//! nanoseconds for each call.
 
 use super::make_pattern;
 use super::rounds::{Timed, least};
@@ -13,24 +14,24 @@ use urlpattern::quirks::StringOrInit;
 use urlpattern::regexp::PatternRegexp;
 use urlpattern::{Error, UrlPatternList, UrlPatternMatchInput};
 
-/// How many routes the lists have.
+/// The sizes of the lists.
 const SIZES: [usize; 4] = [10, 100, 1000, 10_000];
 
-/// The hosts of the routes, one after the other, each with a host that it matches.
+/// The hosts of the routes, in turn, each with a host that it matches.
 const HOSTS: [(&str, &str); 3] = [
     ("example.com", "example.com"),
     ("api.example.com", "api.example.com"),
     ("*.example.org", "www.example.org"),
 ];
 
-/// How the paths of the routes end, here and in a router. Each end is taken for all hosts, one after the other, and each matches
-/// `list`.
+/// The ends of the routes' paths, here and in a router. Each is used for all hosts, in turn, and
+/// matches `list`.
 const ENDS: [(&str, &str); 3] = [("list", "list"), (":name", "{name}"), ("*", "{*rest}")];
 
 /// A list of routes.
 type List = UrlPatternList<PatternRegexp>;
 
-/// Routes, and a URL that is looked for among them.
+/// Routes, and a URL that is looked up in them.
 #[derive(Drop)]
 struct Routes<'a> {
     list: &'a List,
@@ -45,7 +46,7 @@ impl<'a> Timed for Routes<'a> {
     }
 }
 
-/// Routes, and a URL that is lent, looked for among them.
+/// Routes, and a borrowed URL that is looked up in them.
 #[derive(Drop)]
 struct Lent<'a> {
     list: &'a List,
@@ -62,7 +63,7 @@ impl<'a> Timed for Lent<'a> {
     }
 }
 
-/// The paths of routes, and a path that is looked for among them.
+/// The paths of routes, and a path that is looked up in them.
 #[derive(Drop)]
 struct Paths<'a> {
     router: &'a Router<usize>,
@@ -76,12 +77,12 @@ impl<'a> Timed for Paths<'a> {
     }
 }
 
-/// How the path of the route at an index ends, here and in a router.
+/// The end of the path of the route at an index, here and in a router.
 fn end_of(index: usize) -> (&'static str, &'static str) {
     ENDS[index / HOSTS.len() % ENDS.len()]
 }
 
-/// The routes with the indices below a size.
+/// The routes with indices below a size.
 fn list_of_routes(alloc: Global, size: usize) -> Result<List, Error> {
     let mut list = List::new(alloc);
     for index in 0..size {
@@ -99,7 +100,7 @@ fn list_of_routes(alloc: Global, size: usize) -> Result<List, Error> {
     Ok(list)
 }
 
-/// The paths of the routes with the indices below a size.
+/// The paths of the routes with indices below a size.
 fn router_of_paths(alloc: Global, size: usize) -> Result<Router<usize>, Error> {
     let mut router = Router::new(alloc);
     for index in 0..size {
@@ -119,8 +120,8 @@ fn url_of(alloc: Global, index: usize) -> Result<Url, Error> {
     Url::parse(alloc, &text).map_err(Error::Url)
 }
 
-/// Prints what lists of routes take: their size, what is called, and a column each for a URL that the first, the middle and the
-/// last of them matches, and one that none does.
+/// Prints the times of lists of routes: their size, the call, and a column each for a URL that the
+/// first, the middle and the last route matches, and one that none matches.
 pub fn run<R: AllocGlobal + Clock, O: Write>(rt: &R, out: &mut O) -> io::Result<()> {
     writeln!(out, "routes\tcall\tfirst\tmiddle\tlast\tnone")?;
     for size in SIZES {
@@ -140,12 +141,12 @@ pub fn run<R: AllocGlobal + Clock, O: Write>(rt: &R, out: &mut O) -> io::Result<
     Ok(())
 }
 
-/// The indices of the routes that are looked for in a list of a size. The last of them is none of the list.
+/// The indices of the routes that are looked up in a list of a size. The last one is out of range.
 fn looked_for(size: usize) -> [usize; 4] {
     [0, size / 2, size.saturating_sub(1), size]
 }
 
-/// Prints what a list takes.
+/// Prints the times of a list.
 fn time_list<R: AllocGlobal + Clock, O: Write>(
     rt: &R,
     list: &List,
@@ -158,7 +159,7 @@ fn time_list<R: AllocGlobal + Clock, O: Write>(
     time_urls(rt, size, |url| Lent { list, url }, out)
 }
 
-/// Prints what a call takes for each URL that is looked for, to the end of the line.
+/// Prints the time of a call for each URL that is looked up, to the end of the line.
 fn time_urls<T: Timed + Drop, F: Fn(Url) -> T, R: AllocGlobal + Clock, O: Write>(
     rt: &R,
     size: usize,
@@ -179,7 +180,7 @@ fn time_urls<T: Timed + Drop, F: Fn(Url) -> T, R: AllocGlobal + Clock, O: Write>
     writeln!(out)
 }
 
-/// Prints what a router of the same paths takes.
+/// Prints the times of a router with the same paths.
 fn time_router<R: AllocGlobal + Clock, O: Write>(
     rt: &R,
     router: &Router<usize>,

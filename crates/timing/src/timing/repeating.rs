@@ -1,4 +1,4 @@
-//! Calls one call many times, for a tool that counts instructions.
+//! Repeats a call, for a tool that counts instructions.
 
 use super::{Call, Subject, links, make_pattern};
 use crate::calls::optional_text;
@@ -10,7 +10,7 @@ use urlpattern::regexp::PatternRegexp;
 use urlpattern::{Error, UrlPattern};
 
 impl Call {
-    /// The call of a name.
+    /// The call with a name.
     fn named(name: &str) -> Option<Call> {
         match name {
             "parse" => Some(Call::Parse),
@@ -25,8 +25,8 @@ impl Call {
     }
 }
 
-/// Calls a call so many times for the pair of this name in a file, over `PatternRegexp`. Returns whether there are such a pair and
-/// such a call.
+/// Repeats a call for the pair with this name in a file, over `PatternRegexp`. Returns whether
+/// there are such a pair and call.
 pub fn repeat<R: Files + AllocGlobal>(
     rt: &R,
     path: &str,
@@ -46,7 +46,7 @@ pub fn repeat<R: Files + AllocGlobal>(
     Ok(false)
 }
 
-/// Calls the call of a name so many times for a pair. Returns whether there is such a call.
+/// Repeats the call with a name for a pair. Returns whether there is such a call.
 fn repeat_named(alloc: Global, pair: &Value, call: &str, count: u64) -> bool {
     if call == "keep" {
         return keep(alloc, pair, count).is_ok();
@@ -60,7 +60,7 @@ fn repeat_named(alloc: Global, pair: &Value, call: &str, count: u64) -> bool {
     }
 }
 
-/// Calls a call of a pair so many times.
+/// Repeats a call of a pair.
 fn repeat_pair(alloc: Global, pair: &Value, call: Call, count: u64) -> Result<(), Error> {
     if let Some(given) = pair.get("pattern") {
         let subject = Subject::<PatternRegexp>::new(alloc, given, pair)?;
@@ -71,7 +71,8 @@ fn repeat_pair(alloc: Global, pair: &Value, call: Call, count: u64) -> Result<()
     Ok(())
 }
 
-/// Compiles the pattern of a pair so many times, and keeps all, for a tool that measures the heap.
+/// Compiles the pattern of a pair this many times, and keeps all, for a tool that measures the
+/// heap.
 fn keep(alloc: Global, pair: &Value, count: u64) -> Result<(), Error> {
     let Some(given) = pair.get("pattern") else {
         return Ok(());

@@ -5,22 +5,22 @@ use std::io;
 use std::time::{Clock, Instant};
 use urlpattern::Error;
 
-/// How many rounds are timed. The least of them counts.
+/// The number of rounds that are timed. The least one counts.
 const ROUNDS: u32 = 12;
 
-/// How many nanoseconds a round takes at least.
+/// The minimum duration of a round in nanoseconds.
 const ROUND: u128 = 10_000_000;
 
-/// How many nanoseconds a call takes that is timed once.
+/// The duration in nanoseconds from which on a call is timed only once.
 const LONG: u128 = 500_000_000;
 
 /// A call that is timed.
 pub trait Timed {
-    /// Calls once. Says whether something was made, or is matched.
+    /// Calls once. Returns whether a value was made, or matches.
     fn call(&self, alloc: Global) -> Result<bool, Error>;
 }
 
-/// The nanoseconds that this many calls take.
+/// The duration of this many calls in nanoseconds.
 fn time<C: Clock, T: Timed>(clock: &C, alloc: Global, timed: &T, calls: u64) -> io::Result<u128> {
     let start = Instant::now(clock)?;
     for _ in 0..calls {
@@ -31,7 +31,7 @@ fn time<C: Clock, T: Timed>(clock: &C, alloc: Global, timed: &T, calls: u64) -> 
     Ok(start.elapsed(clock)?.as_nanos())
 }
 
-/// The least nanoseconds of a call, over rounds of as many calls as fill a round.
+/// The least duration of a call in nanoseconds, over rounds of as many calls as fill a round.
 pub fn least<C: Clock, T: Timed>(clock: &C, alloc: Global, timed: &T) -> io::Result<u128> {
     let mut calls = 1u64;
     for _ in 0..30 {

@@ -1,5 +1,6 @@
-//! Times lookups in tables of routes that share their fronts, and the same paths in a loop over the patterns, in the right pattern
-//! alone, and in a `matchit::Router`, in nanoseconds for each lookup.
+//! Times lookups in tables of routes with common prefixes, and of the same paths in a loop over the
+//! patterns, in the right pattern alone, and in a `matchit::Router`, in nanoseconds for each
+//! lookup.
 
 use super::make_pattern;
 use super::rounds::{Timed, least};
@@ -14,13 +15,13 @@ use urlpattern::quirks::StringOrInit;
 use urlpattern::regexp::PatternRegexp;
 use urlpattern::{Error, UrlPatternList};
 
-/// Where all routes are.
+/// The origin of all routes.
 const BASE: &str = "https://api.example.com";
 
-/// How many routes the made tables have.
+/// The sizes of the generated tables.
 const SIZES: [usize; 2] = [1000, 10_000];
 
-/// The routes of each group of a made table, before and after the group's name.
+/// The routes of each group of a generated table, before and after the group's name.
 const SHAPES: [(&str, &str); 8] = [
     ("/", ""),
     ("/", "/:id"),
@@ -49,7 +50,7 @@ const MISSES: [&str; 10] = [
 /// A list of routes.
 type List = UrlPatternList<PatternRegexp>;
 
-/// Routes, by their texts, and a path for each that it matches.
+/// Routes, by their texts, and for each a path that it matches.
 #[derive(Drop)]
 struct Table {
     list: List,
@@ -58,16 +59,16 @@ struct Table {
     misses: Vec<Url>,
 }
 
-/// What is asked about each URL.
+/// The call for each URL.
 #[derive(Clone, Copy)]
 enum Lookup {
-    /// The list, about its first match.
+    /// The first match of the list.
     First,
-    /// Its patterns, one after the other.
+    /// The patterns of the list, in a loop.
     Loop,
-    /// The pattern that matches alone.
+    /// The pattern that matches, alone.
     Alone,
-    /// The router, about the path.
+    /// The router, with the path.
     Router,
 }
 
@@ -112,7 +113,7 @@ impl<'t> Lookups<'t> {
     }
 }
 
-/// The text of a route, where each segment that is a name or a wildcard gives way to another text.
+/// The text of a route, in which each segment that is a name or a wildcard is replaced.
 fn with_segments(
     alloc: Global,
     route: &str,
@@ -197,7 +198,7 @@ fn misses_of(alloc: Global) -> Result<Vec<Url>, Error> {
     Ok(urls)
 }
 
-/// The routes of a made table.
+/// The routes of a generated table.
 fn made_routes(alloc: Global, size: usize) -> Result<Vec<String>, Error> {
     let mut routes = Vec::new(alloc);
     for index in 0..size {
@@ -208,7 +209,7 @@ fn made_routes(alloc: Global, size: usize) -> Result<Vec<String>, Error> {
     Ok(routes)
 }
 
-/// The same route again and again.
+/// Copies of a route.
 fn same_routes(alloc: Global, size: usize) -> Result<Vec<String>, Error> {
     let mut routes = Vec::new(alloc);
     for _ in 0..size {
@@ -217,7 +218,7 @@ fn same_routes(alloc: Global, size: usize) -> Result<Vec<String>, Error> {
     Ok(routes)
 }
 
-/// The nanoseconds of a lookup in the mean over some URLs.
+/// The mean duration of a lookup over some URLs, in nanoseconds.
 fn mean<R: AllocGlobal + Clock>(
     rt: &R,
     table: &Table,
@@ -233,8 +234,9 @@ fn mean<R: AllocGlobal + Clock>(
     Ok(time / (urls.len() as u128).max(1))
 }
 
-/// Prints what a table takes: its routes; the mean of a lookup in the list, in the right pattern alone, in a loop and in a router;
-/// and the mean of one that finds none in the list, in a loop and in a router.
+/// Prints the times of a table: its routes; the mean of a lookup in the list, in the right pattern
+/// alone, in a loop and in a router; the mean of a lookup without a match in the list, in a loop
+/// and in a router; and the slowest lookup in the list.
 fn time_table<R: AllocGlobal + Clock, O: Write>(
     rt: &R,
     name: &str,
@@ -262,7 +264,7 @@ fn time_table<R: AllocGlobal + Clock, O: Write>(
     }
 }
 
-/// The nanoseconds of the slowest of the first lookups that find a route.
+/// The slowest of the first lookups that find a route, in nanoseconds.
 fn slowest<R: AllocGlobal + Clock>(rt: &R, table: &Table) -> io::Result<u128> {
     let mut slowest = 0;
     for urls in table.hits.chunks(1).take(200) {
@@ -271,7 +273,7 @@ fn slowest<R: AllocGlobal + Clock>(rt: &R, table: &Table) -> io::Result<u128> {
     Ok(slowest)
 }
 
-/// The lines of a text, each a route.
+/// The lines of a text, each of which is a route.
 fn lines_of(alloc: Global, text: &str) -> Result<Vec<String>, Error> {
     let mut routes = Vec::new(alloc);
     for line in text.lines() {
@@ -280,7 +282,7 @@ fn lines_of(alloc: Global, text: &str) -> Result<Vec<String>, Error> {
     Ok(routes)
 }
 
-/// Prints what the table of a text's routes and the made ones take.
+/// Prints the times of the table of a text's routes, and of generated tables.
 pub fn run<R: AllocGlobal + Clock, O: Write>(rt: &R, text: &str, out: &mut O) -> io::Result<()> {
     writeln!(
         out,

@@ -1,4 +1,5 @@
-//! Times comparisons of routes with each other: whether each covers each, whether they overlap, and which are never reached.
+//! Times comparisons of routes with each other: whether each covers each, whether they overlap, and
+//! which are never reached.
 
 use std::alloc::Global;
 use std::borrow::CowStr;
@@ -10,10 +11,10 @@ use urlpattern::regexp::PatternRegexp;
 use urlpattern::rules::{PatternCovering, PatternOverlap, PatternParts, unreachable};
 use urlpattern::{Error, UrlPattern, UrlPatternOptions};
 
-/// Where all routes are.
+/// The origin of all routes.
 const BASE: &str = "https://api.example.com";
 
-/// What comparisons of all pairs take, and how many there are.
+/// The durations of the comparisons of all pairs, and their number.
 #[derive(Default, Drop)]
 struct Compared {
     pairs: u128,
@@ -53,7 +54,7 @@ fn parts(alloc: Global, route: &str) -> Result<PatternParts, Error> {
     pattern.into_parts().ok_or(Error::OutOfMemory)
 }
 
-/// The parts of the routes that the lines of a text are.
+/// The parts of the routes in the lines of a text.
 fn parts_of_lines(alloc: Global, text: &str) -> Result<Vec<PatternParts>, Error> {
     let mut all = Vec::new(alloc);
     for line in text.lines() {
@@ -62,8 +63,9 @@ fn parts_of_lines(alloc: Global, text: &str) -> Result<Vec<PatternParts>, Error>
     Ok(all)
 }
 
-/// Prints what comparisons of the routes in the lines of a text take: what is asked, of how many pairs, of how many it holds, and the
-/// mean and the slowest in nanoseconds; and what it takes to find which routes are never reached.
+/// Prints the times of comparing the routes in the lines of a text: the comparison, the number of
+/// pairs, the number for which it holds, and the mean and the slowest in nanoseconds. Also prints
+/// the time of finding the routes that are never reached.
 pub fn run<R: AllocGlobal + Clock, O: Write>(rt: &R, text: &str, out: &mut O) -> io::Result<()> {
     writeln!(out, "comparison\tpairs\tfound\tmean\tslowest")?;
     match parts_of_lines(rt.alloc(), text) {
@@ -76,7 +78,7 @@ pub fn run<R: AllocGlobal + Clock, O: Write>(rt: &R, text: &str, out: &mut O) ->
     }
 }
 
-/// Compares all with each other.
+/// Compares all routes with each other.
 fn compare<R: AllocGlobal + Clock, O: Write>(
     rt: &R,
     all: &[PatternParts],

@@ -18,9 +18,7 @@ use urlpattern_syntax::Error;
 use urlpattern_syntax::error::OutOfMemory;
 
 impl<R: RegExp> UrlPatternList<R> {
-    /// The first match of eight texts, copied. `None`: no pattern matches them.
-    ///
-    /// The error is that memory ran out.
+    /// Returns a copy of the first match of eight texts. `None`: no pattern matches.
     pub(super) fn first_result(
         &self,
         alloc: Global,
@@ -36,7 +34,7 @@ impl<R: RegExp> UrlPatternList<R> {
         }
     }
 
-    /// The first match of eight texts. `None`: no pattern matches them.
+    /// Returns the first match of eight texts. `None`: no pattern matches.
     ///
     /// Only an engine allocates.
     pub(super) fn first<'p, 'u>(
@@ -51,7 +49,8 @@ impl<R: RegExp> UrlPatternList<R> {
         self.first_from(alloc, &texts, 0)
     }
 
-    /// The first match of eight texts by a pattern whose index is not below another. `None`: no such pattern matches them.
+    /// Returns the first match of eight texts by a pattern whose index is at least `from`. `None`:
+    /// none of these patterns matches.
     ///
     /// Only an engine allocates.
     pub(super) fn first_from<'p, 'u>(
@@ -76,7 +75,8 @@ impl<R: RegExp> UrlPatternList<R> {
         }
     }
 
-    /// The first match of eight texts by the pattern at an index, or by a later one. `None`: none of them matches the texts.
+    /// Returns the first match of eight texts by the pattern at an index or a later one. `None`:
+    /// none of these patterns matches.
     ///
     /// Only an engine allocates.
     pub(super) fn first_listed<'p, 'u>(
@@ -103,8 +103,8 @@ impl<R: RegExp> UrlPatternList<R> {
         Ok(None)
     }
 
-    /// The first pattern, from an index on, that may match texts with these hashes. `None`: no pattern from there on matches such
-    /// texts.
+    /// Returns the index of the first pattern, from an index on, that may match texts with these
+    /// hashes. `None`: no pattern from that index on matches.
     #[inline(always)]
     pub(super) fn next_asked(&self, hashes: &AddressHashes, from: usize) -> Option<usize>
         ensures within { IfSome result (λ index. (from ≤ index) × (index < length self.now)) }

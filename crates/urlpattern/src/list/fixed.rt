@@ -1,4 +1,4 @@
-//! What is fixed of the inputs that a pattern matches.
+//! The fixed texts of a pattern: what every input that it matches has in common.
 ghost use Rattle.urlpattern.specs.PatternKeys.{AreFixed};
 ghost use Rattle.urlpattern_index.specs.FixedTexts.{fixed_texts};
 ghost use Rattle.urlpattern_pattern.specs.Patterns.{pattern_view};
@@ -8,7 +8,7 @@ use urlpattern_index::{Fixed, fixed_text, known_path};
 use urlpattern_matcher::regexp::RegExp;
 use urlpattern_pattern::UrlPattern;
 
-/// What is fixed of the inputs that a pattern matches, by its parts: nothing, if it has none.
+/// The fixed texts of a pattern, by its parts. Nothing is fixed if the pattern has no parts.
 pub(super) fn fixed_of<R: RegExp>(pattern: &UrlPattern<R>) -> Fixed<'_>
     ensures { AreFixed R.answer (pattern_view pattern.now) (fixed_texts result) }
 {

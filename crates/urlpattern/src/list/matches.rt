@@ -1,4 +1,4 @@
-//! The matches of a list, one after the other.
+//! An iterator over the matches of a list.
 
 use super::UrlPatternList;
 use std::alloc::Global;
@@ -7,9 +7,10 @@ use urlpattern_matcher::regexp::RegExp;
 use urlpattern_matches::UrlPatternCaptures;
 use urlpattern_syntax::Error;
 
-/// The matches of a URL that are left, in the order of the patterns, each with its pattern's index.
+/// The remaining matches of a URL, in the order of the patterns, each with the index of its
+/// pattern.
 ///
-/// `UrlPatternList::matches` returns it.
+/// Returned by `UrlPatternList::matches`.
 ///
 /// ```rust matches
 /// for item in list.matches(alloc, &url) {
@@ -24,7 +25,7 @@ pub struct UrlPatternMatches<'p, 'u, R: RegExp> {
     list: &'p UrlPatternList<R>,
     alloc: Global,
     texts: Eight<&'u str>,
-    /// The index of the first pattern that has not been asked.
+    /// The index of the first pattern that has not been tried.
     from: usize,
 }
 

@@ -1,4 +1,4 @@
-//! The patterns of a list that one before them covers.
+//! The patterns of a list that are covered by an earlier one.
 ghost use Rattle.std.specs.Prelude.{map, IfErr, IfOk};
 ghost use Rattle.urlpattern.specs.Unreached.{AreUnreached, HaveAllParts, LacksParts};
 
@@ -9,12 +9,14 @@ use urlpattern_matcher::regexp::RegExp;
 use urlpattern_pattern::{CompareError, UrlPattern};
 
 impl<R: RegExp> UrlPatternList<R> {
-    /// Lists each pattern that one before it is known to cover, in their order: its index, and that of the first such one.
+    /// Lists each pattern that an earlier one is known to cover, in order: its index, and that of
+    /// the first pattern that covers it.
     ///
-    /// In a list whose first match counts these are never found. The parts of the patterns are compared, as `rules::unreachable` does: a
-    /// pattern that several others cover only together is not listed.
+    /// In a list of which the first match counts, such a pattern is never found. The parts of the
+    /// patterns are compared, as `rules::unreachable` does. A pattern that is covered only by
+    /// several others together is not listed.
     ///
-    /// The error is that a pattern has no parts, or that memory ran out.
+    /// The error is `NoParts` if a pattern has no parts, or `OutOfMemory`.
     pub fn unreachable(&self, alloc: Global) -> Result<Vec<Shadowed>, CompareError>
         ensures found { IfOk result (λ found. AreUnreached self.now found.items) }
         ensures missing { IfErr result (LacksParts self.now) }
@@ -24,9 +26,9 @@ impl<R: RegExp> UrlPatternList<R> {
     }
 }
 
-/// The parts of each pattern, in their order.
+/// The parts of each pattern, in order.
 ///
-/// The error is that a pattern has none, or that memory ran out.
+/// The error is `NoParts` if a pattern has no parts, or `OutOfMemory`.
 fn parts_of_each<R: RegExp>(
     alloc: Global,
     patterns: &[UrlPattern<R>],

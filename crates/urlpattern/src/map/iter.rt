@@ -1,4 +1,4 @@
-//! The patterns of a map, one after the other, each with its value.
+//! An iterator over the patterns of a map and their values.
 ghost use Rattle.std.specs.Iterator.{at_most};
 ghost use Rattle.std.specs.Map.Iter.{deref_pair, TakesFirst};
 ghost use Rattle.std.specs.Prelude.{◌≡◌, length, zip};
@@ -9,7 +9,7 @@ use std::slice;
 use urlpattern_matcher::regexp::RegExp;
 use urlpattern_pattern::UrlPattern;
 
-/// The patterns of a `UrlPatternMap` that are left, in their order, each with its value.
+/// The remaining patterns of a `UrlPatternMap`, in order, each with its value.
 ///
 /// Here `ROUTES` lists the paths of the patterns, each with its value:
 ///

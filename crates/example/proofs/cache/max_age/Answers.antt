@@ -12,7 +12,7 @@ use Rattle.urlpattern.specs.UrlPatternMatchInput.{UrlPatternMatchInput}
 use Rattle.urlpattern.specs.UrlPatternMatchInput.TheVariants as inputs
 use Rattle.example.proofs.cache.max_age.Goals as goal
 
--- what stands at the index of the first match is the rule
+-- The element at the index of the first match is the rule.
 rule_of : {E : Type 0} (answer : E → List ℕ → Option Captures) (patterns : List (PatternView E)) (rules : List ℕ) (input : UrlPatternMatchInput) (first : FirstView) (found : Option (Bor ℕ))
     → length rules ≡ length patterns → IsFirstMatch answer patterns input (Some first)
     → (first.0 < length rules → IsSome found) → IfSome found (λ rule. rule.now ≡ get_or rules first.0 rule.now)

@@ -5,6 +5,6 @@ use Rattle.urlpat_explain.specs.Given.{WordGivesGroup}
 use Rattle.urlpattern_pattern.specs.Patterns.{pattern_view}
 use Rattle.urlpat_explain.proofs.given.given_by.Given as goal
 
--- each word so far gives this
+-- Each argument so far gives one of these groups.
 abbrev pub invariant-loop-word : goal.invariant-loop-word
 invariant-loop-word l = AllZip (λ word given. WordGivesGroup (pattern_view l.pattern) (string_bytes word) given) (take l.word-index l.words) l.groups.items

@@ -6,7 +6,7 @@ use Rattle.urlpat_explain.specs.Explained.{explained_view, lent_texts}
 use Rattle.urlpat_explain.specs.Json.{IsExplainedTree}
 use Rattle.urlpat_explain.proofs.json.explanation_tree.Given as goal
 
--- the trees of the components so far are put
+-- The JSON of the components so far is inserted.
 abbrev pub invariant-loop-name : goal.invariant-loop-name
 invariant-loop-name l =
     HasTrees (IsExplainedTree (explained_view l.explained) (lent_texts l.texts)) (take l.name-index l.name-items) no_members (members_view l.members.entries)

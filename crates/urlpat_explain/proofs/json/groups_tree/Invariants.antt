@@ -1,4 +1,4 @@
--- The groups that are left are put after those that were put.
+-- The remaining groups are inserted after the ones so far.
 use Rattle.std.proofs.Common.{◌≡◌}
 use Rattle.std.specs.Iterator.Adapters.{zip_first, zip_second}
 use Rattle.std.specs.Slice.Iter.{iter_rest}

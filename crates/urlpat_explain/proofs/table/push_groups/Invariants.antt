@@ -1,4 +1,4 @@
--- The groups that are left go after those that are appended.
+-- The remaining groups go after the ones so far.
 use Rattle.std.proofs.Common.{◌≡◌, ◌++◌, string_bytes}
 use Rattle.std.specs.Iterator.Adapters.{zip_first, zip_second}
 use Rattle.std.specs.Slice.Iter.{iter_rest}

@@ -1,4 +1,4 @@
--- The lines that were read so far are answered: answers to the others complete those to all.
+-- Output for the remaining lines completes the output so far.
 use Rattle.std.proofs.Common.{◌≡◌, ℕ, ◌≤◌, List, IfSome, Some}
 use Rattle.std.specs.Io.KnownBytes.{Appends}
 use Rattle.urlpat_lines.proofs.AnswerLemmas.{Completes}

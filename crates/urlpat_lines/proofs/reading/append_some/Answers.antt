@@ -6,7 +6,7 @@ use Rattle.std.specs.Io.KnownBytes.{Consumes}
 use Rattle.std.proofs.BufReadLemmas.{Consumes_shown, zero_unless_positive}
 use Rattle.urlpat_lines.proofs.reading.append_some.Goals as goal
 
--- a part that ends a line does so with the input, if it is empty
+-- An empty part that ends a line is at the end of the input.
 ends : (ended : Bool) (part : List ℕ) (AtEnd : Type 0) → MatchBool ended (IsEmptyOrEndsWith part 10) (All (λ byte. byte ≢ 10) part) → (length part ≡ 0 → AtEnd)
     → MatchBool ended (IsEmptyOrEndsWith part 10 × (length part ≡ 0 → AtEnd)) (All (λ byte. byte ≢ 10) part)
 ends true part AtEnd h at_end = (h, at_end)

@@ -1,4 +1,5 @@
--- The bytes that were read so far are a part of the first line, of which as much is kept as may be.
+-- The bytes that were read so far are a part of the first line, and kept as far as its length
+-- permits.
 use Rattle.std.proofs.Common.{◌≢◌, ℕ, List, All}
 use Rattle.std.specs.Io.KnownBytes.{Consumes}
 use Rattle.urlpat_lines.specs.Lines.{IsKept}

@@ -4,7 +4,7 @@ use Rattle.urlpat_rules.specs.Doubts.{doubt_line}
 use Rattle.urlpat_lines.specs.Tables.{entries_view}
 use Rattle.urlpat_rules.proofs.doubts.doubts_text.Given as goal
 
--- the lines of the doubts so far
+-- The lines of the doubts so far.
 abbrev pub invariant-loop-doubt : goal.invariant-loop-doubt
 invariant-loop-doubt l =
     string_bytes l.text ≡

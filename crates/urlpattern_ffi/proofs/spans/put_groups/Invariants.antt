@@ -3,7 +3,7 @@ use Rattle.urlpattern_ffi.specs.Spans.{NumberedGroup, numbered, ArePut}
 use Rattle.urlpattern_matches.specs.BorrowedMatches.{groups_left}
 use Rattle.urlpattern_ffi.proofs.spans.put_groups.Given as goal
 
--- some groups are written, and the others are still to come
+-- Some groups are written, and the others remain.
 abbrev pub invariant-loop-capture : goal.invariant-loop-capture
 invariant-loop-capture l =
     (done : List NumberedGroup)

@@ -15,7 +15,7 @@ use Rattle.urlpattern.proofs.list.UrlPatternList.first_captures.Given as given
 use Rattle.urlpattern.proofs.list.UrlPatternList.first_captures.Goals as goal
 use Rattle.urlpattern.proofs.list.UrlPatternList.first_captures.Goals.{After-fill}
 
--- the hashes are those of the URL
+-- The hashes are those of the URL.
 hashed : (g : given.Over) (c : After-fill g) → hashes_view c.fill.new.self ≡ hashes_of (address_of (texts_of_url c.args.url.now))
 hashed g c = c.fill.ensures ∙ ap hashes_of c.url_address.ensures
 

@@ -12,7 +12,7 @@ use Rattle.urlpattern.proofs.list.UrlPatternList.first_listed.Given as given
 use Rattle.urlpattern.proofs.list.UrlPatternList.first_listed.Goals as goal
 use Rattle.urlpattern.proofs.list.UrlPatternList.first_listed.Goals.{After-index-pattern}
 
--- the pattern that is asked, and those before it
+-- The pattern that is tried, and the ones before it.
 asked : (g : given.Over) (c : After-index-pattern g) → (c.args.index ≤ c.in-Some.index)
     × (slice_get (patterns_view c.args.self.now) c.in-Some.index ≡ Some (pattern_view c.index-pattern.result.now))
     × AreRefusedBetween g.R.RegExp.answer (patterns_view c.args.self.now) (borrowed_texts c.args.texts.now) c.args.index c.in-Some.index

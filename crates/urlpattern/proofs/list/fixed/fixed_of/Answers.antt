@@ -14,7 +14,7 @@ use Rattle.urlpattern_compare.specs.declared.pattern.PatternParts.{PatternParts}
 use Rattle.urlpattern_syntax.specs.ComponentParts.{kept_options, kept_parts}
 use Rattle.urlpattern.proofs.list.fixed.fixed_of.Goals as goal
 
--- a component is made of its parts
+-- A component is made from its parts.
 made_of : {E : Type 0} (engine : Engine E) (pattern : UrlPattern E) (parts : PatternParts) (name : ComponentName) (component : Component E)
     → component ≡ at pattern.components name → pattern.parts ≡ Some parts → IfSome pattern.parts (λ parts. AreMadeOfParts engine parts (pattern_view pattern))
     → IsComponentOf engine (kept_options (at parts.components name)) (kept_parts (at parts.components name)) (component_view component)
@@ -23,7 +23,7 @@ made_of {E} engine pattern parts name component same has made =
     let own = at parts.components name in
     subst (λ (c : Component E). IsComponentOf engine (kept_options own) (kept_parts own) (component_view c)) (sym same) (all name).is_component
 
--- what a component matches is what it is known to match
+-- A component matches the texts that it is known to match.
 matched_by : {E : Type 0} (answer : E → List ℕ → Option Captures) (component other : Component E) (Is : List ℕ → Type 0) → component ≡ other
     → ((text : List ℕ) → IsMatched answer (component_view component).matcher text → Is text) → (text : List ℕ) → IsMatched answer (component_view other).matcher text → Is text
 matched_by {E} answer component other Is same all =

@@ -1,7 +1,7 @@
 use Rattle.std.proofs.Common.{◌≡◌, ◌++◌}
 use Rattle.urlpattern.proofs.map.UrlPatternMap.extend.Given as goal
 
--- what was appended, and what is left
+-- The appended entries, and the remaining ones.
 abbrev pub invariant-loop-pattern : goal.invariant-loop-pattern
 invariant-loop-pattern g l = record {
   appended : l.self ≡ l.fn.self ++ l.yielded;

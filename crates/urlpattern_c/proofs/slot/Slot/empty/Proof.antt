@@ -1,4 +1,4 @@
--- `empty` writes a null pointer, which leads to nothing.
+-- `empty` writes a null pointer.
 use Rattle.std.proofs.Common.{◌≡◌, [], ◌∷◌, refl}
 use Rattle.std.specs.Prelude.{None}
 use mir.Val.{Val}

@@ -1,4 +1,4 @@
--- `into_loose` gives up the pointer, which leads somewhere.
+-- `into_loose` gives up a pointer that is not null.
 use Rattle.std.proofs.Common.{◌≡◌, List, [], ◌∷◌, ◌++◌, refl, sym, subst}
 use Rattle.std.specs.Prelude.{IsSome, Option, Some}
 use mir.Val.{Val, vptr}
