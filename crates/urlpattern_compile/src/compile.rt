@@ -238,8 +238,11 @@ impl Compiler<'_> {
         ensures compiled { IfOk result (IsKept R.RegExp (manner_by self.now false ComponentName.Protocol)) }
         ensures refused { IfErr result (MemoryOr (IsComponentRefused R.RegExp (manner_by self.now false ComponentName.Protocol))) }
     {
-        if let (Some((text, made)), Some(own), RegexSyntax::Rust) =
-            (known, &self.values.protocol, self.options.regex_syntax)
+        if let (Some((text, made)), Some(own), RegexSyntax::Rust) = (
+            known,
+            &self.values.protocol,
+            self.options.regex_syntax,
+        )
             && own.as_str() == text
         {
             let made = Ok(made);

@@ -62,8 +62,9 @@ impl UrlPatternInit {
         ensures complete { IfOk result (λ found. HasProtocolOrBase found.0) }
         ensures refused { IfErr result (MemoryOr (RefusesString (chars pattern.now) base_url)) }
     {
-        let (init, turns, _) =
-            Self::parse_constructor_string_keeping::<R>(alloc, pattern, base_url, false)?;
+        let (init, turns, _) = Self::parse_constructor_string_keeping::<R>(
+            alloc, pattern, base_url, false,
+        )?;
         Ok((init, turns))
     }
 
@@ -74,7 +75,14 @@ impl UrlPatternInit {
         pattern: &'a str,
         base_url: Option<Url>,
         keeps: bool,
-    ) -> Result<(UrlPatternInit, usize, Option<(&'a str, ComponentWithParts<R>)>), Error>
+    ) -> Result<
+        (
+            UrlPatternInit,
+            usize,
+            Option<(&'a str, ComponentWithParts<R>)>,
+        ),
+        Error,
+    >
         ensures split { IfOk result (λ found. SplitsInto (IsSpecialTo R.RegExp) (chars pattern.now) (values_view found.0)) }
         ensures turns { IfOk result (λ found. AreFewTurns (chars pattern.now) found.1) }
         ensures base { IfOk result (λ found. found.0.base_url ≡ base_url) }
