@@ -5,8 +5,14 @@
 
 ghost use Rattle.std.specs.Prelude.{◌≡◌, ◌+◌, length, OnOk};
 
+mod browser;
 mod cache;
+mod comparing;
+mod components;
+mod diagnosing;
+mod generating;
 mod grants;
+mod matching;
 mod path;
 mod permission;
 mod printed;
@@ -226,6 +232,33 @@ fn lines(alloc: Global, url: &str) -> Result<String, Error> {
     Ok(format!(in alloc; "{url}: {user}, {page}, {permission}, {cached}")?)
 }
 
+/// Writes what the calls of the other modules return.
+fn calls<W: Write>(alloc: Global, out: &mut W) -> io::Result<()> {
+    write_line(out, matching::test_line(alloc))?;
+    write_line(out, matching::exec_line(alloc))?;
+    write_line(out, matching::groups_line(alloc))?;
+    write_line(out, matching::mismatch_line(alloc))?;
+    write_line(out, matching::matches_line(alloc))?;
+    write_line(out, matching::entry_line(alloc))?;
+    write_line(out, comparing::covers_line(alloc))?;
+    write_line(out, comparing::overlaps_line(alloc))?;
+    for id in ["a b", ""] {
+        write_line(out, generating::generate_line(alloc, id))?;
+    }
+    for pattern in ["https://example.com/:id", "https://example.com/:id/:id"] {
+        write_line(out, diagnosing::diagnosis_line(alloc, pattern))?;
+    }
+    write_line(out, components::name_line(alloc, "search"))?;
+    write_line(out, components::init_line(alloc))?;
+    write_line(out, components::tokens_line(alloc))?;
+    write_line(out, components::path_line(alloc))?;
+    write_line(out, components::matcher_line(alloc))?;
+    write_line(out, components::canonical_line(alloc))?;
+    write_line(out, browser::plain_line(alloc))?;
+    write_line(out, browser::texts_line(alloc))?;
+    write_line(out, browser::init_line(alloc))
+}
+
 // docs: main
 fn main(rt: HostRuntime) -> io::Result<()> {
     let mut out = rt.stdout();
@@ -239,6 +272,7 @@ fn main(rt: HostRuntime) -> io::Result<()> {
         write_line(&mut out, link_line(rt.alloc(), id))?;
     }
     write_line(&mut out, path_line(rt.alloc(), "/users/123"))?;
-    write_line(&mut out, printed_line(rt.alloc()))
+    write_line(&mut out, printed_line(rt.alloc()))?;
+    calls(rt.alloc(), &mut out)
 }
 // docs: end

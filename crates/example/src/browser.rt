@@ -1,0 +1,64 @@
+//! Calls for a browser: inputs as they are given, and patterns as plain data.
+
+use std::alloc::Global;
+use std::borrow::CowStr;
+use url::Url;
+use urlpattern::quirks::{
+    EcmaRegexp, InnerMatcher, StringOrInit, UrlPattern, UrlPatternInit, parse_match_input,
+    parse_pattern, process_construct_pattern_input,
+};
+use urlpattern::{Error, RegexSyntax, UrlPatternMatchInput, UrlPatternOptions};
+
+/// A pattern as plain data, in words.
+pub fn plain_line(alloc: Global) -> Result<String, Error> {
+    // docs: plain_pattern
+    // docs: given
+    let input = StringOrInit::String(CowStr::Borrowed("https://example.com/users/:id"));
+    // docs: end
+    let init = process_construct_pattern_input(alloc, input, None)?;
+    let options = UrlPatternOptions::default();
+    let users: UrlPattern = parse_pattern::<EcmaRegexp>(alloc, init, options)?;
+    // docs: end
+    // docs: plain
+    let path = &users.pathname;
+    let expression = path.regexp_string.as_str();
+    // docs: end
+    // docs: inner_matcher
+    let matched = match &path.matcher.inner {
+        InnerMatcher::Literal { literal } => literal.as_str(),
+        InnerMatcher::SingleCapture { .. } => "one group",
+        InnerMatcher::RegExp { regexp } => regexp.as_str(),
+    };
+    // docs: end
+    Ok(format!(in alloc; "{expression}: {matched}")?)
+}
+
+/// The eight texts of a URL, of which the path, in words.
+pub fn texts_line(alloc: Global) -> Result<String, Error> {
+    // docs: texts
+    let url = Url::parse(alloc, "https://example.com/users/123")?;
+    let texts = parse_match_input(alloc, UrlPatternMatchInput::Url(url))?;
+    // docs: end
+    match texts {
+        Some(texts) => Ok(format!(in alloc; "{}", texts.pathname)?),
+        None => Ok(format!(in alloc; "no texts")?),
+    }
+}
+
+/// An init as a browser passes it, without regard to case, in words.
+pub fn init_line(alloc: Global) -> Result<String, Error> {
+    // docs: plain_init
+    let mut init = UrlPatternInit::default();
+    init.pathname = Some(String::from_str(alloc, "/:id")?);
+    init.base_url = Some(String::from_str(alloc, "https://example.com/users/")?);
+    // docs: end
+    let init = process_construct_pattern_input(alloc, StringOrInit::Init(init), None)?;
+    // docs: plain_options
+    let options = UrlPatternOptions {
+        regex_syntax: RegexSyntax::EcmaScript,
+        ignore_case: true,
+    };
+    // docs: end
+    let pattern: UrlPattern = parse_pattern::<EcmaRegexp>(alloc, init, options)?;
+    Ok(format!(in alloc; "{}", pattern.pathname.pattern_string)?)
+}

@@ -1,0 +1,34 @@
+//! Diagnoses: where a pattern is at fault, and why.
+
+use crate::{Pattern, text};
+use std::alloc::Global;
+use urlpattern::{Error, Subject, UrlPatternOptions};
+
+/// Why a pattern is rejected, in words.
+pub fn diagnosis_line(alloc: Global, pattern: &str) -> Result<String, Error> {
+    // docs: diagnose
+    let options = UrlPatternOptions::default();
+    let diagnosis = Pattern::diagnose(alloc, pattern, None, options)?;
+    // docs: end
+    let Some(diagnosis) = diagnosis else {
+        return text(alloc, "accepted");
+    };
+    // docs: subject
+    let subject = match diagnosis.subject {
+        Subject::Base => "the base URL",
+        Subject::Component(component) => component.as_str(),
+        Subject::Whole => "the pattern",
+    };
+    // docs: end
+    // docs: span
+    let span = diagnosis.fault.span;
+    let part = diagnosis.text.get(span.start..span.end);
+    // docs: end
+    // docs: fault
+    let earlier = diagnosis.fault.earlier;
+    // docs: end
+    // docs: diagnosis
+    let reason = &diagnosis.reason;
+    // docs: end
+    Ok(format!(in alloc; "{subject} at {part:?}, earlier {earlier:?}: {reason}")?)
+}
