@@ -56,19 +56,16 @@ fn is_recorded(alloc: Global, diagnosis: &Diagnosis, recorded: &Value) -> Result
     for (line, expected) in printed.lines().zip(lines) {
         are_lines = are_lines && expected.as_str() == Some(line);
     }
-    // docs: fault
     Ok(
         are_lines
             && has_text(recorded, "subject", diagnosis.subject.name())
             && is_span(recorded, "span", Some(diagnosis.fault.span))
             && is_span(recorded, "earlier", diagnosis.fault.earlier),
     )
-    // docs: end
 }
 
 /// Whether a field has the two places of a span, or is missing if there is none.
 fn is_span(recorded: &Value, name: &str, span: Option<Span>) -> bool {
-    // docs: span
     match (list(recorded, name), span) {
         (Ok([start, end]), Some(span)) => {
             start.as_u64() == Some(span.start as u64) && end.as_u64() == Some(span.end as u64)
@@ -76,5 +73,4 @@ fn is_span(recorded: &Value, name: &str, span: Option<Span>) -> bool {
         (Err(_), None) => true,
         _ => false,
     }
-    // docs: end
 }

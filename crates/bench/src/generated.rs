@@ -21,13 +21,11 @@ pub fn is_same<R: RegExp>(case: &Case<'_>) -> Result<bool, Fault> {
     let groups = groups_of(case.alloc, list(case.question, "groups")?)?;
     let built: Result<UrlPattern<R>, Error> = patterns::built(case.alloc, case.question)?;
     match built {
-        // docs: generate
         Ok(pattern) => {
             let found = pattern.generate(case.alloc, component, &groups);
             drop(pattern);
             is_recorded(found, recorded)
         }
-        // docs: end
         Err(Error::OutOfMemory) => Err(Fault::OutOfMemory),
         Err(_) => Err(Fault::NoCase),
     }
@@ -75,7 +73,6 @@ pub fn is_reason(error: &GenerateError, recorded: &Value) -> Result<bool, Fault>
         GenerateError::Missing(component, name) => {
             Ok(is_refused(recorded, "missing", *component) && has_text(recorded, "group", name))
         }
-        // docs: generate_error
         GenerateError::NotCaptured(component, name) => Ok(
             is_refused(recorded, "not captured", *component) && has_text(recorded, "group", name),
         ),
@@ -84,7 +81,6 @@ pub fn is_reason(error: &GenerateError, recorded: &Value) -> Result<bool, Fault>
         }
         GenerateError::NoParts => Ok(has_text(recorded, "refused", "no parts")),
         GenerateError::OutOfMemory => Err(Fault::OutOfMemory),
-        // docs: end
     }
 }
 

@@ -10,13 +10,11 @@ use urlpattern_syntax::Error;
 
 /// A text, or an init.
 pub fn input<'a>(alloc: Global, fields: &'a Value) -> Result<StringOrInit<'a>, Fault> {
-    // docs: given
     if let Some(text) = optional_text(fields, "string") {
         return Ok(StringOrInit::String(CowStr::Borrowed(text)));
     }
     let init = read(UrlPatternInit::from_json_value(alloc, field(fields, "init")?))?;
     Ok(StringOrInit::Init(init))
-    // docs: end
 }
 
 /// The options of a question, or the default ones.

@@ -25,11 +25,9 @@ fn pattern<R: RegExp>(
     base: Option<&str>,
     options: UrlPatternOptions,
 ) -> Result<Value, Error> {
-    // docs: plain_pattern
     let init = process_construct_pattern_input(alloc, input, base)?;
     let pattern = parse_pattern::<R>(alloc, init, options)?;
     let tree = pattern.to_json_value(alloc);
     drop(pattern);
     tree
-    // docs: end
 }

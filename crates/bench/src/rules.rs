@@ -127,7 +127,6 @@ fn is_index(recorded: &Value, name: &str, index: usize) -> bool {
 fn is_covering(covering: PatternCovering, recorded: &Value) -> Result<bool, Fault> {
     match covering {
         PatternCovering::Covered => Ok(recorded.as_str() == Some("covered")),
-        // docs: parting
         PatternCovering::NotCovered(parting) => {
             let name = parting.component;
             let length = parting.texts.get(name).chars().count();
@@ -136,7 +135,6 @@ fn is_covering(covering: PatternCovering, recorded: &Value) -> Result<bool, Faul
                     && recorded.get("length").and_then(Value::as_u64) == Some(length as u64),
             )
         }
-        // docs: end
         PatternCovering::Unknown(name, reason) => is_unknown(name, reason, recorded),
     }
 }
@@ -144,7 +142,6 @@ fn is_covering(covering: PatternCovering, recorded: &Value) -> Result<bool, Faul
 /// Whether the overlap is the recorded one: `apart`, the length of a pathname that both match, or
 /// the component that is not known with the reason.
 fn is_overlap(overlap: PatternOverlap, recorded: &Value) -> Result<bool, Fault> {
-    // docs: overlap
     match overlap {
         PatternOverlap::Apart => Ok(recorded.as_str() == Some("apart")),
         PatternOverlap::Common(texts) => {
@@ -153,7 +150,6 @@ fn is_overlap(overlap: PatternOverlap, recorded: &Value) -> Result<bool, Fault> 
         }
         PatternOverlap::Unknown(name, reason) => is_unknown(name, reason, recorded),
     }
-    // docs: end
 }
 
 /// Whether a component and a reason are recorded.

@@ -37,11 +37,12 @@ use urlpattern::{
 use users::Users;
 
 // docs: pattern
-/// A pattern over the library's own engine. It answers as `regex::Regex` does, the engine of `UrlPattern` alone, mostly faster.
+/// A pattern over the library's own engine, which returns what `regex::Regex` does, the default
+/// engine of `UrlPattern`, and is mostly faster.
 // docs: own_engine
 type Pattern = UrlPattern<PatternRegexp>;
 
-/// The pattern of a constructor string.
+/// Compiles a constructor string.
 fn pattern(alloc: Global, text: &str) -> Result<Pattern, Error> {
     Pattern::from_constructor_string(alloc, text, None, UrlPatternOptions::default())
 }

@@ -15,10 +15,11 @@ use urlpattern::laws::tests_agree_with_matches;
 use urlpattern::regexp::RegExp;
 use urlpattern::{ComponentName, Error, UrlPattern};
 
-/// Why a URL may not be seen: the first of its components that the pattern does not match. `None`: it may be seen, as the pattern
-/// matches it.
+/// Why a URL may not be seen: the first component that the pattern does not match. `None`: it may
+/// be seen.
 ///
-/// The error is that memory ran out, which says nothing about the URL. It is not to be taken for a permission.
+/// The error is that memory ran out, which says nothing about the URL. Don't take it for a
+/// permission.
 pub fn refusal<R: RegExp>(
     alloc: Global,
     permitted: &UrlPattern<R>,
@@ -29,7 +30,8 @@ pub fn refusal<R: RegExp>(
     ensures first { IfOk result (λ refused. IfSome refused (IsMismatch R.answer (pattern_view permitted.now) (texts_of_url url.now))) }
     ensures memory { OnlyOutOfMemory result }
 {
-    // A law of the library, which costs nothing to call: a pattern that matches a URL has no component that does not.
+    // By a law of the library, which costs nothing to call, a pattern that matches a URL has no
+    // component that does not match.
     tests_agree_with_matches::<R>();
     permitted.mismatch(alloc, url)
 }

@@ -85,7 +85,6 @@ pub fn match_diagnosis(
     pattern: &str,
     base: Option<&str>,
 ) -> Result<Option<String>, OutOfMemory> {
-    // docs: diagnosis
     match diagnosed(alloc, pattern, base)? {
         Some(diagnosis) => {
             let text = format!(in alloc; "{diagnosis}\n");
@@ -94,7 +93,6 @@ pub fn match_diagnosis(
         }
         None => Ok(None),
     }
-    // docs: end
 }
 
 /// Diagnoses the first constructor string that is rejected, after its number, or the base. `None`:
@@ -116,16 +114,13 @@ pub fn first_diagnosis(
 
 /// A diagnosis after the number of its pattern. No pattern is named if the base is at fault.
 fn numbered(alloc: Global, index: usize, diagnosis: &Diagnosis) -> Result<String, OutOfMemory> {
-    // docs: subject
     match diagnosis.subject {
         Subject::Base => Ok(format!(in alloc; "{diagnosis}\n")?),
         _ => Ok(format!(in alloc; "pattern {index}: {diagnosis}\n")?),
     }
-    // docs: end
 }
 
 /// Diagnoses a constructor string and its base.
-// docs: diagnose
 fn diagnosed(
     alloc: Global,
     pattern: &str,
@@ -134,4 +129,3 @@ fn diagnosed(
     let options = UrlPatternOptions::default();
     UrlPattern::<PatternRegexp>::diagnose(alloc, pattern, base, options)
 }
-// docs: end

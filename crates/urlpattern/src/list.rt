@@ -42,7 +42,8 @@ use urlpattern_syntax::Error;
 
 /// A list of patterns in order, such as the routes of a router.
 ///
-/// Here `pattern` compiles a constructor string, and `add` pushes a pattern:
+/// With `pattern` as a function that compiles a constructor string, and `add` as one that pushes a
+/// pattern:
 ///
 /// ```rust list
 /// let mut patterns = UrlPatternList::new(alloc);
@@ -214,7 +215,7 @@ impl<R: RegExp> UrlPatternList<R> {
     ///
     /// Only an engine allocates.
     ///
-    /// Here `ages` has a number for each pattern:
+    /// With a number in `ages` for each pattern:
     ///
     /// ```rust max_age
     /// let Some((index, found)) = patterns.first_captures(alloc, url)? else {

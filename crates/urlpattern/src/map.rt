@@ -31,7 +31,7 @@ use urlpattern_syntax::Error;
 ///
 /// If several patterns match, the first one counts.
 ///
-/// Here `pattern` compiles a constructor string:
+/// With `pattern` as a function that compiles a constructor string:
 ///
 /// ```rust pages
 /// let mut pages = UrlPatternMap::new(alloc);

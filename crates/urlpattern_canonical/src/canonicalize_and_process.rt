@@ -29,9 +29,8 @@ pub use urlpattern_syntax::escape::escape_pattern_string;
 /// The URL on which most values are set may be parsed once and is then copied for each of them.
 ///
 /// ```rust canonicalizer
-/// let canonicalizer = Canonicalizer::shared(rt.alloc())?;
-/// assert_eq!(rt; canonicalizer.pathname("a/../b")?.as_str(), "/b");
-/// assert_eq!(rt; canonicalizer.search("a b")?.as_str(), "a%20b");
+/// let canonicalizer = Canonicalizer::shared(alloc)?;
+/// let path = canonicalizer.pathname("/a/../b")?;
 /// ```
 #[derive(Drop)]
 pub struct Canonicalizer {

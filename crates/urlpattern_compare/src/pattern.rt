@@ -15,7 +15,7 @@ use urlpattern_syntax::ComponentParts;
 
 /// The parts of a pattern's eight components.
 ///
-/// Here `pattern` compiles a constructor string:
+/// The parts of the pattern of a constructor string, with `Pattern` as `UrlPattern<PatternRegexp>`:
 ///
 /// ```rust parts
 /// let options = UrlPatternOptions::default();
@@ -42,17 +42,11 @@ impl Drop for PatternParts {
 
 /// Eight texts that one pattern matches and the other does not.
 ///
-/// The component, and the length of its text:
+/// The text that the asked pattern means and the other does not:
 ///
 /// ```rust parting
-/// PatternCovering::NotCovered(parting) => {
-///     let name = parting.component;
-///     let length = parting.texts.get(name).chars().count();
-///     Ok(
-///         has_text(recorded, "component", name.as_str())
-///             && recorded.get("length").and_then(Value::as_u64) == Some(length as u64),
-///     )
-/// }
+/// let component = parting.component;
+/// let text = parting.texts.get(component);
 /// ```
 #[derive(Debug, Drop)]
 pub struct Parting {
@@ -64,16 +58,15 @@ pub struct Parting {
 
 /// Whether a pattern covers another.
 ///
-/// A test compares the length of a text that is not covered with the recorded one:
-///
-/// ```rust parting
-/// PatternCovering::NotCovered(parting) => {
-///     let name = parting.component;
-///     let length = parting.texts.get(name).chars().count();
-///     Ok(
-///         has_text(recorded, "component", name.as_str())
-///             && recorded.get("length").and_then(Value::as_u64) == Some(length as u64),
-///     )
+/// ```rust covering
+/// match covering {
+///     PatternCovering::Covered => Ok(format!(in alloc; "covered")?),
+///     PatternCovering::NotCovered(parting) => {
+///         let component = parting.component;
+///         let text = parting.texts.get(component);
+///         Ok(format!(in alloc; "not covered: {component} `{text}`")?)
+///     }
+///     PatternCovering::Unknown(component, _) => Ok(format!(in alloc; "unknown: {component}")?),
 /// }
 /// ```
 #[derive(Debug, Drop)]
@@ -90,12 +83,9 @@ pub enum PatternCovering {
 ///
 /// ```rust overlap
 /// match overlap {
-///     PatternOverlap::Apart => Ok(recorded.as_str() == Some("apart")),
-///     PatternOverlap::Common(texts) => {
-///         let length = texts.pathname.chars().count();
-///         Ok(recorded.as_u64() == Some(length as u64))
-///     }
-///     PatternOverlap::Unknown(name, reason) => is_unknown(name, reason, recorded),
+///     PatternOverlap::Apart => Ok(format!(in alloc; "apart")?),
+///     PatternOverlap::Common(texts) => Ok(format!(in alloc; "common: {}", texts.pathname)?),
+///     PatternOverlap::Unknown(component, _) => Ok(format!(in alloc; "unknown: {component}")?),
 /// }
 /// ```
 #[derive(Debug, Drop)]

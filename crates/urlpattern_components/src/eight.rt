@@ -48,10 +48,7 @@ macro_rules! with_fields {
 /// them.
 ///
 /// ```rust names
-/// for component in ComponentName::all() {
-///     let name = component.to_string(rt.alloc())?;
-///     assert_eq!(rt; ComponentName::from_name(&name), Some(component));
-/// }
+/// let component = ComponentName::from_name(text);
 /// ```
 #[derive(Debug, Clone, Copy, PartialEq, Eq, PartialOrd, Ord, Hash)]
 pub enum ComponentName {
@@ -134,13 +131,17 @@ impl fmt::Display for ComponentName {
 
 /// A value for each component.
 ///
-/// Here `text_of` finds the text of a component:
+/// An init with a pattern for the path alone:
 ///
 /// ```rust init_of
-/// pub fn init_of(alloc: Global, fields: Fields<'_>) -> Result<UrlPatternInit, Error> {
-///     let texts = Eight::try_from_fn(|name| text_of(alloc, fields, name))?;
-///     Ok(UrlPatternInit::from_eight(texts, None))
-/// }
+/// let text_of = |component| -> Result<Option<String>, Error> {
+///     match component {
+///         ComponentName::Pathname => Ok(Some(String::from_str(alloc, "/users/:id")?)),
+///         _ => Ok(None),
+///     }
+/// };
+/// let texts = Eight::try_from_fn(text_of)?;
+/// let init = UrlPatternInit::from_eight(texts, None);
 /// ```
 #[derive(Debug, Clone, PartialEq, Eq, Drop)]
 pub struct Eight<T> {

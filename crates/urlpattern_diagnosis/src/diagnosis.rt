@@ -16,13 +16,12 @@ use urlpattern_syntax::Error;
 
 /// What is at fault.
 ///
-/// In a list, the number of the pattern is printed unless the base URL is at fault:
-///
 /// ```rust subject
-/// match diagnosis.subject {
-///     Subject::Base => Ok(format!(in alloc; "{diagnosis}\n")?),
-///     _ => Ok(format!(in alloc; "pattern {index}: {diagnosis}\n")?),
-/// }
+/// let subject = match diagnosis.subject {
+///     Subject::Base => "the base URL",
+///     Subject::Component(component) => component.as_str(),
+///     Subject::Whole => "the pattern",
+/// };
 /// ```
 #[derive(Debug, Clone, Copy, PartialEq, Eq)]
 pub enum Subject {
@@ -36,17 +35,8 @@ pub enum Subject {
 
 /// The diagnosis of a rejected pattern: the error, and which part of which text is at fault.
 ///
-/// Here `diagnosed` calls `UrlPattern::diagnose`:
-///
 /// ```rust diagnosis
-/// match diagnosed(alloc, pattern, base)? {
-///     Some(diagnosis) => {
-///         let text = format!(in alloc; "{diagnosis}\n");
-///         drop(diagnosis);
-///         Ok(Some(text?))
-///     }
-///     None => Ok(None),
-/// }
+/// let reason = &diagnosis.reason;
 /// ```
 #[derive(Debug, Drop)]
 pub struct Diagnosis {

@@ -17,15 +17,8 @@ use urlpattern_syntax::tokenizer::{Token, TokenType, TokenizePolicy};
 
 /// Where a text is at fault.
 ///
-/// A test compares the spans of a diagnosis with recorded ones:
-///
 /// ```rust fault
-/// Ok(
-///     are_lines
-///         && has_text(recorded, "subject", diagnosis.subject.name())
-///         && is_span(recorded, "span", Some(diagnosis.fault.span))
-///         && is_span(recorded, "earlier", diagnosis.fault.earlier),
-/// )
+/// let earlier = diagnosis.fault.earlier;
 /// ```
 #[derive(Debug, Clone, Copy, PartialEq, Eq)]
 pub struct Fault {

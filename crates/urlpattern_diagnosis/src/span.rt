@@ -4,16 +4,11 @@ ghost use Rattle.urlpattern_diagnosis.specs.Spans.{IsSpanAt, IsSpanIn, whole_spa
 
 /// A part of a text, by the byte indices of its first character and after its last.
 ///
-/// A test compares a span, if there is one, with a recorded list of two numbers:
+/// The part of the text at fault:
 ///
 /// ```rust span
-/// match (list(recorded, name), span) {
-///     (Ok([start, end]), Some(span)) => {
-///         start.as_u64() == Some(span.start as u64) && end.as_u64() == Some(span.end as u64)
-///     }
-///     (Err(_), None) => true,
-///     _ => false,
-/// }
+/// let span = diagnosis.fault.span;
+/// let part = diagnosis.text.get(span.start..span.end);
 /// ```
 #[derive(Debug, Clone, Copy, PartialEq, Eq)]
 pub struct Span {

@@ -11,14 +11,13 @@ use urlpattern_syntax::error::{OutOfMemory, RegExpError};
 /// The crate `regex` compiles the text once, and the value keeps the result. The value matches by
 /// that `Regex`, and matches nothing if `regex` rejected the text.
 ///
-/// Here `path_of` compiles the component of a path. The engine rejects its regular expression:
+/// A pattern whose engine is a browser's, as plain data:
 ///
-/// ```rust plain
-/// let component: Component<EcmaRegexp> = path_of(alloc, "/(a[)")?;
-/// let plain = UrlPatternComponent::from_component(alloc, component)?;
-/// assert_eq!(rt; plain.pattern_string.as_str(), "/(a[)");
-/// assert_eq!(rt; plain.regexp_string.as_str(), "");
-/// assert_eq!(rt; plain.matcher.inner, middle);
+/// ```rust plain_pattern
+/// let input = StringOrInit::String(CowStr::Borrowed("https://example.com/users/:id"));
+/// let init = process_construct_pattern_input(alloc, input, None)?;
+/// let options = UrlPatternOptions::default();
+/// let users: UrlPattern = parse_pattern::<EcmaRegexp>(alloc, init, options)?;
 /// ```
 pub struct EcmaRegexp(String, String, Option<Regex>);
 

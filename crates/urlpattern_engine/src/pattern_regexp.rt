@@ -32,7 +32,7 @@ use urlpattern_syntax::error::{OutOfMemory, RegExpError};
 /// ```rust own_engine
 /// type Pattern = UrlPattern<PatternRegexp>;
 ///
-/// /// The pattern of a constructor string.
+/// /// Compiles a constructor string.
 /// fn pattern(alloc: Global, text: &str) -> Result<Pattern, Error> {
 ///     Pattern::from_constructor_string(alloc, text, None, UrlPatternOptions::default())
 /// }

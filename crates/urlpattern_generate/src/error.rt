@@ -10,17 +10,14 @@ use urlpattern_components::ComponentName;
 
 /// Why a pattern has no text with the values of its groups.
 ///
-/// A test compares an error with the recorded one:
+/// With `path` as the result of `UrlPattern::generate`:
 ///
 /// ```rust generate_error
-/// GenerateError::NotCaptured(component, name) => Ok(
-///     is_refused(recorded, "not captured", *component) && has_text(recorded, "group", name),
-/// ),
-/// GenerateError::ReadOtherwise(component) => {
-///     Ok(is_refused(recorded, "read otherwise", *component))
+/// match path {
+///     Ok(path) => Ok(format!(in alloc; "the path {path}")?),
+///     Err(GenerateError::OutOfMemory) => Err(Error::OutOfMemory),
+///     Err(error) => Ok(format!(in alloc; "no path: {error}")?),
 /// }
-/// GenerateError::NoParts => Ok(has_text(recorded, "refused", "no parts")),
-/// GenerateError::OutOfMemory => Err(Fault::OutOfMemory),
 /// ```
 #[derive(Debug, PartialEq, Eq, Drop)]
 pub enum GenerateError {

@@ -15,7 +15,7 @@ use urlpattern_components::{ComponentName, Eight, field_of, with_fields};
 
 /// The patterns of a URL pattern's components, or the components of a URL to match.
 ///
-/// Here `Pattern` is `UrlPattern<PatternRegexp>`:
+/// With `Pattern` as `UrlPattern<PatternRegexp>`:
 ///
 /// ```rust init
 /// let mut init = UrlPatternInit::default();
@@ -84,12 +84,9 @@ impl UrlPatternInit {
 
 /// What a pattern is matched against.
 ///
-/// Here `url_of` parses a URL:
-///
 /// ```rust url_input
-/// pub fn url_input(alloc: Global, text: &str) -> Result<UrlPatternMatchInput, Error> {
-///     Ok(UrlPatternMatchInput::Url(url_of(alloc, text)?))
-/// }
+/// let url = Url::parse(alloc, "https://example.com/users/123")?;
+/// let input = UrlPatternMatchInput::Url(url);
 /// ```
 ///
 /// <https://urlpattern.spec.whatwg.org/#typedefdef-urlpatterninput>

@@ -20,14 +20,10 @@ use urlpattern_syntax::Error;
 /// The patterns of a URL's components, or its texts, and the text of a base URL. `None`: the text
 /// is not given.
 ///
-/// Here `fields` is JSON with a string or an init:
-///
-/// ```rust given
-/// if let Some(text) = optional_text(fields, "string") {
-///     return Ok(StringOrInit::String(CowStr::Borrowed(text)));
-/// }
-/// let init = read(UrlPatternInit::from_json_value(alloc, field(fields, "init")?))?;
-/// Ok(StringOrInit::Init(init))
+/// ```rust plain_init
+/// let mut init = UrlPatternInit::default();
+/// init.pathname = Some(String::from_str(alloc, "/:id")?);
+/// init.base_url = Some(String::from_str(alloc, "https://example.com/users/")?);
 /// ```
 ///
 /// <https://urlpattern.spec.whatwg.org/#dictdef-urlpatterninit>

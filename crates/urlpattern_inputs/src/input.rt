@@ -15,14 +15,8 @@ use urlpattern_syntax::Error;
 
 /// What a pattern is constructed from, or what it is matched against.
 ///
-/// Here `fields` is JSON with a string or an init:
-///
 /// ```rust given
-/// if let Some(text) = optional_text(fields, "string") {
-///     return Ok(StringOrInit::String(CowStr::Borrowed(text)));
-/// }
-/// let init = read(UrlPatternInit::from_json_value(alloc, field(fields, "init")?))?;
-/// Ok(StringOrInit::Init(init))
+/// let input = StringOrInit::String(CowStr::Borrowed("https://example.com/users/:id"));
 /// ```
 ///
 /// <https://urlpattern.spec.whatwg.org/#typedefdef-urlpatterninput>

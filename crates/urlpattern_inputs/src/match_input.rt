@@ -17,13 +17,11 @@ use urlpattern_syntax::Error;
 
 /// The texts of the components that a pattern is matched against.
 ///
-/// The JSON of eight empty texts:
+/// The texts of a URL:
 ///
 /// ```rust texts
-/// let texts = MatchInput::default(alloc);
-/// let tree = texts.to_json_value(alloc);
-/// drop(texts);
-/// tree
+/// let url = Url::parse(alloc, "https://example.com/users/123")?;
+/// let texts = parse_match_input(alloc, UrlPatternMatchInput::Url(url))?;
 /// ```
 #[derive(Debug, PartialEq, Eq, Drop, Serialize, Deserialize)]
 pub struct MatchInput {

@@ -12,10 +12,11 @@ use urlpattern_syntax::{Error, RegexSyntax};
 
 /// The options of a whole pattern. The default is the syntax of Rust's `regex`, with case kept.
 ///
-/// ```rust new_users
-/// let options = UrlPatternOptions::default();
-/// let pattern = UrlPattern::from_constructor_string(alloc, router::USERS, None, options)?;
-/// Ok(Self { pattern })
+/// ```rust plain_options
+/// let options = UrlPatternOptions {
+///     regex_syntax: RegexSyntax::EcmaScript,
+///     ignore_case: true,
+/// };
 /// ```
 ///
 /// <https://urlpattern.spec.whatwg.org/#dictdef-urlpatternoptions>

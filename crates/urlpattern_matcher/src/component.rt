@@ -21,10 +21,8 @@ use urlpattern_syntax::error::Error;
 /// `Component` implements `Drop`, so `into_fields` moves the fields out together.
 ///
 /// ```rust path_of
-/// pub fn path_of<R: RegExp>(alloc: Global, pattern: &str) -> Result<Component<R>, Error> {
-///     let unchanged = |text: &str| -> Result<String, Error> { Ok(String::from_str(alloc, text)?) };
-///     Component::compile(alloc, Some(pattern), unchanged, Options::pathname(alloc)?)
-/// }
+/// let copied = |text: &str| -> Result<String, Error> { Ok(String::from_str(alloc, text)?) };
+/// let path: Component<PatternRegexp> = Component::compile(alloc, Some("/:id"), copied, options)?;
 /// ```
 ///
 /// <https://urlpattern.spec.whatwg.org/#component>

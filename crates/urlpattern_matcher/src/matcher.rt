@@ -16,12 +16,12 @@ use urlpattern_syntax::error::Error;
 
 /// A matcher of texts: a prefix, a suffix, and what is between them.
 ///
-/// Here `parts_of` parses a pattern text:
+/// From a pattern text to a matcher, with `copied` as the callback that changes nothing:
 ///
 /// ```rust matcher_of
-/// let options = Options::default(alloc);
-/// let parts = parts_of(alloc, "{a}?b", &options)?;
-/// generate_matcher(alloc, &parts, &options, "u")
+/// let options = Options::pathname(alloc)?;
+/// let parts = parse_pattern_string(alloc, "/users", &options, copied)?;
+/// let matcher: Matcher<PatternRegexp> = generate_matcher(alloc, &parts, &options, "")?;
 /// ```
 #[derive(Debug, Drop)]
 pub struct Matcher<R> {
@@ -38,18 +38,14 @@ pub struct Matcher<R> {
 
 /// What is between the prefix and the suffix of a text.
 ///
-/// A matcher keeps the error of an expression that was rejected, and then matches nothing:
+/// A matcher keeps the error of an expression that was rejected, and then matches nothing.
 ///
-/// ```rust refused_matcher
-/// assert!(rt;
-///     matches!(
-///         &matcher.inner,
-///         InnerMatcher::RegExp {
-///             regexp: Err(Error::RegExp(()))
-///         }
-///     )
-/// );
-/// assert!(rt; matcher.matches(alloc, "b")?.is_none());
+/// ```rust inner
+/// match &matcher.inner {
+///     InnerMatcher::Literal { literal } => Ok(format!(in alloc; "the text {literal}")?),
+///     InnerMatcher::SingleCapture { .. } => Ok(format!(in alloc; "one group")?),
+///     InnerMatcher::RegExp { .. } => Ok(format!(in alloc; "an engine")?),
+/// }
 /// ```
 #[derive(Debug, Drop)]
 pub enum InnerMatcher<R> {

@@ -25,13 +25,12 @@ use urlpattern_syntax::error::OutOfMemory;
 ///
 /// `UrlPattern::captures` returns it.
 ///
-/// The groups of the path `/a/b`, which `/a/:x{/:y}?` matches:
+/// The groups of the path `/users/123`, which `/users/:id{/files/:file}?` matches:
 ///
 /// ```rust groups
 /// let mut groups = found.groups(ComponentName::Pathname);
-/// assert_eq!(rt; groups.next(), Some(("x", Some("b"))));
-/// assert_eq!(rt; groups.next(), Some(("y", None)));
-/// assert_eq!(rt; groups.next(), None);
+/// let id = groups.next();
+/// let file = groups.next();
 /// ```
 #[derive(Debug, Clone)]
 pub struct UrlPatternCaptures<'p, 'u> {
@@ -83,7 +82,7 @@ impl<'p, 'u> UrlPatternCaptures<'p, 'u> {
     /// Returns what the group of a name captured, a slice of the component's text. `None`: there is
     /// no such group, or it took no part. The last of equal names counts.
     ///
-    /// Here `users` is compiled from `https://example.com/users/:id`, and `ID` is the text `id`:
+    /// With `users` compiled from `https://example.com/users/:id`, and `ID` as the text `id`:
     ///
     /// ```rust user
     /// let Some(found) = users.captures(alloc, url)? else {

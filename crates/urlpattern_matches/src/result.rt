@@ -21,11 +21,10 @@ use urlpattern_syntax::error::OutOfMemory;
 
 /// The result of a match: the result of each component.
 ///
-/// The path `/1/2`, which `/:b/:a{/:c}?` matches:
+/// The group of the path `/users/123`, which `/users/:id` matches:
 ///
 /// ```rust result
-/// assert_eq!(rt; found.get(ComponentName::Pathname, "a"), Some("2"));
-/// assert_eq!(rt; found.get(ComponentName::Search, "a"), None);
+/// let id = found.get(ComponentName::Pathname, "id");
 /// ```
 ///
 /// <https://urlpattern.spec.whatwg.org/#dictdef-urlpatternresult>
@@ -51,15 +50,10 @@ pub struct UrlPatternResult {
 
 /// The result of a match for one component.
 ///
-/// Here `groups` lists the names in order, each with its capture:
+/// With the result of a match:
 ///
 /// ```rust sorted_names
-/// let names = found.sorted_names(alloc)?;
-/// assert_eq!(rt; names.len(), groups.len());
-/// for (name, (expected, captured)) in names.iter().zip(groups) {
-///     assert_eq!(rt; name, expected);
-///     assert_eq!(rt; found.get(name), *captured);
-/// }
+/// let names = found.pathname.sorted_names(alloc)?;
 /// ```
 ///
 /// <https://urlpattern.spec.whatwg.org/#dictdef-urlpatterncomponentresult>

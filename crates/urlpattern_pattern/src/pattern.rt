@@ -34,7 +34,7 @@ use urlpattern_matcher::regexp::RegExp;
 /// ```rust own_engine
 /// type Pattern = UrlPattern<PatternRegexp>;
 ///
-/// /// The pattern of a constructor string.
+/// /// Compiles a constructor string.
 /// fn pattern(alloc: Global, text: &str) -> Result<Pattern, Error> {
 ///     Pattern::from_constructor_string(alloc, text, None, UrlPatternOptions::default())
 /// }

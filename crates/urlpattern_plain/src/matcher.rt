@@ -33,12 +33,13 @@ pub struct Matcher {
     pub inner: InnerMatcher,
 }
 
-/// What matches between the prefix and the suffix of a text. In JSON the key `kind` names the
-/// variant.
+/// With `path` as the plain component of `/users/:id`:
 ///
 /// ```rust inner_matcher
-/// let middle = InnerMatcher::RegExp {
-///     regexp: String::from_str(alloc, "^(?:/(a[))$")?,
+/// let matched = match &path.matcher.inner {
+///     InnerMatcher::Literal { literal } => literal.as_str(),
+///     InnerMatcher::SingleCapture { .. } => "one group",
+///     InnerMatcher::RegExp { regexp } => regexp.as_str(),
 /// };
 /// ```
 #[derive(Debug, Clone, PartialEq, Eq, Drop, Serialize, Deserialize)]

@@ -27,14 +27,13 @@ use urlpattern_syntax::Error;
 
 /// A pattern for each of a URL's components.
 ///
-/// The JSON of the pattern that a browser's input stands for:
+/// From a constructor string to plain data:
 ///
 /// ```rust plain_pattern
-/// let init = process_construct_pattern_input(alloc, input, base)?;
-/// let pattern = parse_pattern::<R>(alloc, init, options)?;
-/// let tree = pattern.to_json_value(alloc);
-/// drop(pattern);
-/// tree
+/// let input = StringOrInit::String(CowStr::Borrowed("https://example.com/users/:id"));
+/// let init = process_construct_pattern_input(alloc, input, None)?;
+/// let options = UrlPatternOptions::default();
+/// let users: UrlPattern = parse_pattern::<EcmaRegexp>(alloc, init, options)?;
 /// ```
 #[derive(Debug, PartialEq, Eq, Drop, Serialize, Deserialize)]
 #[serde(rename_all = "camelCase")]
@@ -61,14 +60,12 @@ pub struct UrlPattern {
 
 /// The pattern of one component.
 ///
-/// A component whose regular expression was rejected has an empty text for it:
+/// A component whose regular expression was rejected has an empty text for it. The expression of a
+/// path:
 ///
 /// ```rust plain
-/// let component: Component<EcmaRegexp> = path_of(alloc, "/(a[)")?;
-/// let plain = UrlPatternComponent::from_component(alloc, component)?;
-/// assert_eq!(rt; plain.pattern_string.as_str(), "/(a[)");
-/// assert_eq!(rt; plain.regexp_string.as_str(), "");
-/// assert_eq!(rt; plain.matcher.inner, middle);
+/// let path = &users.pathname;
+/// let expression = path.regexp_string.as_str();
 /// ```
 #[derive(Debug, PartialEq, Eq, Drop, Serialize, Deserialize)]
 #[serde(rename_all = "camelCase")]

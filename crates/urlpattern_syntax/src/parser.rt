@@ -19,16 +19,10 @@ pub const FULL_WILDCARD_REGEXP_VALUE: &str = ".*";
 
 /// The syntax of generated regular expressions.
 ///
-/// In JSON a syntax is its name:
+/// In JSON a syntax is its name. One of the options of a component:
 ///
 /// ```rust syntax
-/// for (syntax, json) in [
-///     (RegexSyntax::Rust, "\"Rust\""),
-///     (RegexSyntax::EcmaScript, "\"EcmaScript\""),
-/// ] {
-///     assert_eq!(rt; serde_json::to_string(alloc, &syntax)?.as_str(), json);
-///     assert_eq!(rt; serde_json::from_str::<RegexSyntax>(alloc, json)?, syntax);
-/// }
+/// regex_syntax: RegexSyntax::EcmaScript,
 /// ```
 #[derive(Clone, Copy, Debug, Default, PartialEq, Eq, Deserialize, Serialize)]
 pub enum RegexSyntax {
@@ -123,7 +117,7 @@ impl fmt::Display for PartModifier {
 
 /// A part of a pattern.
 ///
-/// Here `printed_and_read` prints parts and parses the text again:
+/// With `printed_and_read` as a function that prints parts and parses the text again:
 ///
 /// ```rust printed
 /// let options = Options::pathname(alloc)?;

@@ -58,13 +58,7 @@ impl TokenType {
 /// A token: its kind, its place and its value.
 ///
 /// ```rust tokens
-/// let tokens = tokenize(rt.alloc(), "/users/:id", TokenizePolicy::Strict)?;
-/// for token in &tokens {
-///     let copy = token.clone()?;
-///     assert_eq!(rt; copy.kind, token.kind);
-///     assert_eq!(rt; copy.index, token.index);
-///     assert_eq!(rt; copy.value, token.value);
-/// }
+/// let tokens = tokenize(alloc, "/users/:id", TokenizePolicy::Strict)?;
 /// ```
 ///
 /// <https://urlpattern.spec.whatwg.org/#token>

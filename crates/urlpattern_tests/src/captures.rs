@@ -43,19 +43,15 @@ fn expect_borrowed(rt: &impl Abort, found: &UrlPatternCaptures<'_, '_>) {
 
 /// Compares the groups of a component, and those of all components, in order.
 fn expect_groups(rt: &impl Abort, found: &UrlPatternCaptures<'_, '_>) {
-    // docs: groups
     let mut groups = found.groups(ComponentName::Pathname);
     assert_eq!(rt; groups.next(), Some(("x", Some("b"))));
     assert_eq!(rt; groups.next(), Some(("y", None)));
     assert_eq!(rt; groups.next(), None);
-    // docs: end
-    // docs: all_groups
     let mut groups = found.iter();
     for group in EACH {
         assert_eq!(rt; groups.next(), Some(*group));
     }
     assert_eq!(rt; groups.next(), None);
-    // docs: end
 }
 
 /// Compares a match and its copy.

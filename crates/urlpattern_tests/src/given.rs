@@ -30,19 +30,15 @@ pub fn url_of(alloc: Global, text: &str) -> Result<Url, Error> {
 }
 
 /// Parses a URL as an input.
-// docs: url_input
 pub fn url_input(alloc: Global, text: &str) -> Result<UrlPatternMatchInput, Error> {
     Ok(UrlPatternMatchInput::Url(url_of(alloc, text)?))
 }
-// docs: end
 
 /// An init with these texts.
-// docs: init_of
 pub fn init_of(alloc: Global, fields: Fields<'_>) -> Result<UrlPatternInit, Error> {
     let texts = Eight::try_from_fn(|name| text_of(alloc, fields, name))?;
     Ok(UrlPatternInit::from_eight(texts, None))
 }
-// docs: end
 
 /// The text for a component.
 fn text_of(
@@ -64,12 +60,10 @@ pub fn pattern_of<R: RegExp>(alloc: Global, fields: Fields<'_>) -> Result<UrlPat
 }
 
 /// The component of a path, whose texts are kept as they are.
-// docs: path_of
 pub fn path_of<R: RegExp>(alloc: Global, pattern: &str) -> Result<Component<R>, Error> {
     let unchanged = |text: &str| -> Result<String, Error> { Ok(String::from_str(alloc, text)?) };
     Component::compile(alloc, Some(pattern), unchanged, Options::pathname(alloc)?)
 }
-// docs: end
 
 /// The parts of a pattern whose texts are kept as they are.
 pub fn parts_of(alloc: Global, pattern: &str, options: &Options) -> Result<Vec<Part>, Error> {

@@ -146,24 +146,20 @@ fn captures_that_are_too_many_too_few_or_foreign(rt: HostRuntime) -> Result<(), 
 #[test]
 fn an_error_in_place_of_an_engine_matches_nothing(rt: HostRuntime) -> Result<(), Fail> {
     let alloc = rt.alloc();
-    // docs: test
     let input = url_input(alloc, URL)?;
     let pathname: Component<Regex> = by_hand(alloc, Vec::new(alloc), Err(Error::RegExp(())));
     let pattern = with_pathname(alloc, pathname)?;
     let is_matched = pattern.test(alloc, input);
     drop(pattern);
     assert!(rt; !is_matched?);
-    // docs: end
     Ok(())
 }
 
 /// A matcher that calls an engine with the text before `b`.
 fn matcher_of<R: RegExp>(alloc: Global) -> Result<Matcher<R>, Error> {
-    // docs: matcher_of
     let options = Options::default(alloc);
     let parts = parts_of(alloc, "{a}?b", &options)?;
     generate_matcher(alloc, &parts, &options, "u")
-    // docs: end
 }
 
 /// Whether the pattern of an empty init is rejected because its regular expressions are.
@@ -185,7 +181,6 @@ fn expect_refused(
     alloc: Global,
     matcher: &Matcher<Refusing>,
 ) -> Result<(), Error> {
-    // docs: refused_matcher
     assert!(rt;
         matches!(
             &matcher.inner,
@@ -195,7 +190,6 @@ fn expect_refused(
         )
     );
     assert!(rt; matcher.matches(alloc, "b")?.is_none());
-    // docs: end
     assert!(rt; !matcher.accepts(alloc, "ab")?);
     Ok(())
 }

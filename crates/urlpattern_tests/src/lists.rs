@@ -184,14 +184,12 @@ fn expect_matches(
 ) -> Result<(), Error> {
     let url = url_of(alloc, "https://example.com/a/b")?;
     let mut found = Vec::new(alloc);
-    // docs: matches
     for item in list.matches(alloc, &url) {
         let (index, captures) = item?;
         assert_eq!(rt; captures.input(ComponentName::Pathname), "/a/b");
         drop(captures);
         found.push(index)?;
     }
-    // docs: end
     drop(url);
     expect_same(rt, found.as_slice(), indices, "all matches");
     Ok(())

@@ -39,12 +39,10 @@ fn first_value(
 /// Compares the elements of a map with the routes.
 fn expect_held(rt: &impl Abort, map: &UrlPatternMap<u32>) {
     expect_same(rt, map.len(), ROUTES.len(), "the map");
-    // docs: map_entries
     for ((pattern, value), (pathname, expected)) in map.iter().zip(&ROUTES) {
         assert_eq!(rt; pattern.pathname(), *pathname);
         assert_eq!(rt; value, expected);
     }
-    // docs: end
     let mut sum = 0u64;
     for (_, value) in map {
         sum = sum.wrapping_add(u64::from(*value));

@@ -60,12 +60,10 @@ fn expect_mismatch(
     url: &str,
     expected: Option<ComponentName>,
 ) -> Result<(), Error> {
-    // docs: mismatch
     let parsed = url_of(alloc, url)?;
     let found = pattern.mismatch(alloc, &parsed);
     let of_texts = pattern.mismatch_of_texts(alloc, &url_texts(&parsed));
     drop(parsed);
-    // docs: end
     expect_same(rt, found?, expected, url);
     expect_same(rt, of_texts?, expected, url);
     Ok(())

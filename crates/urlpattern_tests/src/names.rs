@@ -7,12 +7,10 @@ use urlpattern_syntax::Error;
 
 #[test]
 fn a_component_prints_as_its_name_and_is_read_from_it(rt: HostRuntime) -> Result<(), Fail> {
-    // docs: names
     for component in ComponentName::all() {
         let name = component.to_string(rt.alloc())?;
         assert_eq!(rt; ComponentName::from_name(&name), Some(component));
     }
-    // docs: end
     for name in ["", "Pathname", "path", "host", "href"] {
         expect_same(&rt, ComponentName::from_name(name), None, name);
     }

@@ -12,18 +12,14 @@ use urlpattern::{ComponentName, Error, UrlPatternMatchInput};
 #[test]
 fn a_refused_regular_expression_is_an_empty_text(rt: HostRuntime) -> Result<(), Fail> {
     let alloc = rt.alloc();
-    // docs: inner_matcher
     let middle = InnerMatcher::RegExp {
         regexp: String::from_str(alloc, "^(?:/(a[))$")?,
     };
-    // docs: end
-    // docs: plain
     let component: Component<EcmaRegexp> = path_of(alloc, "/(a[)")?;
     let plain = UrlPatternComponent::from_component(alloc, component)?;
     assert_eq!(rt; plain.pattern_string.as_str(), "/(a[)");
     assert_eq!(rt; plain.regexp_string.as_str(), "");
     assert_eq!(rt; plain.matcher.inner, middle);
-    // docs: end
     drop(plain);
     drop(middle);
     Ok(())
@@ -31,12 +27,10 @@ fn a_refused_regular_expression_is_an_empty_text(rt: HostRuntime) -> Result<(), 
 
 /// The JSON of the default texts.
 fn default_tree(alloc: Global) -> Result<Value, Error> {
-    // docs: texts
     let texts = MatchInput::default(alloc);
     let tree = texts.to_json_value(alloc);
     drop(texts);
     tree
-    // docs: end
 }
 
 #[test]

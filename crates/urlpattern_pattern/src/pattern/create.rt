@@ -39,7 +39,7 @@ impl<R: RegExp> UrlPattern<R> {
     /// matches by its texts (`AnswersByItsText`). The first way is the captures that a backtracking
     /// engine finds first.
     ///
-    /// Here `Pattern` is `UrlPattern<PatternRegexp>`, and the init has a pattern for the path alone:
+    /// With `Pattern` as `UrlPattern<PatternRegexp>`, and a pattern for the path alone:
     ///
     /// ```rust init
     /// let mut init = UrlPatternInit::default();
@@ -68,7 +68,7 @@ impl<R: RegExp> UrlPattern<R> {
     /// The error is that `url` rejects the base URL, that the string is rejected, that of compiling
     /// the pattern, or that memory ran out.
     ///
-    /// Here `USERS` is the text `https://example.com/users/:id`:
+    /// With `USERS` as the text `https://example.com/users/:id`:
     ///
     /// ```rust new_users
     /// let options = UrlPatternOptions::default();

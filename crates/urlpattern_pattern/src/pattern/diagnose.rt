@@ -21,17 +21,11 @@ impl<R: RegExp> UrlPattern<R> {
     ///
     /// A string that is rejected is parsed a second time, to find the fault.
     ///
-    /// The program `urlpat` calls it with the default options:
+    /// With `Pattern` as `UrlPattern<PatternRegexp>`:
     ///
     /// ```rust diagnose
-    /// fn diagnosed(
-    ///     alloc: Global,
-    ///     pattern: &str,
-    ///     base: Option<&str>,
-    /// ) -> Result<Option<Diagnosis>, OutOfMemory> {
-    ///     let options = UrlPatternOptions::default();
-    ///     UrlPattern::<PatternRegexp>::diagnose(alloc, pattern, base, options)
-    /// }
+    /// let options = UrlPatternOptions::default();
+    /// let diagnosis = Pattern::diagnose(alloc, pattern, None, options)?;
     /// ```
     pub fn diagnose(
         alloc: Global,

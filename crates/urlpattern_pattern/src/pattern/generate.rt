@@ -23,14 +23,12 @@ impl<R: RegExp> UrlPattern<R> {
     /// the component would be read with other groups or is not canonical, that the pattern was put
     /// together by hand, or that memory ran out.
     ///
-    /// A test compares the text, or the error, with the recorded one:
+    /// With `pattern` as a function that compiles a constructor string:
     ///
     /// ```rust generate
-    /// Ok(pattern) => {
-    ///     let found = pattern.generate(case.alloc, component, &groups);
-    ///     drop(pattern);
-    ///     is_recorded(found, recorded)
-    /// }
+    /// let users = pattern(alloc, "https://example.com/users/:id")?;
+    /// let groups = [(ComponentName::Pathname, "id", id)];
+    /// let path = users.generate(alloc, ComponentName::Pathname, &groups);
     /// ```
     pub fn generate(
         &self,

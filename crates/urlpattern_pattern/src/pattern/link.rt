@@ -30,7 +30,7 @@ impl<R: RegExp> UrlPattern<R> {
     /// the texts of the components, that the text of a component would be read with other groups,
     /// that the pattern was put together by hand, or that memory ran out.
     ///
-    /// Here the pattern is compiled from `https://example.com/users/:id`:
+    /// With a pattern that was compiled from `https://example.com/users/:id`:
     ///
     /// ```rust user_link
     /// let url = match self

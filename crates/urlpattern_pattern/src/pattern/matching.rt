@@ -38,15 +38,13 @@ impl<R: RegExp> UrlPattern<R> {
     ///
     /// For a URL, only an engine allocates.
     ///
-    /// Here `by_hand` makes a component with an error in place of an engine, so the pattern matches nothing:
+    /// With `pattern` as a function that compiles a constructor string:
     ///
     /// ```rust test
-    /// let input = url_input(alloc, URL)?;
-    /// let pathname: Component<Regex> = by_hand(alloc, Vec::new(alloc), Err(Error::RegExp(())));
-    /// let pattern = with_pathname(alloc, pathname)?;
-    /// let is_matched = pattern.test(alloc, input);
-    /// drop(pattern);
-    /// assert!(rt; !is_matched?);
+    /// let users = pattern(alloc, "https://example.com/users/:id")?;
+    /// let url = Url::parse(alloc, "https://example.com/users/123")?;
+    /// let input = UrlPatternMatchInput::Url(url);
+    /// let is_user = users.test(alloc, input)?;
     /// ```
     ///
     /// <https://urlpattern.spec.whatwg.org/#url-pattern-match>
@@ -70,17 +68,12 @@ impl<R: RegExp> UrlPattern<R> {
     ///
     /// For a URL, only an engine and the copy of a match allocate.
     ///
-    /// Here `url_input` parses a URL and `pattern_of` compiles a pattern, which is dropped before its match is used:
+    /// With `pattern` as a function that compiles a constructor string:
     ///
     /// ```rust exec
-    /// let input = url_input(alloc, url)?;
-    /// let pattern: UrlPattern = pattern_of(alloc, fields)?;
-    /// let found = pattern.exec(alloc, input);
-    /// drop(pattern);
-    /// match found? {
-    ///     Some(found) => Ok(found),
-    ///     None => Err(Fail::from("no match")),
-    /// }
+    /// let users = pattern(alloc, "https://example.com/users/:id")?;
+    /// let url = Url::parse(alloc, "https://example.com/users/123")?;
+    /// let found = users.exec(alloc, UrlPatternMatchInput::Url(url))?;
     /// ```
     ///
     /// <https://urlpattern.spec.whatwg.org/#url-pattern-match>
@@ -130,7 +123,7 @@ impl<R: RegExp> UrlPattern<R> {
     ///
     /// Only an engine allocates.
     ///
-    /// Here `users` is compiled from `https://example.com/users/:id`, and `ID` is the text `id`:
+    /// With `users` compiled from `https://example.com/users/:id`, and `ID` as the text `id`:
     ///
     /// ```rust user
     /// let Some(found) = users.captures(alloc, url)? else {
@@ -190,7 +183,7 @@ impl<R: RegExp> UrlPattern<R> {
     ///
     /// Only an engine allocates.
     ///
-    /// Here `users` has a pattern for the path alone, and there is no URL:
+    /// With a pattern for the path alone, and no URL:
     ///
     /// ```rust path
     /// let Some(found) = users.captures_of_texts(alloc, &pathname_texts(path))? else {

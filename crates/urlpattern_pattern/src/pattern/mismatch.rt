@@ -20,13 +20,12 @@ impl<R: RegExp> UrlPattern<R> {
     ///
     /// Only an engine allocates, and no engine is called after the component that is returned.
     ///
-    /// Here `url_of` parses a URL. Its eight texts have the same mismatch:
+    /// With `pattern` as a function that compiles a constructor string:
     ///
     /// ```rust mismatch
-    /// let parsed = url_of(alloc, url)?;
-    /// let found = pattern.mismatch(alloc, &parsed);
-    /// let of_texts = pattern.mismatch_of_texts(alloc, &url_texts(&parsed));
-    /// drop(parsed);
+    /// let users = pattern(alloc, "https://example.com/users/:id")?;
+    /// let url = Url::parse(alloc, "https://example.org/users/123")?;
+    /// let component = users.mismatch(alloc, &url)?;
     /// ```
     ///
     /// <https://urlpattern.spec.whatwg.org/#url-pattern-match>
