@@ -49,7 +49,7 @@ eighty = two_digits _ _ (omega arith) (omega arith)
 secure : IsAscii (codes "443")
 secure = three_digits _ _ _ (omega arith) (omega arith) (omega arith)
 
--- each default port is ASCII
+-- Each default port is ASCII.
 pub default_port-IsAscii : (protocol : List ℕ) → IfSome (default_port protocol) IsAscii
 default_port-IsAscii protocol =
     ascii_port (bytes_eq protocol (codes "http")) (Some (codes "80")) _ eighty
@@ -59,11 +59,11 @@ default_port-IsAscii protocol =
     (ascii_port (bytes_eq protocol (codes "ftp")) (Some (codes "21")) _ (two_digits _ _ (omega arith) (omega arith))
     (ascii_port (bytes_eq protocol (codes "file")) None None tt tt)))))
 
--- the text that an optional ASCII text holds is ASCII
+-- The text that an optional ASCII text holds is ASCII.
 pub ascii_some : (found : Option (Bor (List ℕ))) (text : Bor (List ℕ)) → found ≡ Some text → IfSome (option_copied found) IsAscii → IsAscii text.now
 ascii_some found text is ascii = rw is at ascii
 
--- a text equals an ASCII word exactly if its bytes do
+-- A text equals an ASCII word exactly if its bytes do.
 pub text_eq-ascii : (text : String Global) (word : List ℕ) → IsAscii word → bytes_eq (string_bytes text) word ≡ bytes_eq (text_of text) word
 text_eq-ascii text word ascii = sym (bytes_eq-chars (string_bytes text) word (IsUtf8-string_bytes text) ascii)
 
@@ -72,7 +72,7 @@ pub default_port-test : (protocol : List ℕ) (port default : Option (List ℕ))
 default_port-test protocol port default special is =
     ap (is_same port) is ∙ ap (λ test. test && is_same port (default_port protocol)) (sym special)
 
--- the values with an emptied port, if the port is the default
+-- The values with an emptied port, if the port is the default.
 pub emptied : (values : Values) (empty : List ℕ) → empty ≡ [] → has_default_port values.protocol values.port ≡ true
     → record values { port = Some empty } ≡ without_default_port values
 emptied values empty e is =
@@ -96,7 +96,7 @@ pub one_compiled : {E : Type 0} (engine : Engine E) (manner : Manner) (made : Co
     → (compiled : ComponentView E) × IsComponentCompiled engine manner compiled
 one_compiled engine manner made kept = (component_view made.component, kept_compiled engine manner made kept)
 
--- the components of a pattern that was compiled with its parts
+-- The components of a pattern that was compiled with its parts.
 abbrev pub made_view : {E : Type 0} → Eight (ComponentWithParts E) → PatternView E
 made_view made name = component_view (at made name).component
 
@@ -113,7 +113,7 @@ kept_are_compiled engine asked values made kept = record {
 pub memory_or-map : (P Q : ErrorView → Type 0) (error : Error) → ((view : ErrorView) → P view → Q view) → MemoryOr P error → MemoryOr Q error
 memory_or-map P Q error step reported = elim reported [ inl memory ↦ inl memory | inr refused ↦ inr (step _ refused) ]
 
--- an error that is passed on, in terms of the caller
+-- An error that is passed on, in terms of the caller.
 pub refused_later : {T : Type 0} (result : Result T Error) (error : Error) (Refuses Later : ErrorView → Type 0)
     → IsErrAnd result (λ passed. passed ≡ error) → MemoryOr Refuses error → ((view : ErrorView) → Refuses view → Later view)
     → IfErr result (MemoryOr Later)
@@ -130,7 +130,7 @@ first_refused engine manner [] after component view compiled refused = inl refus
 first_refused engine manner (earlier ∷ before) after component view (first, compiled) refused =
     inr (first, first_refused engine manner before after component view compiled refused)
 
--- an error that is passed on is the first, if all components before its own are compiled
+-- An error that is passed on is the first, if all components before its own are compiled.
 pub refused_after : {E T : Type 0} (engine : Engine E) (manner : Names → Manner) (result : Result T Error)
     (error : Error) (before after : List Names) (component : Names)
     → IsErrAnd result (λ passed. passed ≡ error)
@@ -189,7 +189,7 @@ refused_weaker engine strong weak h text pattern options manner (Err error) e f 
 bracket : IsAscii (codes "[")
 bracket = IsAscii-cons _ [] (omega arith) IsAscii-nil
 
--- whether the pattern is a bracket alone, by its bytes
+-- Whether the pattern is a bracket alone, by its bytes.
 abbrev pub ipv6_test : (alone : Bool) → List ℕ → Bool
 ipv6_test alone text =
     not alone

@@ -27,18 +27,18 @@ use Rattle.urlpattern_syntax.specs.declared.error.OutOfMemory.{OutOfMemory}
 use Rattle.urlpattern_components.specs.Eight.{Values}
 use Rattle.urlpattern_syntax.specs.Errors.{ErrorView, ErrorView as views, MemoryOr, error_view}
 
--- an error other than `OutOfMemory` has the property `P`
+-- An error other than `OutOfMemory` has the property `P`.
 pub is_other : (P : ErrorView → Type 0) (error other : Error) → MemoryOr P error → (other ≡ error) × (error_view error ≢ views.OutOfMemory) → P (error_view other)
 is_other P error other (inl e) same = absurd (same.1 e)
 is_other P error other (inr h) same = subst (λ (x : Error). P (error_view x)) (sym same.0) h
 
 module _ {E : Type 0} (engine : Engine E) (asked : UrlPatternOptions) (values : Values) where
-  -- the protocol is rejected
+  -- The protocol is rejected.
   pub protocol_refused : (error : Error) → IsComponentRefused engine (manner_of asked values false Protocol) (error_view error) →
       IsRefusalOf engine asked values (record { component = Protocol; hierarchical = false; error = error })
   protocol_refused error h = (inl h, (refl, h))
 
-  -- a component after the protocol is rejected
+  -- A component after the protocol is rejected.
   pub later_refused : (hierarchical : Bool) (protocol : ComponentView E) → IsComponentCompiled engine (manner_of asked values hierarchical Protocol) protocol →
       IsPathKind engine.answer values protocol.matcher hierarchical → (result : Result (Option Refusal) OutOfMemory) →
       IfOk result (λ found. IfSome found (λ refusal. FirstRefused engine (manner_of asked values hierarchical) after_protocol (error_of refusal))) →
@@ -52,7 +52,7 @@ module _ {E : Type 0} (engine : Engine E) (asked : UrlPatternOptions) (values : 
   )
 
   module _ (refusal : Refusal) (result : Result Diagnosis OutOfMemory) (is : IsRefusalOf engine asked values refusal) (same : IfOk result (λ (diagnosis : Diagnosis). diagnosis.error ≡ refusal.error)) where
-    -- the values are rejected with the error of the diagnosis
+    -- The values are rejected with the error of the diagnosis.
     pub refused_so : IfOk result (λ (diagnosis : Diagnosis). RefusesValues engine asked values (error_view diagnosis.error))
     refused_so = by_result result same
       where
@@ -60,7 +60,7 @@ module _ {E : Type 0} (engine : Engine E) (asked : UrlPatternOptions) (values : 
         by_result (Err memory) same = tt
         by_result (Ok diagnosis) same = subst (λ (error : Error). RefusesValues engine asked values (error_view error)) (sym same) is.0
 
--- the diagnosis shows the component
+-- The diagnosis shows the component.
 pub shown_so : {E : Type 0} (engine : Engine E) (asked : UrlPatternOptions) (values : Values) (refusal : Refusal) (result : Result Diagnosis OutOfMemory) → IsRefusalOf engine asked values refusal →
     IfOk result (λ (diagnosis : Diagnosis). diagnosis.error ≡ refusal.error) → IfOk result (λ (diagnosis : Diagnosis). diagnosis.subject ≡ subjects.Component refusal.component) →
     IfOk result (ShowsPattern refusal.component (manner_of asked values refusal.hierarchical refusal.component)) → IfOk result (λ (diagnosis : Diagnosis). ShowsRefusal engine asked values diagnosis.subject diagnosis)
@@ -72,7 +72,7 @@ shown_so engine asked values refusal (Ok diagnosis) is same subject shows =
       shows_pattern = shows;
     })
 
--- the diagnosis shows the fault of a pattern, or a rejected part
+-- The diagnosis shows the fault of a pattern, or a rejected part.
 pub shows_fault : (component : ComponentName) (bytes pattern point prefix : List ℕ) (error : Error) (diagnosis : Diagnosis) (fault : Fault) → diagnosis.error ≡ error → string_bytes diagnosis.text ≡ bytes → point ≡ prefix →
     IsFaultOf (Some component) pattern point error fault ⊎ IsPartOfRefused pattern error fault → IsFaultMoved bytes pattern fault diagnosis.fault → ShowsFault component pattern prefix diagnosis
 shows_fault component bytes pattern point prefix error diagnosis fault same text e (inl h) moved = (
@@ -86,11 +86,11 @@ shows_fault component bytes pattern point prefix error diagnosis fault same text
   subst (λ (x : List ℕ). IsFaultMoved x pattern fault diagnosis.fault) (sym text) moved,
 )
 
--- the diagnosis shows the whole text
+-- The diagnosis shows the whole text.
 pub shows_all : (bytes : List ℕ) (diagnosis : Diagnosis) → string_bytes diagnosis.text ≡ bytes → IsUrlFault bytes diagnosis.fault → ShowsAll diagnosis
 shows_all bytes diagnosis text fault = subst (λ (x : List ℕ). IsUrlFault x diagnosis.fault) (sym text) fault
 
--- the diagnosis shows the colon after a text that is no protocol
+-- The diagnosis shows the colon after a text that is no protocol.
 pub shows_colon : (bytes before : List ℕ) (diagnosis : Diagnosis) (fault : Fault) → string_bytes diagnosis.text ≡ bytes → HasProtocol (chars bytes) (λ (protocol : List ℕ). protocol ≡ chars before) →
     IsColonFault bytes before fault → diagnosis.fault ≡ fault → ShowsColon (chars bytes) diagnosis
 shows_colon bytes before diagnosis fault text has is same = (
@@ -99,28 +99,28 @@ shows_colon bytes before diagnosis fault text has is same = (
   subst (λ (x : List ℕ). IsColonFault x before diagnosis.fault) (sym text) (subst (λ (x : Fault). IsColonFault bytes before x) (sym same) is),
 )
 
--- a missing text is replaced by an empty one
+-- A missing text is replaced by an empty one.
 pub text-or_nothing : (base : Option (Bor (List ℕ))) (found nothing : Bor (List ℕ)) → found ≡ unwrap_or base nothing → nothing.now ≡ [] → found.now ≡ unwrap_or (option_copied base) []
 text-or_nothing None found nothing e is = ap (λ (b : Bor (List ℕ)). b.now) e ∙ is
 text-or_nothing (Some text) found nothing e is = ap (λ (b : Bor (List ℕ)). b.now) e
 
--- a list is split at an element
+-- A list is split at an element.
 pub cut_at : {A : Type 0} (xs : List A) (i : ℕ) (d : A) → i < length xs → take i xs ++ get_or xs i d ∷ drop (i + 1) xs ≡ xs
 cut_at xs i d lt = ap (λ n. take i xs ++ get_or xs i d ∷ drop n xs) (add-one i) ∙ ap (λ x. take i xs ++ x) (sym (drop-cons xs i d lt)) ∙ take-append-drop i xs
 
--- a fact about all elements, after another is appended
+-- A fact about all elements, after another is appended.
 pub all_more : {A : Type 0} (P : A → Type 0) (xs : List A) (x : A) → AllByRecursion P xs → P x → AllByRecursion P (xs ++ x ∷ [])
 all_more P [] x all h = (h, tt)
 all_more P (y ∷ xs) x all h = (all.0, all_more P xs x all.1 h)
 
--- a component is compiled in its manner
+-- A component is compiled in its manner.
 abbrev pub IsCompiledBy : {E : Type 0} → Engine E → (manner : ComponentName → Manner) → ComponentName → Type 0
 IsCompiledBy {E} engine manner component = (compiled : ComponentView E) × IsComponentCompiled engine (manner component) compiled
 
 -- ---- constructor strings
 
 module _ {E : Type 0} (engine : Engine E) (bytes : List ℕ) (base : Option (List ℕ)) (asked : UrlPatternOptions) where
-  -- the diagnosis shows the pattern of the protocol
+  -- The diagnosis shows the pattern of the protocol.
   pub protocol_shown : (what : Subject) (diagnosis : Diagnosis) → string_bytes diagnosis.text ≡ bytes → RefusesSplit (chars bytes) base (error_view diagnosis.error) → ShowsProtocol (chars bytes) what diagnosis →
       ShowsText engine bytes base asked what diagnosis
   protocol_shown subjects.Base diagnosis text refused shows = absurd shows
@@ -133,14 +133,14 @@ module _ {E : Type 0} (engine : Engine E) (bytes : List ℕ) (base : Option (Lis
     by_subject subjects.Whole diagnosis e text shows = (text, inr (init, is, shows))
     by_subject (subjects.Component component) diagnosis e text shows = (text, inr (init, is, shows))
 
-    -- the diagnosis shows the init
+    -- The diagnosis shows the init.
     pub init_shown : (result : Result (Option Diagnosis) OutOfMemory) → IfOk result (λ found. IfSome found (ShowsInit engine init asked)) → IfOk result (λ found. IfSome found (IsOf (Some bytes))) →
         IfOk result (λ found. IfSome found (λ (diagnosis : Diagnosis). ShowsText engine bytes base asked diagnosis.subject diagnosis))
     init_shown (Err memory) shows text = tt
     init_shown (Ok None) shows text = tt
     init_shown (Ok (Some diagnosis)) shows text = by_subject diagnosis.subject diagnosis refl text shows
 
-    -- the init is compiled
+    -- The init is compiled.
     pub init_accepted : (result : Result (Option Diagnosis) OutOfMemory) → IfOk result (λ found. IfNone found ((compiled : PatternView E) × IsPatternOfInit engine init asked compiled)) →
         IfOk result (λ found. IfNone found ((compiled : PatternView E) × IsPatternOfText engine (chars bytes) base asked compiled))
     init_accepted (Err memory) h = tt

@@ -23,22 +23,22 @@ use Rattle.urlpattern_components.specs.Eight.{Values, at}
 
 -- ---- values to compile
 
--- whether two texts are equal, or both are missing
+-- Whether two texts are equal, or both are missing.
 abbrev pub is_same : Option (List ℕ) → Option (List ℕ) → Bool
 is_same None None = true
 is_same (Some text) (Some other) = bytes_eq text other
 is_same text other = false
 
--- whether the protocol is special and the port is its default; for `file` that is no port
+-- Whether the protocol is special and the port is its default; for `file` that is no port.
 abbrev pub has_default_port : (protocol port : Option (List ℕ)) → Bool
 has_default_port None port = false
 has_default_port (Some protocol) port = is_special protocol && is_same port (default_port protocol)
 
--- the values, with a default port emptied
+-- The values, with a default port emptied.
 abbrev pub without_default_port : Values → Values
 without_default_port values = if has_default_port values.protocol values.port then record values { port = Some [] } else values
 
--- the processed values of an init as a pattern
+-- The processed values of an init as a pattern.
 abbrev pub pattern_values : UrlPatternInit → Parsed Values
 pattern_values init = and_then (init_values Pattern init) (λ values. Ok (without_default_port values))
 
@@ -50,35 +50,35 @@ pub record Manner : Type 0 where
   pub options : OptionsView
   pub canonical : List ℕ → Parsed (List ℕ)
 
--- the pattern text of a component, an asterisk where it is missing
+-- The pattern text of a component, an asterisk where it is missing.
 abbrev pub pattern_of : Values → ComponentName → List ℕ
 pattern_of values component = unwrap_or (at values component) (codes "*")
 
--- the options, in the requested syntax
+-- The options, in the requested syntax.
 abbrev pub in_syntax : UrlPatternOptions → OptionsView → OptionsView
 in_syntax asked options = record options { syntax = asked.regex_syntax }
 
--- the options, in the requested syntax, and ignoring case if requested
+-- The options, in the requested syntax, and ignoring case if requested.
 abbrev pub with_case : UrlPatternOptions → OptionsView → OptionsView
 with_case asked options = record options { syntax = asked.regex_syntax; ignore_case = asked.ignore_case }
 
--- whether a character is `mark`, a text of one character
+-- Whether a character is `mark`, a text of one character.
 abbrev pub is_mark : List ℕ → ℕ → Bool
 is_mark mark c = c == slice_index mark 0
 
--- whether a hostname pattern begins as an IPv6 address does: with a bracket, perhaps after one open
--- brace or one backslash; a bracket alone does not count
+-- Whether a hostname pattern begins as an IPv6 address does: with a bracket, perhaps after one open
+-- brace or one backslash; a bracket alone does not count.
 abbrev pub is_ipv6_pattern : List ℕ → Bool
 is_ipv6_pattern text =
     not (bytes_eq text (codes "["))
     && (begins_with (is_mark (codes "[")) (without_first (slice_index (codes "{") 0) text)
     || begins_with (is_mark (codes "[")) (without_first (slice_index (codes "\\") 0) text))
 
--- the canonical value of a fixed text in a hostname pattern
+-- The canonical value of a fixed text in a hostname pattern.
 abbrev pub canonical_in_hostname : (pattern : List ℕ) → List ℕ → Parsed (List ℕ)
 canonical_in_hostname pattern text = if is_ipv6_pattern pattern then canonical_ipv6_hostname text else canonical_hostname text
 
--- the options of a component's pattern, and the canonical value of its fixed texts
+-- The options of a component's pattern, and the canonical value of its fixed texts.
 abbrev pub rules_of : UrlPatternOptions → Values → (hierarchical : Bool) → ComponentName → OptionsView × (List ℕ → Parsed (List ℕ))
 rules_of asked values hierarchical Protocol = (in_syntax asked default_options, canonical_protocol)
 rules_of asked values hierarchical Username = (in_syntax asked default_options, canonical_username)
@@ -90,13 +90,13 @@ rules_of asked values hierarchical Pathname =
 rules_of asked values hierarchical Search = (with_case asked default_options, canonical_search)
 rules_of asked values hierarchical Hash = (with_case asked default_options, canonical_hash)
 
--- how a component's pattern is parsed, given the values to compile
+-- How a component's pattern is parsed, given the values to compile.
 abbrev pub manner_of : UrlPatternOptions → Values → (hierarchical : Bool) → ComponentName → Manner
 manner_of asked values hierarchical component =
     let rules = rules_of asked values hierarchical component in
     record { text = pattern_of values component; options = rules.0; canonical = rules.1 }
 
--- the encoding of fixed texts by `canonical`
+-- The encoding of fixed texts by `canonical`.
 abbrev pub canonical_encoding : (List ℕ → Parsed (List ℕ)) → Encoding
 canonical_encoding canonical = encoding_of (λ bytes returned. IsAnswer (canonical (chars bytes)) (length bytes) returned)
 
@@ -108,38 +108,38 @@ pub record HasEngine {E : Type 0} (compiled : ComponentView E) : Type 0 where
   pub whole : IsOk compiled.regexp
   pub of_matcher : TookText (λ value. ⊤) compiled.matcher.inner
 
--- the text is rejected with this error, or the engine rejects one of its regular expressions
+-- The text is rejected with this error, or the engine rejects one of its regular expressions.
 abbrev pub IsRefusedFrom : {E : Type 0} → Engine E → (text : List ℕ) → OptionsView → Encoding → ErrorView → Type 0
 IsRefusedFrom {E} engine text options encoding error =
     Refuses text options encoding error
     ⊎ ((compiled : ComponentView E) × IsCompiledFrom engine text options encoding compiled × (¬ HasEngine compiled) × (error ≡ views.RegExp))
 
--- the pattern text is parsed to these parts
+-- The pattern text is parsed to these parts.
 abbrev pub ReadsAs : Manner → List PartView → Type 0
 ReadsAs manner parts = Reads manner.text manner.options (canonical_encoding manner.canonical) parts
 
--- the component is compiled in this manner, and the engine accepted what it needs
+-- The component is compiled in this manner, and the engine accepted what it needs.
 abbrev pub IsComponentCompiled : {E : Type 0} → Engine E → Manner → ComponentView E → Type 0
 IsComponentCompiled engine manner compiled =
     IsCompiledFrom engine manner.text manner.options (canonical_encoding manner.canonical) compiled × HasEngine compiled
 
--- the component, parsed in this manner, is rejected with this error
+-- The component, parsed in this manner, is rejected with this error.
 abbrev pub IsComponentRefused : {E : Type 0} → Engine E → Manner → ErrorView → Type 0
 IsComponentRefused engine manner = IsRefusedFrom engine manner.text manner.options (canonical_encoding manner.canonical)
 
 -- ---- whole patterns
 
--- the pathname is hierarchical: the protocol is empty, its matcher accepts a special scheme, or the
--- pathname begins with a slash
+-- The pathname is hierarchical: the protocol is empty, its matcher accepts a special scheme, or the
+-- pathname begins with a slash.
 abbrev pub HasHierarchicalPath : {E : Type 0} → (answer : E → List ℕ → Option Captures) → Values → (protocol : MatcherView E) → Type 0
 HasHierarchicalPath answer values protocol =
     (values.protocol ≡ Some []) ⊎ AcceptsSpecialScheme answer protocol ⊎ IsTrue (begins_with (is_mark (codes "/")) (unwrap_or values.pathname []))
 
--- `hierarchical` is whether the pathname is hierarchical
+-- `hierarchical` is whether the pathname is hierarchical.
 abbrev pub IsPathKind : {E : Type 0} → (answer : E → List ℕ → Option Captures) → Values → (protocol : MatcherView E) → (hierarchical : Bool) → Type 0
 IsPathKind answer values protocol hierarchical = IsTrue hierarchical ↔ HasHierarchicalPath answer values protocol
 
--- each component is compiled in its manner
+-- Each component is compiled in its manner.
 abbrev pub EachIsCompiled : {E : Type 0} → Engine E → (manner : ComponentName → Manner) → PatternView E → Type 0
 EachIsCompiled engine manner pattern = (component : ComponentName) → IsComponentCompiled engine (manner component) (pattern component)
 
@@ -150,18 +150,18 @@ pub record AreCompiled {E : Type 0} (engine : Engine E) (asked : UrlPatternOptio
   pub path_kind : IsPathKind engine.answer values (pattern Protocol).matcher hierarchical
   pub are_compiled : EachIsCompiled engine (manner_of asked values hierarchical) pattern
 
--- the init is compiled to this pattern
+-- The init is compiled to this pattern.
 abbrev pub IsPatternOfInit : {E : Type 0} → Engine E → UrlPatternInit → UrlPatternOptions → PatternView E → Type 0
 IsPatternOfInit engine init asked pattern =
     (values : Values) × (pattern_values init ≡ Ok values) × AreCompiled engine asked values pattern
 
 -- ---- rejections
 
--- the order in which components are compiled, after the protocol
+-- The order in which components are compiled, after the protocol.
 abbrev pub after_protocol : List ComponentName
 after_protocol = Hostname ∷ Pathname ∷ Username ∷ Password ∷ Port ∷ Search ∷ Hash ∷ []
 
--- a component of the list is rejected with this error, and all before it are compiled
+-- A component of the list is rejected with this error, and all before it are compiled.
 abbrev pub FirstRefused : {E : Type 0} → Engine E → (manner : ComponentName → Manner) → List ComponentName → ErrorView → Type 0
 FirstRefused engine manner [] error = ⊥
 FirstRefused {E} engine manner (component ∷ components) error =
@@ -176,12 +176,12 @@ pub record RefusesAfterProtocol {E : Type 0} (engine : Engine E) (asked : UrlPat
   pub path_kind : IsPathKind engine.answer values protocol.matcher hierarchical
   pub refused : FirstRefused engine (manner_of asked values hierarchical) after_protocol error
 
--- the values are rejected with this error, that of the first rejected component
+-- The values are rejected with this error, that of the first rejected component.
 abbrev pub RefusesValues : {E : Type 0} → Engine E → UrlPatternOptions → Values → ErrorView → Type 0
 RefusesValues engine asked values error =
     IsComponentRefused engine (manner_of asked values false Protocol) error ⊎ RefusesAfterProtocol engine asked values error
 
--- the init is rejected with this error
+-- The init is rejected with this error.
 abbrev pub RefusesInit : {E : Type 0} → Engine E → UrlPatternInit → UrlPatternOptions → ErrorView → Type 0
 RefusesInit engine init asked error =
     (values : Values) × (pattern_values init ≡ Ok values) × RefusesValues engine asked values error

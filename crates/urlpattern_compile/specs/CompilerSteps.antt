@@ -14,18 +14,18 @@ use Rattle.urlpattern_syntax.specs.Errors.{ErrorView}
 use Rattle.urlpattern_syntax.specs.Options.{options_view}
 use Rattle.urlpattern_syntax.specs.Reading.{Encoding}
 
--- the values that a compiler compiles
+-- The values that a compiler compiles.
 abbrev pub compiled_values : Compiler → Values
 compiled_values compiler = values_view compiler.values.now
 
--- how a compiler parses a component's pattern
+-- How a compiler parses a component's pattern.
 abbrev pub manner_by : Compiler → (hierarchical : Bool) → ComponentName → Manner
 manner_by compiler = manner_of compiler.options.now (compiled_values compiler)
 
--- the component, with its parts, is compiled from a pattern text, if there is one
+-- The component, with its parts, is compiled from a pattern text, if there is one.
 abbrev pub IsCompiledWith : {E : Type 0} → Engine E → Option (Bor (List ℕ)) → Options → Encoding → ComponentWithParts E → Type 0
 IsCompiledWith engine pattern options encoding made = IsCompiledKeeping engine (pattern_text pattern) (options_view options) encoding made
 
--- a pattern text, if there is one, is rejected with this error
+-- A pattern text, if there is one, is rejected with this error.
 abbrev pub IsRefusedWith : {E : Type 0} → Engine E → Option (Bor (List ℕ)) → Options → Encoding → ErrorView → Type 0
 IsRefusedWith engine pattern options encoding error = IsRefusedFrom engine (pattern_text pattern) (options_view options) encoding error

@@ -30,72 +30,72 @@ use Rattle.urlpattern_syntax.specs.Errors.{ErrorView, error_view}
 abbrev pub error_of : Refusal → ErrorView
 error_of refusal = error_view refusal.error
 
--- the component of the refusal, parsed in its manner, is rejected with the error of the refusal
+-- The component of the refusal, parsed in its manner, is rejected with the error of the refusal.
 abbrev pub RefusesComponent : {E : Type 0} → Engine E → (manner : ComponentName → Manner) → (hierarchical : Bool) → Refusal → Type 0
 RefusesComponent engine manner hierarchical refusal =
     (refusal.hierarchical ≡ hierarchical) × IsComponentRefused engine (manner refusal.component) (error_of refusal)
 
--- the values are rejected with the error of the refusal, that of its component
+-- The values are rejected with the error of the refusal, that of its component.
 abbrev pub IsRefusalOf : {E : Type 0} → Engine E → UrlPatternOptions → Values → Refusal → Type 0
 IsRefusalOf engine asked values refusal =
     RefusesValues engine asked values (error_of refusal)
     × RefusesComponent engine (manner_of asked values refusal.hierarchical) refusal.hierarchical refusal
 
--- the first rejected component of the list is rejected with the error of the refusal
+-- The first rejected component of the list is rejected with the error of the refusal.
 abbrev pub IsFirstRefusal : {E : Type 0} → Engine E → (manner : ComponentName → Manner) → List ComponentName → Refusal → Type 0
 IsFirstRefusal engine manner names refusal = FirstRefused engine manner names (error_of refusal)
 
 -- ---- acceptance
 
--- a component parsed in this manner is accepted
+-- A component parsed in this manner is accepted.
 abbrev pub AcceptsComponent : {E : Type 0} → Engine E → Manner → Type 0
 AcceptsComponent {E} engine manner = (compiled : ComponentView E) × IsComponentCompiled engine manner compiled
 
--- the values are accepted
+-- The values are accepted.
 abbrev pub AcceptsValues : {E : Type 0} → Engine E → UrlPatternOptions → Values → Type 0
 AcceptsValues {E} engine asked values = (compiled : PatternView E) × AreCompiled engine asked values compiled
 
--- the init is accepted
+-- The init is accepted.
 abbrev pub AcceptsInit : {E : Type 0} → Engine E → UrlPatternInit → UrlPatternOptions → Type 0
 AcceptsInit {E} engine init asked = (compiled : PatternView E) × IsPatternOfInit engine init asked compiled
 
--- the constructor string with this base URL is accepted
+-- The constructor string with this base URL is accepted.
 abbrev pub AcceptsPatternOfText : {E : Type 0} → Engine E → (text : List ℕ) → (base : Option (List ℕ)) → UrlPatternOptions → Type 0
 AcceptsPatternOfText {E} engine text base asked = (compiled : PatternView E) × IsPatternOfText engine text base asked compiled
 
 -- ---- the diagnosis
 
--- if the result is no diagnosis, `Accepts` holds
+-- If the result is no diagnosis, `Accepts` holds.
 abbrev pub IfAccepted : {E : Type 0} → Result (Option Diagnosis) E → Type 0 → Type 0
 IfAccepted result Accepts = IfOk result (λ found. IfNone found Accepts)
 
--- if the result is a diagnosis, `Is` holds of it
+-- If the result is a diagnosis, `Is` holds of it.
 abbrev pub IfRefused : {E : Type 0} → Result (Option Diagnosis) E → (Diagnosis → Type 0) → Type 0
 IfRefused result Is = IfOk result (λ found. IfSome found Is)
 
--- the pattern is rejected with the error of the diagnosis
+-- The pattern is rejected with the error of the diagnosis.
 abbrev pub HasErrorOf : (Refuses : ErrorView → Type 0) → Diagnosis → Type 0
 HasErrorOf Refuses diagnosis = Refuses (error_view diagnosis.error)
 
--- a fault within a pattern, a part of which `url` or an engine rejects
+-- A fault within a pattern, a part of which `url` or an engine rejects.
 abbrev pub IsPartOfRefused : (pattern : List ℕ) → Error → Fault → Type 0
 IsPartOfRefused pattern (errors.Url reason) fault = IsFaultIn pattern fault
 IsPartOfRefused pattern (errors.RegExp reason) fault = IsFaultIn pattern fault
 IsPartOfRefused pattern other fault = ⊥
 
--- the diagnosis shows, in its text, the fault of a component's pattern that is parsed with the
--- prefix code point `point`
+-- The diagnosis shows, in its text, the fault of a component's pattern that is parsed with the
+-- prefix code point `point`.
 abbrev pub ShowsFault : ComponentName → (pattern point : List ℕ) → Diagnosis → Type 0
 ShowsFault component pattern point diagnosis =
     (fault : Fault) × (IsFaultOf (Some component) pattern point diagnosis.error fault ⊎ IsPartOfRefused pattern diagnosis.error fault)
     × IsFaultMoved (string_bytes diagnosis.text) pattern fault diagnosis.fault
 
--- the diagnosis shows the whole text, or the place where the colon after its scheme is missing
+-- The diagnosis shows the whole text, or the place where the colon after its scheme is missing.
 abbrev pub ShowsAll : Diagnosis → Type 0
 ShowsAll diagnosis = IsUrlFault (string_bytes diagnosis.text) diagnosis.fault
 
--- the diagnosis shows, in its text, the fault of a component's pattern that is parsed in this
--- manner
+-- The diagnosis shows, in its text, the fault of a component's pattern that is parsed in this
+-- manner.
 abbrev pub ShowsPattern : ComponentName → Manner → Diagnosis → Type 0
 ShowsPattern component manner diagnosis =
     (pattern : List ℕ) × (chars pattern ≡ manner.text) × ShowsFault component pattern manner.options.prefix diagnosis
@@ -106,42 +106,42 @@ pub record ShowsComponent {E : Type 0} (engine : Engine E) (asked : UrlPatternOp
   pub is_refused : IsComponentRefused engine (manner_of asked values hierarchical component) (error_view diagnosis.error)
   pub shows_pattern : ShowsPattern component (manner_of asked values hierarchical component) diagnosis
 
--- what a diagnosis with this subject shows of rejected values
+-- What a diagnosis with this subject shows of rejected values.
 abbrev pub ShowsRefusal : {E : Type 0} → Engine E → UrlPatternOptions → Values → Subject → Diagnosis → Type 0
 ShowsRefusal engine asked values (subjects.Component component) diagnosis = ShowsComponent engine asked values component diagnosis
 ShowsRefusal engine asked values subjects.Whole diagnosis = ShowsAll diagnosis
 ShowsRefusal engine asked values subjects.Base diagnosis = ⊥
 
--- what a diagnosis shows of rejected values
+-- What a diagnosis shows of rejected values.
 abbrev pub ShowsValues : {E : Type 0} → Engine E → UrlPatternOptions → Values → Diagnosis → Type 0
 ShowsValues engine asked values diagnosis = ShowsRefusal engine asked values diagnosis.subject diagnosis
 
--- what a diagnosis shows of a rejected init
+-- What a diagnosis shows of a rejected init.
 abbrev pub ShowsInit : {E : Type 0} → Engine E → UrlPatternInit → UrlPatternOptions → Diagnosis → Type 0
 ShowsInit engine init asked diagnosis =
     (values : Values) × (pattern_values init ≡ Ok values) × ShowsRefusal engine asked values diagnosis.subject diagnosis
 
--- the diagnosis shows the colon after a text that is parsed as the protocol and is none
+-- The diagnosis shows the colon after a text that is parsed as the protocol and is none.
 abbrev pub ShowsColon : (text : List ℕ) → Diagnosis → Type 0
 ShowsColon text diagnosis =
     (before : List ℕ) × HasProtocol text (λ protocol. protocol ≡ chars before)
     × IsColonFault (string_bytes diagnosis.text) before diagnosis.fault
 
--- what a diagnosis with this subject shows of a constructor string that is rejected when it is
--- split: the pattern of its protocol, the colon after that, or all
+-- What a diagnosis with this subject shows of a constructor string that is rejected when it is
+-- split: the pattern of its protocol, the colon after that, or all.
 abbrev pub ShowsProtocol : (text : List ℕ) → Subject → Diagnosis → Type 0
 ShowsProtocol text (subjects.Component component) diagnosis =
     (component ≡ Protocol) × (pattern : List ℕ) × HasProtocol text (λ protocol. protocol ≡ chars pattern) × ShowsFault Protocol pattern [] diagnosis
 ShowsProtocol text subjects.Whole diagnosis = ShowsAll diagnosis ⊎ ShowsColon text diagnosis
 ShowsProtocol text subjects.Base diagnosis = ⊥
 
--- the text of the diagnosis is the given text, if there is one
+-- The text of the diagnosis is the given text, if there is one.
 abbrev pub IsOf : Option (List ℕ) → Diagnosis → Type 0
 IsOf None diagnosis = Unit {0}
 IsOf (Some bytes) diagnosis = string_bytes diagnosis.text ≡ bytes
 
--- what a diagnosis with this subject shows: the base URL, if that is rejected; the constructor
--- string, if that is rejected when it is split; or else its init
+-- What a diagnosis with this subject shows: the base URL, if that is rejected; the constructor
+-- string, if that is rejected when it is split; or else its init.
 abbrev pub ShowsText : {E : Type 0} → Engine E → (bytes : List ℕ) → (base : Option (List ℕ)) → UrlPatternOptions → Subject → Diagnosis → Type 0
 ShowsText engine bytes base asked subjects.Base diagnosis =
     (string_bytes diagnosis.text ≡ unwrap_or base []) × Reports (parsed_base base) (text_bytes base) (error_view diagnosis.error) × ShowsAll diagnosis
@@ -150,10 +150,10 @@ ShowsText engine bytes base asked subject diagnosis =
     × ((RefusesSplit (chars bytes) base (error_view diagnosis.error) × ShowsProtocol (chars bytes) subject diagnosis)
     ⊎ ((init : UrlPatternInit) × IsInitOfText engine (chars bytes) base init × ShowsInit engine init asked diagnosis))
 
--- what a diagnosis shows of a constructor string and its base URL
+-- What a diagnosis shows of a constructor string and its base URL.
 abbrev pub ShowsGiven : {E : Type 0} → Engine E → (bytes : List ℕ) → (base : Option (List ℕ)) → UrlPatternOptions → Diagnosis → Type 0
 ShowsGiven engine bytes base asked diagnosis = ShowsText engine bytes base asked diagnosis.subject diagnosis
 
--- the spans of the diagnosis are within its text
+-- The spans of the diagnosis are within its text.
 abbrev pub IsWithinText : Diagnosis → Type 0
 IsWithinText diagnosis = IsFaultIn (string_bytes diagnosis.text) diagnosis.fault

@@ -22,11 +22,11 @@ pub record IsInitOfText {E : Type 0} (engine : Engine E) (text : List ℕ) (base
   pub is_split : SplitsInto (IsSpecialTo engine) text (values_view init)
   pub is_complete : HasProtocolOrBase init
 
--- a constructor string whose base URL is parsed is rejected with this error
+-- A constructor string whose base URL is parsed is rejected with this error.
 abbrev pub RefusesSplit : (text : List ℕ) → (base : Option (List ℕ)) → ErrorView → Type 0
 RefusesSplit text base error = (url : Option Parts) × (parsed_base base ≡ Ok url) × RefusesString text url error
 
--- a constructor string is rejected with this error, its own or that of its base URL
+-- A constructor string is rejected with this error, its own or that of its base URL.
 abbrev pub RefusesText : (text : List ℕ) → (base : Option (List ℕ)) → ErrorView → Type 0
 RefusesText text base error =
     Reports (parsed_base base) (text_bytes base) error ⊎ RefusesSplit text base error
@@ -39,8 +39,8 @@ pub record IsPatternOfText {E : Type 0} (engine : Engine E) (text : List ℕ) (b
   pub is_constructed : IsInitOfText engine text base init
   pub is_compiled : IsPatternOfInit engine init asked pattern
 
--- the constructor string is rejected with this error, when it is parsed or when its init is
--- compiled
+-- The constructor string is rejected with this error, when it is parsed or when its init is
+-- compiled.
 abbrev pub RefusesPatternOfText : {E : Type 0} → Engine E → (text : List ℕ) → (base : Option (List ℕ)) → UrlPatternOptions → ErrorView → Type 0
 RefusesPatternOfText engine text base asked error =
     RefusesText text base error

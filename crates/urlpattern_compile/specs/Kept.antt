@@ -21,7 +21,7 @@ pub record IsKept {E : Type 0} (engine : Engine E) (manner : Manner) (made : Com
   pub is_made : IsComponentOf engine manner.options (kept_parts made.kept) (component_view made.component)
   pub has_engine : HasEngine (component_view made.component)
 
--- each of eight components is kept with its parts, in its manner
+-- Each of eight components is kept with its parts, in its manner.
 abbrev pub EachIsKept : {E : Type 0} → Engine E → (manner : ComponentName → Manner) → Eight (ComponentWithParts E) → Type 0
 EachIsKept engine manner made = (name : ComponentName) → IsKept engine (manner name) (at made name)
 
@@ -32,7 +32,7 @@ pub record AreCompiledKeeping {E : Type 0} (engine : Engine E) (asked : UrlPatte
   pub path_kind : IsPathKind engine.answer values (component_view made.protocol.component).matcher hierarchical
   pub are_kept : EachIsKept engine (manner_of asked values hierarchical) made
 
--- the init is compiled to these components
+-- The init is compiled to these components.
 abbrev pub IsKeptOfInit : {E : Type 0} → Engine E → UrlPatternInit → UrlPatternOptions → Eight (ComponentWithParts E) → Type 0
 IsKeptOfInit engine init asked made =
     (values : Values) × (pattern_values init ≡ Ok values) × AreCompiledKeeping engine asked values made

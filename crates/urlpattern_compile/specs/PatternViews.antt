@@ -11,14 +11,14 @@ use Rattle.urlpattern_matcher.specs.Components.{ComponentView, component_view}
 abbrev pub PatternView : Type 0 → Type 0
 PatternView E = ComponentName → ComponentView E
 
--- the pattern of eight components
+-- The pattern of eight components.
 abbrev pub eight_view : {E : Type 0} → Eight (Component E) → ComponentName → ComponentView E
 eight_view components name = component_view (at components name)
 
--- whether any component has a custom regular expression
+-- Whether any component has a custom regular expression.
 abbrev pub has_regexp_groups : {E : Type 0} → PatternView E → Bool
 has_regexp_groups pattern = list_any (λ component. (pattern component).has_regexp_group) components
 
--- if the result is eight components, `Holds` is true of their pattern
+-- If the result is eight components, `Holds` is true of their pattern.
 abbrev pub IfComponents : {E Fault : Type 0} → Result (Eight (Component E)) Fault → (PatternView E → Type 0) → Type 0
 IfComponents result Holds = IfOk result (λ made. Holds (eight_view made))

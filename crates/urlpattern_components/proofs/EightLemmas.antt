@@ -9,12 +9,12 @@ use Rattle.urlpattern_components.specs.declared.eight.ComponentName.TheVariants.
 use Rattle.urlpattern_components.specs.declared.eight.Eight.{Eight}
 use Rattle.urlpattern_components.specs.Eight.{IsFirstError, at, components, each}
 
--- a property of each element by recursion is a property of all
+-- A property of each element by recursion is a property of all.
 all-by_recursion : {X : Type 0} (P : X → Type 0) (xs : List X) → AllByRecursion P xs → All P xs
 all-by_recursion P [] h = All-nil P
 all-by_recursion P (x ∷ xs) (p, h) = All-cons P x xs p (all-by_recursion P xs h)
 
--- an error that is passed on is the first, where the components before have values
+-- An error that is passed on is the first, where the components before have values.
 pub passed_on : {T A E : Type 0} (Answers : ComponentName → Result A E → Type 0) (result : Result T E) (error : E)
     (before after : List ComponentName) (name : ComponentName) → IsErrAnd result (λ passed. passed ≡ error)
     → components ≡ before ++ name ∷ after → AllByRecursion (λ earlier. (value : A) × Answers earlier (Ok value)) before
@@ -23,17 +23,17 @@ passed_on Answers (Ok x) error before after name same split earlier answers = tt
 passed_on {T} {A} Answers (Err passed) error before after name same split earlier answers =
     subst (IsFirstError Answers) (sym same) (before, after, name, split, all-by_recursion _ before earlier, answers)
 
--- values that agree on each component are equal
+-- Values that agree on each component are equal.
 pub same_values : {A : Type 0} (values others : Eight A) → ((name : ComponentName) → at values name ≡ at others name) → values ≡ others
 same_values values others same = λ i. record { protocol = same Protocol i; username = same Username i; password = same Password i; hostname = same Hostname i; port = same Port i; pathname = same Pathname i; search = same Search i; hash = same Hash i }
 
--- a property of each component by name is a property of all
+-- A property of each component by name is a property of all.
 pub by_name : (P : ComponentName → Type 0) → P Protocol → P Username → P Password → P Hostname → P Port → P Pathname → P Search → P Hash
     → (name : ComponentName) → P name
 by_name P a b c d e f g h Protocol = a
 by_name P a b c d e f g h name = assumption
 
--- a property of each component in order is a property of all
+-- A property of each component in order is a property of all.
 pub of_each : (P : ComponentName → Type 0) → All P components → (name : ComponentName) → P name
 of_each P all =
     by_name P (all 0 Protocol (lit< tt)) (all 1 Protocol (lit< tt)) (all 2 Protocol (lit< tt)) (all 3 Protocol (lit< tt)) (all 4 Protocol (lit< tt))
@@ -42,7 +42,7 @@ of_each P all =
 pub at-each : {A : Type 0} (value : ComponentName → A) (name : ComponentName) → at (each value) name ≡ value name
 at-each value = by_name (λ name. at (each value) name ≡ value name) refl refl refl refl refl refl refl refl
 
--- a consequence of each value is a consequence of all, where all were made
+-- A consequence of each value is a consequence of all, where all were made.
 pub all_ok : {A E : Type 0} (result : Result (Eight A) E) (Answers : ComponentName → Result A E → Type 0) (P : ComponentName → A → Type 0)
     → IfOk result (λ values. (name : ComponentName) → Answers name (Ok (at values name)))
     → ((name : ComponentName) (value : A) → Answers name (Ok value) → P name value)
@@ -50,7 +50,7 @@ pub all_ok : {A E : Type 0} (result : Result (Eight A) E) (Answers : ComponentNa
 all_ok (Ok values) Answers P answered follows = λ name. follows name (at values name) (answered name)
 all_ok (Err error) Answers P answered follows = tt
 
--- a consequence of each error is a consequence of the first
+-- A consequence of each error is a consequence of the first.
 pub first_err : {A T E : Type 0} (result : Result T E) (Answers : ComponentName → Result A E → Type 0) (Q : E → Type 0)
     → IfErr result (IsFirstError Answers) → ((name : ComponentName) (error : E) → Answers name (Err error) → Q error) → IfErr result Q
 first_err (Ok value) Answers Q first follows = tt

@@ -4,11 +4,11 @@ pub use Rattle.urlpattern_components.specs.declared.eight.ComponentName.{Compone
 pub use Rattle.urlpattern_components.specs.declared.eight.Eight.{Eight}
 use Rattle.urlpattern_components.specs.declared.eight.ComponentName.TheVariants.{Protocol, Username, Password, Hostname, Port, Pathname, Search, Hash}
 
--- the components in the order of the standard
+-- The components in the order of the standard.
 abbrev pub components : List ComponentName
 components = Protocol ∷ Username ∷ Password ∷ Hostname ∷ Port ∷ Pathname ∷ Search ∷ Hash ∷ []
 
--- the name of a component in lower case
+-- The name of a component in lower case.
 abbrev pub name_text : ComponentName → List ℕ
 name_text Protocol = codes "protocol"
 name_text Username = codes "username"
@@ -19,11 +19,11 @@ name_text Pathname = codes "pathname"
 name_text Search = codes "search"
 name_text Hash = codes "hash"
 
--- the component with this name, or None where no component has this name
+-- The component with this name, or None where no component has this name.
 abbrev pub NamesComponent : (text : List ℕ) → Option ComponentName → Type 0
 NamesComponent text found = MatchOption found ((component : ComponentName) → text ≢ name_text component) (λ component. text ≡ name_text component)
 
--- the value of a component
+-- The value of a component.
 abbrev pub at : {A : Type 0} → Eight A → ComponentName → A
 at values Protocol = values.protocol
 at values Username = values.username
@@ -34,23 +34,23 @@ at values Pathname = values.pathname
 at values Search = values.search
 at values Hash = values.hash
 
--- the values of these components, each with its name
+-- The values of these components, each with its name.
 abbrev pub named_values : {A : Type 0} → Eight A → List ComponentName → List (ComponentName × A)
 named_values values names = map (λ name. (name, at values name)) names
 
--- a value for each component
+-- A value for each component.
 abbrev pub each : {A : Type 0} → (ComponentName → A) → Eight A
 each value = record { protocol = value Protocol; username = value Username; password = value Password; hostname = value Hostname; port = value Port; pathname = value Pathname; search = value Search; hash = value Hash }
 
--- the texts of the components
+-- The texts of the components.
 abbrev pub Texts : Type 0
 Texts = Eight (List ℕ)
 
--- the texts of the components that are present
+-- The texts of the components that are present.
 abbrev pub Values : Type 0
 Values = Eight (Option (List ℕ))
 
--- a component may have this error, and each component before it a value
+-- A component may have this error, and each component before it a value.
 abbrev pub IsFirstError : {A E : Type 0} → (Answers : ComponentName → Result A E → Type 0) → E → Type 0
 IsFirstError {A} Answers error =
     (before after : List ComponentName) × (name : ComponentName)

@@ -6,10 +6,10 @@ use Rattle.urlpattern_components.specs.declared.eight.ComponentName.{ComponentNa
 use Rattle.urlpattern_components.specs.declared.eight.named.NamedValues.{NamedValues}
 use Rattle.urlpattern_components.specs.Eight.{named_values}
 
--- a borrowed value, with the name of its component
+-- A borrowed value, with the name of its component.
 abbrev pub named_value : {A : Type 0} → ComponentName × Bor A → ComponentName × A
 named_value value = (value.0, value.1.now)
 
--- the values that are left
+-- The values that are left.
 abbrev pub values_left : {A : Type 0} → NamedValues A → List (ComponentName × A)
 values_left values = named_values values.values.now (iter_rest values.names)

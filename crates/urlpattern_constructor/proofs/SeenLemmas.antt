@@ -18,13 +18,13 @@ use Rattle.urlpattern_syntax.specs.declared.tokenizer.TokenType.TheVariants.{Ope
 
 -- ---- depth
 
--- the depth at `from` itself
+-- The depth at `from` itself.
 pub depth_here : (tokens : List TokenView) (from depth : ℕ) → depth_before tokens from depth from ≡ depth
 depth_here tokens from depth =
     let none : from - from ≡ 0 = omega arith in
     rw none refl
 
--- the depth after the next token
+-- The depth after the next token.
 pub depth_more : (tokens : List TokenView) (from depth i : ℕ) (token : TokenView) → from ≤ i → slice_get tokens i ≡ Some token → depth_before tokens from depth (i + 1) ≡ depth_after token.kind (depth_before tokens from depth i)
 depth_more tokens from depth i token after is =
     ap (fold (λ (reached : ℕ) (t : TokenView). depth_after t.kind reached) depth) (between_more tokens from i token after (slice_get_within tokens i token is))
@@ -50,7 +50,7 @@ count_by_one p xs x = sum_by-append (λ (y : ℕ). cond (p y) 1 0) xs (x ∷ [])
     one : (n : ℕ) → sum_by (λ (y : ℕ). n) (x ∷ []) ≡ n
     one n = zero-add n
 
--- the count after the next token
+-- The count after the next token.
 pub count_more : (mark : List ℕ) (tokens : List TokenView) (from depth i : ℕ) → from ≤ i → count_seen mark tokens from depth (i + 1) ≡ count_seen mark tokens from depth i + cond (is_seen tokens from depth i && passes_at (is_sign mark) tokens i) 1 0
 count_more mark tokens from depth i after =
     let e : (i + 1) - from ≡ suc (i - from) = omega arith in
@@ -63,7 +63,7 @@ count_more mark tokens from depth i after =
 
 -- ---- reading a section
 
--- the reading has reached `index`, and the section has not ended before it
+-- The reading has reached `index`, and the section has not ended before it.
 pub record IsOnTheWay (section : Section) (tokens : List TokenView) (from depth index reached opened closed : ℕ) : Type 0 where
   pub after : from ≤ index
   pub depth_is : reached ≡ depth_before tokens from depth index
@@ -71,7 +71,7 @@ pub record IsOnTheWay (section : Section) (tokens : List TokenView) (from depth 
   pub opened_is : IsTrue (is_hostname section) → opened ≡ count_seen (codes "[") tokens from depth index
   pub closed_is : IsTrue (is_hostname section) → closed ≡ count_seen (codes "]") tokens from depth index
 
--- outside of a hostname brackets do not matter
+-- Outside of a hostname brackets do not matter.
 ending_same : (section : Section) (b d : Bool) (tokens : List TokenView) (i : ℕ) → (IsTrue (is_hostname section) → b ≡ d) → is_ending section b tokens i ≡ is_ending section d tokens i
 ending_same Protocol b d tokens i h = refl
 ending_same Authority b d tokens i h = refl
@@ -83,20 +83,20 @@ ending_same Pathname b d tokens i h = refl
 ending_same Search b d tokens i h = refl
 ending_same Hash b d tokens i h = refl
 
--- the counts of the reading say whether brackets are balanced
+-- The counts of the reading say whether brackets are balanced.
 pub ending_of : (section : Section) (tokens : List TokenView) (from depth index reached opened closed : ℕ) → IsOnTheWay section tokens from depth index reached opened closed → is_ending section (opened == closed) tokens index ≡ is_ending section (is_balanced tokens from depth index) tokens index
 ending_of section tokens from depth index reached opened closed way =
     ending_same section (opened == closed) (is_balanced tokens from depth index) tokens index
     (λ h. ap (λ n. n == closed) (way.opened_is h) ∙ ap (λ n. count_seen (codes "[") tokens from depth index == n) (way.closed_is h))
 
--- the token at the index, if not End, is seen where it opens no group and the depth is zero
+-- The token at the index, if not End, is seen where it opens no group and the depth is zero.
 pub walk_sees : (tokens : List TokenView) (from depth index reached : ℕ) (token : TokenView) → slice_get tokens index ≡ Some token → is_end token.kind ≡ false → reached ≡ depth_before tokens from depth index → is_seen tokens from depth index ≡ (not (is_open token.kind) && reached == 0)
 walk_sees tokens from depth index reached token is goes depth_is =
     seen_of tokens from depth index token is
     ∙ ap (λ b. b || (not (is_open token.kind) && depth_before tokens from depth index == 0)) goes
     ∙ ap (λ n. not (is_open token.kind) && n == 0) (sym depth_is)
 
--- the section ends at End
+-- The section ends at End.
 pub way_ends : (section : Section) (tokens : List TokenView) (from depth index reached opened closed : ℕ) (token : TokenView) → IsOnTheWay section tokens from depth index reached opened closed → slice_get tokens index ≡ Some token → is_end token.kind ≡ true → EndsAt section tokens from depth index
 way_ends section tokens from depth index reached opened closed token way is end = record {
   after = way.after;
@@ -105,7 +105,7 @@ way_ends section tokens from depth index reached opened closed token way is end 
   least = way.none;
 }
 
--- the section ends at a sign that is seen
+-- The section ends at a sign that is seen.
 pub way_stops : (section : Section) (tokens : List TokenView) (from depth index reached opened closed : ℕ) (token : TokenView) → IsOnTheWay section tokens from depth index reached opened closed → slice_get tokens index ≡ Some token → is_end token.kind ≡ false → (not (is_open token.kind) && reached == 0) ≡ true → is_ending section (opened == closed) tokens index ≡ true → EndsAt section tokens from depth index
 way_stops section tokens from depth index reached opened closed token way is goes seen ending = record {
   after = way.after;
@@ -114,7 +114,7 @@ way_stops section tokens from depth index reached opened closed token way is goe
   least = way.none;
 }
 
--- the reading continues after a token
+-- The reading continues after a token.
 pub way_goes : (section : Section) (tokens : List TokenView) (from depth index reached opened closed reached' opened' closed' : ℕ) (token : TokenView) → IsOnTheWay section tokens from depth index reached opened closed → slice_get tokens index ≡ Some token → is_end token.kind ≡ false → ((not (is_open token.kind) && reached == 0) && is_ending section (opened == closed) tokens index) ≡ false → reached' ≡ depth_after token.kind reached → opened' ≡ opened + cond (is_hostname section && (not (is_open token.kind) && reached == 0) && passes_at (is_sign (codes "[")) tokens index) 1 0 → closed' ≡ closed + cond (is_hostname section && (not (is_open token.kind) && reached == 0) && passes_at (is_sign (codes "]")) tokens index) 1 0 → IsOnTheWay section tokens from depth (index + 1) reached' opened' closed'
 way_goes section tokens from depth index reached opened closed reached' opened' closed' token way is goes passes depth_more_is opened_more closed_more = record {
   after = let h = way.after in omega arith;
@@ -144,7 +144,7 @@ way_goes section tokens from depth index reached opened closed reached' opened' 
         ∙ ap (λ m. m + cond (is_seen tokens from depth index && passes_at (is_sign mark) tokens index) 1 0) so_far
         ∙ sym (count_more mark tokens from depth index way.after)
 
--- a token adds at most one to the depth
+-- A token adds at most one to the depth.
 pub depth_after-bound : (kind : TokenType) (depth : ℕ) → depth_after kind depth ≤ depth + 1
 depth_after-bound Open depth = omega arith
 depth_after-bound Close depth = omega arith

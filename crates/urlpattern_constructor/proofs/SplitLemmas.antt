@@ -22,7 +22,7 @@ use Rattle.urlpattern_components.specs.Eight.{Values}
 
 -- ---- signs
 
--- where a test passes there is a token
+-- Where a test passes there is a token.
 pub found_at : (test : TokenView → Bool) (tokens : List TokenView) (i : ℕ) → IsTrue (passes_at test tokens i) → (token : TokenView) × (slice_get tokens i ≡ Some token) × (test token ≡ true) × (i < length tokens)
 found_at test [] i h = absurd (false≢true h)
 found_at test (token ∷ tokens) zero h = (token, refl, h, omega arith)
@@ -42,14 +42,14 @@ character_not_end : (kind : TokenType) → is_character kind ≡ true → is_end
 character_not_end End h = absurd (false≢true h)
 character_not_end kind h = refl
 
--- a sign is not End
+-- A sign is not End.
 pub sign_not_end : (mark : List ℕ) (tokens : List TokenView) (i : ℕ) → IsTrue (passes_at (is_sign mark) tokens i) → ¬ IsTrue (ends_at tokens i)
 sign_not_end mark tokens i h end =
     let found = found_at (is_sign mark) tokens i h in
     let character : is_character found.0.kind ≡ true = (and_parts (is_character found.0.kind) (bytes_eq found.0.value mark) found.2).0 in
     both_ways _ (at_view (λ t. is_end t.kind) tokens i found.0 found.1 ∙ character_not_end found.0.kind character) end
 
--- more tokens follow a sign
+-- More tokens follow a sign.
 pub sign_goes_on : (mark : List ℕ) (tokens : List TokenView) (i : ℕ) → IsClosed tokens → IsTrue (passes_at (is_sign mark) tokens i) → i + 1 < length tokens
 sign_goes_on mark tokens i closed h = closed.goes_on i (found_at (is_sign mark) tokens i h).3 (sign_not_end mark tokens i h)
 
@@ -72,13 +72,13 @@ range_joined tokens from between place le more =
     ∙ take_sum (drop from tokens) (between - from) (place - between)
     ∙ ap (λ xs. slice_range tokens from between ++ take (place - between) xs) (drop-drop (between - from) from tokens ∙ ap (λ k. drop k tokens) m)
 
--- the depth is counted on from the depth at a position between
+-- The depth is counted on from the depth at a position between.
 pub depth_joined : (tokens : List TokenView) (from depth between place : ℕ) → from ≤ between → between ≤ place → depth_before tokens from depth place ≡ depth_before tokens between (depth_before tokens from depth between) place
 depth_joined tokens from depth between place le more =
     ap (fold (λ (reached : ℕ) (t : TokenView). depth_after t.kind reached) depth) (range_joined tokens from between place le more)
     ∙ fold-append (λ (reached : ℕ) (t : TokenView). depth_after t.kind reached) depth (slice_range tokens from between) (slice_range tokens between place)
 
--- a sign leaves the depth as it is
+-- A sign leaves the depth as it is.
 pub depth_after_sign : (mark : List ℕ) (tokens : List TokenView) (from depth place : ℕ) → from < place → IsTrue (passes_at (is_sign mark) tokens from) → depth_before tokens from depth place ≡ depth_before tokens (from + 1) depth place
 depth_after_sign mark tokens from depth place less h =
     let found = found_at (is_sign mark) tokens from h in
@@ -91,22 +91,22 @@ depth_after_sign mark tokens from depth place less h =
     ∙ ap (depth_after found.0.kind) (depth_here tokens from depth)
     ∙ character_depth found.0.kind depth character)
 
--- a token that is seen from one position is seen from another with equal depth
+-- A token that is seen from one position is seen from another with equal depth.
 pub seen_same : (tokens : List TokenView) (from depth other_from other_depth place : ℕ) → depth_before tokens from depth place ≡ depth_before tokens other_from other_depth place → is_seen tokens from depth place ≡ is_seen tokens other_from other_depth place
 seen_same tokens from depth other_from other_depth place e =
     ap (λ d. ends_at tokens place || (not (passes_at (λ t. is_open t.kind) tokens place) && d == 0)) e
 
 -- ---- the end of a section
 
--- a section ends where it may, or at End
+-- A section ends where it may, or at End.
 pub stops_cases : (section : Section) (tokens : List TokenView) (from depth place : ℕ) → EndsAt section tokens from depth place → IsTrue (may_end section tokens from depth place) ⊎ IsTrue (ends_at tokens place)
 stops_cases section tokens from depth place ends = or_cases (may_end section tokens from depth place) (ends_at tokens place) ends.stops
 
--- where a section may end, the token is seen and is one of the section's signs
+-- Where a section may end, the token is seen and is one of the section's signs.
 pub may_end_parts : (section : Section) (tokens : List TokenView) (from depth place : ℕ) → IsTrue (may_end section tokens from depth place) → IsTrue (is_seen tokens from depth place) × IsTrue (is_ending section (is_balanced tokens from depth place) tokens place)
 may_end_parts section tokens from depth place may = and_parts (is_seen tokens from depth place) (is_ending section (is_balanced tokens from depth place) tokens place) may
 
--- a token other than End is seen at depth zero
+-- A token other than End is seen at depth zero.
 pub seen_depth : (tokens : List TokenView) (from depth place : ℕ) → IsTrue (is_seen tokens from depth place) → ¬ IsTrue (ends_at tokens place) → depth_before tokens from depth place ≡ 0
 seen_depth tokens from depth place seen goes =
     elim (or_cases (ends_at tokens place) (not (passes_at (λ t. is_open t.kind) tokens place) && depth_before tokens from depth place == 0) seen) [
@@ -114,7 +114,7 @@ seen_depth tokens from depth place seen goes =
       | inr level ↦ eqb-true (depth_before tokens from depth place) 0 (and_parts (not (passes_at (λ t. is_open t.kind) tokens place)) (depth_before tokens from depth place == 0) level).1
     ]
 
--- a section that does not end at End ends at depth zero
+-- A section that does not end at End ends at depth zero.
 pub depth_at_end : (section : Section) (tokens : List TokenView) (from depth place : ℕ) → EndsAt section tokens from depth place → ¬ IsTrue (ends_at tokens place) → depth_before tokens from depth place ≡ 0
 depth_at_end section tokens from depth place ends goes =
     elim (stops_cases section tokens from depth place ends) [
@@ -122,7 +122,7 @@ depth_at_end section tokens from depth place ends goes =
       | inr end ↦ absurd (goes end)
     ]
 
--- a slash that is seen after the end of a section is seen from the beginning of the section
+-- A slash that is seen after the end of a section is seen from the beginning of the section.
 pub slash_seen_before : (section : Section) (tokens : List TokenView) (from depth end other : ℕ) → IsClosed tokens → EndsAt section tokens from depth end → end ≤ other → IsTrue (is_seen tokens end 0 other) → IsTrue (is_slash_sign tokens other) → IsTrue (is_seen tokens from depth other)
 slash_seen_before section tokens from depth end other closed ends le seen slash =
     elim (cases_Bool (ends_at tokens end)) [
@@ -138,12 +138,12 @@ slash_seen_before section tokens from depth end other closed ends le seen slash 
           ∙ seen
     ]
 
--- a slash that is seen after a sign is seen from the sign
+-- A slash that is seen after a sign is seen from the sign.
 pub slash_seen_from_sign : (mark : List ℕ) (tokens : List TokenView) (sign other : ℕ) → IsTrue (passes_at (is_sign mark) tokens sign) → sign < other → IsTrue (is_seen tokens (sign + 1) 0 other) → IsTrue (is_seen tokens sign 0 other)
 slash_seen_from_sign mark tokens sign other is_a_sign less seen =
     seen_same tokens sign 0 (sign + 1) 0 other (depth_after_sign mark tokens sign 0 other less is_a_sign) ∙ seen
 
--- a slash at which a section ends is seen
+-- A slash at which a section ends is seen.
 pub slash_is_seen : (section : Section) (tokens : List TokenView) (from depth end : ℕ) → EndsAt section tokens from depth end → IsTrue (is_slash_sign tokens end) → IsTrue (is_seen tokens from depth end)
 slash_is_seen section tokens from depth end ends slash =
     elim (stops_cases section tokens from depth end ends) [
@@ -151,7 +151,7 @@ slash_is_seen section tokens from depth end ends slash =
       | inr is_end ↦ absurd (sign_not_end (codes "/") tokens end slash is_end)
     ]
 
--- the sign with which a port ends
+-- The sign with which a port ends.
 pub port_sign : (tokens : List TokenView) (from depth place : ℕ) → EndsAt Port tokens from depth place → IsTrue (may_follow Port tokens place)
 port_sign tokens from depth place ends =
     elim (stops_cases Port tokens from depth place ends) [
@@ -173,12 +173,12 @@ port_sign tokens from depth place ends =
 
 -- ---- the single end of a section
 
--- a section ends no later than where it may
+-- A section ends no later than where it may.
 pub ends_by : (section : Section) (tokens : List TokenView) (from depth place other : ℕ) → EndsAt section tokens from depth place → from ≤ other → IsTrue (may_end section tokens from depth other) → place ≤ other
 ends_by section tokens from depth place other ends after may =
     elim (cases_lt other place) [ inl before ↦ absurd (ends.least other after before may) | inr le ↦ le ]
 
--- a sign with which a section ends is seen
+-- A sign with which a section ends is seen.
 pub sign_is_seen : (mark : List ℕ) (section : Section) (tokens : List TokenView) (from depth end : ℕ) → EndsAt section tokens from depth end → IsTrue (passes_at (is_sign mark) tokens end) → IsTrue (is_seen tokens from depth end)
 sign_is_seen mark section tokens from depth end ends sign =
     elim (stops_cases section tokens from depth end ends) [
@@ -186,7 +186,7 @@ sign_is_seen mark section tokens from depth end ends sign =
       | inr is_end ↦ absurd (sign_not_end mark tokens end sign is_end)
     ]
 
--- a token is at most one character
+-- A token is at most one character.
 sign_conflict : (tokens : List TokenView) (i : ℕ) → IsTrue (is_colon_sign tokens i) → IsTrue (is_at_sign tokens i) → ⊥
 sign_conflict tokens i colon at_sign =
     let one = found_at (is_sign (codes ":")) tokens i colon in
@@ -197,8 +197,8 @@ sign_conflict tokens i colon at_sign =
     let f : one.0.value ≡ codes "@" = (bytes_eq-Decides one.0.value (codes "@")).0 is_two in
     false≢true (ap (λ v. bytes_eq v (codes "@")) (sym e) ∙ ap (λ v. bytes_eq v (codes "@")) f)
 
--- the depth after a colon with which the username ends is the depth from the beginning of the
--- username
+-- The depth after a colon with which the username ends is the depth from the beginning of the
+-- username.
 userinfo_depth : (tokens : List TokenView) (from colon place : ℕ) → EndsAt Username tokens from 0 colon → IsTrue (is_colon_sign tokens colon) → colon < place → depth_before tokens from 0 place ≡ depth_before tokens (colon + 1) 0 place
 userinfo_depth tokens from colon place ends is_a_colon less =
     let level = depth_at_end Username tokens from 0 colon ends (sign_not_end (codes ":") tokens colon is_a_colon) in
@@ -206,13 +206,13 @@ userinfo_depth tokens from colon place ends is_a_colon less =
     ∙ ap (λ d. depth_before tokens colon d place) level
     ∙ depth_after_sign (codes ":") tokens colon 0 place less is_a_colon
 
--- the username ends at the sign of the hostname or before it
+-- The username ends at the sign of the hostname or before it.
 pub username_before : (tokens : List TokenView) (from until place : ℕ) → EndsAt Authority tokens from 0 until → IsTrue (is_at_sign tokens until) → EndsAt Username tokens from 0 place → place ≤ until
 username_before tokens from until place authority at_sign username =
     ends_by Username tokens from 0 place until username authority.after
     (and_from (is_seen tokens from 0 until) (is_colon_sign tokens until || is_at_sign tokens until) (sign_is_seen (codes "@") Authority tokens from 0 until authority at_sign) (or_right (is_colon_sign tokens until) (is_at_sign tokens until) at_sign))
 
--- an authority may end at the sign of the hostname
+-- An authority may end at the sign of the hostname.
 at_sign_ends : (tokens : List TokenView) (place : ℕ) (balanced : Bool) → IsTrue (is_at_sign tokens place) → IsTrue (is_ending Authority balanced tokens place)
 at_sign_ends tokens place balanced sign = or_first (is_at_sign tokens place) (is_slash_sign tokens place) (is_search_sign tokens place) (is_hash_sign tokens place) sign
   where
@@ -220,7 +220,7 @@ at_sign_ends tokens place balanced sign = or_first (is_at_sign tokens place) (is
     or_first true b c d h = refl
     or_first false b c d h = absurd (false≢true h)
 
--- a username that does not end at a colon ends at the sign of the hostname
+-- A username that does not end at a colon ends at the sign of the hostname.
 pub username_alone : (tokens : List TokenView) (from until place : ℕ) → IsClosed tokens → EndsAt Authority tokens from 0 until → IsTrue (is_at_sign tokens until) → EndsAt Username tokens from 0 place → ¬ IsTrue (is_colon_sign tokens place) → place ≡ until
 username_alone tokens from until place closed authority at_sign username no_colon =
     let le = username_before tokens from until place authority at_sign username in
@@ -233,7 +233,7 @@ username_alone tokens from until place closed authority at_sign username no_colo
       | inr is_end ↦ let last = closed.last place username.within is_end in let within = authority.within in omega arith
     ]
 
--- the password ends at the sign of the hostname
+-- The password ends at the sign of the hostname.
 pub password_ends : (tokens : List TokenView) (from until colon place : ℕ) → IsClosed tokens → EndsAt Authority tokens from 0 until → IsTrue (is_at_sign tokens until) → EndsAt Username tokens from 0 colon → IsTrue (is_colon_sign tokens colon) → EndsAt Password tokens (colon + 1) 0 place → (colon < until) × (place ≡ until)
 password_ends tokens from until colon place closed authority at_sign username is_a_colon password =
     let le = username_before tokens from until colon authority at_sign username in
@@ -265,7 +265,7 @@ fold_below : (tokens : List TokenView) (lower upper : ℕ) → lower ≤ upper �
 fold_below [] lower upper le = le
 fold_below (token ∷ tokens) lower upper le = fold_below tokens (depth_after token.kind lower) (depth_after token.kind upper) (depth_below token.kind lower upper le)
 
--- where an authority ends at End, no slash is seen from its beginning, at any depth
+-- Where an authority ends at End, no slash is seen from its beginning, at any depth.
 pub no_slash_in_sight : (tokens : List TokenView) (from depth end other : ℕ) → IsClosed tokens → EndsAt Authority tokens from 0 end → IsTrue (ends_at tokens end) → from ≤ other → IsTrue (is_seen tokens from depth other) → IsTrue (is_slash_sign tokens other) → ⊥
 no_slash_in_sight tokens from depth end other closed ends is_end after seen slash =
     let last = closed.last end ends.within is_end in
@@ -283,7 +283,7 @@ no_slash_in_sight tokens from depth end other closed ends is_end after seen slas
     or_second false true c d h = refl
     or_second false false c d h = absurd (false≢true h)
 
--- the first colon that is seen is found again
+-- The first colon that is seen is found again.
 colon_again : (tokens : List TokenView) (first second : ℕ) → IsClosed tokens → EndsAt Protocol tokens 0 0 first → IsTrue (is_colon_sign tokens first) → EndsAt Protocol tokens 0 0 second → second ≡ first
 colon_again tokens first second closed ends colon again =
     let seen = sign_is_seen (codes ":") Protocol tokens 0 0 first ends colon in
@@ -293,7 +293,7 @@ colon_again tokens first second closed ends colon again =
       | inr is_end ↦ let last = closed.last second again.within is_end in let within = ends.within in omega arith
     ]
 
--- the first colon is found again from the depth that was reached there
+-- The first colon is found again from the depth that was reached there.
 pub colon_found : (tokens : List TokenView) (first depth second : ℕ) → IsClosed tokens → EndsAt Protocol tokens 0 0 first → IsTrue (is_colon_sign tokens first)
     → depth ≡ depth_before tokens 0 0 first → EndsAt Protocol tokens 0 depth second → (second ≡ first) × EndsAt Protocol tokens 0 0 second
 colon_found tokens first depth second closed ends colon reached again =
@@ -311,7 +311,7 @@ pub none_of : {X : Type 0} → (o : Option X) → is_some o ≡ false → o ≡ 
 none_of None none = refl
 none_of (Some x) none = absurd (false≢true (sym none))
 
--- a text whose split has no protocol lacks one
+-- A text whose split has no protocol lacks one.
 pub lacks_protocol : (IsSpecial : List ℕ → Bool → Type 0) (text : List ℕ) (tokens : List TokenView) (components : Values) → AreLenientTokens text tokens → IsSplit IsSpecial text tokens components → ((P : List ℕ → Type 0) → IsSomeAnd components.protocol P → ⊥) → LacksProtocol text
 lacks_protocol IsSpecial text tokens components are_tokens split none = elim split [
   | inl relative ↦ (tokens, relative.until, are_tokens, relative.no_colon, relative.is_end)

@@ -18,7 +18,7 @@ use Rattle.urlpattern_syntax.specs.declared.tokenizer.TokenType.{TokenType}
 use Rattle.urlpattern_syntax.specs.declared.tokenizer.TokenType.TheVariants.{End}
 use Rattle.urlpattern_syntax.proofs.TextLemmas.{byte_len-append}
 
--- a lenient token of the whole text
+-- A lenient token of the whole text.
 abbrev pub IsLenient : (whole start : List ℕ) → TokenView → List ℕ → Type 0
 IsLenient whole start token rest = IsTokenOf whole start token rest ⊎ IsInvalidCharOf whole start token rest
 
@@ -50,7 +50,7 @@ others_go_on whole (token ∷ front) (suc place) within h =
     let e = others_go_on whole front place (omega arith) h in
     omega arith
 
--- of lenient tokens End is the last and only the last
+-- Of lenient tokens End is the last and only the last.
 pub are_closed : (text : List ℕ) (tokens : List TokenView) → AreLenientTokens text tokens → IsClosed tokens
 are_closed text tokens h = subst IsClosed (sym h.all) (record {
   last = λ place within end. last_is_end text text h.front place h.cut within end;
@@ -59,11 +59,11 @@ are_closed text tokens h = subst IsClosed (sym h.all) (record {
 
 -- ---- places of tokens
 
--- the token at the position is after this beginning of the text
+-- The token at the position is after this beginning of the text.
 pub record StandsAfter (tokens : List TokenView) (i : ℕ) (front : List ℕ) : Type 0 where
   pub index : IsSomeAnd (slice_get tokens i) (λ token. token.index ≡ byte_len front)
 
--- a lenient token begins the text with its spelling
+-- A lenient token begins the text with its spelling.
 taken : (whole start : List ℕ) (token : TokenView) (rest : List ℕ) → IsLenient whole start token rest → (spelling : List ℕ) × (start ≡ spelling ++ rest)
 taken whole start token rest (inl h) = (h.lexed.spelling, h.lexed.cut)
 taken whole start token rest (inr h) = (h.character ∷ [], h.cut)
@@ -72,13 +72,13 @@ placed : (whole start : List ℕ) (token : TokenView) (rest : List ℕ) → IsLe
 placed whole start token rest (inl h) = h.place
 placed whole start token rest (inr h) = h.place
 
--- the text before a place
+-- The text before a place.
 front_len : (whole front rest : List ℕ) (place : ℕ) → whole ≡ front ++ rest → BeginsAt whole rest place → place ≡ byte_len front
 front_len whole front rest place e h =
     let n = ap byte_len e ∙ byte_len-append front rest in
     omega arith
 
--- a token of a cut is after a beginning of the text
+-- A token of a cut is after a beginning of the text.
 front_of : (whole before text : List ℕ) (front : List TokenView) (i : ℕ) → whole ≡ before ++ text → IsCut (IsLenient whole) text front [] → i < length (front ++ end_of whole ∷ []) → (pre post : List ℕ) × (text ≡ pre ++ post) × StandsAfter (front ++ end_of whole ∷ []) i (before ++ pre)
 front_of whole before text [] zero e cut within = (text, [], sym (append-nil text), record { index = ap byte_len e })
 front_of whole before text [] (suc i) e cut within = absurd (omega arith)
@@ -98,7 +98,7 @@ front_of whole before text (token ∷ front) (suc i) e cut within =
       record { index = subst (λ x. IsSomeAnd (slice_get (front ++ end_of whole ∷ []) i) (λ t. t.index ≡ byte_len x)) (append_assoc before (skipped.0 ++ spelling.0) found.0) found.3.index },
     )
 
--- two tokens are after two beginnings of the text, the second an extension of the first
+-- Two tokens are after two beginnings of the text, the second an extension of the first.
 fronts_of : (whole before text : List ℕ) (front : List TokenView) (i j : ℕ) → whole ≡ before ++ text → IsCut (IsLenient whole) text front [] → i ≤ j → j < length (front ++ end_of whole ∷ []) → (pre mid post : List ℕ) × (text ≡ pre ++ (mid ++ post)) × StandsAfter (front ++ end_of whole ∷ []) i (before ++ pre) × StandsAfter (front ++ end_of whole ∷ []) j ((before ++ pre) ++ mid)
 fronts_of whole before text [] zero zero e cut le within =
     (text, [], [], sym (append-nil text), record { index = ap byte_len e }, record { index = ap byte_len (e ∙ sym (append-nil (before ++ text))) })
@@ -145,7 +145,7 @@ fronts_of whole before text (token ∷ front) (suc i) (suc j) e cut le within =
 index_at : (tokens : List TokenView) (i n : ℕ) (front : List ℕ) → byte_len front ≡ n → StandsAfter tokens i front → IsSomeAnd (slice_get tokens i) (λ token. token.index ≡ n)
 index_at tokens i n front e h = subst (λ m. IsSomeAnd (slice_get tokens i) (λ token. token.index ≡ m)) e h.index
 
--- the text between two lenient tokens exists
+-- The text between two lenient tokens exists.
 pub text_between : (text : List ℕ) (tokens : List TokenView) (from until : ℕ) → AreLenientTokens text tokens → from ≤ until → until < length tokens → (between : List ℕ) × IsTextBetween text tokens from until between
 text_between text tokens from until h le within =
     let inside : until < length (h.front ++ end_of text ∷ []) = subst (λ (ts : List TokenView). until < length ts) h.all within in
@@ -169,7 +169,7 @@ scalar_parts (x ∷ xs) ys h =
     let rest = scalar_parts xs ys parts.1 in
     (and_from _ _ parts.0 rest.0, rest.1)
 
--- a part of a text, in bytes
+-- A part of a text, in bytes.
 pub record IsByteCut (bytes front between rest : List ℕ) : Type 0 where
   pub cut : bytes ≡ encode_utf8_all front ++ (encode_utf8_all between ++ encode_utf8_all rest)
   pub utf8 : IsUtf8 (encode_utf8_all between ++ encode_utf8_all rest)
@@ -188,7 +188,7 @@ byte_cut bytes front between rest u e =
       characters = chars-encodes between ok_more.0;
     }
 
--- the middle of three lists by its bounds
+-- The middle of three lists by its bounds.
 pub middle : (xs ys zs : List ℕ) (i j : ℕ) → i ≡ length xs → j ≡ length xs + length ys → slice_range (xs ++ (ys ++ zs)) i j ≡ ys
 middle xs ys zs i j e f =
     let n : j - i ≡ length ys = omega arith in
@@ -201,7 +201,7 @@ middle xs ys zs i j e f =
     drop_seam [] vs = refl
     drop_seam (u ∷ us) vs = drop_seam us vs
 
--- the premises and the result of a slice of the text between two byte indexes
+-- The premises and the result of a slice of the text between two byte indexes.
 pub record IsStretch (bytes : List ℕ) (i j : ℕ) (between : List ℕ) : Type 0 where
   pub order : i ≤ j
   pub start : IsCharBoundary bytes i
@@ -226,7 +226,7 @@ stretch_of bytes tokens from until first last between utf8 h first_is last_is =
       characters = ap (λ xs. chars (slice_range xs first.index last.index)) cut.cut ∙ ap chars (middle (encode_utf8_all h.front) (encode_utf8_all between) (encode_utf8_all h.rest) first.index last.index i j) ∙ cut.characters;
     }
 
--- the text between two tokens of a source, as the code reads them
+-- The text between two tokens of a source, as the code reads them.
 pub source_stretch : (source : Source) (from until : ℕ) → IsUtf8 source.input.now → IsSource source → from ≤ until → until < length source.tokens.now → (between : List ℕ) × IsTextBetween (text_of_source source) (tokens_of source) from until between × IsStretch source.input.now (get_or source.tokens.now from no_token).index (get_or source.tokens.now until no_token).index between
 source_stretch source from until utf8 is_source le within =
     let size = length-map source.tokens.now token_view in
@@ -237,10 +237,10 @@ source_stretch source from until utf8 is_source le within =
           (view_read source.tokens.now from no_token (omega arith)) (view_read source.tokens.now until no_token within),
     )
 
--- a source has as many tokens as the code counts
+-- A source has as many tokens as the code counts.
 pub tokens_len : (source : Source) → length (tokens_of source) ≡ length source.tokens.now
 tokens_len source = length-map source.tokens.now token_view
 
--- the tokens of a source end with End
+-- The tokens of a source end with End.
 pub source_closed : (source : Source) → IsSource source → IsClosed (tokens_of source)
 source_closed source h = are_closed (text_of_source source) (tokens_of source) h

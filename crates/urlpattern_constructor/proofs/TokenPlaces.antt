@@ -16,23 +16,23 @@ use Rattle.urlpattern_syntax.proofs.TextLemmas.{bytes_same}
 
 -- ---- reads
 
--- the view of the token at an index of the code's tokens
+-- The view of the token at an index of the code's tokens.
 pub view_at : (tokens : List Token) (i : ℕ) (token : Token) → i < length tokens → token ≡ get_or tokens i token → slice_get (views tokens) i ≡ Some (token_view token)
 view_at tokens i token within is =
     slice_get-map token_view tokens i ∙ ap (option_map token_view) (slice_get_read tokens (length tokens) i token refl within is)
 
--- the view of the token at an index, read with another token as the default
+-- The view of the token at an index, read with another token as the default.
 pub view_read : (tokens : List Token) (i : ℕ) (other : Token) → i < length tokens → slice_get (views tokens) i ≡ Some (token_view (get_or tokens i other))
 view_read tokens i other within = slice_get-map token_view tokens i ∙ ap (option_map token_view) (slice_get-get_or tokens i other within)
 
--- the default of a read without a token
+-- The default of a read without a token.
 abbrev pub no_token : Token
 no_token = record { kind = Open; index = 0; value = record { ref_ptr = (0, 0); now = [] } }
 
 pub at_view : (test : TokenView → Bool) (tokens : List TokenView) (i : ℕ) (token : TokenView) → slice_get tokens i ≡ Some token → passes_at test tokens i ≡ test token
 at_view test tokens i token is = rw is refl
 
--- the token that `get` finds
+-- The token that `get` finds.
 pub at_found : (test : TokenView → Bool) (tokens : List Token) (i : ℕ) (found : Bor Token) → IsItemAt tokens i (Some found) → passes_at test (views tokens) i ≡ test (token_view found.now)
 at_found test tokens i found h = at_view test (views tokens) i (token_view found.now) (view_at tokens i found.now h.3.0 h.1)
 
@@ -49,7 +49,7 @@ same_bool true false f g = sym (f refl)
 same_bool false true f g = g refl
 same_bool false false f g = refl
 
--- a single ASCII character is compared as its byte
+-- A single ASCII character is compared as its byte.
 pub mark_bytes : (bytes : List ℕ) (mark : ℕ) → IsUtf8 bytes → mark < 128 → bytes_eq bytes (mark ∷ []) ≡ bytes_eq (chars bytes) (mark ∷ [])
 mark_bytes bytes mark utf8 ascii =
     let is_ascii : IsAscii (mark ∷ []) = search rules in
@@ -59,7 +59,7 @@ mark_bytes bytes mark utf8 ascii =
 
 -- ---- signs
 
--- the token before a place that is not the first
+-- The token before a place that is not the first.
 pub follows_modified_before : (tokens : List TokenView) (i : ℕ) → ¬ (i ≡ 0) → follows_modified tokens i ≡ passes_at (λ token. takes_modifier token.kind) tokens (i - 1)
 follows_modified_before tokens zero h = absurd (h refl)
 follows_modified_before tokens (suc before) h =

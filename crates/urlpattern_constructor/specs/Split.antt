@@ -24,40 +24,40 @@ abbrev pub is_end : TokenType → Bool
 is_end TokenType.End = true
 is_end kind = false
 
--- the token at the position is End
+-- The token at the position is End.
 abbrev pub ends_at : List TokenView → ℕ → Bool
 ends_at tokens position = passes_at (λ token. is_end token.kind) tokens position
 
 -- ---- signs
 
--- a token of this kind is a literal character
+-- A token of this kind is a literal character.
 abbrev pub is_character : TokenType → Bool
 is_character TokenType.Char = true
 is_character TokenType.EscapedChar = true
 is_character TokenType.InvalidChar = true
 is_character kind = false
 
--- the token is this character
+-- The token is this character.
 abbrev pub is_sign : (mark : List ℕ) → TokenView → Bool
 is_sign mark token = is_character token.kind && bytes_eq token.value mark
 
--- a colon, after a protocol, a username or a hostname
+-- A colon, after a protocol, a username or a hostname.
 abbrev pub is_colon_sign : List TokenView → ℕ → Bool
 is_colon_sign tokens position = passes_at (is_sign (codes ":")) tokens position
 
--- an at sign, between a password or a username and the hostname
+-- An at sign, between a password or a username and the hostname.
 abbrev pub is_at_sign : List TokenView → ℕ → Bool
 is_at_sign tokens position = passes_at (is_sign (codes "@")) tokens position
 
--- a slash, two of which begin an authority, and one a pathname
+-- A slash, two of which begin an authority, and one a pathname.
 abbrev pub is_slash_sign : List TokenView → ℕ → Bool
 is_slash_sign tokens position = passes_at (is_sign (codes "/")) tokens position
 
--- a number sign, which begins the hash
+-- A number sign, which begins the hash.
 abbrev pub is_hash_sign : List TokenView → ℕ → Bool
 is_hash_sign tokens position = passes_at (is_sign (codes "#")) tokens position
 
--- a question mark after a token of this kind is a modifier
+-- A question mark after a token of this kind is a modifier.
 abbrev pub takes_modifier : TokenType → Bool
 takes_modifier TokenType.Name = true
 takes_modifier TokenType.Regexp = true
@@ -65,12 +65,12 @@ takes_modifier TokenType.Close = true
 takes_modifier TokenType.Asterisk = true
 takes_modifier kind = false
 
--- a question mark at the position would modify the token before it
+-- A question mark at the position would modify the token before it.
 abbrev pub follows_modified : List TokenView → ℕ → Bool
 follows_modified tokens zero = false
 follows_modified tokens (suc before) = passes_at (λ token. takes_modifier token.kind) tokens before
 
--- the sign that begins the search: a question mark as a character, or one that is not a modifier
+-- The sign that begins the search: a question mark as a character, or one that is not a modifier.
 abbrev pub is_search_sign : List TokenView → ℕ → Bool
 is_search_sign tokens position =
     passes_at (is_sign (codes "?")) tokens position
@@ -78,35 +78,36 @@ is_search_sign tokens position =
 
 -- ---- which tokens are seen
 
--- the depth of groups after a token: an opening brace adds one, a closing brace removes one, if any
+-- The depth of groups after a token: an opening brace adds one, a closing brace removes one, if
+-- any.
 abbrev pub depth_after : TokenType → ℕ → ℕ
 depth_after TokenType.Open depth = depth + 1
 depth_after TokenType.Close depth = depth - 1
 depth_after kind depth = depth
 
--- the depth before a position, where it is `depth` before the token at `from`
+-- The depth before a position, where it is `depth` before the token at `from`.
 abbrev pub depth_before : List TokenView → (from depth position : ℕ) → ℕ
 depth_before tokens from depth position = fold (λ reached token. depth_after token.kind reached) depth (slice_range tokens from position)
 
--- End is seen, and a token outside of all groups that opens none
+-- End is seen, and a token outside of all groups that opens none.
 abbrev pub is_seen : List TokenView → (from depth position : ℕ) → Bool
 is_seen tokens from depth position =
     ends_at tokens position || (not (passes_at (λ token. is_open token.kind) tokens position) && depth_before tokens from depth position == 0)
 
--- the number of tokens from one position up to another that are seen and are this character
+-- The number of tokens from one position up to another that are seen and are this character.
 abbrev pub count_seen : (mark : List ℕ) → List TokenView → (from depth position : ℕ) → ℕ
 count_seen mark tokens from depth position =
     count_by (λ other. is_seen tokens from depth other && passes_at (is_sign mark) tokens other) (range_with_len from (position - from))
 
--- as many square brackets were opened as closed
+-- As many square brackets were opened as closed.
 abbrev pub is_balanced : List TokenView → (from depth position : ℕ) → Bool
 is_balanced tokens from depth position =
     count_seen (codes "[") tokens from depth position == count_seen (codes "]") tokens from depth position
 
 -- ---- where a section ends
 
--- the signs with which a section ends; `balanced` says that a colon there is outside of square
--- brackets
+-- The signs with which a section ends; `balanced` says that a colon there is outside of square
+-- brackets.
 abbrev pub is_ending : Section → (balanced : Bool) → List TokenView → ℕ → Bool
 is_ending Protocol balanced tokens position = is_colon_sign tokens position
 is_ending Authority balanced tokens position =
@@ -120,7 +121,7 @@ is_ending Pathname balanced tokens position = is_search_sign tokens position || 
 is_ending Search balanced tokens position = is_hash_sign tokens position
 is_ending Hash balanced tokens position = false
 
--- a section that begins at `from`, where the depth is `depth`, may end at the position
+-- A section that begins at `from`, where the depth is `depth`, may end at the position.
 abbrev pub may_end : Section → List TokenView → (from depth position : ℕ) → Bool
 may_end section tokens from depth position =
     is_seen tokens from depth position && is_ending section (is_balanced tokens from depth position) tokens position
@@ -143,44 +144,45 @@ pub record IsTextBetween (text : List ℕ) (tokens : List TokenView) (from until
   pub begins : IsSomeAnd (slice_get tokens from) (λ token. token.index ≡ byte_len front)
   pub ends : IsSomeAnd (slice_get tokens until) (λ token. token.index ≡ byte_len front + byte_len between)
 
--- the component is present, and is the text between the two tokens
+-- The component is present, and is the text between the two tokens.
 abbrev pub IsComponentBetween : (text : List ℕ) → List TokenView → (from until : ℕ) → Option (List ℕ) → Type 0
 IsComponentBetween text tokens from until component = IsSomeAnd component (IsTextBetween text tokens from until)
 
--- the hash begins at `from` and extends to End
+-- The hash begins at `from` and extends to End.
 abbrev pub HashFrom : (text : List ℕ) → List TokenView → (from : ℕ) → Values → Type 0
 HashFrom text tokens from components = (until : ℕ) × IsTrue (ends_at tokens until) × IsComponentBetween text tokens from until components.hash
 
--- a hash begins after its sign, and is missing at End
+-- A hash begins after its sign, and is missing at End.
 abbrev pub HashAt : (text : List ℕ) → List TokenView → (position : ℕ) → Values → Type 0
 HashAt text tokens position components =
     (IsTrue (is_hash_sign tokens position) × HashFrom text tokens (position + 1) components)
     ⊎ (IsTrue (ends_at tokens position) × (components.hash ≡ None))
 
--- the search begins at `from`, and ends at the sign of the hash or at End
+-- The search begins at `from`, and ends at the sign of the hash or at End.
 abbrev pub SearchFrom : (text : List ℕ) → List TokenView → (from depth : ℕ) → Values → Type 0
 SearchFrom text tokens from depth components =
     (until : ℕ) × EndsAt Search tokens from depth until × IsComponentBetween text tokens from until components.search × HashAt text tokens until components
 
--- a search begins after its sign, is empty where the hash begins without one, and is missing at End
+-- A search begins after its sign, is empty where the hash begins without one, and is missing at
+-- End.
 abbrev pub SearchAt : (text : List ℕ) → List TokenView → (position : ℕ) → Values → Type 0
 SearchAt text tokens position components =
     (IsTrue (is_search_sign tokens position) × SearchFrom text tokens (position + 1) 0 components)
     ⊎ (IsTrue (is_hash_sign tokens position) × (components.search ≡ Some []) × HashFrom text tokens (position + 1) components)
     ⊎ (IsTrue (ends_at tokens position) × (components.search ≡ None) × (components.hash ≡ None))
 
--- the pathname begins at `from`, and ends at the sign of the search or of the hash or at End
+-- The pathname begins at `from`, and ends at the sign of the search or of the hash or at End.
 abbrev pub PathnameFrom : (text : List ℕ) → List TokenView → (from depth : ℕ) → Values → Type 0
 PathnameFrom text tokens from depth components =
     (until : ℕ) × EndsAt Pathname tokens from depth until × IsComponentBetween text tokens from until components.pathname × SearchAt text tokens until components
 
--- the pathname where a search or a hash begins without one: a slash if the protocol is special,
--- else empty
+-- The pathname where a search or a hash begins without one: a slash if the protocol is special,
+-- else empty.
 abbrev pub implied_pathname : (special : Bool) → List ℕ
 implied_pathname true = codes "/"
 implied_pathname false = []
 
--- after a hostname or a port a pathname begins with its slash
+-- After a hostname or a port a pathname begins with its slash.
 abbrev pub PathnameAt : (text : List ℕ) → List TokenView → (special : Bool) → (position : ℕ) → Values → Type 0
 PathnameAt text tokens special position components =
     (IsTrue (is_slash_sign tokens position) × PathnameFrom text tokens position 0 components)
@@ -188,7 +190,7 @@ PathnameAt text tokens special position components =
     × SearchAt text tokens position components)
     ⊎ (IsTrue (ends_at tokens position) × (components.pathname ≡ None) × (components.search ≡ None) × (components.hash ≡ None))
 
--- the port follows a colon, and is empty without one
+-- The port follows a colon, and is empty without one.
 abbrev pub PortAt : (text : List ℕ) → List TokenView → (special : Bool) → (position : ℕ) → Values → Type 0
 PortAt text tokens special position components =
     (IsTrue (is_colon_sign tokens position)
@@ -196,14 +198,14 @@ PortAt text tokens special position components =
     × PathnameAt text tokens special until components))
     ⊎ (¬ IsTrue (is_colon_sign tokens position) × (components.port ≡ Some []) × PathnameAt text tokens special position components)
 
--- the hostname begins at `from`
+-- The hostname begins at `from`.
 abbrev pub HostnameFrom : (text : List ℕ) → List TokenView → (special : Bool) → (from depth : ℕ) → Values → Type 0
 HostnameFrom text tokens special from depth components =
     (until : ℕ) × EndsAt Hostname tokens from depth until × IsComponentBetween text tokens from until components.hostname
     × PortAt text tokens special until components
 
--- the username ends at a colon or at the sign of the hostname, and the password is between these
--- two
+-- The username ends at a colon or at the sign of the hostname, and the password is between these
+-- two.
 abbrev pub UserinfoFrom : (text : List ℕ) → List TokenView → (from until : ℕ) → Values → Type 0
 UserinfoFrom text tokens from until components =
     (position : ℕ) × EndsAt Username tokens from 0 position × IsComponentBetween text tokens from position components.username
@@ -223,13 +225,13 @@ AuthorityFrom text tokens special from components =
 
 -- ---- the whole string
 
--- no component before the pathname is present
+-- No component before the pathname is present.
 abbrev pub NoAuthority : Values → Type 0
 NoAuthority components = (components.protocol ≡ None) × (components.username ≡ None) × (components.password ≡ None)
     × (components.hostname ≡ None) × (components.port ≡ None)
 
--- without a protocol, the first token decides whether the hash, the search or else the pathname
--- begins
+-- Without a protocol, the first token decides whether the hash, the search or else the pathname
+-- begins.
 pub record IsRelativeSplit (text : List ℕ) (tokens : List TokenView) (components : Values) : Type 0 where
   pub until : ℕ
   pub no_colon : EndsAt Protocol tokens 0 0 until
@@ -242,7 +244,7 @@ pub record IsRelativeSplit (text : List ℕ) (tokens : List TokenView) (componen
       × PathnameFrom text tokens 0 (depth_before tokens 0 0 until) components)
   pub nothing_before : NoAuthority components
 
--- two slashes follow the position
+-- Two slashes follow the position.
 abbrev pub has_slashes : List TokenView → ℕ → Bool
 has_slashes tokens position = is_slash_sign tokens (position + 1) && is_slash_sign tokens (position + 2)
 
@@ -266,12 +268,12 @@ IsSplit IsSpecial text tokens components =
     ⊎ ((colon : ℕ) × (special : Bool) × IsAbsoluteSplit text tokens special colon components
     × IsSomeAnd components.protocol (λ protocol. IsSpecial protocol special))
 
--- no protocol is found in the text
+-- No protocol is found in the text.
 abbrev pub LacksProtocol : (text : List ℕ) → Type 0
 LacksProtocol text =
     (tokens : List TokenView) × (until : ℕ) × AreLenientTokens text tokens × EndsAt Protocol tokens 0 0 until × IsTrue (ends_at tokens until)
 
--- the text has a protocol, of which `Is` holds
+-- The text has a protocol, of which `Is` holds.
 abbrev pub HasProtocol : (text : List ℕ) → (Is : List ℕ → Type 0) → Type 0
 HasProtocol text Is =
     (tokens : List TokenView) × (colon : ℕ) × (protocol : List ℕ) × AreLenientTokens text tokens

@@ -12,19 +12,19 @@ use Rattle.urlpattern_syntax.specs.declared.error.Error.{Error}
 use Rattle.urlpattern_components.specs.Eight.{Values, at, each}
 use Rattle.urlpattern_syntax.specs.Text.{chars, option_text, text_of}
 
--- the text of a source
+-- The text of a source.
 abbrev pub text_of_source : Source → List ℕ
 text_of_source source = chars source.input.now
 
--- the tokens of a source
+-- The tokens of a source.
 abbrev pub tokens_of : Source → List TokenView
 tokens_of source = views source.tokens.now
 
--- the components that were found
+-- The components that were found.
 abbrev pub split_values : Split → Values
 split_values split = each (λ name. option_text (at split.values name))
 
--- the result is an owned copy of the component, or memory ran out
+-- The result is an owned copy of the component, or memory ran out.
 pub record IsOwned (component : Option (List ℕ)) (result : Result (Option (String Global)) Error) : Type 0 where
   pub ok : IfOk result (λ owned. option_map text_of owned ≡ component)
   pub memory : OnlyOutOfMemory result
@@ -33,14 +33,14 @@ pub record IsOwned (component : Option (List ℕ)) (result : Result (Option (Str
 abbrev pub IsSource : Source → Type 0
 IsSource source = AreLenientTokens (text_of_source source) (tokens_of source)
 
--- the section may end at the position: at one of its signs, outside of square brackets, or at End
+-- The section may end at the position: at one of its signs, outside of square brackets, or at End.
 abbrev pub may_follow : Section → List TokenView → ℕ → Bool
 may_follow section tokens position = is_ending section true tokens position || ends_at tokens position
 
 -- ---- turns
 
--- the turns so far and a look at each token from the index on are at most twice the number of
--- tokens
+-- The turns so far and a look at each token from the index on are at most twice the number of
+-- tokens.
 abbrev pub HasTurns : Source → (index turns : ℕ) → Type 0
 HasTurns source index turns = turns + (length source.tokens.now - index) ≤ 2 * length source.tokens.now
 
@@ -57,22 +57,22 @@ pub record HasRead (source : Source) (position : Position) : Type 0 where
   pub within : position.index < length source.tokens.now
   pub turns : position.turns + (length source.tokens.now - position.index) ≤ 2 * length source.tokens.now + 1
 
--- where a slash is seen from the index on, a look at each token from there on keeps within twice
--- the number of tokens
+-- Where a slash is seen from the index on, a look at each token from there on keeps within twice
+-- the number of tokens.
 abbrev pub HasTurnForSlash : Source → (index depth turns : ℕ) → Type 0
 HasTurnForSlash source index depth turns =
     (other : ℕ) → index ≤ other → IsTrue (is_seen (tokens_of source) index depth other) → IsTrue (is_slash_sign (tokens_of source) other)
     → HasTurns source index turns
 
--- the section in which square brackets are counted
+-- The section in which square brackets are counted.
 abbrev pub is_hostname : Section → Bool
 is_hostname Section.Hostname = true
 is_hostname section = false
 
--- no component up to the pathname is present
+-- No component up to the pathname is present.
 abbrev pub NoPathname : Values → Type 0
 NoPathname components = NoAuthority components × (components.pathname ≡ None)
 
--- no component up to the search is present
+-- No component up to the search is present.
 abbrev pub NoSearch : Values → Type 0
 NoSearch components = NoPathname components × (components.search ≡ None)

@@ -7,10 +7,10 @@ module _ (bytes : List ℕ) (i n d : ℕ) (lt : i < length bytes) (next : n ≡ 
   begins : drop i bytes ≡ get_or bytes i d ∷ drop n bytes
   begins = drop-cons bytes i d lt ∙ ap (λ k. get_or bytes i d ∷ drop k bytes) (sym (next ∙ add-one i))
 
-  -- the last bracket is at the index
+  -- The last bracket is at the index.
   pub last_bracket : (bracket : ℕ) → get_or bytes i d ≡ bracket → IsLastBracket (bracket ∷ []) bytes i
   last_bracket bracket e = (drop n bytes, begins ∙ ap (λ c. c ∷ drop n bytes) e, after)
 
-  -- no bracket is at or after the index
+  -- No bracket is at or after the index.
   pub no_bracket : is_bracket (get_or bytes i d) ≡ false → list_any is_bracket (drop i bytes) ≡ false
   no_bracket e = ap (list_any is_bracket) begins ∙ ap (λ b. b || list_any is_bracket (drop n bytes)) e ∙ after

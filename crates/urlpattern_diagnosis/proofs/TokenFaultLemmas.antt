@@ -19,7 +19,7 @@ use Rattle.urlpattern_syntax.proofs.TextLemmas.{byte_len-chars, length-le-byte_l
 
 -- ---- ends of a text
 
--- the text that a cut leaves is an end of the whole text
+-- The text that a cut leaves is an end of the whole text.
 cut_left : (whole text left : List ℕ) (tokens : List TokenView) → IsCut (IsTokenOf whole) text tokens left → (front : List ℕ) × (text ≡ front ++ left)
 cut_left whole text left [] cut = (cut.0, cut.1)
 cut_left whole text left (token ∷ tokens) cut =
@@ -74,13 +74,13 @@ pub is_none : {A : Type 0} (found : Option A) → ((x : A) → found ≡ Some x 
 is_none None not_some = refl
 is_none (Some x) not_some = absurd (not_some x refl)
 
--- the `len` bytes at a place, if it is found
+-- The `len` bytes at a place, if it is found.
 pub found_at : (bytes : List ℕ) (len place : ℕ) (found : Option ℕ) (Other : Type 0) (span : Span) (fault : Fault) → found ≡ Some place → IsSpanAt bytes place len span →
     fault ≡ record { span = span; earlier = None } → MatchOption found Other (λ at. IsAlone (IsSpanAt bytes at len) fault)
 found_at bytes len place found Other span fault e at alone =
     subst (λ found. MatchOption found Other (λ at. IsAlone (IsSpanAt bytes at len) fault)) (sym e) (subst (IsAlone (IsSpanAt bytes place len)) (sym alone) (at, refl))
 
--- the fault of a backslash at the end
+-- The fault of a backslash at the end.
 pub escape_found : (component : Option ComponentName) (bytes : List ℕ) (place : ℕ) (reported : FaultView) (is : IsFault (chars bytes) reported place) (fault : Fault) → IsUtf8 bytes →
     reported ≡ IncompleteEscapeCode → IsAlone (IsSpanAt bytes (length bytes - 1) 1) fault → HasTokenFault component bytes reported place fault
 unfolding byte_len lib.Utf8.encode
@@ -91,7 +91,7 @@ escape_found component bytes place reported is fault u e alone =
     let begins : (length bytes - 1) + 1 ≡ byte_len (chars bytes) = omega arith in
     (is, subst (λ (x : FaultView). IsTokenFault component bytes place is.left x fault) (sym e) (length bytes - 1, begins, alone))
 
--- the fault of an invalid custom expression
+-- The fault of an invalid custom expression.
 pub body_found : (component : Option ComponentName) (bytes rest : List ℕ) (place first : ℕ) (reported : FaultView) (words : List ℕ) (is : IsFault (chars bytes) reported place) (fault : Fault) →
     reported ≡ InvalidRegex words → is.left ≡ first ∷ rest → IsBodyFault bytes place rest fault → HasTokenFault component bytes reported place fault
 body_found component bytes rest place first reported words is fault e cut body =
@@ -100,7 +100,7 @@ body_found component bytes rest place first reported words is fault e cut body =
     let first_same : first ≡ 40 = cc same in
     (is, subst (λ (x : FaultView). IsTokenFault component bytes place is.left x fault) (sym e) (rest, cut ∙ ap (λ c. c ∷ rest) first_same, body))
 
--- what follows the `(` is an invalid custom expression
+-- What follows the `(` is an invalid custom expression.
 pub body_faulty : (left rest : List ℕ) (first : ℕ) (reported : FaultView) (words : List ℕ) → IsFaultAt left reported →
     reported ≡ InvalidRegex words → left ≡ first ∷ rest → (told : List ℕ) × IsFaultAt (codes "(" ++ rest) (InvalidRegex told)
 body_faulty left rest first reported words is e cut =
@@ -115,16 +115,16 @@ module _ (text rest : List ℕ) (depth : ℕ) (h : HasRead text rest depth) (unm
   pub after_front : IsAfterFront text rest
   after_front = (h.read, front_read text rest depth h unmarked, h.cut)
 
-  -- the text ends before the body does
+  -- The text ends before the body does.
   pub all_read : rest ≡ [] → IsRegexpFront text
   all_read e = subst IsRegexpFront (sym (h.cut ∙ ap (λ x. h.read ++ x) e ∙ append-nil h.read)) (front_read text rest depth h unmarked)
 
   module _ (reported : List ℕ) (faulty : IsFaultAt (codes "(" ++ text) (InvalidRegex reported)) where
-    -- the text does not end in a backslash
+    -- The text does not end in a backslash.
     pub no_escape : (tail : List ℕ) → rest ≡ codes "\\" ++ tail → tail ≡ [] → ⊥
     no_escape tail e none = cc (fault_at_one (codes "(" ++ text) IncompleteEscapeCode (InvalidRegex reported) (fault_escape text rest depth h unmarked tail IncompleteEscapeCode e none) faulty)
 
-    -- the body does not end
+    -- The body does not end.
     pub no_end : (after : List ℕ) → depth ≡ 0 → rest ≡ codes ")" ++ after → ⊥
     no_end after zero_depth e =
         lexed_or_fault (codes "(" ++ text) Regexp h.read after (InvalidRegex reported) (body_lexed text rest depth h unmarked h.read after zero_depth e h.cut) faulty

@@ -20,44 +20,44 @@ use Rattle.urlpattern_syntax.specs.Tokens.{AreTokens, FaultView, IncompleteEscap
 
 -- ---- tokens
 
--- the number of bytes in a token's spelling that are not part of its value: a colon, a backslash,
--- or two parentheses
+-- The number of bytes in a token's spelling that are not part of its value: a colon, a backslash,
+-- or two parentheses.
 abbrev pub marks_len : TokenType → ℕ
 marks_len Name = 1
 marks_len EscapedChar = 1
 marks_len Regexp = 2
 marks_len kind = 0
 
--- the span of a token's spelling
+-- The span of a token's spelling.
 abbrev pub IsSpanOfToken : (bytes : List ℕ) → Token → Span → Type 0
 IsSpanOfToken bytes token span = IsSpanAt bytes token.index (length token.value.now + marks_len token.kind) span
 
--- the span of a custom expression, between its parentheses
+-- The span of a custom expression, between its parentheses.
 abbrev pub IsSpanOfBody : (bytes : List ℕ) → Token → Span → Type 0
 IsSpanOfBody bytes token span = IsSpanAt bytes (token.index + 1) (length token.value.now) span
 
 -- ---- faults
 
--- the spans of the fault are within the text
+-- The spans of the fault are within the text.
 abbrev pub IsFaultIn : (bytes : List ℕ) → Fault → Type 0
 IsFaultIn bytes fault = IsSpanIn bytes fault.span × IfSome fault.earlier (IsSpanIn bytes)
 
--- the fault has a single span, with the property `Is`
+-- The fault has a single span, with the property `Is`.
 abbrev pub IsAlone : (Is : Span → Type 0) → Fault → Type 0
 IsAlone Is fault = Is fault.span × (fault.earlier ≡ None)
 
--- the whole text is at fault
+-- The whole text is at fault.
 abbrev pub IsWholeFault : (bytes : List ℕ) → Fault → Type 0
 IsWholeFault bytes fault = IsAlone (λ span. span ≡ whole_span bytes) fault
 
 -- ---- where a URL is expected
 
--- whether the text begins with `front`
+-- Whether the text begins with `front`.
 abbrev pub begins : (bytes front : List ℕ) → Bool
 begins bytes front = starts_with nat_eq bytes front
 
--- the length of the special scheme at the beginning of a text, or of the pattern of two schemes, if
--- two slashes follow: the place of the missing colon
+-- The length of the special scheme at the beginning of a text, or of the pattern of two schemes, if
+-- two slashes follow: the place of the missing colon.
 abbrev pub missing_colon : (bytes : List ℕ) → Option ℕ
 missing_colon bytes =
     if begins bytes (codes "http{s}?//") then Some 8
@@ -67,8 +67,8 @@ missing_colon bytes =
     else if begins bytes (codes "ws//") then Some 2
     else None
 
--- the length of the special scheme at the beginning of a text, if `;` and two slashes follow: the
--- place of the `;`
+-- The length of the special scheme at the beginning of a text, if `;` and two slashes follow: the
+-- place of the `;`.
 abbrev pub mistyped_colon : (bytes : List ℕ) → Option ℕ
 mistyped_colon bytes =
     if begins bytes (codes "https;//") then Some 5
@@ -77,28 +77,28 @@ mistyped_colon bytes =
     else if begins bytes (codes "ws;//") then Some 2
     else None
 
--- the `;` in place of the colon after a scheme is at fault, or else the whole text
+-- The `;` in place of the colon after a scheme is at fault, or else the whole text.
 abbrev pub IsSignFault : (bytes : List ℕ) → Fault → Type 0
 IsSignFault bytes fault =
     MatchOption (mistyped_colon bytes) (IsWholeFault bytes fault) (λ place. IsAlone (IsSpanAt bytes place 1) fault)
 
--- the place of the missing or mistyped colon after a scheme is at fault, or else the whole text
+-- The place of the missing or mistyped colon after a scheme is at fault, or else the whole text.
 abbrev pub IsUrlFault : (bytes : List ℕ) → Fault → Type 0
 IsUrlFault bytes fault =
     MatchOption (missing_colon bytes) (IsSignFault bytes fault) (λ place. IsAlone (IsSpanAt bytes place 0) fault)
 
--- a character of a path, a search or a hash that no protocol has
+-- A character of a path, a search or a hash that no protocol has.
 abbrev pub is_path_sign : ℕ → Bool
 is_path_sign c = is_among (codes "/#=") c
 
--- the colon after a text with a character of a path, a search or a hash is at fault: that text is
--- no protocol
+-- The colon after a text with a character of a path, a search or a hash is at fault: that text is
+-- no protocol.
 abbrev pub IsColonFault : (bytes before : List ℕ) → Fault → Type 0
 IsColonFault bytes before fault = IsTrue (list_any is_path_sign before) × IsAlone (IsSpanAt bytes (length before) 1) fault
 
 -- ---- where no token begins
 
--- `left` is the end of `rest`, which follows a `(`, after an incomplete expression
+-- `left` is the end of `rest`, which follows a `(`, after an incomplete expression.
 abbrev pub IsAfterFront : (rest left : List ℕ) → Type 0
 IsAfterFront rest left = (front : List ℕ) × IsRegexpFront front × (rest ≡ front ++ left)
 
@@ -120,28 +120,28 @@ IsBodyFault bytes place rest fault =
     ⊎ ((left : List ℕ) × (start len : ℕ) × IsAfterFront rest left × IsRefusedFront left len × BeginsAt (chars bytes) left start
     × IsSpanAt bytes start len fault.span × IsSomeAnd fault.earlier (IsSpanAt bytes place 1))
 
--- whether a character is a square bracket
+-- Whether a character is a square bracket.
 abbrev pub is_bracket : ℕ → Bool
 is_bracket c = is_among (codes "[]") c
 
--- the text has this bracket at the place, and no bracket after it
+-- The text has this bracket at the place, and no bracket after it.
 abbrev pub IsLastBracket : (bracket bytes : List ℕ) → (place : ℕ) → Type 0
 IsLastBracket bracket bytes place =
     (rest : List ℕ) × (drop place bytes ≡ bracket ++ rest) × (list_any is_bracket rest ≡ false)
 
--- the last square bracket of the text is a `[` at the place; or, for `None`, a `]`, or there is
--- none
+-- The last square bracket of the text is a `[` at the place; or, for `None`, a `]`, or there is
+-- none.
 abbrev pub IsOpenBracket : (bytes : List ℕ) → Option ℕ → Type 0
 IsOpenBracket bytes (Some place) = IsLastBracket (codes "[") bytes place
 IsOpenBracket bytes None = (list_any is_bracket bytes ≡ false) ⊎ ((place : ℕ) × IsLastBracket (codes "]") bytes place)
 
--- whether the component is the hostname
+-- Whether the component is the hostname.
 abbrev pub is_of_hostname : Option ComponentName → Bool
 is_of_hostname None = false
 is_of_hostname (Some Hostname) = true
 is_of_hostname (Some component) = false
 
--- the lesser of two places, or the place that there is
+-- The lesser of two places, or the place that there is.
 abbrev pub first_place : Option ℕ → ℕ → ℕ
 first_place None place = place
 first_place (Some other) place = min other place
@@ -163,7 +163,7 @@ IsTokenFault component bytes place left InvalidName fault = IsNameFault componen
 IsTokenFault component bytes place left (InvalidRegex reported) fault =
     (rest : List ℕ) × (left ≡ codes "(" ++ rest) × IsBodyFault bytes place rest fault
 
--- the first fault of the text is at the place, for this reason, and `fault` is what is at fault
+-- The first fault of the text is at the place, for this reason, and `fault` is what is at fault.
 abbrev pub HasTokenFault : Option ComponentName → (bytes : List ℕ) → FaultView → (place : ℕ) → Fault → Type 0
 HasTokenFault component bytes reported place fault =
     (is : IsFault (chars bytes) reported place) × IsTokenFault component bytes place is.left reported fault
@@ -172,27 +172,27 @@ abbrev pub is_end_kind : TokenType → Bool
 is_end_kind End = true
 is_end_kind kind = false
 
--- the token at which the pieces of the text before the place end, unless they are all of that text
+-- The token at which the pieces of the text before the place end, unless they are all of that text.
 abbrev pub IsStopBefore : (bytes point : List ℕ) → (place : ℕ) → Option Span → Type 0
 IsStopBefore bytes point place earlier =
     (stop : Stop) × IsStopOf (chars (take place bytes)) point (token_view stop.first) (token_view stop.found)
     × MatchBool (is_end_kind stop.found.kind) (earlier ≡ None) (IsSomeAnd earlier (IsSpanOfToken bytes stop.found))
 
--- the fault is that of `alone`; if it has no earlier part, the token at which the pieces before it
--- end is at fault too
+-- The fault is that of `alone`; if it has no earlier part, the token at which the pieces before it
+-- end is at fault too.
 abbrev pub IsWithStop : (bytes point : List ℕ) → (place : ℕ) → (alone fault : Fault) → Type 0
 IsWithStop bytes point place alone fault =
     (fault.span ≡ alone.span)
     × MatchOption alone.earlier (IsStopBefore bytes point place fault.earlier) (λ span. fault.earlier ≡ Some span)
 
--- the first fault of the text, with an earlier token that is at fault too
+-- The first fault of the text, with an earlier token that is at fault too.
 abbrev pub IsFirstFault : Option ComponentName → (bytes point : List ℕ) → FaultView → (place : ℕ) → Fault → Type 0
 IsFirstFault component bytes point reported place fault =
     (alone : Fault) × HasTokenFault component bytes reported place alone × IsWithStop bytes point place alone fault
 
 -- ---- where the tokens are no pattern
 
--- the token at which the pieces end is at fault, with the brace of a group that lacks its end
+-- The token at which the pieces end is at fault, with the brace of a group that lacks its end.
 abbrev pub IsStopFault : (bytes : List ℕ) → Stop → Fault → Type 0
 IsStopFault bytes stop fault =
     IsSpanOfToken bytes stop.found fault.span
@@ -202,24 +202,24 @@ abbrev pub is_name : TokenType → Bool
 is_name Name = true
 is_name kind = false
 
--- the token is this name
+-- The token is this name.
 abbrev pub gives_name : (name : List ℕ) → Token → Bool
 gives_name name token = is_name token.kind && bytes_eq token.value.now name
 
--- the second of the tokens with a name is at fault, with the first
+-- The second of the tokens with a name is at fault, with the first.
 abbrev pub IsSecondFault : (bytes : List ℕ) → List Token → Fault → Type 0
 IsSecondFault bytes (first ∷ second ∷ more) fault =
     IsSpanOfToken bytes second fault.span × IsSomeAnd fault.earlier (IsSpanOfToken bytes first)
 IsSecondFault bytes tokens fault = IsWholeFault bytes fault
 
--- the fault of tokens that are no pattern, and whose pieces end at `stop`
+-- The fault of tokens that are no pattern, and whose pieces end at `stop`.
 abbrev pub IsParserFault : (bytes : List ℕ) → Stop → ParserError → Fault → Type 0
 IsParserFault bytes stop (parser_errors.ExpectedToken expected found value) fault = IsStopFault bytes stop fault
 IsParserFault bytes stop (parser_errors.DuplicateName name) fault =
     (tokens : List Token) × AreTokens (chars bytes) (map token_view tokens)
     × IsSecondFault bytes (filter (gives_name (string_bytes name)) tokens) fault
 
--- the fault of a text that consists of tokens, by the error with which the text is rejected
+-- The fault of a text that consists of tokens, by the error with which the text is rejected.
 abbrev pub IsFaultOfError : (bytes point : List ℕ) → Error → Fault → Type 0
 IsFaultOfError bytes point (errors.Parser error) fault =
     (stop : Stop) × IsStopOf (chars bytes) point (token_view stop.first) (token_view stop.found) × IsParserFault bytes stop error fault

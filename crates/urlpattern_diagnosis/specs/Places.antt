@@ -13,20 +13,20 @@ pub record IsPlaceOf (bytes part : List ℕ) (place : Place) : Type 0 where
   pub within : place.start + (length part - place.lead) ≤ length bytes
   pub is_there : IsTrue (starts_with nat_eq (drop place.start bytes) (drop place.lead part))
 
--- a span of the part, moved to the text; the whole text if the span begins in what the text lacks
+-- A span of the part, moved to the text; the whole text if the span begins in what the text lacks.
 abbrev pub IsMovedSpan : (bytes : List ℕ) → Place → (span moved : Span) → Type 0
 IsMovedSpan bytes place span moved =
     MatchBool (nat_le place.lead span.start)
     (IsSpanAt bytes (place.start + (span.start - place.lead)) (span.end - span.start) moved)
     (moved ≡ whole_span bytes)
 
--- a fault of the part, with both spans moved to the text
+-- A fault of the part, with both spans moved to the text.
 abbrev pub IsMovedFault : (bytes : List ℕ) → Place → (fault moved : Fault) → Type 0
 IsMovedFault bytes place fault moved =
     IsMovedSpan bytes place fault.span moved.span
     × MatchOption fault.earlier (moved.earlier ≡ None) (λ span. IsSomeAnd moved.earlier (IsMovedSpan bytes place span))
 
--- a fault of the part, moved to a place of the part in the text, or else to the whole text
+-- A fault of the part, moved to a place of the part in the text, or else to the whole text.
 abbrev pub IsFaultMoved : (bytes part : List ℕ) → (fault moved : Fault) → Type 0
 IsFaultMoved bytes part fault moved =
     ((place : Place) × IsPlaceOf bytes part place × IsMovedFault bytes place fault moved) ⊎ IsWholeFault bytes moved

@@ -2,19 +2,19 @@
 use Rattle.std.specs.Prelude.{◌≡◌, ℕ, ◌+◌, ◌≤◌, ◌⊎◌, List, length, IsCharBoundary}
 use Rattle.urlpattern_diagnosis.specs.declared.span.Span.{Span}
 
--- the bytes from one place up to another
+-- The bytes from one place up to another.
 abbrev pub span_between : (start end : ℕ) → Span
 span_between start end = record { start = start; end = end }
 
--- the span is within the text, and cuts no character
+-- The span is within the text, and cuts no character.
 abbrev pub IsSpanIn : (bytes : List ℕ) → Span → Type 0
 IsSpanIn bytes span = (span.start ≤ span.end) × IsCharBoundary bytes span.start × IsCharBoundary bytes span.end
 
 abbrev pub whole_span : (bytes : List ℕ) → Span
 whole_span bytes = span_between 0 (length bytes)
 
--- the span of `len` bytes from `start` on, or of the whole text if these are not whole characters
--- of it
+-- The span of `len` bytes from `start` on, or of the whole text if these are not whole characters
+-- of it.
 abbrev pub IsSpanAt : (bytes : List ℕ) → (start len : ℕ) → Span → Type 0
 IsSpanAt bytes start len span =
     (IsSpanIn bytes (span_between start (start + len)) × (span ≡ span_between start (start + len)))

@@ -11,14 +11,14 @@ use Rattle.urlpattern_index.specs.Listed.{GetsPattern, Listing}
 
 -- ---- groups of forms
 
--- the groups, with more forms in the group at a number
+-- The groups, with more forms in the group at a number.
 abbrev pub grown : (forms : List (List FormView)) → ℕ → List FormView → List (List FormView)
 grown forms number more = set forms number (group forms number ++ more)
 
 grown-same : (forms : List (List FormView)) (number : ℕ) (more : List FormView) → number < length forms → group (grown forms number more) number ≡ group forms number ++ more
 grown-same forms number more within = get_or-set_same forms number (group forms number ++ more) [] within
 
--- each form stays in its group
+-- Each form stays in its group.
 grown-has : (forms : List (List FormView)) (number : ℕ) (more : List FormView) → number < length forms → (other : ℕ) (form : FormView) (same : Bool) → eqb other number ≡ same
     → Contains (group forms other) form → Contains (group (grown forms number more) other) form
 grown-has forms number more within other form true test has =
@@ -39,11 +39,11 @@ grown-for forms number more within count form has =
       | inr other ↦ Contains-append_right longer whole form (grown-has forms number more within count form (eqb count number) refl other)
     ]
 
--- the view of groups
+-- The view of groups.
 abbrev pub groups_view : {A : Type 0} → List (Vec Form A) → List (List FormView)
 groups_view groups = map (λ group. map (λ form. form_view form) group.items) groups
 
--- the group at a number
+-- The group at a number.
 pub group-at : {A : Type 0} (groups : List (Vec Form A)) (number : ℕ) (here : Vec Form A) → number < length groups → here ≡ get_or groups number here
     → group (groups_view groups) number ≡ map (λ form. form_view form) here.items
 group-at [] number here within is = absurd (omega arith)
@@ -54,7 +54,7 @@ forms-more : (forms : List Form) (form : Form) (is_new : Bool) → map (λ form.
 forms-more forms form true = map-append (λ form. form_view form) forms (form ∷ [])
 forms-more forms form false = map-append (λ form. form_view form) forms []
 
--- reserving room in a group keeps its forms
+-- Reserving room in a group keeps its forms.
 pub groups-same : {A : Type 0} (groups : List (Vec Form A)) (number : ℕ) (here reserved : Vec Form A) → reserved.items ≡ (get_or groups number here).items
     → groups_view (set groups number reserved) ≡ groups_view groups
 groups-same [] number here reserved same = refl
@@ -65,7 +65,7 @@ pub listing-same : (keys same_keys : List ℕ) (forms same_forms : List (List Fo
     → ◌≡◌ {A = Listing} (record { keys = same_keys; forms = same_forms }) old
 listing-same keys same_keys forms same_forms old is are_keys are_forms = rw (are_keys, are_forms) is
 
--- reserving room in a group, and then appending a form
+-- Reserving room in a group, and then appending a form.
 pub groups-grown : {A : Type 0} (groups : List (Vec Form A)) (number : ℕ) (here reserved again added : Vec Form A) (form : Form) (is_new : Bool) → number < length groups
     → reserved.items ≡ (get_or groups number here).items → added.items ≡ (get_or (set groups number reserved) number again).items ++ cond is_new (form ∷ []) []
     → groups_view (set (set groups number reserved) number added) ≡ grown (groups_view groups) number (cond is_new (form_view form ∷ []) [])
@@ -83,7 +83,7 @@ on-err (Err e) p = p
 pub group-past : (forms : List (List FormView)) (number : ℕ) → length forms ≤ number → group forms number ≡ []
 group-past forms number past = get_or_past forms number [] past
 
--- groups without forms
+-- Groups without forms.
 pub empty-groups : {A : Type 0} (n : ℕ) (groups : List (Vec Form A)) → length groups ≡ n → ((i : ℕ) (d : Vec Form A) → i < n → (slice_index_or groups i d).items ≡ []) → groups_view groups ≡ replicate n []
 empty-groups zero [] long each = refl
 empty-groups zero (first ∷ groups) long each = absurd (omega arith)
@@ -92,7 +92,7 @@ empty-groups (suc n) (first ∷ groups) long each =
     let none : first.items ≡ [] = each 0 first (omega arith) in
     rw none (ap (λ views. [] ∷ views) (empty-groups n groups (omega arith) (λ i d lt. each (suc i) d (omega arith))))
 
--- a form that an address fits is among those for its number of segments
+-- A form that an address fits is among those for its number of segments.
 for-fitting : (forms : List (List FormView)) (form : FormView) (count : ℕ) (is_whole : Bool) → AreEnough is_whole (length form.segments) count
     → Contains (group forms (cond is_whole (length form.segments) 0)) form → Contains (forms_for forms count) form
 for-fitting forms form count true enough has =

@@ -38,7 +38,7 @@ fits_append delimiter (part ∷ parts) others text more (first, rest, cut, fits_
 fits_one : (delimiter : Option ℕ) (part : PartView) (text : List ℕ) → FitsPart delimiter part text → FitsParts true delimiter (part ∷ []) text
 fits_one delimiter part text fits = (text, [], sym (append-nil text), fits, λ whole. refl)
 
--- only its own text fits a plain fixed text
+-- Only its own text fits a plain fixed text.
 plain_part : (part : PartView) → IsTrue (is_plain part) → (part.kind ≡ FixedText) × (part.modifier ≡ modifiers.None)
 plain_part part plain = by part.kind part.modifier plain
   where
@@ -93,12 +93,12 @@ means_fit options (part ∷ parts) text captures (first, rest, own, others, cut,
 
 module _ {E : Type 0} (answer : E → List ℕ → Option Captures) (IsEngine : List ℕ → Result E ErrorView → Type 0) (options : OptionsView)
     (kept : options.ignore_case ≡ false) (matcher : MatcherView E) (text : List ℕ) (captures : Captures) (matches : Matches answer matcher text captures) where
-  -- an engine of the middle parts matches the inner text
+  -- An engine of the middle parts matches the inner text.
   abbrev IsAsked : List PartView → (inner : List ℕ) → Type 0
   IsAsked middle inner = (value : E) × (matcher.inner ≡ RegExp (Ok value)) × IsEngine (regexp_text options middle) (Ok value) × (answer value inner ≡ Some captures)
 
-  -- the text is `front`, an inner text and `back`; the inner text fits the middle parts, or an
-  -- engine matches it
+  -- The text is `front`, an inner text and `back`; the inner text fits the middle parts, or an
+  -- engine matches it.
   abbrev pub IsBetween : (front : List ℕ) → List PartView → (back : List ℕ) → Type 0
   IsBetween front middle back = (inner : List ℕ) × (text ≡ front ++ inner ++ back) × (FitsParts true options.delimiter middle inner ⊎ IsAsked middle inner)
 
@@ -171,7 +171,7 @@ module _ {E : Type 0} (engine : Engine E) (options : OptionsView) (parts : List 
   between : IsBetween engine.answer (IsEngineOf engine false (engine_flags options)) options kept matcher text matched.0 matched.1 (end_text made.front) made.middle (end_text made.back)
   between = matched_between engine.answer (IsEngineOf engine false (engine_flags options)) options kept matcher text matched.0 matched.1 (end_text made.front) made.middle (end_text made.back) made.is_made
 
-  -- a matched text fits the parts, if an engine, where one is needed, agrees with them
+  -- A matched text fits the parts, if an engine, where one is needed, agrees with them.
   pub matched_fits : (HoldsEngine matcher.inner → ValuesAgreeWithParts engine.IsMade engine.answer × AreGenerated parts) → FitsParts true options.delimiter parts text
   matched_fits agrees =
       let (inner, cut, fits_or_asked) = between in
@@ -192,7 +192,7 @@ module _ {E : Type 0} (engine : Engine E) (options : OptionsView) (parts : List 
       subst (λ ps. FitsParts true options.delimiter ps text) (sym made.are_peeled.cut)
       (subst (FitsParts true options.delimiter (option_to_list made.front ++ made.middle ++ option_to_list made.back)) (sym cut) whole)
 
-  -- a matched text begins with the plain fixed text that the parts begin with
+  -- A matched text begins with the plain fixed text that the parts begin with.
   pub matched_begins : (first : PartView) (rest : List PartView) → parts ≡ first ∷ rest → IsTrue (is_plain first) → FitsParts false options.delimiter (first ∷ []) text
   matched_begins first rest are plain =
       let (inner, cut, fits_or_asked) = between in
@@ -207,7 +207,7 @@ module _ {E : Type 0} (engine : Engine E) (options : OptionsView) (parts : List 
           ap (λ (p : PartView). p.value) same
       by None none cut = absurd (none (subst BeginsPlain (sym are) plain))
 
--- a matched text fits the parts that a path is known to begin with
+-- A matched text fits the parts that a path is known to begin with.
 pub first_fits : {E : Type 0} (engine : Engine E) (options : OptionsView) (parts : List PartView) (matcher : MatcherView E) (text : List ℕ)
     → IsMadeOf (IsEngineOf engine false (engine_flags options)) options parts matcher → IsMatched engine.answer matcher text
     → (firsts : List PartView) → IsFirstText options parts firsts → FitsParts false options.delimiter firsts text
@@ -218,12 +218,12 @@ first_fits engine options parts matcher text made matched (first ∷ next ∷ fi
 
 -- ---- lists of parts
 
--- only the empty text fits an empty list of parts
+-- Only the empty text fits an empty list of parts.
 pub none_fits : (delimiter : Option ℕ) (parts : List Part) (text : List ℕ) → length parts < 1 → FitsParts true delimiter (parts_view parts) text → text ≡ []
 none_fits delimiter [] text none fits = fits refl
 none_fits delimiter (part ∷ parts) text none fits = absurd (omega arith)
 
--- only its own text fits a list of one plain fixed text
+-- Only its own text fits a list of one plain fixed text.
 pub one_fits : (delimiter : Option ℕ) (parts : List Part) (part : Part) (text : List ℕ) → 1 ≤ length parts → length parts < 2 → part ≡ slice_index_or parts 0 part
     → IsTrue (is_plain (part_view part)) → FitsParts true delimiter (parts_view parts) text → text ≡ text_of part.value
 one_fits delimiter [] part text some one is plain fits = absurd (omega arith)

@@ -28,8 +28,8 @@ above_cons : (x : ℕ) (xs : List ℕ) → ((k d : ℕ) → k < length xs → x 
 above_cons x xs above zero d lt = omega arith
 above_cons x xs above (suc k) d lt = above k d (omega arith)
 
--- the first number at or above `from`, if the numbers before an index are below and those from the
--- index on are not
+-- The first number at or above `from`, if the numbers before an index are below and those from the
+-- index on are not.
 pub is_first_from : (from i : ℕ) (xs : List ℕ) → IsNonDecreasingBy (λ y. y) xs → ((k d : ℕ) → k < i → k < length xs → get_or xs k d < from)
     → ((k d : ℕ) → i ≤ k → k < length xs → from ≤ get_or xs k d) → IsFirstFrom from xs (slice_get xs i)
 is_first_from from i xs sorted below above =
@@ -83,7 +83,7 @@ module _ (key : ℕ) where
         | false ↦ sorted
       ]
 
-  -- appending a key
+  -- Appending a key.
   pub numbers-push : (first : ℕ) (keys : List ℕ) (x : ℕ) → numbers_of key first (keys ++ x ∷ []) ≡ numbers_of key first keys ++ cond (eqb key x) ((first + length keys) ∷ []) []
   numbers-push first [] x = rw add-zero refl
   numbers-push first (y ∷ keys) x =
@@ -96,7 +96,7 @@ module _ (key : ℕ) where
         | false ↦ step
       ]
 
-  -- the number of a key is listed
+  -- The number of a key is listed.
   pub numbers-found : (first : ℕ) (keys : List ℕ) (n : ℕ) → slice_get keys n ≡ Some key → Contains (numbers_of key first keys) (first + n)
   numbers-found first [] n h = absurd (cc)
   numbers-found first (x ∷ keys) zero h =
@@ -122,7 +122,7 @@ module _ (key : ℕ) where
       (0, (let e : first ≡ number = is in omega arith), ap (λ y. Some y) same)
   listed_cons first rest number x keys later true test (suc k, lt, is) = later (k, (let l : suc k < suc (length rest) = lt in omega arith), is)
 
-  -- a listed number is that of a key
+  -- A listed number is that of a key.
   pub numbers-listed : (first : ℕ) (keys : List ℕ) (number : ℕ) → Contains (numbers_of key first keys) number → (n : ℕ) × (number ≡ first + n) × (slice_get keys n ≡ Some key)
   numbers-listed first [] number = λ h. absurd (let lt : h.0 < 0 = h.1 in omega arith)
   numbers-listed first (x ∷ keys) number =
@@ -133,29 +133,29 @@ module _ (key : ℕ) where
 
 -- ---- marks
 
--- the mark of a key whose numbers were removed may stay
+-- The mark of a key whose numbers were removed may stay.
 pub marked-remove : (marks : List Bool) (old new : NumbersByKey) (number : ℕ) → AreMarked marks old → LosesNumber old new number → AreMarked marks new
 marked-remove marks old new number marked loses = λ key unmarked. loses key ∙ ap (without number) (marked key unmarked)
 
 -- ---- borrowed numbers
 
--- the number borrowed from an index of a list
+-- The number borrowed from an index of a list.
 pub copied_at : (xs : List ℕ) (i : ℕ) (r : Option (Bor ℕ)) → IsItemAt xs i r → option_copied r ≡ slice_get xs i
 copied_at xs i None h = sym (slice_get_past xs i h.3)
 copied_at xs i (Some x) h = sym (slice_get-get_or xs i x.now h.3.0 ∙ ap (λ y. Some y) (sym h.1))
 
--- what forms find, more forms find
+-- What forms find, more forms find.
 pub finds-more : (forms more : List FormView) (keys : List ℕ) (hashes : Hashes) (number : ℕ) → FindsBy forms keys hashes number → FindsBy (forms ++ more) keys hashes number
 finds-more forms more keys hashes number (form, has, fits, is) = (form, Contains-append_left forms more form has, fits, is)
 
 -- ---- least numbers
 
--- the least number of equivalent properties
+-- The least number of equivalent properties.
 least-same : (P Q : ℕ → Type 0) → ((n : ℕ) → P n → Q n) → ((n : ℕ) → Q n → P n) → (least : Option ℕ) → IsLeast P least → IsLeast Q least
 least-same P Q to back (Some least) is = (to least is.0, λ n h. is.1 n (back n h))
 least-same P Q to back None is = λ n h. is n (back n h)
 
--- the least number of either property
+-- The least number of either property.
 pub least-either : (P Q R : ℕ → Type 0) → ((n : ℕ) → P n → R n) → ((n : ℕ) → Q n → R n) → ((n : ℕ) → R n → P n ⊎ Q n) → (a b : Option ℕ) → IsLeast P a → IsLeast Q b → IsLeast R (lesser a b)
 least-either P Q R left right cases None None none-left none-right = λ n h. elim (cases n h) [ inl l ↦ none-left n l | inr r ↦ none-right n r ]
 least-either P Q R left right cases None (Some b) none-left is = (right b is.0, λ n h. elim (cases n h) [ inl l ↦ absurd (none-left n l) | inr r ↦ is.1 n r ])
@@ -181,7 +181,7 @@ module _ (form : FormView) (hashes : Hashes) (fits : Fits form hashes) (from key
   listed-found : (number : ℕ) → slice_get listed_keys number ≡ Some (form_key form hashes) → slice_get keys number ≡ Some key
   listed-found number is = subst (λ k. slice_get k number ≡ Some key) (sym same_keys) (is ∙ ap (λ k. Some k) (sym is_key))
 
-  -- the least number that is listed under the key
+  -- The least number that is listed under the key.
   pub least_by : (list : List ℕ) (least : Option ℕ) → list ≡ numbers_of key 0 keys → IsFirstFrom from list least → IsLeast IsFound least
   least_by list least is first =
       least-same (λ number. (from ≤ number) × Contains (numbers_of key 0 keys) number) IsFound
@@ -196,11 +196,11 @@ module _ (form : FormView) (hashes : Hashes) (fits : Fits form hashes) (from key
       (λ n h. (h.0, subst (λ i. Contains (numbers_of key 0 keys) i) (zero-add n) (numbers-found key 0 keys n (listed-found n h.2))))
       least (subst (λ l. IsFirstFrom from l least) is first)
 
-  -- no number is listed under the key
+  -- No number is listed under the key.
   pub none_by : numbers_of key 0 keys ≡ [] → IsLeast IsFound None
   none_by none = least_by [] None (sym none) (λ n h. (let lt : h.1.0 < 0 = h.1.1 in omega arith))
 
--- the least number that the forms or a further form finds
+-- The least number that the forms or a further form finds.
 pub least_by_forms : (forms : List FormView) (form : FormView) (keys : List ℕ) (hashes : Hashes) (from : ℕ) (a b : Option ℕ)
     → IsLeast (λ number. (from ≤ number) × FindsBy forms keys hashes number) a
     → IsLeast (λ number. (from ≤ number) × Fits form hashes × (slice_get keys number ≡ Some (form_key form hashes))) b
@@ -216,7 +216,7 @@ least_by_forms forms form keys hashes from a b is-a is-b =
     ])
     a b is-a is-b
 
--- the least number that the forms of two groups find
+-- The least number that the forms of two groups find.
 pub least_by_groups : (forms others : List FormView) (keys : List ℕ) (hashes : Hashes) (from : ℕ) (a b : Option ℕ)
     → IsLeast (λ number. (from ≤ number) × FindsBy forms keys hashes number) a → IsLeast (λ number. (from ≤ number) × FindsBy others keys hashes number) b
     → IsLeast (λ number. (from ≤ number) × FindsBy (forms ++ others) keys hashes number) (lesser a b)
@@ -273,7 +273,7 @@ module _ (key : ℕ) where
       let head : first ∷ fewer ≡ without (first + suc k) (first ∷ rest) = ap (λ l. first ∷ l) step ∙ sym (without-below (first + suc k) first rest (omega arith)) in
       elim (eqb key x) as (λ b. cond b (first ∷ fewer) fewer ≡ without (first + suc k) (cond b (first ∷ rest) rest)) [ true ↦ head | false ↦ step ]
 
--- the numbers of a key in a map, after each list lost a number
+-- The numbers of a key in a map, after each list lost a number.
 module _ {F A : Type 0} (T : F → ℕ → Vec ℕ A → Bool → Vec ℕ A → F → Type 0) (number : ℕ) (f : F)
     (says : (k : ℕ) (v : Vec ℕ A) (b : Bool) (w : Vec ℕ A) (f' : F) → T f k v b w f' → (b ≡ true) × (w.items ≡ without number v.items) × (f' ≡ f)) (test : ℕ → Bool) where
   abbrev listed_at : List (ℕ × Vec ℕ A) → List ℕ

@@ -27,19 +27,19 @@ within_cases : (hash c : ℕ) (run rest : List ℕ) (b : Bool) → eqb c 47 ≡ 
 within_cases hash c run rest true is without more = absurd (let never : IsTrue false = rw is at without in cc)
 within_cases hash c run rest false is without more = rw is (more (rw is at without))
 
--- a text without slashes is within a segment
+-- A text without slashes is within a segment.
 within_segment : (hash : ℕ) (run rest : List ℕ) → IsTrue (lacks 47 run) → segment_hashes hash (run ++ rest) ≡ segment_hashes (fold mixed hash run) rest
 within_segment hash [] rest without = refl
 within_segment hash (c ∷ run) rest without = within_cases hash c run rest (eqb c 47) refl without (within_segment (mixed hash c) run rest)
 
--- a path has at least one segment
+-- A path has at least one segment.
 pub some_segment : (hash : ℕ) (path : List ℕ) → 0 < length (segment_hashes hash path)
 some_segment hash [] = omega arith
 some_segment hash (c ∷ path) =
     let later = some_segment (mixed hash c) path in
     elim (eqb c 47) as (λ b. 0 < length (cond b (hash ∷ segment_hashes 0 path) (segment_hashes (mixed hash c) path))) [ true ↦ omega arith | false ↦ later ]
 
--- the next character of a path that is read
+-- The next character of a path that is read.
 module _ (path : List ℕ) (read : ℕ) (c : ℕ) (is_next : (read < length path) × (c ≡ get_or path read c)) (hashes : List ℕ) (hash : ℕ) (whole : hashes ++ segment_hashes hash (drop read path) ≡ segment_hashes 0 path) where
   next : drop read path ≡ c ∷ drop (read + 1) path
   next = at_drop_more (λ text. text) path read c is_next.0 ∙ ap (λ x. x ∷ drop (read + 1) path) (sym is_next.1)
@@ -52,20 +52,20 @@ module _ (path : List ℕ) (read : ℕ) (c : ℕ) (is_next : (read < length path
       append_assoc hashes (hash ∷ []) (segment_hashes 0 (drop (read + 1) path))
       ∙ ap (λ h. hashes ++ h) (sym (ap (segment_hashes hash) next ∙ next_segment hash c (drop (read + 1) path) is_slash)) ∙ whole
 
--- the whole path was read
+-- The whole path was read.
 pub hashes-end : (path : List ℕ) (read : ℕ) (hashes : List ℕ) (hash : ℕ) → read ≡ length path → hashes ++ segment_hashes hash (drop read path) ≡ segment_hashes 0 path → hashes ++ hash ∷ [] ≡ segment_hashes 0 path
 hashes-end path read hashes hash all whole = ap (λ h. hashes ++ h) (sym (at_drop_all (segment_hashes hash) path read (omega arith))) ∙ whole
 
 -- ---- mixing in segments
 
--- mixing in the next segment
+-- Mixing in the next segment.
 pub mixed_segments-next : (hash : ℕ) (have_texts : List Bool) (own : List ℕ) (i : ℕ) (b : Bool) (o : ℕ) → i < length have_texts → i < length own → b ≡ get_or have_texts i b → o ≡ get_or own i o
     → mixed_segments hash (drop i have_texts) (drop i own) ≡ mixed_segments (mixed hash (cond b o 1)) (drop (i + 1) have_texts) (drop (i + 1) own)
 mixed_segments-next hash have_texts own i b o within within_own is_b is_o =
     ap (λ t. mixed_segments hash t (drop i own)) (at_drop_more (λ t. t) have_texts i b within ∙ ap (λ x. x ∷ drop (i + 1) have_texts) (sym is_b))
     ∙ ap (mixed_segments hash (b ∷ drop (i + 1) have_texts)) (at_drop_more (λ t. t) own i o within_own ∙ ap (λ x. x ∷ drop (i + 1) own) (sym is_o))
 
--- only as many hashes are mixed in as there are segments
+-- Only as many hashes are mixed in as there are segments.
 pub mixed_segments-take : (hash : ℕ) (have_texts : List Bool) (own : List ℕ) (n : ℕ) → length have_texts ≤ n → mixed_segments hash have_texts (take n own) ≡ mixed_segments hash have_texts own
 mixed_segments-take hash [] own n few = refl
 mixed_segments-take hash (b ∷ have_texts) own zero few = absurd (omega arith)
@@ -76,14 +76,14 @@ pub enough-take : (is_whole : Bool) (segments n : ℕ) (own : List ℕ) → segm
 enough-take true segments n own few is = let count = length-take n own in omega (arith, count, is)
 enough-take false segments n own few is = let count = length-take n own in omega (arith, count, is)
 
--- flags that a test finds equal are equal
+-- Flags that a test finds equal are equal.
 pub same_flag : (a b : Bool) → not (beq a b) ≡ false → a ≡ b
 same_flag true true is = refl
 same_flag false false is = refl
 same_flag true false is = absurd (let never : true ≡ false = is in cc)
 same_flag false true is = absurd (let never : true ≡ false = is in cc)
 
--- a fixed protocol or hostname has the same part as the given text
+-- A fixed protocol or hostname has the same part as the given text.
 pub hosts_alike : (fixed : Option (Bor (List ℕ))) (given : List ℕ) → IsText (option_map (λ text. chars text.now) fixed) given
     → (has : Bool) (hash : ℕ) → has ≡ is_some fixed → hash ≡ option_hash (option_map (λ text. chars text.now) fixed) → cond has (text_hash given) 0 ≡ cond has hash 0
 hosts_alike (Some text) given is has hash is_has is_hash = rw (is_has, is_hash) (ap text_hash is)
@@ -129,7 +129,7 @@ same_current (Some h) own hash is = ap (mixed hash) is
 same_current None own hash is = refl
 
 module _ (segments : Segments) (path : List ℕ) (as_many : length segments.hashes.items ≡ length segments.have_texts.items) where
-  -- appending the segment that was read
+  -- Appending the segment that was read.
   alike-push : (rest : List ℕ) (is : IsReadTo segments path rest)
       → CountAlike (segments.have_texts.items ++ is_some segments.current ∷ []) (segments.hashes.items ++ unwrap_or segments.current 0 ∷ []) (is.done ++ is.own ∷ [])
   alike-push rest is = λ hash.
@@ -149,7 +149,7 @@ module _ (segments : Segments) (path : List ℕ) (as_many : length segments.hash
     is_current = rw adds.current refl;
   }
 
-  -- where reading stops, the path has more segments than were read
+  -- Where reading stops, the path has more segments than were read.
   pub enough_at_stop : (rest : List ℕ) → IsReadTo segments path rest
       → AreEnough false (length segments.have_texts.items) (length (segment_hashes 0 path))
   enough_at_stop rest is =
@@ -164,7 +164,7 @@ module _ (segments : Segments) (path : List ℕ) (as_many : length segments.hash
       ap (mixed_segments hash segments.have_texts.items) is.cut
       ∙ mixed_segments-append hash segments.have_texts.items is.done (segment_hashes is.own rest) is.as_many ∙ is.alike hash
 
-  -- where the path ends, it has exactly the segments that were read
+  -- Where the path ends, it has exactly the segments that were read.
   pub enough_at_end : (more : Segments) → AddsSegment segments more → IsReadTo segments path []
       → AreEnough true (length more.have_texts.items) (length (segment_hashes 0 path))
   enough_at_end more adds is =
@@ -180,7 +180,7 @@ goes_on : (current : Option ℕ) (own c : ℕ) → IsCurrent current own → IsC
 goes_on (Some hash) own c is = ap (λ h. mixed h c) is
 goes_on None own c is = tt
 
--- reading a run without a slash
+-- Reading a run without a slash.
 pub read_run : (segments : Segments) (path run rest : List ℕ) → IsTrue (lacks 47 run) → IsReadTo segments path (run ++ rest)
     → IsReadTo (record segments { current = None }) path rest
 read_run segments path run rest without is = record {
@@ -192,7 +192,7 @@ read_run segments path run rest without is = record {
   is_current = tt;
 }
 
--- reading a character other than a slash
+-- Reading a character other than a slash.
 pub read_other : (segments : Segments) (path : List ℕ) (c : ℕ) (rest : List ℕ) → c ≢ 47 → IsReadTo segments path (c ∷ rest)
     → IsReadTo (record segments { current = option_map (λ hash. mixed hash c) segments.current }) path rest
 read_other segments path c rest other is = record {
@@ -204,23 +204,23 @@ read_other segments path c rest other is = record {
   is_current = goes_on segments.current is.own c is.is_current;
 }
 
--- what is read to the end is read up to some rest
+-- What is read to the end is read up to some rest.
 pub reads_some : (to_end : Bool) (segments : Segments) (path rest : List ℕ) → ReadsTo to_end segments path rest → ReadsTo false segments path rest
 reads_some true segments path rest is = (rest, is)
 reads_some false segments path rest is = is
 
--- the rest of a text begins with its next character
+-- The rest of a text begins with its next character.
 pub next_text : (text : List ℕ) (read : ℕ) (c : ℕ) → (read < length text) × (c ≡ get_or text read c) → drop read text ≡ c ∷ drop (read + 1) text
 next_text text read c is_next = at_drop_more (λ text. text) text read c is_next.0 ∙ ap (λ x. x ∷ drop (read + 1) text) (sym is_next.1)
 
 -- ---- segments of parts
 
--- each text that fits the path is read up to a rest that fits the parts left
+-- Each text that fits the path is read up to a rest that fits the parts left.
 abbrev pub AreReadTo : PathView → Segments → (parts : List PartView) → Type 0
 AreReadTo path segments parts =
     (text : List ℕ) → FitsPath path text → (rest : List ℕ) × IsReadTo segments text rest × FitsParts path.is_whole path.delimiter parts rest
 
--- reading stops before the parts that are left
+-- Reading stops before the parts that are left.
 pub left_segments : (path : PathView) (segments : Segments) → AreOpen segments
     → ((text : List ℕ) → FitsPath path text → ReadsTo false segments text []) → AreSegmentsOf path segments
 left_segments path segments are are_read = record {
@@ -231,7 +231,7 @@ left_segments path segments are are_read = record {
   alike = λ text fits. let (rest, read) = are_read text fits in alike_at_stop segments text are.as_many rest read;
 }
 
--- the path ends, and its last segment is added unless there is no room for it
+-- The path ends, and its last segment is added unless there is no room for it.
 pub all_segments : (path : PathView) (segments more : Segments) (added : Bool) → AreOpen segments → IsTrue path.is_whole
     → AreReadTo path segments [] → (IsTrue added → AddsSegment segments more) → (¬ IsTrue added → more ≡ segments)
     → AreSegmentsOf path (record more { is_whole = added })

@@ -16,7 +16,7 @@ pub record AddressTexts : Type 0 where
   pub hostname : List ℕ
   pub pathname : List ℕ
 
--- the given text is the fixed text, if there is one
+-- The given text is the fixed text, if there is one.
 abbrev pub IsText : Option (List ℕ) → List ℕ → Type 0
 IsText (Some text) given = given ≡ text
 IsText None given = Unit {0}
@@ -27,7 +27,7 @@ pub record HasTexts (fixed : FixedTexts) (address : AddressTexts) : Type 0 where
   pub hostname : IsText fixed.hostname address.hostname
   pub pathname : FitsPath fixed.pathname address.pathname
 
--- the view of what is known of a path
+-- The view of what is known of a path.
 abbrev pub path_view : KnownPath → PathView
 path_view path = record {
   parts = parts_view path.parts.now;

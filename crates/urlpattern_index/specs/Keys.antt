@@ -7,21 +7,21 @@ use Rattle.urlpattern_index.specs.declared.form.Form.{Form}
 
 -- ---- hashes
 
--- a hash with another value mixed in
+-- A hash with another value mixed in.
 unfoldable pub mixed : (hash value : ℕ) → ℕ
 mixed hash value = ((hash * 1099511628211) % 2 ^ 64 + value) % 2 ^ 64
 
--- the hash of the bytes of a text
+-- The hash of the bytes of a text.
 abbrev pub text_hash : List ℕ → ℕ
 text_hash text = folding.finish (folding.write folding.initial (encode_utf8_all text))
 
--- the hash of a text, 0 if there is none
+-- The hash of a text, 0 if there is none.
 abbrev pub option_hash : Option (List ℕ) → ℕ
 option_hash (Some text) = text_hash text
 option_hash None = 0
 
--- the hashes of the segments of a path, which are separated by slashes; `hash` is that of what
--- precedes the path in its first segment
+-- The hashes of the segments of a path, which are separated by slashes; `hash` is that of what
+-- precedes the path in its first segment.
 abbrev pub segment_hashes : (hash : ℕ) → List ℕ → List ℕ
 segment_hashes hash [] = hash ∷ []
 segment_hashes hash (c ∷ path) = if c == 47 then hash ∷ segment_hashes 0 path else segment_hashes (mixed hash c) path
@@ -32,7 +32,7 @@ pub record Hashes : Type 0 where
   pub hostname : ℕ
   pub segments : List ℕ
 
--- the hashes of an address, with at most 13 segments
+-- The hashes of an address, with at most 13 segments.
 abbrev pub hashes_of : AddressTexts → Hashes
 hashes_of address = record {
   protocol = text_hash address.protocol;
@@ -56,39 +56,39 @@ pub record FormView : Type 0 where
 abbrev pub form_view : Form → FormView
 form_view form = record { has_protocol = form.has_protocol; has_hostname = form.has_hostname; segments = form.segments.items; is_whole = form.is_whole }
 
--- `count` is the number of segments that a form requires, or above it if the path has more
+-- `count` is the number of segments that a form requires, or above it if the path has more.
 abbrev pub AreEnough : (is_whole : Bool) → (segments count : ℕ) → Type 0
 AreEnough true segments count = count ≡ segments
 AreEnough false segments count = segments < count
 
--- the path has as many segments as the form requires
+-- The path has as many segments as the form requires.
 abbrev pub Fits : FormView → Hashes → Type 0
 Fits form hashes = AreEnough form.is_whole (length form.segments) (length hashes.segments)
 
--- the group of a form: for whole paths that of their number of segments, else the first
+-- The group of a form: for whole paths that of their number of segments, else the first.
 abbrev pub group_of_form : FormView → ℕ
 group_of_form form = if form.is_whole then length form.segments else 0
 
--- the forms of a group
+-- The forms of a group.
 abbrev pub group : List (List FormView) → ℕ → List FormView
 group forms number = slice_index_or forms number []
 
--- the forms that a path with `count` segments can fit
+-- The forms that a path with `count` segments can fit.
 abbrev pub forms_for : List (List FormView) → (count : ℕ) → List FormView
 forms_for forms count = group forms 0 ++ group forms count
 
--- a hash with those of the segments mixed in, and a 1 for each arbitrary segment
+-- A hash with those of the segments mixed in, and a 1 for each arbitrary segment.
 abbrev pub mixed_segments : (hash : ℕ) → List Bool → (hashes : List ℕ) → ℕ
 mixed_segments hash [] hashes = hash
 mixed_segments hash (has_text ∷ segments) [] = hash
 mixed_segments hash (has_text ∷ segments) (own ∷ hashes) = mixed_segments (mixed hash (if has_text then own else 1)) segments hashes
 
--- the key of an address, in a form
+-- The key of an address, in a form.
 abbrev pub form_key : FormView → Hashes → ℕ
 form_key form hashes =
     let hosts = mixed (if form.has_protocol then hashes.protocol else 0) (if form.has_hostname then hashes.hostname else 0) in
     mixed (mixed_segments hosts form.segments hashes.segments) (if form.is_whole then 1 else 0)
 
--- the address fits the form, and has this key in it
+-- The address fits the form, and has this key in it.
 abbrev pub IsKeyBy : FormView → Hashes → (key : ℕ) → Type 0
 IsKeyBy form hashes key = Fits form hashes × (key ≡ form_key form hashes)

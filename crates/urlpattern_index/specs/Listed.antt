@@ -11,61 +11,61 @@ pub record Listing : Type 0 where
 
 -- ---- numbers by key
 
--- the numbers under which a key is in a list, of which the first number is `first`
+-- The numbers under which a key is in a list, of which the first number is `first`.
 abbrev pub numbers_of : (key first : ℕ) → List ℕ → List ℕ
 numbers_of key first [] = []
 numbers_of key first (k ∷ keys) = if key == k then first ∷ numbers_of key (first + 1) keys else numbers_of key (first + 1) keys
 
--- the numbers of each key
+-- The numbers of each key.
 abbrev pub NumbersByKey : Type 0
 NumbersByKey = (key : ℕ) → List ℕ
 
--- the numbers that a map has at a key
+-- The numbers that a map has at a key.
 abbrev pub numbers_at : {A S : Type 0} → HashMap ℕ (Vec ℕ A) S → NumbersByKey
 numbers_at numbers = λ key. unwrap_or (option_map (λ listed. listed.items) (get nat_eq numbers key)) []
 
--- the numbers of each key are those under which it is in the list
+-- The numbers of each key are those under which it is in the list.
 abbrev pub AreListed : (keys : List ℕ) → NumbersByKey → Type 0
 AreListed keys numbers = (key : ℕ) → numbers key ≡ numbers_of key 0 keys
 
--- a key has numbers only if its remainder is marked
+-- A key has numbers only if its remainder is marked.
 abbrev pub AreMarked : (marks : List Bool) → NumbersByKey → Type 0
 AreMarked marks numbers = (key : ℕ) → slice_index_or marks (key % 1024) true ≡ false → numbers key ≡ []
 
--- a key gains a number, and the other keys keep theirs
+-- A key gains a number, and the other keys keep theirs.
 abbrev pub GainsNumber : (old new : NumbersByKey) → (key number : ℕ) → Type 0
 GainsNumber old new key number = (other : ℕ) → new other ≡ old other ++ (if other == key then number ∷ [] else [])
 
--- each key keeps its numbers
+-- Each key keeps its numbers.
 abbrev pub HaveSameNumbers : (old new : NumbersByKey) → Type 0
 HaveSameNumbers old new = (key : ℕ) → new key ≡ old key
 
 -- ---- removing a number
 
--- `other`, lowered by one if it is above `number`
+-- `other`, lowered by one if it is above `number`.
 abbrev pub lowered : (number other : ℕ) → ℕ
 lowered number other = if nat_lt number other then other - 1 else other
 
--- a list without a number, with each number above it lowered by one
+-- A list without a number, with each number above it lowered by one.
 abbrev pub without : (number : ℕ) → List ℕ → List ℕ
 without number list = map (lowered number) (filter (λ other. not (other == number)) list)
 
--- each key loses a number, and each number above it is lowered by one
+-- Each key loses a number, and each number above it is lowered by one.
 abbrev pub LosesNumber : (old new : NumbersByKey) → (number : ℕ) → Type 0
 LosesNumber old new number = (key : ℕ) → new key ≡ without number (old key)
 
 -- ---- least numbers
 
--- the least number of which `P` is true, if there is one
+-- The least number of which `P` is true, if there is one.
 abbrev pub IsLeast : (ℕ → Type 0) → Option ℕ → Type 0
 IsLeast P (Some least) = P least × ((number : ℕ) → P number → least ≤ number)
 IsLeast P None = (number : ℕ) → ¬ P number
 
--- the least number of a list that is at or above `from`, if there is one
+-- The least number of a list that is at or above `from`, if there is one.
 abbrev pub IsFirstFrom : (from : ℕ) → List ℕ → Option ℕ → Type 0
 IsFirstFrom from list = IsLeast (λ number. (from ≤ number) × Contains list number)
 
--- the lesser of two optional numbers
+-- The lesser of two optional numbers.
 abbrev pub lesser : Option ℕ → Option ℕ → Option ℕ
 lesser (Some a) (Some b) = Some (min a b)
 lesser (Some a) None = Some a
@@ -73,20 +73,20 @@ lesser None b = b
 
 -- ---- what is found
 
--- the pattern with this number is found by one of the forms: its key is that of the address
+-- The pattern with this number is found by one of the forms: its key is that of the address.
 abbrev pub FindsBy : (forms : List FormView) → (keys : List ℕ) → Hashes → (number : ℕ) → Type 0
 FindsBy forms keys hashes number =
     (form : FormView) × Contains forms form × Fits form hashes × (slice_get keys number ≡ Some (form_key form hashes))
 
--- the pattern with this number, at or above `from`, is found by one of the forms
+-- The pattern with this number, at or above `from`, is found by one of the forms.
 abbrev pub FindsByFrom : (forms : List FormView) → (keys : List ℕ) → Hashes → (from number : ℕ) → Type 0
 FindsByFrom forms keys hashes from number = (from ≤ number) × FindsBy forms keys hashes number
 
--- the pattern with this number, at or above `from`, is found by the form
+-- The pattern with this number, at or above `from`, is found by the form.
 abbrev pub FindsFrom : FormView → (keys : List ℕ) → Hashes → (from number : ℕ) → Type 0
 FindsFrom form keys hashes from number = (from ≤ number) × Fits form hashes × (slice_get keys number ≡ Some (form_key form hashes))
 
--- the pattern with this number is found by the forms for the number of segments
+-- The pattern with this number is found by the forms for the number of segments.
 abbrev pub Finds : Listing → Hashes → (number : ℕ) → Type 0
 Finds listing hashes number = FindsBy (forms_for listing.forms (length hashes.segments)) listing.keys hashes number
 

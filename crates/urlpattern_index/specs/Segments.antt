@@ -6,7 +6,7 @@ use Rattle.urlpattern_index.specs.Paths.{FitsPath, PathView}
 use Rattle.urlpattern_index.specs.declared.form.Place.{Place}
 use Rattle.urlpattern_index.specs.declared.reading.Segments.{Segments}
 
--- `hashes` and `own` result in the same keys
+-- `hashes` and `own` result in the same keys.
 abbrev pub CountAlike : (have_texts : List Bool) → (hashes own : List ℕ) → Type 0
 CountAlike have_texts hashes own = (hash : ℕ) → mixed_segments hash have_texts own ≡ mixed_segments hash have_texts hashes
 
@@ -17,7 +17,7 @@ pub record AreSegmentsOf (path : PathView) (segments : Segments) : Type 0 where
   pub enough : (text : List ℕ) → FitsPath path text → AreEnough segments.is_whole (length segments.have_texts.items) (length (segment_hashes 0 text))
   pub alike : (text : List ℕ) → FitsPath path text → CountAlike segments.have_texts.items segments.hashes.items (segment_hashes 0 text)
 
--- each address that has the fixed texts fits the form, and has the key in it
+-- Each address that has the fixed texts fits the form, and has the key in it.
 abbrev pub IsPlaceFor : FixedTexts → Place → Type 0
 IsPlaceFor fixed place =
     (address : AddressTexts) → HasTexts fixed address → Fits (form_view place.form) (hashes_of address) × (place.key ≡ form_key (form_view place.form) (hashes_of address))
@@ -44,7 +44,7 @@ pub record AddsSegment (before after : Segments) : Type 0 where
   pub hashes : after.hashes.items ≡ before.hashes.items ++ unwrap_or before.current 0 ∷ []
   pub current : after.current ≡ Some 0
 
--- `own` is the hash of the segment being read, unless that is arbitrary
+-- `own` is the hash of the segment being read, unless that is arbitrary.
 abbrev pub IsCurrent : (current : Option ℕ) → (own : ℕ) → Type 0
 IsCurrent (Some hash) own = own ≡ hash
 IsCurrent None own = Unit {0}
@@ -58,7 +58,7 @@ pub record IsReadTo (segments : Segments) (path rest : List ℕ) : Type 0 where
   pub alike : CountAlike segments.have_texts.items segments.hashes.items done
   pub is_current : IsCurrent segments.current own
 
--- the path is read up to `rest`, or, if not to the end, up to some rest
+-- The path is read up to `rest`, or, if not to the end, up to some rest.
 abbrev pub ReadsTo : (to_end : Bool) → Segments → (path rest : List ℕ) → Type 0
 ReadsTo true segments path rest = IsReadTo segments path rest
 ReadsTo false segments path rest = (left : List ℕ) × IsReadTo segments path left

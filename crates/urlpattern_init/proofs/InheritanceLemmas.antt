@@ -85,7 +85,7 @@ unfolding processed_values
 refused-protocol mode values base reason refused =
     bind-err _ _ _ refused
 
--- a component has a value
+-- A component has a value.
 abbrev pub HasValue : {A : Type 0} → (ComponentName → Parsed A) → ComponentName → Type 0
 HasValue {A} answers name = (value : A) × (answers name ≡ Ok value)
 
@@ -102,7 +102,7 @@ no-refusal answers [] values = refl
 no-refusal answers (name ∷ others) values =
     ap (λ answer. refusal_or answer (first_refusal answers others)) (values name).1 ∙ no-refusal answers others values
 
--- if the component's value is the first error, processing returns it
+-- If the component's value is the first error, processing returns it.
 pub refused-after : (mode : ProcessType) (values : Values) (base : Option Parts) (protocol : Option (List ℕ)) (reason : ParseError)
     (name : ComponentName) (before after : List ComponentName) → components ≡ before ++ name ∷ after
     → processed_value mode values base None Protocol ≡ Ok protocol
@@ -120,18 +120,18 @@ protocol-given : (mode : ProcessType) (values : Values) (base : Option Parts) (p
 protocol-given mode values base protocol None = refl
 protocol-given mode values base protocol (Some text) = refl
 
--- the protocol's value does not depend on the protocol
+-- The protocol's value does not depend on the protocol.
 protocol-alone : (mode : ProcessType) (values : Values) (base : Option Parts) (protocol : Option (List ℕ))
     → processed_value mode values base protocol Protocol ≡ processed_value mode values base None Protocol
 protocol-alone mode values base protocol = protocol-given mode values base protocol values.protocol
 
--- replacing the protocol keeps the other values
+-- Replacing the protocol keeps the other values.
 pub kept : {A : Type 0} (first : A) (values : Eight A) (name : ComponentName) → name ≢ Protocol → at (record values { protocol = first }) name ≡ at values name
 kept first values =
     by_name (λ name. name ≢ Protocol → at (record values { protocol = first }) name ≡ at values name)
     (λ other. absurd (other refl)) (λ _. refl) (λ _. refl) (λ _. refl) (λ _. refl) (λ _. refl) (λ _. refl) (λ _. refl)
 
--- a fact about all components, from the protocol's and those of the later components
+-- A fact about all components, from the protocol's and those of the later components.
 module _ (mode : ProcessType) (values : Values) (base : Option Parts) (protocol : Option (List ℕ)) (e : processed_value mode values base None Protocol ≡ Ok protocol) where
   pub or_protocol : (P : ComponentName → Type 0) → P Protocol → ((name : ComponentName) → name ≢ Protocol → P name) → (name : ComponentName) → P name
   or_protocol P first others =
@@ -153,7 +153,7 @@ module _ (mode : ProcessType) (values : Values) (base : Option Parts) (protocol 
       or_protocol (λ name. processed_value mode values base protocol name ≡ Ok (at found name))
       (protocol-alone mode values base protocol ∙ e ∙ ap Ok (sym same)) others
 
--- processing returns the values of the components
+-- Processing returns the values of the components.
 pub processed : (mode : ProcessType) (values : Values) (base : Option Parts) (protocol : Option (List ℕ)) (found : Values)
     → processed_value mode values base None Protocol ≡ Ok protocol
     → ((name : ComponentName) → processed_value mode values base protocol name ≡ Ok (at found name)) → processed_values mode values base ≡ Ok found
@@ -170,13 +170,13 @@ pub asked-mono : (mode : ProcessType) (few many : ℕ) → few ≤ many → byte
 asked-mono Pattern few many more = omega arith
 asked-mono Url few many more = more
 
--- a result about texts of some length is one about longer texts
+-- A result about texts of some length is one about longer texts.
 pub answers-asked : (mode : ProcessType) (asked : Parsed (List ℕ)) (few many : ℕ) (result : Result (String Global) Error) → few ≤ many
     → IsAnswer asked (bytes_asked mode few) result → IsAnswer asked (bytes_asked mode many) result
 answers-asked mode asked few many result more answer =
     answers-more asked (bytes_asked mode few) (bytes_asked mode many) result (asked-mono mode few many more) answer
 
--- a result about some bytes is one about a text and its protocol, if neither of the two is shorter
+-- A result about some bytes is one about a text and its protocol, if neither of the two is shorter.
 pub answers-under : (mode : ProcessType) (asked : Parsed (List ℕ)) (text under : List ℕ) (few : ℕ) (result : Result (String Global) Error)
     → IsUtf8 text → few ≤ max (length under) (length text) → IsAnswer asked (bytes_asked mode few) result
     → IsAnswer asked (bytes_asked mode (max (length under) (byte_len (chars text)))) result
@@ -184,13 +184,13 @@ answers-under mode asked text under few result utf8 more =
     let size = byte_len-chars text utf8 in
     answers-asked mode asked few (max (length under) (byte_len (chars text))) result (omega arith)
 
--- a result about the bytes of a text alone is one about the text and its protocol
+-- A result about the bytes of a text alone is one about the text and its protocol.
 pub answers-own : (mode : ProcessType) (asked : Parsed (List ℕ)) (text under : List ℕ) (result : Result (String Global) Error)
     → IsUtf8 text → IsAnswer asked (bytes_asked mode (length text)) result
     → IsAnswer asked (bytes_asked mode (max (length under) (byte_len (chars text)))) result
 answers-own mode asked text under result utf8 answer = answers-under mode asked text under (length text) result utf8 (omega arith) answer
 
--- the length in bytes of the longest text
+-- The length in bytes of the longest text.
 all_bytes : ProcessType → Values → Option Parts → ℕ
 all_bytes mode values base =
     fold max (protocol_bytes (processed_value mode values base None Protocol)) (map (given_bytes mode values base) components)
@@ -258,7 +258,7 @@ never-reported asked found (views.Url reason) is refused =
     elim refused.1 [ inl same ↦ absurd cc | inr long ↦ absurd (omega (arith, long.1)) ]
 never-reported asked found view is refused = absurd refused
 
--- processing a pattern fails only when memory runs out
+-- Processing a pattern fails only when memory runs out.
 pub pattern-memory : (values : Values) (base : Option Parts) (error : Error)
     → MemoryOr (Reports (processed_values Pattern values base) (asked_bytes Pattern values base)) error → error ≡ errors.OutOfMemory
 unfolding asked_bytes
@@ -289,7 +289,7 @@ pub put_before-none : (mode : ProcessType) (base : Option Parts) (text : List �
 put_before-none mode None text none = refl
 put_before-none mode (Some url) text none = absurd (none url refl)
 
--- a result about the bytes of a text, as one about the text
+-- A result about the bytes of a text, as one about the text.
 pub answers-text : (mode : ProcessType) (protocol : Option (List ℕ)) (bytes text : List ℕ) (result : Result (String Global) Error) → IsUtf8 bytes
     → chars bytes ≡ text → IsAnswer (processed_pathname mode protocol (chars bytes)) (bytes_asked mode (length bytes)) result
     → IsAnswer (processed_pathname mode protocol text) (bytes_asked mode (byte_len text)) result
@@ -308,7 +308,7 @@ text-or_empty (Some text) empty result is_empty is_result = ap text_of is_result
 
 -- ---- copies
 
--- equal bytes are equal texts
+-- Equal bytes are equal texts.
 pub same_texts : (first second : Option (String Global)) → option_map string_bytes first ≡ option_map string_bytes second
     → option_map text_of first ≡ option_map text_of second
 same_texts None None same = ap (option_map chars) same

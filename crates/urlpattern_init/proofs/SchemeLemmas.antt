@@ -22,7 +22,7 @@ use Rattle.urlpattern_syntax.specs.Parts.{PartView}
 use Rattle.urlpattern_syntax.specs.ComponentParts.{kept_parts}
 use Rattle.urlpattern_syntax.specs.Reading.{Encoding, Reads}
 
--- reading within the list does not depend on the default
+-- Reading within the list does not depend on the default.
 same_read : {X : Type 0} → (xs : List X) (i : ℕ) (x d : X) → i < length xs → get_or xs i x ≡ x → get_or xs i d ≡ x
 same_read xs i x d within is =
     let one = slice_get-get_or xs i d within in
@@ -30,8 +30,8 @@ same_read xs i x d within is =
     let both : Some (get_or xs i d) ≡ Some x = sym one ∙ two in
     cc
 
--- if no element before an index and not the element there has the property, none before the next
--- index has it
+-- If no element before an index and not the element there has the property, none before the next
+-- index has it.
 pub none_more : {X : Type 0} → (P : X → Type 0) (xs : List X) (i : ℕ) (d : X) → i < length xs → ((k : ℕ) (x : X) → k < i → get_or xs k x ≡ x → ¬ P x) → ¬ P (get_or xs i d) → (k : ℕ) (x : X) → k < i + 1 → get_or xs k x ≡ x → ¬ P x
 none_more P xs i d within before here k x less is p = elim (cases_eq k i) [
   | inl same ↦ here (subst P (sym (same_read xs i x d within (ap (λ n. get_or xs n x) (sym same) ∙ is))) p)
@@ -43,7 +43,7 @@ none_all P xs i past none any = none any.0 any.1 (let within = any.2 in omega ar
 
 -- ---- the special schemes
 
--- if the image of some element has the property, some element of the mapped list has it
+-- If the image of some element has the property, some element of the mapped list has it.
 any_shown : {X Y : Type 0} → (f : X → Y) (P : Y → Type 0) (xs : List X) → Any (λ x. P (f x)) xs → Any P (map f xs)
 any_shown f P [] any = absurd (omega (arith, any.2))
 any_shown {X} {Y} f P (x ∷ xs) any = shown any.0 any.1 any.2 any.3 any.4 (λ rest. any_shown f P xs rest)
@@ -64,16 +64,16 @@ any_hidden {X} {Y} f P (x ∷ xs) any = hidden any.0 any.1 any.2 any.3 any.4 (λ
         let rest = again (k, y, omega arith, is, p) in
         (suc rest.0, rest.1, (let less = rest.2 in omega arith), rest.3, rest.4)
 
--- the texts in the code are the special schemes
+-- The texts in the code are the special schemes.
 pub schemes_shown : chars (codes "http") ∷ chars (codes "https") ∷ chars (codes "ws") ∷ chars (codes "wss") ∷ chars (codes "ftp") ∷ chars (codes "file") ∷ [] ≡ map (λ (s : List ℕ × Option (List ℕ)). s.0) special_schemes
 unfolding chars
 schemes_shown = refl
 
--- a borrowed text at its address
+-- A borrowed text at its address.
 abbrev pub lent : (ℕ × ℕ) → List ℕ → Bor (List ℕ)
 lent ptr text = record { ref_ptr = ptr; now = text }
 
--- a result on texts with the characters of the special schemes is one on the schemes
+-- A result on texts with the characters of the special schemes is one on the schemes.
 pub schemes_answer : (P : List ℕ → Type 0) (texts : List (Bor (List ℕ))) (answer : Result Bool Error) → map (λ (t : Bor (List ℕ)). chars t.now) texts ≡ map (λ (s : List ℕ × Option (List ℕ)). s.0) special_schemes → IfOk answer (λ accepted. MatchBool accepted (Any (λ (t : Bor (List ℕ)). P (chars t.now)) texts) (¬ Any (λ (t : Bor (List ℕ)). P (chars t.now)) texts)) → IfOk answer (λ accepted. IsTrue accepted ↔ Any (λ (s : List ℕ × Option (List ℕ)). P s.0) special_schemes)
 schemes_answer P texts (Err error) e h = tt
 schemes_answer P texts (Ok true) e h = (
@@ -104,7 +104,7 @@ module _ (P : List ℕ → Type 0) (scheme : Scheme) (schemes : List Scheme) whe
   here_or_there (zero, other, within, is, p) = inl (subst IsSo (sym is) p)
   here_or_there (suc k, other, within, is, p) = inr (k, other, omega arith, is, p)
 
--- if a single text is accepted, a special scheme is accepted exactly if the text is one
+-- If a single text is accepted, a special scheme is accepted exactly if the text is one.
 pub only_among : (P : List ℕ → Type 0) (only : List ℕ) → ((text : List ℕ) → P text ↔ (text ≡ only)) → (schemes : List Scheme) → IsTrue (scheme_among schemes only) ↔ Any (λ (s : Scheme). P s.0) schemes
 only_among P only is [] = ((λ t. absurd (false≢true t)), (λ any. absurd (omega (arith, any.2))))
 only_among P only is (scheme ∷ schemes) = by_test (bytes_eq only scheme.0) refl (only_among P only is schemes)
@@ -117,7 +117,7 @@ only_among P only is (scheme ∷ schemes) = by_test (bytes_eq only scheme.0) ref
       (λ any. ⊎_elim (λ p. absurd (false≢true (sym e ∙ (bytes_eq-Decides only scheme.0).1 (sym ((is scheme.0).0 p))))) (λ later. rest.1 later) (here_or_there P scheme schemes any)),
     )
 
--- a case-sensitive literal without prefix and suffix is the only text accepted
+-- A case-sensitive literal without prefix and suffix is the only text accepted.
 pub literal_only : {E : Type 0} (answer : E → List ℕ → Option Captures) (matcher : MatcherView E) (literal : List ℕ) → matcher.ignore_case ≡ false → matcher.prefix ≡ [] → matcher.suffix ≡ [] →
     matcher.inner ≡ Literal literal → AcceptsOnly answer matcher literal
 literal_only {E} answer matcher literal kept prefix suffix inner text = (
@@ -133,7 +133,7 @@ literal_only {E} answer matcher literal kept prefix suffix inner text = (
     whole : (middle : List ℕ) → HasMiddle matcher text middle → text ≡ middle
     whole middle cut = (middle_kept matcher text middle kept).0 cut ∙ apart middle
 
--- the result for special schemes, given the parts of a protocol and the matcher made of them
+-- The result for special schemes, given the parts of a protocol and the matcher made of them.
 pub special_from : {E : Type 0} → (engine : Engine E) (protocol flags : List ℕ) (options : OptionsView) (parts these : List PartView) (matcher : MatcherView E) (found : Result Bool Error) → options ≡ default_options → flags ≡ codes "u" → these ≡ parts → Reads protocol options protocol_encoding parts → IsMadeOf (IsEngineOf engine false flags) options these matcher → IfOk found (λ special. IsTrue special ↔ AcceptsSpecialScheme engine.answer matcher) → IfOk found (IsSpecialTo engine protocol)
 special_from engine protocol flags options parts these matcher (Err error) e f same reads made decides = tt
 special_from engine protocol flags options parts these matcher (Ok special) e f same reads made decides = record {

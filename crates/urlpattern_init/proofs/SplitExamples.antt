@@ -19,11 +19,11 @@ use Rattle.urlpattern_syntax.specs.Tokens.{AreLenientTokens, InvalidName, IsInva
 
 -- ---- notation
 
--- a token of a single character
+-- A token of a single character.
 abbrev one : TokenType → ℕ → List ℕ → List TokenView
 one kind index value = record { kind = kind; index = index; value = value } ∷ []
 
--- the section may end at none of `count` positions from `place` on
+-- The section may end at none of `count` positions from `place` on.
 abbrev may_not : Section → List TokenView → (from depth place count : ℕ) → Bool
 may_not section tokens from depth place zero = true
 may_not section tokens from depth place (suc count) = not (may_end section tokens from depth place) && may_not section tokens from depth (place + 1) count
@@ -37,7 +37,7 @@ nowhere section tokens from depth place (suc count) h other after before may =
       | inr differ ↦ nowhere section tokens from depth (place + 1) count parts.1 other (omega arith) (omega arith) may
     ]
 
--- a section ends `count` tokens after its beginning
+-- A section ends `count` tokens after its beginning.
 ends : (section : Section) (tokens : List TokenView) (from depth count place : ℕ) → place ≡ from + count → place < length tokens → IsTrue (may_end section tokens from depth place || ends_at tokens place) → may_not section tokens from depth from count ≡ true → EndsAt section tokens from depth place
 ends section tokens from depth count place e within stops none = record {
   after = omega arith;
@@ -46,7 +46,7 @@ ends section tokens from depth count place e within stops none = record {
   least = λ other after before. nowhere section tokens from depth from count none other after (omega arith);
 }
 
--- the text between two tokens
+-- The text between two tokens.
 between : (tokens : List TokenView) (from until : ℕ) (front text rest : List ℕ) → IsSomeAnd (slice_get tokens from) (λ token. token.index ≡ length front) → IsSomeAnd (slice_get tokens until) (λ token. token.index ≡ length front + length text) → byte_len front ≡ length front → byte_len text ≡ length text → IsTextBetween (front ++ text ++ rest) tokens from until text
 between tokens from until front text rest begins stops same_front same_text = record {
   front = front;
@@ -61,7 +61,7 @@ between tokens from until front text rest begins stops same_front same_text = re
 abbrev bracket_tokens : List TokenView
 bracket_tokens = letters 0 (codes "https") ++ one InvalidChar 5 (codes ":") ++ letters 6 (codes "//a]") ++ one End 10 []
 
--- an unmatched closing bracket is part of the hostname, and the port is empty
+-- An unmatched closing bracket is part of the hostname, and the port is empty.
 pub closing_bracket : IsAbsoluteSplit (codes "https://a]") bracket_tokens true 5
     (record { protocol = Some (codes "https"); username = None; password = None; hostname = Some (codes "a]"); port = Some []; pathname = None; search = None; hash = None })
 unfolding byte_len encode_utf8
@@ -94,7 +94,7 @@ closing_bracket = record {
 abbrev special_tokens : List TokenView
 special_tokens = letters 0 (codes "https") ++ one InvalidChar 5 (codes ":") ++ letters 6 (codes "1/") ++ one End 8 []
 
--- a special protocol is followed by an authority, even without slashes
+-- A special protocol is followed by an authority, even without slashes.
 pub special_without_slashes : IsAbsoluteSplit (codes "https:1/") special_tokens true 5
     (record { protocol = Some (codes "https"); username = None; password = None; hostname = Some (codes "1"); port = Some []; pathname = Some (codes "/"); search = None; hash = None })
 unfolding byte_len encode_utf8
@@ -139,7 +139,7 @@ special_without_slashes = record {
 abbrev opaque_tokens : List TokenView
 opaque_tokens = letters 0 (codes "data") ++ one InvalidChar 4 (codes ":") ++ letters 5 (codes "1") ++ one OtherModifier 6 (codes "?") ++ letters 7 (codes "b") ++ one End 8 []
 
--- a protocol that is not special is followed by a pathname, with an empty hostname and port
+-- A protocol that is not special is followed by a pathname, with an empty hostname and port.
 pub opaque_pathname : IsAbsoluteSplit (codes "data:1?b") opaque_tokens false 4
     (record { protocol = Some (codes "data"); username = None; password = None; hostname = Some []; port = Some []; pathname = Some (codes "1"); search = Some (codes "b"); hash = None })
 unfolding byte_len encode_utf8
@@ -175,7 +175,7 @@ opaque_pathname = record {
 abbrev open_tokens : List TokenView
 open_tokens = letters 0 (codes "a#b") ++ one Open 3 (codes "{") ++ letters 4 (codes "c") ++ one End 5 []
 
--- a group is open at End, and at its depth no token is seen on the second pass
+-- A group is open at End, and at its depth no token is seen on the second pass.
 pub depth_is_kept : IsRelativeSplit (codes "a#b{c") open_tokens
     (record { pathname = Some (codes "a#b{c"); protocol = None; username = None; password = None; port = None; hostname = None; search = None; hash = None })
 unfolding byte_len encode_utf8
@@ -203,7 +203,7 @@ whole_tokens =
     ++ letters 14 (codes "pw@example.com") ++ one InvalidChar 28 (codes ":") ++ letters 29 (codes "8080/a")
     ++ one OtherModifier 35 (codes "?") ++ letters 36 (codes "b#c") ++ one End 39 []
 
--- all eight components
+-- All eight components.
 pub all_components : IsAbsoluteSplit (codes "https://user\\:pw@example.com:8080/a?b#c") whole_tokens true 5
     (record { protocol = Some (codes "https"); username = Some (codes "user"); password = Some (codes "pw"); hostname = Some (codes "example.com"); port = Some (codes "8080"); pathname = Some (codes "/a"); search = Some (codes "b"); hash = Some (codes "c") })
 unfolding byte_len encode_utf8
@@ -291,7 +291,7 @@ are_users_tokens = record {
 abbrev pub users_values : Values
 users_values = record { protocol = Some (codes "https"); username = None; password = None; hostname = Some (codes "example.com"); port = Some []; pathname = Some (codes "/users/:id"); search = None; hash = None }
 
--- when slashes follow, it makes no difference whether the protocol is special
+-- When slashes follow, it makes no difference whether the protocol is special.
 users_absolute : (special : Bool) → IsAbsoluteSplit users_text users_tokens special 5 users_values
 unfolding byte_len encode_utf8
 users_absolute special = record {
@@ -337,7 +337,7 @@ answered : {A : Type 0} (special : Bool) (found : Option A) (Is : A → Type 0) 
 answered special (Some one) Is is = refl
 answered special None Is is = absurd is
 
--- `users_text` has one split, whichever protocols are special
+-- `users_text` has one split, whichever protocols are special.
 pub users_split : (IsSpecial : List ℕ → Bool → Type 0) (components : Values) → SplitsInto IsSpecial users_text components → components ≡ users_values
 users_split IsSpecial components (tokens, are_tokens, inl relative) =
     splits_one_given users_text true components users_values (tokens, are_tokens, inl relative) (users_splits true)

@@ -17,7 +17,7 @@ use Rattle.urlpattern_components.specs.Eight.{Values, each}
 
 -- ---- components still to be found
 
--- a hash for which `Is` holds, whatever the other components are
+-- A hash for which `Is` holds, whatever the other components are.
 abbrev HashFor : (Is : Values → Type 0) → Type 0
 HashFor Is = (hash : Option (List ℕ)) × ((c : Values) → Is (record c { hash = hash }))
 
@@ -55,7 +55,7 @@ module _ (text : List ℕ) (tokens : List TokenView) (are_tokens : AreLenientTok
   abbrev Ends : Section → (from depth : ℕ) → Type 0
   Ends section from depth = (until : ℕ) × EndsAt section tokens from depth until
 
-  -- the section does not end before the place
+  -- The section does not end before the place.
   abbrev NoneBefore : Section → (from depth place : ℕ) → Type 0
   NoneBefore section from depth place = (other : ℕ) → from ≤ other → other < place → ¬ IsTrue (may_end section tokens from depth other)
 
@@ -86,12 +86,12 @@ module _ (text : List ℕ) (tokens : List TokenView) (are_tokens : AreLenientTok
       ends_here section from depth place after within none
       (λ next more. ends_within n section from depth (place + 1) (omega arith) next (omega arith) more)
 
-  -- a section ends
+  -- A section ends.
   ends_some : (section : Section) (from depth : ℕ) → from < length tokens → Ends section from depth
   ends_some section from depth within =
       ends_within (suc (length tokens)) section from depth from (omega arith) within (omega arith) (λ other after before may. omega arith)
 
-  -- the text between a position and the end of its section
+  -- The text between a position and the end of its section.
   takes_some : (section : Section) (from depth : ℕ) (ends : Ends section from depth) → (taken : Option (List ℕ)) × IsComponentBetween text tokens from ends.0 taken
   takes_some section from depth ends = let b = text_between text tokens from ends.0 are_tokens ends.1.after ends.1.within in (Some b.0, b.1)
 
@@ -146,7 +146,7 @@ module _ (text : List ℕ) (tokens : List TokenView) (are_tokens : AreLenientTok
       ]) in
       (t.0, s.0, s.1, λ c. (ends.0, ends.1, t.1, s.2 (record c { pathname = t.0 })))
 
-  -- what may follow a port
+  -- What may follow a port.
   data Follows (place : ℕ) : Type 0 where
     Slash : IsTrue (is_slash_sign tokens place) → Follows place
     Signs : IsTrue (is_search_sign tokens place || is_hash_sign tokens place) → Follows place
@@ -183,7 +183,7 @@ module _ (text : List ℕ) (tokens : List TokenView) (are_tokens : AreLenientTok
       let p = pathname_at special place within more in
       (Some [], p.0, p.1, p.2, λ c. inr (no_colon, refl, p.3 (record c { port = Some [] })))
 
-  -- without a colon, a hostname is followed by what may follow a port
+  -- Without a colon, a hostname is followed by what may follow a port.
   colon_or_more : (place : ℕ) → ¬ IsTrue (is_colon_sign tokens place) → (balanced : Bool) → IsTrue ((balanced && is_colon_sign tokens place) || is_slash_sign tokens place || is_search_sign tokens place || is_hash_sign tokens place) → Follows place
   colon_or_more place no_colon balanced signs =
       follows place (without (balanced && is_colon_sign tokens place) (is_slash_sign tokens place) (is_search_sign tokens place) (is_hash_sign tokens place)
@@ -227,7 +227,7 @@ module _ (text : List ℕ) (tokens : List TokenView) (are_tokens : AreLenientTok
         | inr ge ↦ (t.0, None, λ c. (ends.0, ends.1, t.1, inl (omega arith, refl)))
       ]
 
-  -- components after the protocol
+  -- Components after the protocol.
   abbrev AuthorityFor : (Is : Values → Type 0) → Type 0
   AuthorityFor Is = (c : Values) × ((protocol : Option (List ℕ)) → Is (record c { protocol = protocol }))
 
@@ -344,7 +344,7 @@ module _ (text : List ℕ) (tokens : List TokenView) (are_tokens : AreLenientTok
           )
       by_slashes false other = by_special special refl other
 
--- a protocol, where there is one, is special as given
+-- A protocol, where there is one, is special as given.
 answered : (text : List ℕ) (tokens : List TokenView) (until : ℕ) (special : Bool) (taken : Option (List ℕ)) → IsComponentBetween text tokens 0 until taken → IsSomeAnd taken (λ protocol. special ≡ special)
 answered text tokens until special None h = absurd h
 answered text tokens until special (Some protocol) h = refl

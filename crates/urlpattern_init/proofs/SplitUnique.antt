@@ -21,7 +21,7 @@ use Rattle.urlpattern_components.specs.Eight.{Values}
 
 -- ---- texts
 
--- two prefixes of a text with the same length in bytes are equal
+-- Two prefixes of a text with the same length in bytes are equal.
 front_one : (front other rest left : List ℕ) → front ++ rest ≡ other ++ left → byte_len front ≡ byte_len other → front ≡ other
 front_one [] [] rest left e n = refl
 front_one [] (c ∷ other) rest left e n =
@@ -43,7 +43,7 @@ index_one : (found : Option TokenView) (m n : ℕ) → IsSomeAnd found (λ token
 index_one None m n h g = absurd h
 index_one (Some token) m n h g = sym h ∙ g
 
--- the text between two tokens is unique
+-- The text between two tokens is unique.
 between_one : (text : List ℕ) (tokens : List TokenView) (from until : ℕ) (between other : List ℕ) → IsTextBetween text tokens from until between → IsTextBetween text tokens from until other → between ≡ other
 between_one text tokens from until between other h g =
     let m = index_one (slice_get tokens from) (byte_len h.front) (byte_len g.front) h.begins g.begins in
@@ -86,7 +86,7 @@ search_value tokens place h =
       | inr value ↦ (and_parts (passes_at (λ token. bytes_eq token.value (codes "?")) tokens place) (not (follows_modified tokens place)) value).0
     ]
 
--- unequal values are not equal
+-- Unequal values are not equal.
 differ : (one two : List ℕ) → bytes_eq one two ≡ false → one ≡ two → ⊥
 differ one two other e = false≢true (sym other ∙ (bytes_eq-Decides one two).1 e)
 
@@ -102,7 +102,7 @@ slash_not_hash : (tokens : List TokenView) (place : ℕ) → IsTrue (is_slash_si
 slash_not_hash tokens place h g =
     differ (codes "/") (codes "#") refl (values_one (codes "/") (codes "#") tokens place (sign_value (codes "/") tokens place h) (sign_value (codes "#") tokens place g))
 
--- End has no value
+-- End has no value.
 end_value : (whole text : List ℕ) (front : List TokenView) (place : ℕ) → IsCut (IsLenient whole) text front [] → IsTrue (ends_at (front ++ end_of whole ∷ []) place) → IsTrue (has_value [] (front ++ end_of whole ∷ []) place)
 unfolding has_value
 end_value whole text [] zero cut h = refl
@@ -148,14 +148,14 @@ module _ (text : List ℕ) (tokens : List TokenView) (are_tokens : AreLenientTok
     | inr is_end ↦ let last = closed.last place h.within is_end in let within = g.within in omega arith
   ]
 
-  -- a section ends at a single place
+  -- A section ends at a single place.
   ends_one : (section : Section) (from depth place other : ℕ) → EndsAt section tokens from depth place → EndsAt section tokens from depth other → place ≡ other
   ends_one section from depth place other h g = elim (cases_lt place other) [
     | inl less ↦ absurd (not_before section from depth place other h g less)
     | inr le ↦ elim (cases_lt other place) [ inl more ↦ absurd (not_before section from depth other place g h more) | inr ge ↦ omega arith ]
   ]
 
-  -- End is at a single place
+  -- End is at a single place.
   end_one : (place other : ℕ) → IsTrue (ends_at tokens place) → IsTrue (ends_at tokens other) → place ≡ other
   end_one place other h g =
       let one = closed.last place (found_at (λ token. is_end token.kind) tokens place h).3 h in
@@ -254,7 +254,7 @@ module _ (text : List ℕ) (tokens : List TokenView) (are_tokens : AreLenientTok
         password_one (inr a) (inr b) =
             takes_one text tokens (g.0 + 1) until c.password d.password (subst (λ place. IsComponentBetween text tokens (place + 1) until c.password) e a.1) b.1
 
-    -- the two forms of an authority, by where its first section ends
+    -- The two forms of an authority, by where its first section ends.
     abbrev AuthorityAt : Values → (special : Bool) → (from until : ℕ) → Type 0
     AuthorityAt components special from until =
         (IsTrue (is_at_sign tokens until) × UserinfoFrom text tokens from until components × HostnameFrom text tokens special (until + 1) 0 components)
@@ -348,7 +348,7 @@ module _ (text : List ℕ) (tokens : List TokenView) (are_tokens : AreLenientTok
 -- ---- splits
 
 module _ (IsSpecial : List ℕ → Bool → Type 0) (text : List ℕ) where
-  -- the protocol of the text is both special and not special
+  -- The protocol of the text is both special and not special.
   abbrev HasTwoAnswers : Type 0
   HasTwoAnswers = HasProtocol text (λ protocol. IsSpecial protocol true × IsSpecial protocol false)
 

@@ -36,7 +36,7 @@ use Rattle.urlpattern_components.proofs.EightLemmas.{by_name}
 use Rattle.urlpattern_components.specs.Eight.{at}
 use Rattle.urlpattern_syntax.specs.Text.{lacks, line_feed}
 
--- the byte is ASCII and no line feed
+-- The byte is ASCII and no line feed.
 abbrev is_line_byte : ℕ → Bool
 is_line_byte b = ltb b 128 && not (b == line_feed)
 
@@ -49,11 +49,11 @@ no_feed b passes = (and_parts _ _ passes).1
 ascii_of : (bytes : List ℕ) → All (Passes is_line_byte) bytes → IsAscii bytes
 ascii_of bytes all = IsAscii-from_all bytes (All-weaker (Passes is_line_byte) (λ b. b < 128) ascii_byte bytes all)
 
--- the characters of ASCII bytes without line feeds are the bytes
+-- The characters of ASCII bytes without line feeds are the bytes.
 chars_of : (bytes : List ℕ) → All (Passes is_line_byte) bytes → chars bytes ≡ bytes
 chars_of bytes all = chars-IsAscii bytes (ascii_of bytes all)
 
--- ASCII bytes without line feeds are a line
+-- ASCII bytes without line feeds are a line.
 line_of : (bytes : List ℕ) → All (Passes is_line_byte) bytes → IsLine (chars bytes)
 line_of bytes all = record {
   characters = scalars-chars bytes (IsUtf8-from_ascii bytes (ascii_of bytes all));
@@ -91,7 +91,7 @@ own_scheme_line url valid = All-weaker (Passes is_scheme_byte) (Passes is_line_b
 path_line : (url : Parts) → IsValid url → All (Passes is_line_byte) url.path
 path_line url valid = All_kept is_line_byte OPAQUE_PATH refl url.path (path_kept url valid.path)
 
--- all eight texts are lines
+-- All eight texts are lines.
 pub texts_of_urls : TextsOfUrlsAreLines
 texts_of_urls url valid =
     by_name (λ name. IsLine (at (texts_of_url url) name))
@@ -106,14 +106,14 @@ texts_of_urls url valid =
 
 -- ---- from texts to parts
 
--- scheme and path have the characters that are their bytes
+-- Scheme and path have the characters that are their bytes.
 pub chars-scheme : (url : Parts) → IsValid url → chars url.scheme ≡ url.scheme
 chars-scheme url valid = chars_of url.scheme (own_scheme_line url valid.head)
 
 pub chars-path : (url : Parts) → IsValid url → chars url.path ≡ url.path
 chars-path url valid = chars_of url.path (path_line url valid)
 
--- the host of a special URL is the host that its text parses to
+-- The host of a special URL is the host that its text parses to.
 special_host : (url : Parts) (host : Option (Host (List ℕ))) (text : List ℕ) (parsed : Host (List ℕ)) → MatchOption host (is_special SpecialNotFile ≡ false) (IsHostOf SpecialNotFile)
     → chars (host_text (unwrap_or host (Domain []))) ≡ text → parse_special_host text ≡ Ok parsed → host ≡ Some parsed
 special_host url None text parsed valid e is = absurd (cc valid)
@@ -126,7 +126,7 @@ pub host_by_text : (url : Parts) (text : List ℕ) (parsed : Host (List ℕ)) �
     chars (host_text (host_or_empty url)) ≡ text → parse_special_host text ≡ Ok parsed → url.host ≡ Some parsed
 host_by_text url text parsed valid kind e is = special_host url url.host text parsed (rw kind at valid.head.host) e is
 
--- a port with an empty text is missing
+-- A port with an empty text is missing.
 empty_port : (scheme : List ℕ) (port : Option ℕ) → IsPortOf scheme port → chars (unwrap_or (option_map decimal port) [] ++ []) ≡ [] → port ≡ None
 empty_port scheme None valid e = refl
 empty_port scheme (Some n) valid e =

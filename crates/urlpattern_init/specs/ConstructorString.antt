@@ -15,7 +15,7 @@ abbrev pub SplitsInto : (IsSpecial : List ℕ → Bool → Type 0) → (text : L
 SplitsInto IsSpecial text components =
     (tokens : List TokenView) × AreLenientTokens text tokens × IsSplit IsSpecial text tokens components
 
--- a source's text is split into the components of a `Split`, by the tokens of the source
+-- A source's text is split into the components of a `Split`, by the tokens of the source.
 abbrev pub IsSplitOf : (IsSpecial : List ℕ → Bool → Type 0) → Source → Split → Type 0
 IsSplitOf IsSpecial source split = IsSplit IsSpecial (text_of_source source) (tokens_of source) (split_values split)
 
@@ -24,7 +24,7 @@ IsSplitOf IsSpecial source split = IsSplit IsSpecial (text_of_source source) (to
 abbrev pub SplitsAs : (text : List ℕ) → (special : Bool) → Values → Type 0
 SplitsAs text special components = SplitsInto (λ protocol answer. answer ≡ special) text components
 
--- the turns are at most two for each lenient token of the text
+-- The turns are at most two for each lenient token of the text.
 abbrev pub AreFewTurns : (text : List ℕ) → (turns : ℕ) → Type 0
 AreFewTurns text turns = (tokens : List TokenView) × AreLenientTokens text tokens × (turns ≤ 2 * length tokens)
 
@@ -35,13 +35,13 @@ RefusesString text base_url error =
     HasProtocol text (λ protocol. RefusesProtocol protocol error)
     ⊎ (LacksProtocol text × (base_url ≡ None) × (error ≡ ErrorView.BaseUrlRequired))
 
--- the init has a protocol or a base URL
+-- The init has a protocol or a base URL.
 abbrev pub HasProtocolOrBase : UrlPatternInit → Type 0
 HasProtocolOrBase init = ¬ ((init.protocol ≡ None) × (init.base_url ≡ None))
 
 -- ---- uniqueness of splits
 
--- a text has at most one split, unless its protocol is both special and not by `IsSpecial`
+-- A text has at most one split, unless its protocol is both special and not by `IsSpecial`.
 abbrev pub SplitsAreOneOrInDoubt : (IsSpecial : List ℕ → Bool → Type 0) → Type 0
 SplitsAreOneOrInDoubt IsSpecial = (text : List ℕ) (components others : Values) →
     SplitsInto IsSpecial text components → SplitsInto IsSpecial text others →

@@ -19,21 +19,21 @@ use Rattle.urlpattern_components.specs.declared.eight.Eight.{Eight}
 use Rattle.urlpattern_components.specs.Eight.{Texts, Values, at, components, each}
 use Rattle.urlpattern_syntax.specs.Text.{begins_with, byte_len, chars, text_of}
 
--- the texts of an init's components
+-- The texts of an init's components.
 abbrev pub given_texts : UrlPatternInit → Eight (Option (String Global))
 given_texts given = record { protocol = given.protocol; username = given.username; password = given.password; hostname = given.hostname; port = given.port; pathname = given.pathname; search = given.search; hash = given.hash }
 
--- optional texts as values
+-- Optional texts as values.
 abbrev pub values_of : Eight (Option (String Global)) → Values
 values_of texts = each (λ name. option_map text_of (at texts name))
 
--- the values of an init's components
+-- The values of an init's components.
 abbrev pub values_view : UrlPatternInit → Values
 values_view init = values_of (given_texts init)
 
 -- ---- the table of inheritance
 
--- the components that an init must lack, along with the component itself, to inherit it
+-- The components that an init must lack, along with the component itself, to inherit it.
 abbrev pub must_lack : ComponentName → List ComponentName
 must_lack Protocol = []
 must_lack Username = Protocol ∷ Hostname ∷ Port ∷ []
@@ -44,7 +44,7 @@ must_lack Pathname = Protocol ∷ Hostname ∷ Port ∷ []
 must_lack Search = Protocol ∷ Hostname ∷ Port ∷ Pathname ∷ []
 must_lack Hash = Protocol ∷ Hostname ∷ Port ∷ Pathname ∷ Search ∷ []
 
--- the text of a URL's component, by the URL's accessors
+-- The text of a URL's component, by the URL's accessors.
 abbrev pub url_text : ComponentName → Parts → List ℕ
 url_text Protocol url = chars url.scheme
 url_text Username url = chars url.username
@@ -55,13 +55,13 @@ url_text Pathname url = chars url.path
 url_text Search url = chars (unwrap_or url.query [])
 url_text Hash url = chars (unwrap_or url.fragment [])
 
--- whether a component can be inherited: a pattern inherits neither user name nor password
+-- Whether a component can be inherited: a pattern inherits neither user name nor password.
 abbrev pub is_inheritable : ProcessType → ComponentName → Bool
 is_inheritable ProcessType.Pattern Username = false
 is_inheritable ProcessType.Pattern Password = false
 is_inheritable mode component = true
 
--- the processed text of a component; port and pathname depend on the processed protocol
+-- The processed text of a component; port and pathname depend on the processed protocol.
 abbrev pub processed_text : ProcessType → (protocol : Option (List ℕ)) → ComponentName → List ℕ → Parsed (List ℕ)
 processed_text mode protocol Protocol text = processed_protocol mode text
 processed_text mode protocol Username text = processed_username mode text
@@ -77,20 +77,20 @@ processed_text mode protocol Hash text = processed_hash mode text
 abbrev pub is_slash : ℕ → Bool
 is_slash c = c == slash
 
--- whether a pathname is absolute: it begins with a slash, in a pattern perhaps after one backslash
--- or one open brace
+-- Whether a pathname is absolute: it begins with a slash, in a pattern perhaps after one backslash
+-- or one open brace.
 abbrev pub is_absolute : ProcessType → List ℕ → Bool
 is_absolute ProcessType.Pattern text =
     begins_with is_slash (without_first backslash text) || begins_with is_slash (without_first left_brace text)
 is_absolute ProcessType.Url text = begins_with is_slash text
 
--- a path up to its last slash, the slash included
+-- A path up to its last slash, the slash included.
 abbrev pub up_to_last_slash : List ℕ → List ℕ
 up_to_last_slash [] = []
 up_to_last_slash (c ∷ path) = if list_any is_slash (c ∷ path) then c ∷ up_to_last_slash path else []
 
--- what is put before a relative pathname: the base's path up to its last slash, unless the path is
--- opaque
+-- What is put before a relative pathname: the base's path up to its last slash, unless the path is
+-- opaque.
 abbrev pub put_before : ProcessType → Option Parts → List ℕ → List ℕ
 put_before mode None text = []
 put_before mode (Some base) text =
@@ -98,102 +98,102 @@ put_before mode (Some base) text =
 
 -- ---- processed values
 
--- the given text of a component, after what is put before it
+-- The given text of a component, after what is put before it.
 abbrev pub given_text : ProcessType → Option Parts → ComponentName → List ℕ → List ℕ
 given_text mode base Pathname text = put_before mode base text ++ text
 given_text mode base component text = text
 
--- whether the init lacks all of these components
+-- Whether the init lacks all of these components.
 abbrev pub lacks_all : Values → List ComponentName → Bool
 lacks_all values components = list_all (λ component. is_none (at values component)) components
 
--- the value that an init inherits for a component that it lacks
+-- The value that an init inherits for a component that it lacks.
 abbrev pub inherited : ProcessType → Values → Option Parts → ComponentName → Option (List ℕ)
 inherited mode values base component =
     if is_inheritable mode component && lacks_all values (must_lack component)
     then option_map (λ url. processed_base mode (url_text component url)) base
     else None
 
--- the value of a component that is neither given nor inherited: none in a pattern, empty in a URL
+-- The value of a component that is neither given nor inherited: none in a pattern, empty in a URL.
 abbrev pub missing : ProcessType → Option (List ℕ)
 missing ProcessType.Pattern = None
 missing ProcessType.Url = Some []
 
--- the processed value of a component, given its text in the init, if there is one
+-- The processed value of a component, given its text in the init, if there is one.
 abbrev pub value_given : ProcessType → Values → Option Parts → (protocol : Option (List ℕ)) → ComponentName → Option (List ℕ)
     → Parsed (Option (List ℕ))
 value_given mode values base protocol component None = Ok (option_or (inherited mode values base component) (missing mode))
 value_given mode values base protocol component (Some text) =
     and_then (processed_text mode protocol component (given_text mode base component text)) (λ value. Ok (Some value))
 
--- the processed value of a component
+-- The processed value of a component.
 abbrev pub processed_value : ProcessType → Values → Option Parts → (protocol : Option (List ℕ)) → ComponentName → Parsed (Option (List ℕ))
 processed_value mode values base protocol component =
     value_given mode values base protocol component (at values component)
 
--- the error of a result, or else the later error
+-- The error of a result, or else the later error.
 abbrev pub refusal_or : {A : Type 0} → Parsed A → Option ParseError → Option ParseError
 refusal_or (Err reason) later = Some reason
 refusal_or (Ok value) later = later
 
--- the first error among the results for these components
+-- The first error among the results for these components.
 abbrev pub first_refusal : {A : Type 0} → (ComponentName → Parsed A) → List ComponentName → Option ParseError
 first_refusal answers [] = None
 first_refusal answers (name ∷ others) = refusal_or (answers name) (first_refusal answers others)
 
--- the value of a result, none for an error
+-- The value of a result, none for an error.
 abbrev pub value_or_none : Parsed (Option (List ℕ)) → Option (List ℕ)
 value_or_none (Ok value) = value
 value_or_none (Err reason) = None
 
--- the values, unless there is an error
+-- The values, unless there is an error.
 abbrev pub unless_refused : Option ParseError → Values → Parsed Values
 unless_refused (Some reason) values = Err reason
 unless_refused None values = Ok values
 
--- the values that are the results for the components, or the first error
+-- The values that are the results for the components, or the first error.
 abbrev pub all_values : (ComponentName → Parsed (Option (List ℕ))) → Parsed Values
 all_values answers = unless_refused (first_refusal answers components) (each (λ name. value_or_none (answers name)))
 
--- the processed values of an init with this base, or the first error
+-- The processed values of an init with this base, or the first error.
 unfoldable pub processed_values : ProcessType → Values → Option Parts → Parsed Values
 processed_values mode values base =
     and_then (processed_value mode values base None Protocol) (λ protocol. all_values (processed_value mode values base protocol))
 
 -- ---- lengths of texts that `url` receives
 
--- the length in bytes of an optional text
+-- The length in bytes of an optional text.
 abbrev pub bytes_of : Option (List ℕ) → ℕ
 bytes_of text = byte_len (unwrap_or text [])
 
--- the length in bytes of a component's given text, with what is put before it
+-- The length in bytes of a component's given text, with what is put before it.
 abbrev pub given_bytes : ProcessType → Values → Option Parts → ComponentName → ℕ
 given_bytes mode values base component = bytes_of (option_map (given_text mode base component) (at values component))
 
--- the length in bytes of the processed protocol, 0 for an error
+-- The length in bytes of the processed protocol, 0 for an error.
 abbrev pub protocol_bytes : Parsed (Option (List ℕ)) → ℕ
 protocol_bytes (Ok protocol) = bytes_of protocol
 protocol_bytes (Err reason) = 0
 
--- the length in bytes of the longest text that `url` receives; for a pattern it receives none
+-- The length in bytes of the longest text that `url` receives; for a pattern it receives none.
 unfoldable pub asked_bytes : ProcessType → Values → Option Parts → ℕ
 asked_bytes mode values base =
     bytes_asked mode (fold max (protocol_bytes (processed_value mode values base None Protocol)) (map (given_bytes mode values base) components))
 
--- the processed values of an init, or the first error
+-- The processed values of an init, or the first error.
 abbrev pub init_values : ProcessType → UrlPatternInit → Parsed Values
 init_values mode init = processed_values mode (values_view init) init.base_url
 
--- the length in bytes of the longest text of an init that `url` receives
+-- The length in bytes of the longest text of an init that `url` receives.
 abbrev pub init_bytes : ProcessType → UrlPatternInit → ℕ
 init_bytes mode init = asked_bytes mode (values_view init) init.base_url
 
 -- ---- eight texts
 
--- the texts of a URL
+-- The texts of a URL.
 abbrev pub texts_of_url : Parts → Texts
 texts_of_url url = each (λ name. url_text name url)
 
--- the values of an init for a URL as texts, a missing one empty
+-- The values of an init for a URL as texts, a missing one empty.
 abbrev pub texts_of_values : Values → Texts
 texts_of_values values = each (λ name. unwrap_or (at values name) [])

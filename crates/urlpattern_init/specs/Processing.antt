@@ -12,66 +12,66 @@ use Rattle.urlpattern_syntax.specs.Errors.{MemoryOr}
 use Rattle.urlpattern_syntax.specs.declared.error.Error.{Error}
 use Rattle.urlpattern_syntax.specs.Text.{byte_len, option_text, text_of}
 
--- the given values of the init
+-- The given values of the init.
 abbrev pub given_values : Processing → Values
 given_values processing = values_view processing.init.now
 
--- the processed value of a component, under this protocol
+-- The processed value of a component, under this protocol.
 abbrev pub value_in : Processing → (protocol : Option (List ℕ)) → ComponentName → Parsed (Option (List ℕ))
 value_in processing protocol component =
     processed_value processing.kind.now (given_values processing) processing.init.now.base_url protocol component
 
--- the processed values of the init
+-- The processed values of the init.
 abbrev pub values_in : Processing → Parsed Values
 values_in processing = init_values processing.kind.now processing.init.now
 
--- the length in bytes of the longest text of the init that `url` receives
+-- The length in bytes of the longest text of the init that `url` receives.
 abbrev pub bytes_in : Processing → ℕ
 bytes_in processing = init_bytes processing.kind.now processing.init.now
 
--- the length in bytes of the longest text that `url` receives for one component, under a protocol
--- of `protocol_bytes`
+-- The length in bytes of the longest text that `url` receives for one component, under a protocol
+-- of `protocol_bytes`.
 abbrev pub component_bytes : Processing → (protocol_bytes : ℕ) → ComponentName → ℕ
 component_bytes processing protocol_bytes component =
     bytes_asked processing.kind.now
     (max protocol_bytes (given_bytes processing.kind.now (given_values processing) processing.init.now.base_url component))
 
--- a given text of the init, after what is put before it
+-- A given text of the init, after what is put before it.
 abbrev pub given_in : Processing → ComponentName → List ℕ → List ℕ
 given_in processing component text = given_text processing.kind.now processing.init.now.base_url component text
 
--- the processed value of a given text, under this protocol
+-- The processed value of a given text, under this protocol.
 abbrev pub text_value_in : Processing → (protocol : Option (List ℕ)) → ComponentName → List ℕ → Parsed (List ℕ)
 text_value_in processing protocol component text =
     processed_text processing.kind.now protocol component (given_in processing component text)
 
--- the length in bytes of an optional text
+-- The length in bytes of an optional text.
 abbrev pub optional_bytes : Option (Bor (List ℕ)) → ℕ
 optional_bytes text = length (unwrap_or (option_copied text) [])
 
--- the result is that of processing a given text under a protocol
+-- The result is that of processing a given text under a protocol.
 abbrev pub IsTextAnswer : Processing → (protocol : Option (Bor (List ℕ))) → ComponentName → List ℕ → Result (String Global) Error → Type 0
 IsTextAnswer processing protocol component text result =
     IsAnswer (text_value_in processing (option_text protocol) component text)
     (bytes_asked processing.kind.now (max (optional_bytes protocol) (byte_len (given_in processing component text)))) result
 
--- the result is that of processing a given pathname; its errors depend on its own length alone
+-- The result is that of processing a given pathname; its errors depend on its own length alone.
 abbrev pub IsGivenPathnameAnswer : Processing → (protocol : Option (Bor (List ℕ))) → List ℕ → Result (String Global) Error → Type 0
 IsGivenPathnameAnswer processing protocol text result =
     IsAnswer (text_value_in processing (option_text protocol) ComponentName.Pathname text)
     (bytes_asked processing.kind.now (byte_len (given_in processing ComponentName.Pathname text))) result
 
--- the value of a component that the init lacks
+-- The value of a component that the init lacks.
 abbrev pub lacking_in : Processing → ComponentName → Option (List ℕ)
 lacking_in processing component =
     option_or (inherited processing.kind.now (given_values processing) processing.init.now.base_url component) (missing processing.kind.now)
 
--- the error is that of a component's value, or `OutOfMemory`
+-- The error is that of a component's value, or `OutOfMemory`.
 abbrev pub IsFailureIn : Processing → (protocol : Option (List ℕ)) → (protocol_bytes : ℕ) → ComponentName → Error → Type 0
 IsFailureIn processing protocol protocol_bytes component =
     MemoryOr (Reports (value_in processing protocol component) (component_bytes processing protocol_bytes component))
 
--- the result is the processed value of a component other than the protocol, or its error
+-- The result is the processed value of a component other than the protocol, or its error.
 pub record IsValueAfter (processing : Processing) (protocol : Option (List ℕ)) (component : ComponentName) (result : Result (Option (String Global)) Error) : Type 0 where
   pub ok : IfOk result (λ value. component ≢ ComponentName.Protocol → value_in processing protocol component ≡ Ok (option_map text_of value))
   pub err : IfErr result (IsFailureIn processing protocol (bytes_of protocol) component)

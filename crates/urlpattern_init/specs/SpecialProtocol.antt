@@ -14,23 +14,23 @@ use Rattle.urlpattern_syntax.specs.declared.error.Error.{Error}
 use Rattle.urlpattern_syntax.specs.{Errors.ErrorView, Options.default_options, Parts.PartView}
 use Rattle.urlpattern_syntax.specs.Reading.{Encoding, Reads, Refuses, encoding_of}
 
--- what `canonicalize_protocol` may return for the bytes of a text
+-- What `canonicalize_protocol` may return for the bytes of a text.
 abbrev pub CanonicalizesProtocol : List ℕ → Result (String Global) Error → Type 0
 CanonicalizesProtocol bytes returned = IsAnswer (canonical_protocol (chars bytes)) (length bytes) returned
 
--- the encoding by `canonicalize_protocol`
+-- The encoding by `canonicalize_protocol`.
 abbrev pub protocol_encoding : Encoding
 protocol_encoding = encoding_of CanonicalizesProtocol
 
--- the matcher accepts one of these texts, with engines that match by `answer`
+-- The matcher accepts one of these texts, with engines that match by `answer`.
 abbrev pub AcceptsAny : {E : Type 0} → (answer : E → List ℕ → Option Captures) → Matcher E → List (Bor (List ℕ)) → Type 0
 AcceptsAny answer matcher texts = Any (λ text. IsMatched answer (matcher_view matcher) (chars text.now)) texts
 
--- the matcher accepts one of the special schemes, with engines that match by `answer`
+-- The matcher accepts one of the special schemes, with engines that match by `answer`.
 abbrev pub AcceptsSpecialScheme : {E : Type 0} → (answer : E → List ℕ → Option Captures) → MatcherView E → Type 0
 AcceptsSpecialScheme answer matcher = Any (λ scheme. IsMatched answer matcher scheme.0) special_schemes
 
--- the matcher accepts this text and no other
+-- The matcher accepts this text and no other.
 abbrev pub AcceptsOnly : {E : Type 0} → (answer : E → List ℕ → Option Captures) → MatcherView E → (only : List ℕ) → Type 0
 AcceptsOnly answer matcher only = (text : List ℕ) → IsMatched answer matcher text ↔ (text ≡ only)
 
@@ -43,10 +43,10 @@ pub record IsSpecialTo {E : Type 0} (engine : Engine E) (protocol : List ℕ) (s
   pub is_made : IsMadeOf (IsEngineOf engine false (codes "u")) default_options parts matcher
   pub decides : IsTrue special ↔ AcceptsSpecialScheme engine.answer matcher
 
--- the text of a protocol and its component, compiled with its parts under the default options
+-- The text of a protocol and its component, compiled with its parts under the default options.
 abbrev pub IsKnownProtocol : {E : Type 0} → Engine E → Bor (List ℕ) × ComponentWithParts E → Type 0
 IsKnownProtocol engine known = IsCompiledKeeping engine (chars known.0.now) default_options protocol_encoding known.1
 
--- the pattern of a protocol is rejected with this error
+-- The pattern of a protocol is rejected with this error.
 abbrev pub RefusesProtocol : List ℕ → ErrorView → Type 0
 RefusesProtocol protocol error = Refuses protocol default_options protocol_encoding error

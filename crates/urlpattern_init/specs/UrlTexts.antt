@@ -12,7 +12,7 @@ pub record IsLine (text : List ℕ) : Type 0 where
   pub characters : IsTrue (all_scalars text)
   pub no_line_feed : IsTrue (lacks line_feed text)
 
--- each of eight texts is a line
+-- Each of eight texts is a line.
 abbrev pub EachIsLine : Texts → Type 0
 EachIsLine texts = (component : ComponentName) → IsLine (at texts component)
 

@@ -11,11 +11,11 @@ use Rattle.urlpattern_components.specs.declared.eight.ComponentName.{ComponentNa
 use Rattle.urlpattern_components.specs.declared.eight.ComponentName.TheVariants.{Protocol}
 use Rattle.urlpattern_components.specs.declared.eight.Eight.{Eight}
 
--- equal functions of components have equal results
+-- Equal functions of components have equal results.
 pub each-same : {A : Type 0} (first second : ComponentName → A) → ((name : ComponentName) → first name ≡ second name) → each first ≡ each second
 each-same first second same = ap each (fun_ext same)
 
--- each component has a value, through the view `seen`
+-- Each component has a value, through the view `seen`.
 pub read_each-seen : {A X : Type 0} (seen : X → A) (read : ComponentName → Option A) (values : Eight X)
     → ((name : ComponentName) → read name ≡ Some (seen (at values name))) → read_each read ≡ Some (each (λ name. seen (at values name)))
 unfolding read_each
@@ -25,7 +25,7 @@ pub read_each-all : {A : Type 0} (read : ComponentName → Option A) (values : E
     → ((name : ComponentName) → read name ≡ Some (at values name)) → read_each read ≡ Some values
 read_each-all read values found = read_each-seen (λ value. value) read values found
 
--- the next step has no result, whatever its argument
+-- The next step has no result, whatever its argument.
 pub nothing : {A B : Type 0} (found : Option A) (next : A → Option B) → ((value : A) → next value ≡ None) → (found >>= next) ≡ None
 nothing None next none = refl
 nothing (Some value) next none = none value
@@ -33,19 +33,19 @@ nothing (Some value) next none = none value
 nothing_here : {A B : Type 0} (found : Option A) (next : A → Option B) → found ≡ None → (found >>= next) ≡ None
 nothing_here found next none = rw none refl
 
--- a component without a value
+-- A component without a value.
 pub read_each-none : {A : Type 0} (read : ComponentName → Option A) (name : ComponentName) → read name ≡ None → read_each read ≡ None
 unfolding read_each
 read_each-none read Protocol e = rw e refl
 read_each-none read name e = search (nothing_here, nothing) depth 20
 
--- a component whose value is not read, for this reason
+-- A component whose value is not read, for this reason.
 pub read_each-fails : {A : Type 0} (read : ComponentName → Option A) (reason : Unread) (name : ComponentName)
     → IsUnread reason (read name) → IsUnread reason (read_each read)
 read_each-fails read Shape name none = read_each-none read name none
 read_each-fails read OutOfMemory name fails = tt
 
--- the reason is returned to the caller
+-- The reason is returned to the caller.
 pub passed_on : {A T : Type 0} (seen : T → A) (result : Result T Unread) (reason : Unread) (read : Option A)
     → IsErrAnd result (λ passed. passed ≡ reason) → IsUnread reason read → ReturnsRead seen result read
 passed_on seen (Ok value) reason read same fails = absurd same

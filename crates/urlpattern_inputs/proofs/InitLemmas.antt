@@ -12,7 +12,7 @@ use Rattle.urlpattern_inputs.specs.declared.reading.Unread.TheVariants.{OutOfMem
 use Rattle.urlpattern_inputs.proofs.EachLemmas.{nothing}
 use Rattle.urlpattern_components.specs.Eight.{name_text}
 
--- a tree that is no string is read as an init or not at all
+-- A tree that is no string is read as an init or not at all.
 pub input_read-init : (tree : Data) → as_str tree ≡ None → input_read tree ≡ option_map of_init (init_read tree)
 input_read-init null e = refl
 input_read-init (boolean b) e = refl
@@ -50,7 +50,7 @@ init_from tree values of_object =
     let there = is_there (as_object tree) of_object in
     init_among tree there.0 values there.1
 
--- the text of a component is not read, for this reason
+-- The text of a component is not read, for this reason.
 pub init_fails : (tree : Data) (reason : Unread)
     → IsUnread reason (read_each (λ name. optional_read as_str (name_text name) tree)) → IsUnread reason (init_read tree)
 unfolding init_read

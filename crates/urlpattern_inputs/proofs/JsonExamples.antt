@@ -5,21 +5,21 @@ use Rattle.urlpattern_inputs.specs.InputJson.{init_read, init_tree, options_read
 use Rattle.urlpattern_components.specs.Eight.{each}
 use Rattle.urlpattern_syntax.specs.declared.parser.RegexSyntax.TheVariants.{Rust}
 
--- an init without texts is the empty object
+-- An init without texts is the empty object.
 no_init : init_tree (record { texts = each (λ name. None); base_url = None }) ≡ object no_members
 no_init = refl
 
--- an array is no init
+-- An array is no init.
 array_read : init_read (array no_items) ≡ None
 unfolding init_read
 array_read = refl
 
--- the syntax may be missing, and other keys are ignored
+-- The syntax may be missing, and other keys are ignored.
 options_with_other : options_read (object (member (codes "ignoreCase") (boolean true) (member (codes "other") null no_members))) ≡ Some (record { regex_syntax = Rust; ignore_case = true })
 unfolding options_read
 options_with_other = refl
 
--- a null is no syntax
+-- A null is no syntax.
 null_syntax : options_read (object (member (codes "ignoreCase") (boolean true) (member (codes "regexSyntax") null no_members))) ≡ None
 unfolding options_read
 null_syntax = refl

@@ -33,12 +33,12 @@ listed_init values =
     each_member (λ name. option_map string (at values.texts name))
     ++ (codes "baseURL", option_map string values.base_url) ∷ []
 
--- a text of the init is found by its key
+-- A text of the init is found by its key.
 text_again : (name : List ℕ) (values : InitView) (text : Option (List ℕ)) → last_of name (listed_init values) None ≡ newer (option_map string text) None → optional_read as_str name (init_tree values) ≡ Some text
 text_again name values text e =
     ap (found_read as_str) (get_member-all_with name (listed_init values) no_members ∙ e ∙ newer-none (option_map string text)) ∙ optional_string text
 
--- the last tree at the name of a component is that of its text
+-- The last tree at the name of a component is that of its text.
 last_of-name : (values : InitView) (name : ComponentName)
     → last_of (name_text name) (listed_init values) None ≡ newer (option_map string (at values.texts name)) None
 last_of-name values Protocol = refl

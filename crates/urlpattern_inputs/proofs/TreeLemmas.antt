@@ -16,7 +16,7 @@ pub newer-none : (tree : Option Data) → newer tree None ≡ tree
 newer-none None = refl
 newer-none (Some tree) = refl
 
--- the last tree of a key among those that were put
+-- The last tree of a key among those that were put.
 abbrev pub last_of : List ℕ → List (List ℕ × Option Data) → Option Data → Option Data
 last_of name [] before = before
 last_of name (named ∷ rest) before = last_of name rest (cond (bytes_eq name named.0) (newer named.1 before) before)
@@ -42,13 +42,13 @@ get_member-all_with name [] before = refl
 get_member-all_with name (named ∷ rest) before =
     get_member-all_with name rest (with before named) ∙ ap (last_of name rest) (get_member-with name named.0 named.1 before)
 
--- an optional text
+-- An optional text.
 pub optional_string : (text : Option (List ℕ)) → found_read as_str (option_map string text) ≡ Some text
 optional_string None = refl
 optional_string (Some text) = refl
 
 -- ---- a member for each component
 
--- the object with the members of some components
+-- The object with the members of some components.
 abbrev pub with_each : (ComponentName → Option Data) → List ComponentName → Members
 with_each tree names = all_with no_members (map (λ name. (name_text name, tree name)) names)

@@ -12,55 +12,55 @@ use Rattle.urlpattern_syntax.specs.declared.parser.RegexSyntax.{RegexSyntax}
 
 -- ---- trees
 
--- the name of a syntax in JSON
+-- The name of a syntax in JSON.
 abbrev pub syntax_name : RegexSyntax → List ℕ
 syntax_name RegexSyntax.Rust = codes "Rust"
 syntax_name RegexSyntax.EcmaScript = codes "EcmaScript"
 
--- the tree of options
+-- The tree of options.
 abbrev pub options_tree : UrlPatternOptions → Data
 options_tree options = object_of (
     (codes "regexSyntax", Some (string (syntax_name options.regex_syntax)))
     ∷ (codes "ignoreCase", Some (boolean options.ignore_case))
     ∷ [])
 
--- the tree of an init, with a member for each text that is given
+-- The tree of an init, with a member for each text that is given.
 abbrev pub init_tree : InitView → Data
 init_tree init = object_of (
     each_member (λ name. option_map string (at init.texts name))
     ++ (codes "baseURL", option_map string init.base_url) ∷ [])
 
--- the tree of an input: a string, or the tree of an init
+-- The tree of an input: a string, or the tree of an init.
 abbrev pub input_tree : InputView → Data
 input_tree (of_text bytes) = string bytes
 input_tree (of_init values) = init_tree values
 
--- the tree of a match input, with a member for each component
+-- The tree of a match input, with a member for each component.
 abbrev pub match_input_tree : Eight (List ℕ) → Data
 match_input_tree input = object_of (each_member (λ name. Some (string (at input name))))
 
 -- ---- reading
 
--- the syntax with this name, if there is one
+-- The syntax with this name, if there is one.
 abbrev pub syntax_of : List ℕ → Option RegexSyntax
 syntax_of name =
     if bytes_eq name (codes "Rust") then Some RegexSyntax.Rust
     else if bytes_eq name (codes "EcmaScript") then Some RegexSyntax.EcmaScript
     else None
 
--- the syntax of a member, the default if the member is missing
+-- The syntax of a member, the default if the member is missing.
 abbrev pub syntax_read : Option Data → Option RegexSyntax
 syntax_read None = Some RegexSyntax.Rust
 syntax_read (Some tree) = as_str tree >>= syntax_of
 
--- the options read from a tree
+-- The options read from a tree.
 unfoldable pub options_read : Data → Option UrlPatternOptions
 options_read tree = do
   regex_syntax ← syntax_read (get (codes "regexSyntax") tree)
   ignore_case ← flag_read (codes "ignoreCase") tree
   Some (record { regex_syntax = regex_syntax; ignore_case = ignore_case })
 
--- the init read from a tree
+-- The init read from a tree.
 unfoldable pub init_read : Data → Option InitView
 init_read tree = do
   members ← as_object tree
@@ -68,11 +68,11 @@ init_read tree = do
   base_url ← optional_read as_str (codes "baseURL") tree
   Some (record { texts = texts; base_url = base_url })
 
--- the input read from a tree: a text, or an init
+-- The input read from a tree: a text, or an init.
 abbrev pub input_read : Data → Option InputView
 input_read (string bytes) = Some (of_text bytes)
 input_read tree = option_map of_init (init_read tree)
 
--- the match input read from a tree
+-- The match input read from a tree.
 abbrev pub match_input_read : Data → Option (Eight (List ℕ))
 match_input_read tree = read_each (λ name. text_read (name_text name) tree)

@@ -10,7 +10,7 @@ use Rattle.urlpattern_components.specs.Eight.{at, each}
 
 -- ---- inits and inputs
 
--- the texts of an init's components
+-- The texts of an init's components.
 abbrev pub plain_init_texts : UrlPatternInit → Eight (Option (String Global))
 plain_init_texts given = record { protocol = given.protocol; username = given.username; password = given.password; hostname = given.hostname; port = given.port; pathname = given.pathname; search = given.search; hash = given.hash }
 
@@ -25,7 +25,7 @@ init_view init = record {
   base_url = option_map string_bytes init.base_url;
 }
 
--- an input: a text, or an init
+-- An input: a text, or an init.
 pub data InputView : Type 0 where
   of_text : List ℕ → InputView
   of_init : InitView → InputView
@@ -36,7 +36,7 @@ input_view (StringOrInit.Init values) = of_init (init_view values)
 
 -- ---- match inputs
 
--- the texts of the components
+-- The texts of the components.
 abbrev pub matched_texts : MatchInput → Eight (String Global)
 matched_texts input = record { protocol = input.protocol; username = input.username; password = input.password; hostname = input.hostname; port = input.port; pathname = input.pathname; search = input.search; hash = input.hash }
 

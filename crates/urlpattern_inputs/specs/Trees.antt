@@ -12,66 +12,66 @@ use Rattle.urlpattern_components.specs.declared.eight.ComponentName.TheVariants.
 
 -- ---- writing
 
--- the members, with the tree at the name if there is one
+-- The members, with the tree at the name if there is one.
 abbrev pub with : Members → List ℕ × Option Data → Members
 with members (name, None) = members
 with members (name, Some tree) = put name tree members
 
--- the members, with the trees at the names that have one
+-- The members, with the trees at the names that have one.
 abbrev pub all_with : Members → List (List ℕ × Option Data) → Members
 all_with members [] = members
 all_with members (named ∷ rest) = all_with (with members named) rest
 
--- the entries of an object gain the trees at the names that have one
+-- The entries of an object gain the trees at the names that have one.
 abbrev pub GainAll : (before after : List (String Global × Value)) → List (List ℕ × Option Data) → Type 0
 GainAll before after named = members_view after ≡ all_with (members_view before) named
 
--- the entries of an object gain the tree at the name, if there is one
+-- The entries of an object gain the tree at the name, if there is one.
 abbrev pub Gain : (before after : List (String Global × Value)) → (name : List ℕ) → Option Data → Type 0
 Gain before after name tree = GainAll before after ((name, tree) ∷ [])
 
--- the object with a member for each name that has a tree
+-- The object with a member for each name that has a tree.
 abbrev pub object_of : List (List ℕ × Option Data) → Data
 object_of named = object (all_with no_members named)
 
--- the names of the components with their trees
+-- The names of the components with their trees.
 abbrev pub each_member : (ComponentName → Option Data) → List (List ℕ × Option Data)
 each_member tree = map (λ name. (name_text name, tree name)) components
 
--- the value is read back from its tree
+-- The value is read back from its tree.
 abbrev pub IsReadBack : {A : Type 0} → (tree : A → Data) → (read : Data → Option A) → A → Type 0
 IsReadBack tree read value = read (tree value) ≡ Some value
 
 -- ---- reading
 
 infixl 10 ◌>>=◌
--- the result of the next step, if there is a value for it
+-- The result of the next step, if there is a value for it.
 abbrev pub ◌>>=◌ : {A B : Type 0} → Option A → (A → Option B) → Option B
 None >>= next = None
 (Some value) >>= next = next value
 
--- the value of the member with this name, which only an object has
+-- The value of the member with this name, which only an object has.
 abbrev pub member_read : {A : Type 0} → (Data → Option A) → List ℕ → Data → Option A
 member_read read name tree = get name tree >>= read
 
--- the text of a member
+-- The text of a member.
 abbrev pub text_read : List ℕ → Data → Option (List ℕ)
 text_read name tree = member_read as_str name tree
 
--- the flag of a member
+-- The flag of a member.
 abbrev pub flag_read : List ℕ → Data → Option Bool
 flag_read name tree = member_read as_bool name tree
 
--- the value of an optional tree; `None` for a missing tree, or null
+-- The value of an optional tree; `None` for a missing tree, or null.
 abbrev pub found_read : {A : Type 0} → (Data → Option A) → Option Data → Option (Option A)
 found_read read None = Some None
 found_read read (Some tree) = if is_some (as_null tree) then Some None else option_map Some (read tree)
 
--- the value of an optional member
+-- The value of an optional member.
 abbrev pub optional_read : {A : Type 0} → (Data → Option A) → List ℕ → Data → Option (Option A)
 optional_read read name tree = found_read read (get name tree)
 
--- the values for all components, if each has one
+-- The values for all components, if each has one.
 unfoldable pub read_each : {A : Type 0} → (ComponentName → Option A) → Option (Eight A)
 read_each read = do
   protocol ← read Protocol

@@ -13,7 +13,7 @@ use Rattle.urlpattern_meaning.proofs.PlaceholderForms.{cons_one, no_text, begins
 abbrev pub all_texts : List TokenView → Bool
 all_texts tokens = list_all (λ (token : TokenView). is_text token.kind) tokens
 
--- the beginning and the rest are equal
+-- The beginning and the rest are equal.
 record OneCut (a b x y : List TokenView) : Type 0 where
   pub front : a ≡ b
   pub rest : x ≡ y
@@ -38,7 +38,7 @@ pub data ContentForm (tokens rest : List TokenView) (content : Content) : Type 0
   texts : (front : List TokenView) → tokens ≡ front ++ rest → IsTrue (all_texts front) → ¬ BeginsWithKind is_placeholder rest → content ≡ Texts (joined_values front) → ContentForm tokens rest content
   filled : (front behind back : List TokenView) (placeholder : Placeholder) → tokens ≡ front ++ behind → IsTrue (all_texts front) → PlaceholderForm behind (back ++ rest) placeholder → IsTrue (all_texts back) → content ≡ Filled (joined_values front) placeholder (joined_values back) → ContentForm tokens rest content
 
--- the rest and the content are equal
+-- The rest and the content are equal.
 pub record OneContent (x y : List TokenView) (c d : Content) : Type 0 where
   pub rest : x ≡ y
   pub content : c ≡ d
@@ -65,7 +65,7 @@ content_one tokens rest other x y none no' (filled a behind back p e h q k s) (f
           ∙ ap (λ z. Filled (joined_values b) p' (joined_values z)) d.front ∙ sym t;
     }
 
--- texts, a placeholder and texts, with more after them
+-- Texts, a placeholder and texts, with more after them.
 pub filled_form : (inner rest more : List TokenView) (before after : List ℕ) (placeholder : Placeholder) →
     ((back : List TokenView) → TakesRegexp placeholder.matched (back ++ rest) → TakesRegexp placeholder.matched (back ++ more)) →
     IsFilled inner before placeholder after rest → ContentForm (inner ++ more) more (Filled before placeholder after)
@@ -78,7 +78,7 @@ filled_form inner rest more before after placeholder widen f =
     (f.are_texts_after.0)
     (ap (λ x. Filled x placeholder after) (f.are_texts_before.1) ∙ ap (λ x. Filled (joined_values f.front) placeholder x) (f.are_texts_after.1))
 
--- a Close is not a Regexp that a name would take
+-- A Close is not a Regexp that a name would take.
 pub widened : (what : Matched) (behind : List TokenView) (closing : TokenView) (back : List TokenView) → TakesRegexp what (back ++ closing ∷ []) → TakesRegexp what (back ++ closing ∷ behind)
 widened matched.Segment behind closing [] h = h
 widened matched.Segment behind closing (token ∷ back) h = h

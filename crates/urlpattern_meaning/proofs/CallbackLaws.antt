@@ -21,7 +21,7 @@ outcome_one text options encoding (Err error) (Err other) once refuses more = ap
 
 -- ---- an encoding without some of its errors
 
--- the results of the encoding that pass
+-- The results of the encoding that pass.
 abbrev pub passing : (Result (List ℕ) ErrorView → Type 0) → Encoding → Encoding
 passing Passes encoding text answer = encoding text answer × Passes answer
 
@@ -43,7 +43,7 @@ module _ (Passes : Result (List ℕ) ErrorView → Type 0) (texts_pass : (text :
   are_still_parts options (Capture prefix name match suffix modifier ∷ items) parts p =
       (p.0, p.1, p.2, p.3, (p.4, texts_pass p.0), (p.5, texts_pass p.1), are_still_parts options items p.2 p.6)
 
-  -- a reading needs no error
+  -- A reading needs no error.
   pub still_reads : (text : List ℕ) (options : OptionsView) (parts : List PartView) → Reads text options encoding parts → Reads text options (passing Passes encoding) parts
   still_reads text options parts r = record {
     tokens = r.tokens;
@@ -65,7 +65,7 @@ module _ (Passes : Result (List ℕ) ErrorView → Type 0) (texts_pass : (text :
   first_still_fails (demand ∷ rest) error passes (inl now) = inl (still_fails demand error passes now)
   first_still_fails (demand ∷ rest) error passes (inr later) = inr (still_met demand later.0, first_still_fails rest error passes later.1)
 
-  -- a rejection needs its own error alone
+  -- A rejection needs its own error alone.
   pub still_refuses : (text : List ℕ) (options : OptionsView) (error : ErrorView) → Passes (Err error) → Refuses text options encoding error → Refuses text options (passing Passes encoding) error
   still_refuses text options error passes (inl fault) = inl fault
   still_refuses text options error passes (inr demand) = inr (record {
@@ -106,7 +106,7 @@ outcome_one_given_memory text options encoding outcome other once given another 
 
 -- ---- readings alone
 
--- the encoding maps a text to at most one text; its errors are arbitrary
+-- The encoding maps a text to at most one text; its errors are arbitrary.
 abbrev pub EncodesOnce : Encoding → Type 0
 EncodesOnce encoding = (text answer other : List ℕ) → encoding text (Ok answer) → encoding text (Ok other) → answer ≡ other
 

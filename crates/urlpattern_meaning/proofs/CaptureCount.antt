@@ -9,7 +9,7 @@ use Rattle.urlpattern_syntax.specs.Parts.{PartView}
 use Rattle.urlpattern_syntax.specs.RegexpText.{group_names}
 use Rattle.urlpattern_meaning.proofs.MatchingLaws.{part_of}
 
--- a part before others
+-- A part before others.
 counted_by : (kind : PartType) (modifier : PartModifier) (value name prefix suffix : List ℕ) (parts : List PartView) (n : ℕ) (text : List ℕ) (own others : Captures) →
     AreCaptures kind (part_of kind modifier value name prefix suffix) n text own → length others ≡ length (group_names parts) →
     length (own ++ others) ≡ length (group_names (part_of kind modifier value name prefix suffix ∷ parts))

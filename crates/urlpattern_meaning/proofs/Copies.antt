@@ -19,26 +19,26 @@ repeated_map A B weaker (suc n) text (first, rest, cut, is, more) = (first, rest
 
 -- ---- copies
 
--- a copy: a piece between prefix and suffix
+-- A copy: a piece between prefix and suffix.
 abbrev pub IsBetween : (List ℕ → Type 0) → (prefix suffix text : List ℕ) → Type 0
 IsBetween IsPiece prefix suffix text = (piece : List ℕ) × (text ≡ prefix ++ piece ++ suffix) × IsPiece piece
 
--- the text that a further copy adds between the first prefix and the last suffix
+-- The text that a further copy adds between the first prefix and the last suffix.
 abbrev pub IsFurther : (List ℕ → Type 0) → (prefix suffix text : List ℕ) → Type 0
 IsFurther IsPiece prefix suffix text = (piece : List ℕ) × (text ≡ suffix ++ prefix ++ piece) × IsPiece piece
 
--- the text between the first prefix and the last suffix of a copy and n more
+-- The text between the first prefix and the last suffix of a copy and n more.
 abbrev pub IsCore : (List ℕ → Type 0) → (prefix suffix : List ℕ) → ℕ → (text : List ℕ) → Type 0
 IsCore IsPiece prefix suffix n text = (first rest : List ℕ) × (text ≡ first ++ rest) × IsPiece first × IsRepeated (IsFurther IsPiece prefix suffix) n rest
 
--- a single copy
+-- A single copy.
 pub core_one : (IsPiece : List ℕ → Type 0) (prefix suffix text : List ℕ) → IsPiece text → IsCore IsPiece prefix suffix 0 text
 core_one IsPiece prefix suffix text is = (text, [], sym (append-nil text), is, refl)
 
 pub one_core : (IsPiece : List ℕ → Type 0) (prefix suffix text : List ℕ) → IsCore IsPiece prefix suffix 0 text → IsPiece text
 one_core IsPiece prefix suffix text (first, rest, cut, is, ended) = subst IsPiece (sym (cut ∙ ap (λ t. first ++ t) ended ∙ append-nil first)) is
 
--- the first copy and the others, as one core between prefix and suffix
+-- The first copy and the others, as one core between prefix and suffix.
 first_in : (prefix first suffix core : List ℕ) → (prefix ++ first ++ suffix) ++ (prefix ++ core ++ suffix) ≡ prefix ++ (first ++ (suffix ++ (prefix ++ core))) ++ suffix
 first_in prefix first suffix core = simp append_assoc
 
@@ -84,12 +84,12 @@ core_copies IsPiece prefix suffix (suc n) core text e (first, rest, cut, is, (st
 
 -- ---- one wildcard
 
--- at least one copy, which captures all but the first prefix and the last suffix
+-- At least one copy, which captures all but the first prefix and the last suffix.
 abbrev pub TakesCopies : (List ℕ → Type 0) → PartModifier → (prefix suffix text : List ℕ) → Captures → Type 0
 TakesCopies IsPiece modifier prefix suffix text captures =
     (n : ℕ) × (core : List ℕ) × Allows modifier (suc n) × (text ≡ prefix ++ core ++ suffix) × IsCore IsPiece prefix suffix n core × (captures ≡ Some core ∷ [])
 
--- no copies
+-- No copies.
 abbrev pub TakesNone : (is_bare : Bool) → PartModifier → (text : List ℕ) → Captures → Type 0
 TakesNone is_bare modifier text captures = Allows modifier 0 × (text ≡ []) × (captures ≡ capture_of_none modifier is_bare ∷ [])
 
@@ -106,7 +106,7 @@ counted IsPiece kind modifier value name prefix suffix text captures (suc n) all
     let same : inner ≡ found.0 = middle_cancel prefix inner found.0 suffix (sym e ∙ found.1) in
     inr (n, found.0, allowed, found.1, found.2, f ∙ ap (λ c. c ∷ []) (g ∙ ap Some same))
 
--- a wildcard matches no copies, or at least one
+-- A wildcard matches no copies, or at least one.
 pub wildcard_means : (options : OptionsView) (kind : PartType) (modifier : PartModifier) (value name prefix suffix text : List ℕ) (captures : Captures) → IsWildcard kind →
     PartMeans options (part_of kind modifier value name prefix suffix) text captures ↔ GroupMeans (IsWildcardText options kind) (is_empty prefix && is_empty suffix) modifier prefix suffix text captures
 wildcard_means options kind modifier value name prefix suffix text captures h =

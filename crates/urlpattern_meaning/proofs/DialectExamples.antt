@@ -6,15 +6,15 @@ use Rattle.urlpattern_meaning.specs.Dialect.{Items, Nothing, Item, Atom, Literal
 use Rattle.urlpattern_meaning.specs.PartMeaning.{Captures}
 use Rattle.urlpattern_syntax.proofs.TokenExamples.{no}
 
--- a character without a backslash
+-- A character without a backslash.
 abbrev pub plain : List ℕ → Atom
 plain text = Literal (Plain (slice_index text 0))
 
--- an atom that matches once, or under a quantifier, with nothing after it
+-- An atom that matches once, or under a quantifier, with nothing after it.
 abbrev pub once : Atom → Items
 once atom = Item atom Once Nothing
 
--- characters without backslashes, one after the other, before items
+-- Characters without backslashes, one after the other, before items.
 abbrev pub word_then : List ℕ → Items → Items
 word_then [] items = items
 word_then (c ∷ word) items = Item (Literal (Plain c)) Once (word_then word items)
@@ -25,18 +25,18 @@ word_means [] items rest captures means = means
 word_means (c ∷ word) items rest captures means =
     (c ∷ [], word ++ rest, [], captures, refl, refl, (refl, refl), word_means word items rest captures means)
 
--- the tree of `([^/]+?)`
+-- The tree of `([^/]+?)`.
 abbrev pub segment_tree : Items
 segment_tree = once (Captured (Item (AnyBut (Plain (slice_index (codes "/") 0))) LazyOneOrMore Nothing))
 
--- the tree of `^/users(?:/([^/]+?))$`
+-- The tree of `^/users(?:/([^/]+?))$`.
 abbrev pub users_tree : Items
 users_tree = word_then (codes "/users") (once (Grouped (word_then (codes "/") segment_tree)))
 
 pub users_is_tree : IsTreeOf (codes "^/users(?:/([^/]+?))$") users_tree
 users_is_tree = (refl, (no, tt, (no, tt, (no, tt, (no, tt, (no, tt, (no, tt, ((no, tt, ((no, refl, tt), tt, tt)), tt, tt))))))))
 
--- the tree captures `1` from `/users/1`
+-- The tree captures `1` from `/users/1`.
 pub users_means : Means users_tree (codes "/users/1") (Some (codes "1") ∷ [])
 users_means = word_means (codes "/users") (once (Grouped (word_then (codes "/") segment_tree))) (codes "/1") (Some (codes "1") ∷ []) after_users
   where
@@ -55,7 +55,7 @@ users_means = word_means (codes "/users") (once (Grouped (word_then (codes "/") 
     after_users : Means (once (Grouped (word_then (codes "/") segment_tree))) (codes "/1") (Some (codes "1") ∷ [])
     after_users = (codes "/1", [], Some (codes "1") ∷ [], [], refl, refl, word_means (codes "/") segment_tree (codes "1") (Some (codes "1") ∷ []) segment, (refl, refl))
 
--- the tree of `^(?:a)?$`
+-- The tree of `^(?:a)?$`.
 abbrev pub optional_tree : Items
 optional_tree = Item (Grouped (once (plain (codes "a")))) Optional Nothing
 
@@ -65,7 +65,7 @@ optional_is_tree = (refl, ((no, tt, tt), tt, tt))
 pub optional_empty : Means optional_tree [] []
 optional_empty = ([], [], [], [], refl, refl, inr (refl, refl), (refl, refl))
 
--- the tree of `^((?:.+?)*)(.*)$`
+-- The tree of `^((?:.+?)*)(.*)$`.
 abbrev pub wild_tree : Items
 wild_tree =
     Item (Captured (Item (Grouped (Item Dot LazyOneOrMore Nothing)) ZeroOrMore Nothing)) Once
@@ -74,7 +74,7 @@ wild_tree =
 pub wild_is_tree : IsTreeOf (codes "^((?:.+?)*)(.*)$") wild_tree
 wild_is_tree = (refl, (((tt, refl, tt), refl, tt), tt, ((tt, refl, tt), tt, tt)))
 
--- the tree of `^(?:p((?:x)(?:sp(?:x))*)s)?$`: a repeated group does not capture
+-- The tree of `^(?:p((?:x)(?:sp(?:x))*)s)?$`: a repeated group does not capture.
 abbrev pub grouped_x : Atom
 grouped_x = Grouped (once (plain (codes "x")))
 
@@ -88,11 +88,11 @@ pub repeated_is_tree : IsTreeOf (codes "^(?:p((?:x)(?:sp(?:x))*)s)?$") repeated_
 repeated_is_tree =
     (refl, ((no, tt, (((no, tt, tt), tt, ((no, tt, (no, tt, ((no, tt, tt), tt, tt))), refl, tt)), tt, (no, tt, tt))), tt, tt))
 
--- an optional group that is skipped leaves its capture None
+-- An optional group that is skipped leaves its capture None.
 pub repeated_none : Means repeated_tree [] (None ∷ [])
 repeated_none = ([], [], None ∷ [], [], refl, refl, inr (refl, refl), (refl, refl))
 
--- two copies are captured as one text, with the text between them
+-- Two copies are captured as one text, with the text between them.
 pub repeated_twice : Means repeated_tree (codes "pxspxs") (Some (codes "xspx") ∷ [])
 repeated_twice = (
   codes "pxspxs",
@@ -151,23 +151,23 @@ repeated_twice = (
       (codes "p", codes "x", [], [], refl, refl, (refl, refl), (codes "x", [], [], [], refl, refl, x_means, (refl, refl))),
     )
 
--- a capturing group is not repeated: `^(a)*$` is not the text of a tree that is allowed
+-- A capturing group is not repeated: `^(a)*$` is not the text of a tree that is allowed.
 pub repeated_capture : ¬ AreItems (Item (Captured (once (plain (codes "a")))) ZeroOrMore Nothing)
 repeated_capture h = let e : 1 ≡ 0 = h.1 in cc e
 
--- the dot does not match a line feed
+-- The dot does not match a line feed.
 pub dot_no_feed : (captures : Captures) → ¬ AtomMeans Dot (codes "\n") captures
 dot_no_feed captures ((other, e, differs), is) =
     let same : slice_index (codes "\n") 0 ≡ other = cc e in
     no (rw (← same) at differs)
 
--- a class does not match its own character
+-- A class does not match its own character.
 pub slash_no_slash : (captures : Captures) → ¬ AtomMeans (AnyBut (Plain (slice_index (codes "/") 0))) (codes "/") captures
 slash_no_slash captures ((other, e, differs), is) =
     let same : slice_index (codes "/") 0 ≡ other = cc e in
     no (rw (← same) at differs)
 
--- captures are in the order of the opening brackets: `^((a)b)$` on `ab`
+-- Captures are in the order of the opening brackets: `^((a)b)$` on `ab`.
 pub nested_means : Means (once (Captured (Item (Captured (once (plain (codes "a")))) Once (once (plain (codes "b")))))) (codes "ab") (Some (codes "ab") ∷ Some (codes "a") ∷ [])
 nested_means = (
   codes "ab",
@@ -193,7 +193,7 @@ nested_means = (
   (refl, refl),
 )
 
--- a mark has a backslash, and a letter has none: `.` and `\d` are not characters of the dialect
+-- A mark has a backslash, and a letter has none: `.` and `\d` are not characters of the dialect.
 pub dot_no_literal : ¬ IsAtom (plain (codes "."))
 dot_no_literal h = h refl
 

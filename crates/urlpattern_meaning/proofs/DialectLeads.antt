@@ -10,7 +10,7 @@ use Rattle.urlpattern_syntax.specs.Text.{is_among}
 
 -- ---- characters
 
--- a character among the marks passes a test that each of them passes
+-- A character among the marks passes a test that each of them passes.
 pub passed : (test : ℕ → Bool) (marks : List ℕ) → IsTrue (list_all test marks) → (c : ℕ) → IsTrue (is_among marks c) → IsTrue (test c)
 passed test [] h c is = absurd (false≢true is)
 passed test (mark ∷ marks) h c is =
@@ -24,26 +24,26 @@ not_true : (b : Bool) → IsTrue (not b) → ¬ IsTrue b
 not_true true h is = false≢true h
 not_true false h is = false≢true is
 
--- the first character, or `$` for the empty text: both end the items
+-- The first character, or `$` for the empty text: both end the items.
 abbrev pub first : List ℕ → ℕ
 first [] = slice_index (codes "$") 0
 first (c ∷ text) = c
 
--- the text begins with one of these characters
+-- The text begins with one of these characters.
 abbrev pub Leads : List ℕ → List ℕ → Type 0
 Leads marks text = IsTrue (is_among marks (first text))
 
--- the end of items: no more text, a closing bracket or `$`
+-- The end of items: no more text, a closing bracket or `$`.
 abbrev pub Ends : List ℕ → Type 0
 Ends text = Leads (codes ")$") text
 
--- the text begins neither with a quantifier nor with the bracket that closes a class
+-- The text begins neither with a quantifier nor with the bracket that closes a class.
 abbrev pub IsFree : List ℕ → Type 0
 IsFree text = ¬ Leads (codes "]?*+") text
 
 -- ---- the beginnings of atoms
 
--- the marks with which no atom begins
+-- The marks with which no atom begins.
 abbrev closing : List ℕ
 closing = codes ")$]?*+"
 
@@ -55,12 +55,12 @@ atom_opens (AnyBut character) rest h is = false≢true is
 atom_opens (Captured items) rest h is = false≢true is
 atom_opens (Grouped items) rest h is = false≢true is
 
--- no atom begins where items end
+-- No atom begins where items end.
 pub ends_no_atom : (text rest : List ℕ) (atom : Atom) → Ends text → IsAtom atom → ¬ (text ≡ atom_spelled atom rest)
 ends_no_atom text rest atom ends h e =
     atom_opens atom rest h (passed (is_among closing) (codes ")$") refl (first (atom_spelled atom rest)) (subst Ends e ends))
 
--- items before their end begin with no quantifier
+-- Items before their end begin with no quantifier.
 pub spelled_free : (items : Items) (rest : List ℕ) → AreItems items → Ends rest → IsFree (spelled items rest)
 spelled_free Nothing rest h ends is =
     not_true _ (passed (λ c. not (is_among (codes "]?*+") c)) (codes ")$") refl (first rest) ends) is
@@ -68,7 +68,7 @@ spelled_free (Item atom quantifier items) rest h ends is =
     let behind : List ℕ = quantifier_text quantifier ++ spelled items rest in
     atom_opens atom behind h.0 (passed (is_among closing) (codes "]?*+") refl (first (atom_spelled atom behind)) is)
 
--- the character that an atom begins with, or 0 for a literal
+-- The character that an atom begins with, or 0 for a literal.
 abbrev pub kind : Atom → ℕ
 kind (Literal character) = 0
 kind Dot = slice_index (codes ".") 0
@@ -76,7 +76,7 @@ kind (AnyBut character) = slice_index (codes "[") 0
 kind (Captured items) = slice_index (codes "(") 0
 kind (Grouped items) = slice_index (codes "(") 0
 
--- the kind of an atom, read from the first character of its text
+-- The kind of an atom, read from the first character of its text.
 kind_of : ℕ → ℕ
 kind_of c = cond (is_among (codes ".[(") c) c 0
 
@@ -91,7 +91,7 @@ kind_read (AnyBut character) rest h = refl
 kind_read (Captured items) rest h = refl
 kind_read (Grouped items) rest h = refl
 
--- atoms with one text have one kind
+-- Atoms with one text have one kind.
 pub kinds_one : (atom other : Atom) (rest left : List ℕ) → IsAtom atom → IsAtom other → atom_spelled atom rest ≡ atom_spelled other left → kind atom ≡ kind other
 kinds_one atom other rest left h g e = sym (kind_read atom rest h) ∙ ap (λ x. kind_of (first x)) e ∙ kind_read other left g
 
@@ -104,7 +104,7 @@ character_one (Escaped c) (Escaped d) rest left h g e = (cc e, cc e)
 character_one (Plain c) (Escaped d) rest left h g e = absurd (h (subst (Leads regexp_marks) (sym e) refl))
 character_one (Escaped c) (Plain d) rest left h g e = absurd (g (subst (Leads regexp_marks) e refl))
 
--- the text does not begin with the bracket that closes a class
+-- The text does not begin with the bracket that closes a class.
 abbrev pub IsUnclosed : List ℕ → Type 0
 IsUnclosed text = ¬ Leads (codes "]") text
 
@@ -121,7 +121,7 @@ pub unclosed : (quantifier : Quantifier) (rest : List ℕ) → IsFree rest → I
 unclosed Once rest h is = h (passed (is_among (codes "]?*+")) (codes "]") refl (first rest) is)
 unclosed quantifier rest h is = false≢true is
 
--- a quantifier and the rest are read in one way
+-- A quantifier and the rest are read in one way.
 pub quantifier_one : (quantifier other : Quantifier) (rest left : List ℕ) → IsFree rest → IsFree left →
     quantifier_text quantifier ++ rest ≡ quantifier_text other ++ left → (quantifier ≡ other) × (rest ≡ left)
 quantifier_one Once Once rest left h g e = (refl, e)

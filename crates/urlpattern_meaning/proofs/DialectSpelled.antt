@@ -4,7 +4,7 @@ use Rattle.std.specs.Prelude.{codes}
 use Rattle.urlpattern_meaning.specs.Dialect.{Items, Nothing, Item, Atom, Literal, Dot, AnyBut, Captured, Grouped, character_text, quantifier_text, items_text, atom_text}
 
 abbrev mutual
-  -- the text of the items, and then the rest
+  -- The text of the items, and then the rest.
   pub spelled : Items → List ℕ → List ℕ
   spelled Nothing rest = rest
   spelled (Item atom quantifier items) rest = atom_spelled atom (quantifier_text quantifier ++ spelled items rest)

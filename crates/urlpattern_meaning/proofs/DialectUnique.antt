@@ -8,7 +8,7 @@ use Rattle.urlpattern_meaning.proofs.DialectLeads.{Ends, IsFree, IsUnclosed, Lea
 use Rattle.urlpattern_meaning.proofs.DialectSpelled.{spelled, atom_spelled, items-spelled}
 use Rattle.urlpattern_meaning.specs.Dialect.{Items, Nothing, Item, Atom, Literal, Dot, AnyBut, Captured, Grouped, Plain, Escaped, Quantifier, Once, Optional, ZeroOrMore, OneOrMore, LazyOneOrMore, atom_group_count, items_text, quantifier_text, AllowsGroups, AreItems, IsAtom, HasTree, IsTreeOf, IsOnlyTreeOf}
 
--- after the bracket that captures, no items begin with a question mark
+-- After the bracket that captures, no items begin with a question mark.
 not_grouped : (items : Items) (rest left : List ℕ) → AreItems items → ¬ (spelled items (codes ")" ++ rest) ≡ codes "?:" ++ left)
 not_grouped items rest left h e = spelled_free items (codes ")" ++ rest) h refl (subst (Leads (codes "]?*+")) (sym e) refl)
 

@@ -6,7 +6,7 @@ use Rattle.urlpattern_syntax.specs.Parts.{PartView}
 use Rattle.urlpattern_syntax.specs.Reading.{AreMet, AreParts, Capture, Demand, Encode, Encoding, Expect, Fails, FirstFails, Fixed, IsMet, Item, NewName, Reads, Refuses, demands, items_of}
 use Rattle.urlpattern_syntax.specs.Pieces.{Ending as endings}
 
--- the weak encoding may return all that the strong one may
+-- The weak encoding may return all that the strong one may.
 abbrev pub Weakens : Encoding → Encoding → Type 0
 Weakens strong weak = (text : List ℕ) (answer : Result (List ℕ) ErrorView) → strong text answer → weak text answer
 

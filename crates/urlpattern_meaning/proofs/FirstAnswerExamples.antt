@@ -16,7 +16,7 @@ use Rattle.urlpattern_meaning.proofs.PartTrees.{IsNotCustom, tree_of}
 one_plain : (part : PartView) → IsNotCustom part → All IsNotCustom (part ∷ [])
 one_plain part h = All-cons IsNotCustom part [] h (All-nil IsNotCustom)
 
--- the pattern `:a:b` on `abc`: the first name matches as little as it can
+-- The pattern `:a:b` on `abc`: the first name matches as little as it can.
 abbrev pub name : List ℕ → PartView
 name text = group SegmentWildcard [] text [] modifiers.None
 
@@ -30,7 +30,7 @@ two_names =
       is_first = refl;
     }
 
--- the first way of a single part without a custom regular expression
+-- The first way of a single part without a custom regular expression.
 first_of_one : (options : OptionsView) (part : PartView) (text : List ℕ) (result : Option Captures) → IsNotCustom part
     → result ≡ first_way (tree_of options (part ∷ [])) text → IsFirstOf options (part ∷ []) text result
 first_of_one options part text result plain is_first = record {
@@ -39,7 +39,7 @@ first_of_one options part text result plain is_first = record {
   is_first = is_first;
 }
 
--- the pattern `*?` on the empty text: the optional group takes part
+-- The pattern `*?` on the empty text: the optional group takes part.
 abbrev pub optional_wildcard : PartView
 optional_wildcard = group FullWildcard [] (codes "0") [] modifiers.Optional
 
@@ -47,8 +47,8 @@ pub wildcard_on_nothing : IsFirstOf default_options (optional_wildcard ∷ []) [
 unfolding first_way_by
 wildcard_on_nothing = first_of_one default_options optional_wildcard [] (Some (Some [] ∷ [])) (λ e. cc e) refl
 
--- the pattern `/:a?` of a path on the empty text: the group takes no part, as the slash before the
--- name is missing
+-- The pattern `/:a?` of a path on the empty text: the group takes no part, as the slash before the
+-- name is missing.
 abbrev pub optional_segment : PartView
 optional_segment = group SegmentWildcard (codes "/") (codes "a") [] modifiers.Optional
 
@@ -56,7 +56,7 @@ pub segment_on_nothing : IsFirstOf pathname_options (optional_segment ∷ []) []
 unfolding first_way_by
 segment_on_nothing = first_of_one pathname_options optional_segment [] (Some (None ∷ [])) (λ e. cc e) refl
 
--- the pattern `:x*` on `ab`: two copies are one capture
+-- The pattern `:x*` on `ab`: two copies are one capture.
 abbrev pub repeated_name : PartView
 repeated_name = group SegmentWildcard [] (codes "x") [] modifiers.ZeroOrMore
 

@@ -31,14 +31,14 @@ use Rattle.urlpattern_meaning.proofs.Peeling.{middle_one}
 
 -- ---- one result
 
--- at most one result is the first way
+-- At most one result is the first way.
 pub first_one : (options : OptionsView) (parts : List PartView) (text : List ℕ) (result other : Option Captures) → IsFirstOf options parts text result → IsFirstOf options parts text other → result ≡ other
 first_one options parts text result other first last =
     first.is_first
     ∙ ap (λ (tree : Items). first_way tree text) (trees_are_one (regexp_text options parts) first.tree last.tree first.is_tree last.is_tree)
     ∙ sym last.is_first
 
--- the result that is the first way is what the parts mean
+-- The result that is the first way is what the parts mean.
 agrees_of : (options : OptionsView) (parts : List PartView) (tree : Items) (text : List ℕ) (result : Option Captures) → All IsNotCustom parts → IsTreeOf (regexp_text options parts) tree →
     result ≡ first_way tree text → Agrees options parts text result
 agrees_of options parts tree text None plain is e = λ captures means.
@@ -57,7 +57,7 @@ same_accepted answer ignore_case (Literal literal) text captures others fast is 
 same_accepted answer ignore_case (SingleCapture filter allow_empty) text captures others fast (filled, passes, e) (filled', passes', f) = e ∙ sym f
 same_accepted answer ignore_case (RegExp value) text captures others fast is also = absurd fast
 
--- at most one list of captures matches
+-- At most one list of captures matches.
 same_matched : {E : Type 0} (answer : E → List ℕ → Option Captures) (matcher : MatcherView E) (text : List ℕ) (captures others : Captures) → IsFast matcher.inner →
     Matches answer matcher text captures → Matches answer matcher text others → captures ≡ others
 same_matched answer matcher text captures others fast (inner, cut, accepts) (other, has, also) =
@@ -149,8 +149,8 @@ module _ {E : Type 0} (IsEngine : List ℕ → Result E ErrorView → Type 0) (o
   made_between front (part ∷ []) back matcher value made e = made_one part.kind part.modifier front part back matcher value made e
   made_between front (part ∷ next ∷ parts) back matcher value (other, is, made) e = made_value _ value other is (sym e ∙ ap (λ m. m.inner) made)
 
-  -- where an engine accepted its text, a property of each value made from such a text holds of the
-  -- matcher's value
+  -- Where an engine accepted its text, a property of each value made from such a text holds of the
+  -- matcher's value.
   pub of_made : (Is : E → List PartView → Type 0) (Holds : E → Type 0) (parts : List PartView) (matcher : MatcherView E) →
       IsMadeOf IsEngine options parts matcher → All IsNotCustom parts → TookText Holds matcher.inner →
       ((engine : E) (middle : List PartView) → All IsNotCustom middle → IsEngine (regexp_text options middle) (Ok engine) → Holds engine → Is engine middle) → IsOfMiddle Is parts matcher.inner
@@ -169,7 +169,7 @@ module _ {E : Type 0} (IsEngine : List ℕ → Result E ErrorView → Type 0) (o
             (made_between (end_text made.front) made.middle (end_text made.back) matcher (Ok engine) made.is_made e) took,
       )
 
-  -- an engine that has no error for a text accepted it
+  -- An engine that has no error for a text accepted it.
   pub took_all : (parts : List PartView) (matcher : MatcherView E) → IsMadeOf IsEngine options parts matcher → All IsNotCustom parts →
       ((middle : List PartView) (error : ErrorView) → All IsNotCustom middle → ¬ IsEngine (regexp_text options middle) (Err error)) → TookText (λ engine. ⊤) matcher.inner
   took_all parts matcher made plain takes = by_inner matcher.inner refl

@@ -25,7 +25,7 @@ use Rattle.urlpattern_meaning.proofs.WaysSound.{IsSound, ways-sound}
 
 -- ---- a fixed text at the end
 
--- a single way, which captures nothing and leaves nothing
+-- A single way, which captures nothing and leaves nothing.
 abbrev nothing_left : List Seen
 nothing_left = ([], []) ∷ []
 
@@ -33,14 +33,14 @@ module _ (marks s : List ℕ) (are : AreItems (put marks s Nothing)) where
   abbrev last : List ℕ → List Way
   last = ways (put marks s Nothing)
 
-  -- each way matches the text
+  -- Each way matches the text.
   last_takes : (text : List ℕ) → Every (λ way. length text ≡ length s + length way.rest) (last text)
   last_takes text =
       every-weaker (IsSound text (Means (put marks s Nothing))) _ (last text)
       (λ way p. ap length p.0 ∙ length-append way.taken way.rest ∙ ap (λ t. length t + length way.rest) ((text_means marks s way.taken way.captures).0 p.1).0)
       (ways-sound (put marks s Nothing) are text)
 
-  -- ways that leave something are skipped
+  -- Ways that leave something are skipped.
   passed_over : (way : Way) (ms xs : List Way) → Every (λ m. takes_all m ≡ false) ms → first_of (map (joined_way way) ms ++ xs) ≡ first_of xs
   passed_over way [] xs every = refl
   passed_over way (m ∷ ms) xs every =
@@ -52,7 +52,7 @@ module _ (marks s : List ℕ) (are : AreItems (put marks s Nothing)) where
       every-weaker (λ m. length way.rest ≡ length s + length m.rest) _ (last way.rest)
       (λ m e. ne_eqb (length m.rest) 0 (λ none. differs (omega (arith, e, none)))) (last_takes way.rest)
 
-  -- where the text is all that is left, it is matched, and nothing more is captured
+  -- Where the text is all that is left, it is matched, and nothing more is captured.
   one_all : (way : Way) (xs : List Way) → way.rest ≡ s → first_of (map (joined_way way) (last way.rest) ++ xs) ≡ Some way.captures
   one_all way xs e = by (last way.rest) (ap (λ t. seen (last t)) (e ∙ sym (append-nil s)) ∙ put_ways marks s Nothing [])
     where
@@ -65,7 +65,7 @@ module _ (marks s : List ℕ) (are : AreItems (put marks s Nothing)) where
           ap (λ (t : List ℕ). option_map (λ (w : Way). w.captures) (cond (length t == 0) (Some (joined_way way m)) (find takes_all (map (joined_way way) ms ++ xs)))) all
           ∙ ap (λ c. Some (way.captures ++ c)) none ∙ ap Some (append-nil way.captures)
 
-  -- the first way of ways before the text is the first of those that leave the text
+  -- The first way of ways before the text is the first of those that leave the text.
   first_cut : (xs us : List Way) → Cut s xs us → first_of (continued last xs) ≡ first_of us
   first_cut [] us e = ap first_of (sym e)
   first_cut (way ∷ xs) us (inl (less, p)) =
@@ -106,7 +106,7 @@ part_both Regexp options part items others = refl
 part_both SegmentWildcard options part items others = refl
 part_both FullWildcard options part items others = refl
 
--- the tree of two lists of parts
+-- The tree of two lists of parts.
 both_trees : (options : OptionsView) (parts others : List PartView) → tree_of options (parts ++ others) ≡ both_items (tree_of options parts) (tree_of options others)
 both_trees options [] others = refl
 both_trees options (part ∷ parts) others =
@@ -117,7 +117,7 @@ plain_tree_by : (options : OptionsView) (kind : PartType) (modifier : PartModifi
 plain_tree_by options FixedText modifiers.None value name prefix suffix h = refl
 plain_tree_by options kind modifier value name prefix suffix h = absurd (no h)
 
--- the tree of a text that is removed at an end
+-- The tree of a text that is removed at an end.
 end_tree : (options : OptionsView) (end : Option PartView) (IsThere : Type 0) → IsRemoved end IsThere → tree_of options (option_to_list end) ≡ put (escaped_marks options.syntax) (end_text end) Nothing
 end_tree options None IsThere goes = refl
 end_tree options (Some part) IsThere goes = plain_tree_by options part.kind part.modifier part.value part.name part.prefix part.suffix goes

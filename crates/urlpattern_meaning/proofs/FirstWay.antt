@@ -50,7 +50,7 @@ no_way_means_none tree h text e captures m =
 pub first_way_counts : (tree : Items) → AreItems tree → (text : List ℕ) (captures : Captures) → first_way tree text ≡ Some captures → length captures ≡ group_count tree
 first_way_counts tree h text captures e = means-count tree h text captures (first_way_means tree h text captures e)
 
--- the ways are exactly the meanings of the beginnings of a text
+-- The ways are exactly the meanings of the beginnings of a text.
 pub ways_are_meanings : (tree : Items) → AreItems tree → (text : List ℕ) (way : Way) → Contains (ways tree text) way ↔ ((text ≡ way.taken ++ way.rest) × Means tree way.taken way.captures)
 ways_are_meanings tree h text way = (
   λ among. every-has (IsSound text (Means tree)) way (ways tree text) (ways-sound tree h text) (has-contains way (ways tree text) among),
@@ -66,7 +66,7 @@ pub meant_or_none : (tree : Items) → AreItems tree → (text : List ℕ) (answ
 meant_or_none tree h text None e = no_way_means_none tree h text e
 meant_or_none tree h text (Some captures) e = first_way_means tree h text captures e
 
--- a function that returns the first way follows the tree's text
+-- A function that returns the first way follows the tree's text.
 pub first_way_follows : (regexp : List ℕ) (tree : Items) → IsTreeOf regexp tree → Follows regexp (first_way tree)
 first_way_follows regexp tree is = record {
   tree = tree;

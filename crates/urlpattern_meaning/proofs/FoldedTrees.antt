@@ -11,12 +11,12 @@ use Rattle.urlpattern_syntax.specs.Text.{line_feed}
 
 -- ---- trees
 
--- the second character is the first, folded
+-- The second character is the first, folded.
 abbrev pub IsFoldedCharacter : Character → Character → Type 0
 IsFoldedCharacter character other = character_of other ≡ folded_character true (character_of character)
 
 abbrev mutual
-  -- the second tree is the first with its characters folded
+  -- The second tree is the first with its characters folded.
   pub IsFolding : Items → Items → Type 0
   IsFolding Nothing Nothing = Unit {0}
   IsFolding (Item atom quantifier items) (Item other also others) = IsAtomFolding atom other × (quantifier ≡ also) × IsFolding items others
@@ -58,7 +58,7 @@ folded_way way = record { taken = lower way.taken; captures = folded_captures wa
 abbrev all_folded : List Way → List Way
 all_folded ways = map folded_way ways
 
--- the ways of the first choice, folded, are those in which the second matches the folded text
+-- The ways of the first choice, folded, are those in which the second matches the folded text.
 abbrev Folds : Choice → Choice → Type 0
 Folds choice other = (text : List ℕ) → all_folded (choice text) ≡ other (lower text)
 
@@ -205,7 +205,8 @@ first_folded (way ∷ all) = by (length way.rest == 0) (first_folded all) ∙ ap
     by true later = refl
     by false later = later
 
--- the first way where case is ignored, folded, is the first way of a folded tree in the folded text
+-- The first way where case is ignored, folded, is the first way of a folded tree in the folded
+-- text.
 pub first_way_folded : (tree other : Items) → IsFolding tree other → (text : List ℕ) → option_map folded_captures (first_way_by true tree text) ≡ first_way other (lower text)
 unfolding first_way_by
 first_way_folded tree other is text =

@@ -25,7 +25,7 @@ close : Reached → (ℕ → Reached) → ℕ → Reached
 close shut inside zero = shut
 close shut inside (suc depth) = inside depth
 
--- the text after a body, where `depth` inner brackets are open
+-- The text after a body, where `depth` inner brackets are open.
 scan : List ℕ → Mode → ℕ → Reached
 scan [] Reads depth = Fails (InvalidRegex (reason NotClosed))
 scan [] Escapes depth = Fails IncompleteEscapeCode
@@ -50,7 +50,7 @@ begins_longer : (p : ℕ → Bool) (xs ys : List ℕ) → BeginsWith p xs → Be
 begins_longer p [] ys h = absurd (false≢true h)
 begins_longer p (x ∷ xs) ys h = h
 
--- a scan passes over a body
+-- A scan passes over a body.
 scan-body : (body : Body) → IsBody body → (rest : List ℕ) (depth : ℕ) → scan (body_text body ++ rest) Reads depth ≡ scan rest Reads depth
 unfolding scan close
 scan-body bodies.Nothing h rest depth = refl
@@ -100,7 +100,7 @@ bracketed text =
     cond (begins is_question_mark text) (Fault (InvalidRegex (reason StartsWithQuestionMark)))
     (cond (begins (is_among (codes ")")) text) (Fault (InvalidRegex (reason NoBody))) (reported (scan text Reads 0)))
 
--- the text after the characters that pass the test
+-- The text after the characters that pass the test.
 after : (ℕ → Bool) → List ℕ → List ℕ
 after p [] = []
 after p (c ∷ text) = cond (p c) (after p text) (c ∷ text)
@@ -146,7 +146,7 @@ unfolding begins
 begins-append p [] rest h e = e refl
 begins-append p (c ∷ front) rest h e = false_from_ne_true (p c) h
 
--- a body does not begin with a closing bracket
+-- A body does not begin with a closing bracket.
 body-unclosed : (body : Body) → IsBody body → ¬ BeginsWith (is_among (codes ")")) (body_text body)
 body-unclosed bodies.Nothing h b = false≢true b
 body-unclosed (bodies.Escaped c body) h b = false≢true b
@@ -210,7 +210,7 @@ lex-spelled InvalidChar value text rest h ends = absurd h
 lex-token : (text : List ℕ) (kind : TokenType) (value rest : List ℕ) → IsLexed text kind value rest → lex text ≡ Token kind rest
 lex-token text kind value rest h = ap lex h.cut ∙ lex-spelled kind value h.spelling rest h.spells h.ends
 
--- a character that is not ASCII is none of some ASCII marks
+-- A character that is not ASCII is none of some ASCII marks.
 over_ascii : (c : ℕ) → 128 ≤ c → (many : List ℕ) → IsTrue (list_all (λ mark. ltb mark 128) many) → is_among many c ≡ false
 over_ascii c big [] h = refl
 over_ascii c big (mark ∷ many) h =
@@ -218,7 +218,7 @@ over_ascii c big (mark ∷ many) h =
     let less = ltb-true mark 128 parts.0 in
     or_from (mark == c) _ (ne_eqb mark c (λ e. omega arith)) (over_ascii c big many parts.1)
 
--- no token begins with a character that is skipped
+-- No token begins with a character that is skipped.
 ignored_unmarked : (c : ℕ) → IsTrue (is_ignored c) → is_among marks c ≡ false
 ignored_unmarked c h =
     elim (or_cases (9 == c) _ h) [
@@ -229,7 +229,7 @@ ignored_unmarked c h =
       ]
     ]
 
--- a spelling has one value
+-- A spelling has one value.
 value_one : (kind : TokenType) (value other text : List ℕ) → Spells kind value text → Spells kind other text → value ≡ other
 value_one Open value other text h g = h.0 ∙ sym g.0
 value_one Close value other text h g = h.0 ∙ sym g.0
@@ -319,7 +319,7 @@ pub no_fault : (fault : FaultView) → IsFaultAt [] fault → ⊥
 unfolding lex
 no_fault fault h = let e : None ≡ Fault fault = lex-fault [] fault h in cc e
 
--- at most one rest is left after all characters that pass the test
+-- At most one rest is left after all characters that pass the test.
 pub skips_one : (p : ℕ → Bool) (text rest left : List ℕ) → SkipsBy p text rest → SkipsBy p text left → ¬ BeginsWith p rest → ¬ BeginsWith p left → rest ≡ left
 skips_one p text rest left s t rest_stops left_stops =
     sym (ap (after p) s.1 ∙ after-all p s.0 rest s.2 rest_stops) ∙ ap (after p) t.1 ∙ after-all p t.0 left t.2 left_stops

@@ -18,11 +18,11 @@ use Rattle.urlpattern_meaning.proofs.RoundTripWords.{AreApart}
 
 -- ---- the first part and the next, joined or not
 
--- a part before others, made one with the next where `both` is set
+-- A part before others, made one with the next where `both` is set.
 abbrev pub pair : Bool → PartView → PartView → List PartView → List PartView
 pair both part next parts = if both then with_value part (part.value ++ next.value) ∷ parts else part ∷ next ∷ parts
 
--- where two parts are made one, both are fixed texts
+-- Where two parts are made one, both are fixed texts.
 record BothFixed (both : Bool) (part next : PartView) : Type 0 where
   pub first : IsTrue both → part.kind ≡ FixedText
   pub second : IsTrue both → next.kind ≡ FixedText
@@ -75,7 +75,7 @@ joined_names : (number : ℕ) (parts : List PartView) → AreNamed number parts 
 joined_names number [] h = h
 joined_names number (part ∷ parts) h = names_first number part (joined parts) h.0 (joined_names (following_number number part.kind part) parts h.1)
 
--- the names of groups, where this kind is that of the first part
+-- The names of groups, where this kind is that of the first part.
 abbrev names_by : PartType → PartView → List PartView → List (List ℕ)
 names_by kind part parts = map (λ (one : PartView). one.name) (if not (is_fixed_text kind) then part ∷ filter (λ one. not (is_fixed_text one.kind)) parts else filter (λ one. not (is_fixed_text one.kind)) parts)
 
@@ -97,7 +97,7 @@ group_names_first : (part : PartView) (parts : List PartView) → group_names (j
 group_names_first part [] = refl
 group_names_first part (next ∷ parts) = group_names_pair (is_plain part && is_plain next) part next parts (both_fixed part next)
 
--- joining changes no group's name
+-- Joining changes no group's name.
 pub joined_group_names : (parts : List PartView) → group_names (joined parts) ≡ group_names parts
 joined_group_names [] = refl
 joined_group_names (part ∷ parts) = group_names_first part (joined parts) ∙ more_names part.kind part (joined parts) parts (joined_group_names parts)
@@ -141,7 +141,7 @@ joined_unskipped (part ∷ parts) h = unskipped_first part (joined parts) h.0 (j
 
 -- ---- neighbours
 
--- a part made of two is apart from the next where the second part is
+-- A part made of two is apart from the next where the second part is.
 apart_one : (part next : PartView) (parts : List PartView) → IsTrue (is_plain part) → IsTrue (is_plain next) → AreApart (next ∷ parts) → AreApart (with_value part (part.value ++ next.value) ∷ parts)
 apart_one part next [] plain plain_next h = tt
 apart_one part next (third ∷ parts) plain plain_next h = (ap (λ b. b && is_plain third) (plain ∙ sym plain_next) ∙ h.0, h.1)
@@ -154,7 +154,7 @@ apart_first : (part : PartView) (parts : List PartView) → AreApart parts → A
 apart_first part [] h = tt
 apart_first part (next ∷ parts) h = apart_pair (is_plain part && is_plain next) part next parts refl h
 
--- no two neighbours among joined parts are plain fixed texts
+-- No two neighbours among joined parts are plain fixed texts.
 pub joined_apart : (parts : List PartView) → AreApart (joined parts)
 joined_apart [] = tt
 joined_apart (part ∷ parts) = apart_first part (joined parts) (joined_apart parts)

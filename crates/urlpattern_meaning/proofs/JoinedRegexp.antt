@@ -26,7 +26,7 @@ regexp_by options kind modifier value name prefix suffix h = absurd (no h)
 plain_regexp : (options : OptionsView) (part : PartView) → IsTrue (is_plain part) → part_regexp options part ≡ escaped_regexp options part.value
 plain_regexp options part h = regexp_by options part.kind part.modifier part.value part.name part.prefix part.suffix h
 
--- two plain fixed texts as one
+-- Two plain fixed texts as one.
 two_regexps : (options : OptionsView) (part next : PartView) → IsTrue (is_plain part) → IsTrue (is_plain next) →
     part_regexp options (with_value part (part.value ++ next.value)) ≡ part_regexp options part ++ part_regexp options next
 two_regexps options part next plain plain_next =

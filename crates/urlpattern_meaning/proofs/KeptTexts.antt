@@ -10,7 +10,7 @@ use Rattle.urlpattern_meaning.proofs.StandingItems.{EachText, each_contained}
 abbrev Answered : Type 0
 Answered = List ℕ × Result (List ℕ) ErrorView
 
--- each text with itself as its result
+-- Each text with itself as its result.
 abbrev pub answered : List (List ℕ) → List (List ℕ × Result (List ℕ) ErrorView)
 answered [] = []
 answered (text ∷ texts) = (text, Ok text) ∷ answered texts

@@ -6,7 +6,7 @@ use Rattle.urlpattern_syntax.specs.declared.tokenizer.TokenType.TheVariants.{End
 use Rattle.urlpattern_syntax.specs.Pieces.{ArePieces, Ending, IsPiece, IsPlaceholderOf, Matched, Piece, Piece as pieces}
 use Rattle.urlpattern_syntax.specs.Tokens.{AreTokens, IsCut, IsTokenOf, Spells, TokenView, end_of}
 
--- `Is` holds of the value of each token of this kind
+-- `Is` holds of the value of each token of this kind.
 abbrev pub AllOfKind : TokenType → (List ℕ → Type 0) → List TokenView → Type 0
 AllOfKind kind Is [] = Unit {0}
 AllOfKind kind Is (token ∷ tokens) = (token.kind ≡ kind → Is token.value) × AllOfKind kind Is tokens
@@ -38,7 +38,7 @@ module _ (kind : TokenType) (Is : List ℕ → Type 0) where
 
 -- ---- the placeholders of pieces
 
--- `Has` holds of the piece's placeholder, if it has one
+-- `Has` holds of the piece's placeholder, if it has one.
 abbrev pub PieceHas : (Option (List ℕ) → Matched → Type 0) → Piece → Type 0
 PieceHas Has (pieces.Text text) = Unit {0}
 PieceHas Has (pieces.TextGroup text modifier) = Unit {0}
@@ -49,7 +49,7 @@ abbrev pub PiecesHave : (Option (List ℕ) → Matched → Type 0) → List Piec
 PiecesHave Has [] = Unit {0}
 PiecesHave Has (piece ∷ rest) = PieceHas Has piece × PiecesHave Has rest
 
--- a property of each placeholder of tokens with such values
+-- A property of each placeholder of tokens with such values.
 module _ (kind : TokenType) (Is : List ℕ → Type 0) (Has : Option (List ℕ) → Matched → Type 0)
     (given : (tokens : List TokenView) (name : Option (List ℕ)) (what : Matched) → AllOfKind kind Is tokens → IsPlaceholderOf tokens name what → Has name what) where
   piece_has : (point : List ℕ) (tokens rest : List TokenView) (piece : Piece) → AllOfKind kind Is tokens → IsPiece point tokens piece rest

@@ -33,17 +33,17 @@ scalars_right : (text more : List ℕ) → IsTrue (all_scalars (text ++ more)) �
 scalars_right [] more h = h
 scalars_right (c ∷ text) more h = scalars_right text more (and_right _ (all_scalars (text ++ more)) h)
 
--- the text between two others
+-- The text between two others.
 pub scalars_middle : (front text back : List ℕ) → IsTrue (all_scalars (front ++ text ++ back)) → IsTrue (all_scalars text)
 scalars_middle front text back h = scalars_right front text (scalars_left (front ++ text) back h)
 
 -- ---- a matcher that calls an engine
 
--- prefix and suffix of the matcher are the texts that are removed, compared as the options say
+-- Prefix and suffix of the matcher are the texts that are removed, compared as the options say.
 abbrev pub HasEnds : {E : Type 0} → OptionsView → MatcherView E → (front back : List ℕ) → Type 0
 HasEnds options matcher front back = (matcher.prefix ≡ front) × (matcher.suffix ≡ back) × (matcher.ignore_case ≡ options.ignore_case)
 
--- a matcher that needs no engine has no `RegExp`
+-- A matcher that needs no engine has no `RegExp`.
 pub not_fast : {E : Type 0} (inner other : InnerView E) (value : Result E ErrorView) → inner ≡ other → IsFast other → inner ≡ RegExp value → ⊥
 not_fast inner other value e fast f = subst (λ i. IsFast i) (sym e ∙ f) fast
 
@@ -59,8 +59,8 @@ ends_of IsEngine options front [] back matcher value made e = absurd (not_fast m
 ends_of IsEngine options front (part ∷ []) back matcher value made e = ends_of_one IsEngine options part.kind part.modifier front part back matcher value made e
 ends_of IsEngine options front (part ∷ next ∷ parts) back matcher value made e = (ap (λ m. m.prefix) made.2, ap (λ m. m.suffix) made.2, ap (λ m. m.ignore_case) made.2)
 
--- the result of a matcher is what the parts mean where the result of its engine is what the middle
--- means
+-- The result of a matcher is what the parts mean where the result of its engine is what the middle
+-- means.
 engine_agrees : {E : Type 0} (answer : E → List ℕ → Option Captures) (options : OptionsView) (parts : List PartView) (front : Option PartView) (middle : List PartView) (back : Option PartView) (matcher : MatcherView E) (engine : E) (text : List ℕ) (result : Option Captures) →
     ArePeeled parts front middle back → HasEnds options matcher (end_text front) (end_text back) → matcher.inner ≡ RegExp (Ok engine) → options.ignore_case ≡ false →
     ((t : List ℕ) → IsTrue (all_scalars t) → Agrees options middle t (answer engine t)) → IsTrue (all_scalars text) → Answers answer matcher text result → Agrees options parts text result
@@ -83,7 +83,7 @@ engine_agrees answer options parts front middle back matcher engine text None pe
 
 -- ---- every matcher
 
--- a matcher that needs no engine
+-- A matcher that needs no engine.
 fast_agrees : {E : Type 0} (answer : E → List ℕ → Option Captures) (options : OptionsView) (parts : List PartView) (matcher : MatcherView E) (text : List ℕ) (result : Option Captures) →
     ((captures : Captures) → Matches answer matcher text captures ↔ PartsMean options parts text captures) → Answers answer matcher text result → Agrees options parts text result
 fast_agrees answer options parts matcher text None same never = λ captures means. never captures ((same captures).1 means)
@@ -119,8 +119,8 @@ pub all_right : (parts others : List PartView) → All IsNotCustom (parts ++ oth
 all_right [] others h = h
 all_right (part ∷ parts) others h = all_right parts others (All-tail IsNotCustom part (parts ++ others) h)
 
--- an engine that follows the regular expression of the parts between the ends returns what they
--- mean
+-- An engine that follows the regular expression of the parts between the ends returns what they
+-- mean.
 pub follows_in_middle : {E : Type 0} (answer : E → List ℕ → Option Captures) (options : OptionsView) (parts : List PartView) (inner : InnerView E) → All IsNotCustom parts →
     FollowsMiddle answer options parts inner → AgreesInMiddle answer options parts inner
 follows_in_middle answer options parts (Literal literal) h follows = tt

@@ -11,7 +11,7 @@ use Rattle.urlpattern_syntax.specs.Options.{OptionsView}
 use Rattle.urlpattern_syntax.specs.Parts.{PartView}
 
 module _ {E : Type 0} (IsEngine : List ℕ → Result E ErrorView → Type 0) (options : OptionsView) where
-  -- any value, and any error
+  -- Any value, and any error.
   abbrev IsAny : List ℕ → Result E ErrorView → Type 0
   IsAny regexp value = Unit {0}
 

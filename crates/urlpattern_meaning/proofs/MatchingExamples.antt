@@ -14,11 +14,11 @@ use Rattle.urlpattern_meaning.proofs.MatchingLaws.{middle_kept}
 use Rattle.urlpattern_meaning.proofs.PrintingExamples.{plain, wildcard}
 use Rattle.urlpattern_syntax.proofs.TokenExamples.{no}
 
--- a wildcard between two texts, as a matcher of any engine
+-- A wildcard between two texts, as a matcher of any engine.
 abbrev pub wildcard_matcher : (E : Type 0) → (prefix suffix : List ℕ) → MatcherView E
 wildcard_matcher E prefix suffix = record { prefix = prefix; suffix = suffix; inner = SingleCapture None true; ignore_case = false }
 
--- where case is kept and no middle fits, nothing matches
+-- Where case is kept and no middle fits, nothing matches.
 none_fits : {E : Type 0} (answer : E → List ℕ → Option Captures) (matcher : MatcherView E) (text : List ℕ) → matcher.ignore_case ≡ false →
     ((middle : List ℕ) → ¬ (text ≡ matcher.prefix ++ middle ++ matcher.suffix)) → Answers answer matcher text None
 none_fits answer matcher text kept none captures (middle, cut, accepts) = none middle ((middle_kept matcher text middle kept).0 cut)
@@ -26,7 +26,7 @@ none_fits answer matcher text kept none captures (middle, cut, accepts) = none m
 abbrev pub accent : List ℕ
 accent = 0xE9 ∷ []
 
--- a single character is not prefix and suffix at once
+-- A single character is not prefix and suffix at once.
 pub accent_none : (E : Type 0) (answer : E → List ℕ → Option Captures) → Answers answer (wildcard_matcher E accent accent) accent None
 accent_none E answer = none_fits answer (wildcard_matcher E accent accent) accent refl none
   where
@@ -34,7 +34,7 @@ accent_none E answer = none_fits answer (wildcard_matcher E accent accent) accen
     none [] e = cc e
     none (c ∷ middle) e = cc e
 
--- a prefix and a suffix that share a character do not overlap on a text of three
+-- A prefix and a suffix that share a character do not overlap on a text of three.
 pub overlap_none : (E : Type 0) (answer : E → List ℕ → Option Captures) → Answers answer (wildcard_matcher E (codes "ab") (codes "ba")) (codes "aba") None
 overlap_none E answer = none_fits answer (wildcard_matcher E (codes "ab") (codes "ba")) (codes "aba") refl none
   where
@@ -43,18 +43,18 @@ overlap_none E answer = none_fits answer (wildcard_matcher E (codes "ab") (codes
     none (c ∷ []) e = cc e
     none (c ∷ d ∷ middle) e = cc e
 
--- a prefix and a suffix that share a character meet on a text of four, with nothing between them
+-- A prefix and a suffix that share a character meet on a text of four, with nothing between them.
 pub overlap_empty : (E : Type 0) (answer : E → List ℕ → Option Captures) → Answers answer (wildcard_matcher E (codes "ab") (codes "ba")) (codes "abba") (Some (Some [] ∷ []))
 overlap_empty E answer = ([], (codes "ab", codes "ba", refl, refl, refl), (tt, tt, refl))
 
--- a prefix that does not overlap the suffix leaves the empty text between them
+-- A prefix that does not overlap the suffix leaves the empty text between them.
 pub shorter_empty : (E : Type 0) (answer : E → List ℕ → Option Captures) → Answers answer (wildcard_matcher E (codes "a") (codes "ba")) (codes "aba") (Some (Some [] ∷ []))
 shorter_empty E answer = ([], (codes "a", codes "ba", refl, refl, refl), (tt, tt, refl))
 
 pub shorter_text : (E : Type 0) (answer : E → List ℕ → Option Captures) → Answers answer (wildcard_matcher E (codes "a") (codes "ba")) (codes "abba") (Some (Some (codes "b") ∷ []))
 shorter_text E answer = (codes "b", (codes "a", codes "ba", refl, refl, refl), (tt, tt, refl))
 
--- a segment is not empty, and has no delimiter
+-- A segment is not empty, and has no delimiter.
 abbrev pub segment_matcher : (E : Type 0) → MatcherView E
 segment_matcher E = record { prefix = codes "/"; suffix = []; inner = SingleCapture pathname_options.delimiter false; ignore_case = false }
 
@@ -73,11 +73,11 @@ segment_empty E answer captures (middle, cut, (not_empty, passes, is)) =
     let whole : [] ≡ middle = append_cancel_right [] middle [] (append_cancel_left (codes "/") _ _ e) in
     not_empty (sym whole)
 
--- the result of the segment matcher for `/a` is not None
+-- The result of the segment matcher for `/a` is not None.
 pub segment_answered : (E : Type 0) (answer : E → List ℕ → Option Captures) → ¬ Answers answer (segment_matcher E) (codes "/a") None
 segment_answered E answer none = none (Some (codes "a") ∷ []) (segment_some E answer)
 
--- the case of a literal is folded in ASCII alone
+-- The case of a literal is folded in ASCII alone.
 abbrev pub folding_matcher : (E : Type 0) → List ℕ → MatcherView E
 folding_matcher E text = record { prefix = []; suffix = []; inner = Literal text; ignore_case = true }
 
@@ -88,7 +88,7 @@ none_folded : (text : List ℕ) → IsSame true text [] → text ≡ []
 none_folded [] same = refl
 none_folded (c ∷ text) same = cc same
 
--- the case of a filter is folded in ASCII alone
+-- The case of a filter is folded in ASCII alone.
 abbrev pub filter_matcher : (E : Type 0) → MatcherView E
 filter_matcher E = record { prefix = []; suffix = []; inner = SingleCapture (Some (slice_index (codes "A") 0)) false; ignore_case = true }
 
@@ -98,7 +98,7 @@ folding_filter E answer captures (middle, (front, back, e, begins, ends), (not_e
     let whole : codes "a" ≡ middle = append_cancel_right (codes "a") middle [] cut in
     no (rw (← whole) at passes)
 
--- the case of prefix and suffix is folded in ASCII alone, and captures keep their case
+-- The case of prefix and suffix is folded in ASCII alone, and captures keep their case.
 abbrev pub folding_wildcard : (E : Type 0) → (prefix suffix : List ℕ) → MatcherView E
 folding_wildcard E prefix suffix = record { prefix = prefix; suffix = suffix; inner = SingleCapture None true; ignore_case = true }
 
@@ -113,21 +113,21 @@ other_first answer first c text other captures (middle, (d ∷ front, back, e, b
     let is : c ≡ d = ap (λ t. slice_index t 0) e in
     other (ap to_ascii_lowercase is ∙ ap (λ t. slice_index t 0) begins)
 
--- a letter outside of ASCII is another letter in the other case
+-- A letter outside of ASCII is another letter in the other case.
 pub folding_accent : (E : Type 0) (answer : E → List ℕ → Option Captures) → Answers answer (folding_wildcard E (0xC9 ∷ []) []) (0xE9 ∷ codes "a") None
 folding_accent E answer = other_first answer 0xC9 0xE9 (codes "a") (λ e. no (ap (λ c. c == 0xC9) e))
 
--- the Kelvin sign is not a `k`
+-- The Kelvin sign is not a `k`.
 pub folding_kelvin : (E : Type 0) (answer : E → List ℕ → Option Captures) → Answers answer (folding_wildcard E (codes "k") []) (0x212A ∷ codes "a") None
 folding_kelvin E answer = other_first answer (slice_index (codes "k") 0) 0x212A (codes "a") (λ e. no (ap (λ c. c == slice_index (codes "k") 0) e))
 
--- where case is kept, the case of a prefix is not folded
+-- Where case is kept, the case of a prefix is not folded.
 pub kept_prefix : (E : Type 0) (answer : E → List ℕ → Option Captures) → Answers answer (wildcard_matcher E (codes "A") []) (codes "ab") None
 kept_prefix E answer = none_fits answer (wildcard_matcher E (codes "A") []) (codes "ab") refl (λ middle e. no (ap (λ t. slice_index t 0 == slice_index (codes "A") 0) e))
 
 -- ---- making
 
--- the pattern `ab*ba`: the fixed texts at the ends are removed
+-- The pattern `ab*ba`: the fixed texts at the ends are removed.
 pub overlap_made : (E : Type 0) (IsEngine : List ℕ → Result E ErrorView → Type 0) →
     IsMadeOf IsEngine default_options (plain (codes "ab") ∷ wildcard (codes "0") ∷ plain (codes "ba") ∷ []) (wildcard_matcher E (codes "ab") (codes "ba"))
 overlap_made E IsEngine = record {
@@ -138,7 +138,7 @@ overlap_made E IsEngine = record {
   is_made = refl;
 }
 
--- the pattern `a{}?b`: nothing is left, and the two texts are one
+-- The pattern `a{}?b`: nothing is left, and the two texts are one.
 pub apart_made : (E : Type 0) (IsEngine : List ℕ → Result E ErrorView → Type 0) →
     IsMadeOf IsEngine default_options (plain (codes "a") ∷ plain (codes "b") ∷ []) (record { prefix = []; suffix = []; inner = Literal (codes "ab"); ignore_case = false })
 apart_made E IsEngine = record {
@@ -149,7 +149,7 @@ apart_made E IsEngine = record {
   is_made = refl;
 }
 
--- the pattern `{a}?b`: an engine gets the regular expression of the part that is left
+-- The pattern `{a}?b`: an engine gets the regular expression of the part that is left.
 pub optional_made : (E : Type 0) (IsEngine : List ℕ → Result E ErrorView → Type 0) (engine : E) →
     IsEngine (codes "^(?:a)?$") (Ok engine) →
     IsMadeOf IsEngine default_options (fixed_text (codes "a") modifiers.Optional ∷ plain (codes "b") ∷ []) (record { prefix = []; suffix = codes "b"; inner = RegExp (Ok engine); ignore_case = false })
@@ -162,7 +162,7 @@ optional_made E IsEngine engine is_made = record {
   is_made = (Ok engine, is_made, refl);
 }
 
--- the pattern `{a}?b` where the engine rejects that regular expression
+-- The pattern `{a}?b` where the engine rejects that regular expression.
 pub optional_refused : (E : Type 0) (IsEngine : List ℕ → Result E ErrorView → Type 0) →
     IsEngine (codes "^(?:a)?$") (Err views.RegExp) →
     IsMadeOf IsEngine default_options (fixed_text (codes "a") modifiers.Optional ∷ plain (codes "b") ∷ []) (record { prefix = []; suffix = codes "b"; inner = RegExp (Err views.RegExp); ignore_case = false })
@@ -175,6 +175,6 @@ optional_refused E IsEngine may_refuse = record {
   is_made = (Err views.RegExp, may_refuse, refl);
 }
 
--- a plain fixed text at the end does not stay among the parts
+-- A plain fixed text at the end does not stay among the parts.
 pub back_goes_off : ¬ ArePeeled (plain (codes "a") ∷ plain (codes "b") ∷ []) (Some (plain (codes "a"))) (plain (codes "b") ∷ []) None
 back_goes_off h = h.back_removed refl

@@ -34,7 +34,7 @@ lacks_left c text more h = and_left (lacks c text) (lacks c more) (sym (list_all
 lacks_right : (c : ℕ) (text more : List ℕ) → IsTrue (lacks c (text ++ more)) → IsTrue (lacks c more)
 lacks_right c text more h = and_right (lacks c text) (lacks c more) (sym (list_all-append (λ other. not (other == c)) text more) ∙ h)
 
--- the text between two others
+-- The text between two others.
 lacks_middle : (c : ℕ) (front text back : List ℕ) → IsTrue (lacks c (front ++ text ++ back)) → IsTrue (lacks c text)
 lacks_middle c front text back h = lacks_right c front text (lacks_left c (front ++ text) back h)
 
@@ -47,7 +47,7 @@ same_kept : (ignore_case : Bool) (text other : List ℕ) → ignore_case ≡ fal
 same_kept false text other kept same = same
 same_kept true text other kept same = absurd (no (sym kept))
 
--- where case is kept, the text is prefix, middle and suffix themselves
+-- Where case is kept, the text is prefix, middle and suffix themselves.
 pub middle_kept : {E : Type 0} (matcher : MatcherView E) (text middle : List ℕ) → matcher.ignore_case ≡ false →
     HasMiddle matcher text middle ↔ (text ≡ matcher.prefix ++ middle ++ matcher.suffix)
 middle_kept matcher text middle kept = (
@@ -59,7 +59,7 @@ middle_kept matcher text middle kept = (
 
 -- ---- one wildcard
 
--- a single copy of a wildcard between prefix and suffix
+-- A single copy of a wildcard between prefix and suffix.
 abbrev pub IsOnePiece : OptionsView → PartView → List ℕ → Captures → Type 0
 IsOnePiece options part text captures =
     (piece : List ℕ) × (text ≡ part.prefix ++ piece ++ part.suffix) × IsWildcardText options part.kind piece × (captures ≡ Some piece ∷ [])
@@ -83,7 +83,7 @@ WildcardMeans options part text captures =
     × IsRepeated (λ copy. (piece : List ℕ) × (copy ≡ part.prefix ++ piece ++ part.suffix) × IsWildcardText options part.kind piece) n text
     × ((capture : Option (List ℕ)) × IsCapture part n text capture × (captures ≡ capture ∷ []))
 
--- a wildcard of either kind means copies between prefix and suffix
+-- A wildcard of either kind means copies between prefix and suffix.
 pub wildcard_copies : (options : OptionsView) (kind : PartType) (modifier : PartModifier) (value name prefix suffix text : List ℕ) (captures : Captures) → IsWildcard kind →
     PartMeans options (part_of kind modifier value name prefix suffix) text captures ↔ WildcardMeans options (part_of kind modifier value name prefix suffix) text captures
 wildcard_copies options SegmentWildcard modifier value name prefix suffix text captures h = (
@@ -115,7 +115,7 @@ regrouped front prefix piece suffix back =
     sym (append_assoc (front ++ prefix ++ piece) suffix back)
     ∙ ap (λ t. t ++ back) (ap (λ t. t ++ suffix) (append_assoc front prefix piece) ∙ append_assoc front (prefix ++ piece) suffix)
 
--- a single capture accepts the texts of its wildcard
+-- A single capture accepts the texts of its wildcard.
 matches_single : {E : Type 0} (answer : E → List ℕ → Option Captures) (options : OptionsView) (front back : List ℕ) (part : PartView) (filter : Option ℕ) (allow_empty : Bool) (text : List ℕ) (captures : Captures) →
     options.ignore_case ≡ false → IsTrue (lacks line_feed text) →
     ((piece : List ℕ) → IsTrue (lacks line_feed piece) → (MayBeEmpty allow_empty piece × PassesFilter options.ignore_case filter piece) ↔ IsWildcardText options part.kind piece) →
@@ -134,7 +134,7 @@ matches_single {E} answer options front back part filter allow_empty text captur
           (piece, (middle_kept matcher text piece case).1 whole, (both.0, both.1, g)),
     )
 
--- a full wildcard without line feed
+-- A full wildcard without line feed.
 accepts_full : (options : OptionsView) (piece : List ℕ) → IsTrue (lacks line_feed piece) →
     (MayBeEmpty true piece × PassesFilter options.ignore_case None piece) ↔ IsWildcardText options FullWildcard piece
 accepts_full options piece no_feed = (λ h. no_feed, λ h. (tt, tt))
@@ -143,7 +143,7 @@ passes_filter : (filter : Option ℕ) (piece : List ℕ) → IsTrue (lacks line_
 passes_filter None piece no_feed = (λ h. no_feed, λ h. tt)
 passes_filter (Some c) piece no_feed = (λ h. h, λ h. h)
 
--- a segment
+-- A segment.
 accepts_segment : (options : OptionsView) → options.ignore_case ≡ false → (piece : List ℕ) → IsTrue (lacks line_feed piece) →
     (MayBeEmpty false piece × PassesFilter options.ignore_case options.delimiter piece) ↔ IsWildcardText options SegmentWildcard piece
 accepts_segment options case piece no_feed = (
@@ -158,7 +158,7 @@ IsFast (Literal literal) = Unit {0}
 IsFast (SingleCapture filter allow_empty) = Unit {0}
 IsFast (RegExp engine) = ⊥
 
--- a matcher accepts the texts between `front` and `back` that have the meaning
+-- A matcher accepts the texts between `front` and `back` that have the meaning.
 abbrev pub AcceptsBetween : {E : Type 0} → (answer : E → List ℕ → Option Captures) → (front back text : List ℕ) → Captures → (List ℕ → Captures → Type 0) → MatcherView E → Type 0
 AcceptsBetween answer front back text captures Mean matcher =
     IsFast matcher.inner → Matches answer matcher text captures ↔ ((inner : List ℕ) × (text ≡ front ++ inner ++ back) × Mean inner captures)
@@ -192,11 +192,11 @@ one_between answer IsEngine options front back SegmentWildcard modifiers.None va
 one_between answer IsEngine options front back kind modifier value name prefix suffix matcher text captures case no_feed made fast =
     absurd (subst (λ m. IsFast m.inner) made.2 fast)
 
--- a part by itself, as a list of parts
+-- A part by itself, as a list of parts.
 part_single : (options : OptionsView) (part : PartView) (text : List ℕ) (captures : Captures) → PartMeans options part text captures → PartsMean options (part ∷ []) text captures
 part_single options part text captures means = (text, [], captures, [], sym (append-nil text), sym (append-nil captures), means, (refl, refl))
 
--- a literal accepts the removed texts, with nothing between them
+-- A literal accepts the removed texts, with nothing between them.
 matches_literal : {E : Type 0} (answer : E → List ℕ → Option Captures) (front back text : List ℕ) (captures : Captures) →
     Matches answer (record { prefix = []; suffix = []; inner = Literal (front ++ back); ignore_case = false }) text captures ↔ ((inner : List ℕ) × (text ≡ front ++ inner ++ back) × (inner ≡ []) × (captures ≡ []))
 matches_literal {E} answer front back text captures =
@@ -226,8 +226,8 @@ between answer IsEngine options front (part ∷ []) back matcher text captures c
 between answer IsEngine options front (part ∷ next ∷ parts) back matcher text captures case no_feed made fast =
     absurd (subst (λ m. IsFast m.inner) made.2 fast)
 
--- a matcher that needs no engine accepts the texts of its parts, with the same captures, for texts
--- without line feed where case is kept
+-- A matcher that needs no engine accepts the texts of its parts, with the same captures, for texts
+-- without line feed where case is kept.
 pub fast_means : {E : Type 0} (answer : E → List ℕ → Option Captures) (IsEngine : List ℕ → Result E ErrorView → Type 0) (options : OptionsView) (parts : List PartView) (matcher : MatcherView E) (text : List ℕ) (captures : Captures) →
     IsMadeOf IsEngine options parts matcher → options.ignore_case ≡ false → IsTrue (lacks line_feed text) → IsFast matcher.inner →
     Matches answer matcher text captures ↔ PartsMean options parts text captures

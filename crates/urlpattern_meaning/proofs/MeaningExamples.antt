@@ -9,7 +9,7 @@ use Rattle.urlpattern_meaning.specs.PartMeaning.{AreCopies, Captures, AreCapture
 use Rattle.urlpattern_syntax.specs.Parts.{PartView, fixed_text}
 use Rattle.urlpattern_syntax.proofs.RegexpTextExamples.{group}
 
--- a part by itself
+-- A part by itself.
 pub part_alone : {options : OptionsView} {part : PartView} {text : List ℕ} {captures : Captures} → PartsMean options (part ∷ []) text captures → PartMeans options part text captures
 part_alone {options} {part} {text} {captures} (first, rest, own, others, e, f, means, ended) =
     rw (e, f, ended.0, ended.1, append-nil first, append-nil own) means
@@ -18,7 +18,7 @@ pub alone_means : {options : OptionsView} {part : PartView} {text : List ℕ} {c
 alone_means {options} {part} {text} {captures} means =
     (text, [], captures, [], sym (append-nil text), sym (append-nil captures), means, (refl, refl))
 
--- the pattern `{a/:x/b}+`: one capture from the first copy's segment to the last one's
+-- The pattern `{a/:x/b}+`: one capture from the first copy's segment to the last one's.
 abbrev pub joined_part : PartView
 joined_part = group SegmentWildcard (codes "a/") (codes "x") (codes "/b") modifiers.OneOrMore
 
@@ -30,7 +30,7 @@ joined_means = alone_means (record {
   are_captures = (Some (codes "1/ba/2"), (codes "1/ba/2", refl, refl), refl);
 })
 
--- the captures of copies of the part, where there is at least one
+-- The captures of copies of the part, where there is at least one.
 joined_capture : (n : ℕ) (captures : Captures) → 1 ≤ n → AreCaptures SegmentWildcard joined_part n (codes "a/1/ba/2/b") captures → captures ≡ Some (codes "1/ba/2") ∷ []
 joined_capture zero captures some captured = absurd (omega (arith, some))
 joined_capture (suc n) captures some (capture, (inner, e, f), g) =
@@ -41,7 +41,7 @@ joined_capture (suc n) captures some (capture, (inner, e, f), g) =
 pub joined_only : (captures : Captures) → PartsMean pathname_options (joined_part ∷ []) (codes "a/1/ba/2/b") captures → captures ≡ Some (codes "1/ba/2") ∷ []
 joined_only captures means = joined_capture (part_alone means).count captures (part_alone means).allowed (part_alone means).are_captures
 
--- the pattern `{*}?` on the empty text: no copy, or an empty one
+-- The pattern `{*}?` on the empty text: no copy, or an empty one.
 abbrev pub optional_part : PartView
 optional_part = group FullWildcard [] (codes "0") [] modifiers.Optional
 
@@ -56,14 +56,14 @@ optional_empty = alone_means (record {
   are_captures = (Some [], ([], refl, refl), refl);
 })
 
--- the pattern `:x*`: the capture of no copies is empty
+-- The pattern `:x*`: the capture of no copies is empty.
 abbrev pub starred_part : PartView
 starred_part = group SegmentWildcard [] (codes "x") [] modifiers.ZeroOrMore
 
 pub starred_empty : PartsMean default_options (starred_part ∷ []) [] (Some [] ∷ [])
 starred_empty = alone_means (record { count = 0; allowed = tt; are_copies = refl; are_captures = (Some [], refl, refl) })
 
--- the pattern `:x*` on a text of two characters: one copy
+-- The pattern `:x*` on a text of two characters: one copy.
 pub starred_text : PartsMean default_options (starred_part ∷ []) (codes "ab") (Some (codes "ab") ∷ [])
 starred_text = alone_means (record {
   count = 1;
@@ -72,7 +72,7 @@ starred_text = alone_means (record {
   are_captures = (Some (codes "ab"), (codes "ab", refl, refl), refl);
 })
 
--- the pattern `{a}?`: two copies are too many
+-- The pattern `{a}?`: two copies are too many.
 pub optional_twice : (captures : Captures) → ¬ PartsMean default_options (fixed_text (codes "a") modifiers.Optional ∷ []) (codes "aa") captures
 optional_twice captures means = by_count (part_alone means).count (part_alone means).allowed (part_alone means).are_copies
   where

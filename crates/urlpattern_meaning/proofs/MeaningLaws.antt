@@ -19,7 +19,7 @@ use Rattle.urlpattern_syntax.proofs.TokenExamples.{no}
 
 -- ---- lists of parts
 
--- two lists of parts one after the other
+-- Two lists of parts one after the other.
 pub parts-append : (options : OptionsView) (parts others : List PartView) (text rest : List ℕ) (captures more : Captures) →
     PartsMean options parts text captures → PartsMean options others rest more → PartsMean options (parts ++ others) (text ++ rest) (captures ++ more)
 parts-append options [] others text rest captures more (e, f) means = rw (e, f) means
@@ -34,7 +34,7 @@ parts-append options (part ∷ parts) others text rest captures more (first, lef
   parts-append options parts others left rest behind more means others_mean,
 )
 
--- the texts of two lists
+-- The texts of two lists.
 pub record AreTwo (options : OptionsView) (parts others : List PartView) (text : List ℕ) (captures : Captures) : Type 0 where
   pub first : List ℕ
   pub rest : List ℕ
@@ -63,14 +63,14 @@ parts_cut (part ∷ parts) others (first, left, own, behind, e, f, mean, means) 
 
 -- ---- plain fixed texts
 
--- a text that is a single copy
+-- A text that is a single copy.
 pub one_copy : (Is : List ℕ → Type 0) (n : ℕ) (text : List ℕ) → IsRepeated Is n text → n ≡ 1 → Is text
 one_copy Is n text copies e = alone (rw e at copies)
   where
     alone : IsRepeated Is 1 text → Is text
     alone (first, rest, cut, is, ended) = rw (cut, ended, append-nil first) is
 
--- a part of the kind and the modifier of a plain fixed text
+-- A part of the kind and the modifier of a plain fixed text.
 plain_by : {options : OptionsView} {text : List ℕ} {captures : Captures} (kind : PartType) (modifier : PartModifier) (value name prefix suffix : List ℕ) →
     IsTrue (is_fixed_text kind && is_unmodified modifier) →
     PartMeans options (record { kind = kind; value = value; modifier = modifier; name = name; prefix = prefix; suffix = suffix }) text captures ↔ ((text ≡ value) × (captures ≡ []))
@@ -80,13 +80,13 @@ plain_by FixedText modifiers.None value name prefix suffix h = (
 )
 plain_by kind modifier value name prefix suffix h = absurd (no h)
 
--- a plain fixed text matches itself and captures nothing
+-- A plain fixed text matches itself and captures nothing.
 pub plain_means : {options : OptionsView} {text : List ℕ} {captures : Captures} (part : PartView) → IsTrue (is_plain part) → PartMeans options part text captures ↔ ((text ≡ part.value) × (captures ≡ []))
 plain_means part h = plain_by part.kind part.modifier part.value part.name part.prefix part.suffix h
 
 -- ---- peeling
 
--- an end that is removed matches its text
+-- An end that is removed matches its text.
 end_means : (options : OptionsView) (end : Option PartView) (IsThere : Type 0) (text : List ℕ) (captures : Captures) → IsRemoved end IsThere → PartsMean options (option_to_list end) text captures ↔ ((text ≡ end_text end) × (captures ≡ []))
 end_means options None IsThere text captures goes = (λ means. means, λ means. means)
 end_means options (Some part) IsThere text captures goes = (
@@ -94,8 +94,8 @@ end_means options (Some part) IsThere text captures goes = (
   λ is. (text, [], captures, [], sym (append-nil text), sym (append-nil captures), (plain_means part goes).1 is, (refl, refl)),
 )
 
--- parts from which plain fixed texts are removed match exactly prefix, a text that the remaining
--- parts match, and suffix
+-- Parts from which plain fixed texts are removed match exactly prefix, a text that the remaining
+-- parts match, and suffix.
 pub peeled_means : (options : OptionsView) (parts : List PartView) (front : Option PartView) (middle : List PartView) (back : Option PartView) (text : List ℕ) (captures : Captures) →
     ArePeeled parts front middle back →
     PartsMean options parts text captures ↔ ((inner : List ℕ) × (text ≡ end_text front ++ inner ++ end_text back) × PartsMean options middle inner captures)
@@ -123,7 +123,7 @@ peeled_means options parts front middle back text captures peeled = (
 
 -- ---- joining
 
--- parts before lists that mean the same
+-- Parts before lists that mean the same.
 same_behind : (options : OptionsView) (part : PartView) (parts others : List PartView) →
     ((text : List ℕ) (captures : Captures) → PartsMean options parts text captures → PartsMean options others text captures) →
     (text : List ℕ) (captures : Captures) → PartsMean options (part ∷ parts) text captures → PartsMean options (part ∷ others) text captures
@@ -133,7 +133,7 @@ same_behind options part parts others same text captures (first, rest, own, behi
 abbrev pub with_value : PartView → List ℕ → PartView
 with_value part value = record part { value = value }
 
--- two plain fixed texts as one
+-- Two plain fixed texts as one.
 one_of_two : (options : OptionsView) (part next : PartView) (parts : List PartView) → IsTrue (is_plain part) → IsTrue (is_plain next) →
     (text : List ℕ) (captures : Captures) → PartsMean options (with_value part (part.value ++ next.value) ∷ parts) text captures ↔ PartsMean options (part ∷ next ∷ parts) text captures
 one_of_two options part next parts plain plain_next text captures = (
@@ -162,7 +162,7 @@ one_of_two options part next parts plain plain_next text captures = (
       ),
 )
 
--- the first part and the next, joined or not
+-- The first part and the next, joined or not.
 joined_pair : (options : OptionsView) (part next : PartView) (parts : List PartView) (text : List ℕ) (captures : Captures) (plain plain_next : Bool) →
     is_plain part ≡ plain → is_plain next ≡ plain_next →
     PartsMean options (if plain && plain_next then with_value part (part.value ++ next.value) ∷ parts else part ∷ next ∷ parts) text captures ↔ PartsMean options (part ∷ next ∷ parts) text captures
@@ -174,7 +174,7 @@ joined_first : (options : OptionsView) (part : PartView) (parts : List PartView)
 joined_first options part [] text captures = (λ means. means, λ means. means)
 joined_first options part (next ∷ parts) text captures = joined_pair options part next parts text captures (is_plain part) (is_plain next) refl refl
 
--- joining neighbouring plain fixed texts changes no meaning
+-- Joining neighbouring plain fixed texts changes no meaning.
 pub joined_means : (options : OptionsView) (parts : List PartView) (text : List ℕ) (captures : Captures) → PartsMean options (joined parts) text captures ↔ PartsMean options parts text captures
 joined_means options [] text captures = (λ means. means, λ means. means)
 joined_means options (part ∷ parts) text captures = (
@@ -184,7 +184,7 @@ joined_means options (part ∷ parts) text captures = (
 
 -- ---- copies
 
--- the text of all copies but the first prefix and the last suffix
+-- The text of all copies but the first prefix and the last suffix.
 inner_text : (prefix suffix first rest piece inner : List ℕ) → first ≡ prefix ++ piece ++ suffix → rest ≡ prefix ++ inner ++ suffix →
     first ++ rest ≡ prefix ++ (piece ++ suffix ++ (prefix ++ inner)) ++ suffix
 inner_text prefix suffix first rest piece inner e f =
@@ -192,13 +192,13 @@ inner_text prefix suffix first rest piece inner e f =
     ∙ sym (append_assoc (prefix ++ piece ++ suffix) (prefix ++ inner) suffix)
     ∙ ap (λ t. t ++ suffix) (ap (λ t. t ++ (prefix ++ inner)) (append_assoc prefix piece suffix) ∙ append_assoc prefix (piece ++ suffix) (prefix ++ inner))
 
--- a copy of a wildcard has prefix and suffix
+-- A copy of a wildcard has prefix and suffix.
 copy_text : (options : OptionsView) (kind : PartType) (part : PartView) (text : List ℕ) → IsWildcard kind → IsCopyOf options kind part text → (piece : List ℕ) × (text ≡ part.prefix ++ piece ++ part.suffix)
 copy_text options SegmentWildcard part text h (piece, e, is) = (piece, e)
 copy_text options FullWildcard part text h (piece, e, is) = (piece, e)
 copy_text options kind part text h copy = absurd h
 
--- copies of a wildcard have the first prefix and the last suffix
+-- Copies of a wildcard have the first prefix and the last suffix.
 copies_text : (options : OptionsView) (part : PartView) (n : ℕ) (text : List ℕ) → IsWildcard part.kind → AreCopies options part (suc n) text → (inner : List ℕ) × (text ≡ part.prefix ++ inner ++ part.suffix)
 copies_text options part zero text h (first, rest, cut, copy, ended) =
     let one = copy_text options part.kind part first h copy in
@@ -208,13 +208,13 @@ copies_text options part (suc n) text h (first, rest, cut, copy, copies) =
     let more = copies_text options part n rest h copies in
     (one.0 ++ part.suffix ++ (part.prefix ++ more.0), cut ∙ inner_text part.prefix part.suffix first rest one.0 more.0 one.1 more.1)
 
--- the captures of a wildcard's copies
+-- The captures of a wildcard's copies.
 captures_by : (kind : PartType) (part : PartView) (n : ℕ) (text : List ℕ) (captures : Captures) → IsWildcard kind → AreCaptures kind part n text captures ↔ ((capture : Option (List ℕ)) × IsCapture part n text capture × (captures ≡ capture ∷ []))
 captures_by SegmentWildcard part n text captures h = (λ captured. captured, λ captured. captured)
 captures_by FullWildcard part n text captures h = (λ captured. captured, λ captured. captured)
 captures_by kind part n text captures h = absurd h
 
--- copies of a wildcard are captured without the first prefix and the last suffix
+-- Copies of a wildcard are captured without the first prefix and the last suffix.
 pub copies_captured : (options : OptionsView) (part : PartView) (n : ℕ) (text : List ℕ) → IsWildcard part.kind → Allows part.modifier (suc n) → AreCopies options part (suc n) text →
     (inner : List ℕ) × (text ≡ part.prefix ++ inner ++ part.suffix) × PartMeans options part text (Some inner ∷ [])
 copies_captured options part n text h allowed copies =
@@ -229,8 +229,8 @@ copies_captured options part n text h allowed copies =
       },
     )
 
--- no copies are captured by None, or by the empty text for "zero or more" with neither prefix nor
--- suffix
+-- No copies are captured by None, or by the empty text for "zero or more" with neither prefix nor
+-- suffix.
 pub nothing_captured : (options : OptionsView) (part : PartView) → IsWildcard part.kind → Allows part.modifier 0 →
     PartMeans options part [] (capture_of_none part.modifier (is_empty part.prefix && is_empty part.suffix) ∷ [])
 nothing_captured options part h allowed = record {
@@ -240,7 +240,7 @@ nothing_captured options part h allowed = record {
   are_captures = (captures_by part.kind part 0 [] _ h).1 (_, refl, refl);
 }
 
--- a wildcard captures nothing else
+-- A wildcard captures nothing else.
 pub captures_only : (options : OptionsView) (part : PartView) (text : List ℕ) (captures : Captures) → IsWildcard part.kind → PartMeans options part text captures →
     ((text ≡ []) × (captures ≡ capture_of_none part.modifier (is_empty part.prefix && is_empty part.suffix) ∷ []))
     ⊎ ((inner : List ℕ) × (text ≡ part.prefix ++ inner ++ part.suffix) × (captures ≡ Some inner ∷ []))

@@ -4,7 +4,7 @@ use Rattle.std.proofs.lemmas.List.{drop_at, length-append, length-map, take_at}
 use Rattle.std.specs.Char.{to_ascii_lowercase}
 use Rattle.urlpattern_meaning.specs.Matching.{HasMiddle, IsSame, MatcherView}
 
--- equal texts whose beginnings have one length have equal rests
+-- Equal texts whose beginnings have one length have equal rests.
 pub rest_one : (front other rest last : List ℕ) → length front ≡ length other → front ++ rest ≡ other ++ last → rest ≡ last
 rest_one front other rest last len e =
     sym (drop_at front rest (length other) len) ∙ ap (λ t. drop (length other) t) e ∙ drop_at other last (length other) refl
@@ -15,12 +15,12 @@ front_one front other rest last len e =
     let same : length front ≡ length other = omega arith in
     sym (take_at front rest (length other) same) ∙ ap (λ t. take (length other) t) e ∙ take_at other last (length other) refl
 
--- texts that are equal except for case have one length
+-- Texts that are equal except for case have one length.
 pub same-length : (ignore_case : Bool) (text other : List ℕ) → IsSame ignore_case text other → length text ≡ length other
 same-length true text other same = sym (length-map text to_ascii_lowercase) ∙ ap length same ∙ length-map other to_ascii_lowercase
 same-length false text other same = ap length same
 
--- at most one text is between prefix and suffix
+-- At most one text is between prefix and suffix.
 pub middle-one : {E : Type 0} (matcher : MatcherView E) (text one other : List ℕ) → HasMiddle matcher text one → HasMiddle matcher text other → one ≡ other
 middle-one matcher text one other (front, back, e, begins, ends) (front', back', e', begins', ends') =
     let fronts : length front ≡ length front' = same-length matcher.ignore_case front matcher.prefix begins ∙ sym (same-length matcher.ignore_case front' matcher.prefix begins') in

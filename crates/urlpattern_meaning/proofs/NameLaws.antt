@@ -22,7 +22,7 @@ use Rattle.urlpattern_syntax.specs.Tokens.{AreTokens, IsName, TokenView}
 
 -- ---- the names in tokens and placeholders
 
--- the value of each Name is a name
+-- The value of each Name is a name.
 abbrev pub NameTokens : List TokenView → Type 0
 NameTokens tokens = AllOfKind Name IsName tokens
 
@@ -46,7 +46,7 @@ placeholder_name tokens (Some name) matched.Segment h is = first_name tokens [] 
 placeholder_name tokens (Some name) (matched.Custom body) h is = first_name tokens (Regexp ∷ []) (body ∷ []) name h is.0 is.1
 placeholder_name tokens (Some name) matched.Anything h is = absurd is
 
--- the name of each piece that has one is a name of a pattern
+-- The name of each piece that has one is a name of a pattern.
 abbrev pub NamePieces : List Piece → Type 0
 NamePieces list = PiecesHave (λ name what. GivesName name) list
 
@@ -119,7 +119,7 @@ good_items number (pieces.Group before placeholder after modifier ∷ list) h =
 
 -- ---- new names
 
--- none of the names is among those before it
+-- None of the names is among those before it.
 abbrev pub NewNames : (earlier : List (List ℕ)) → List Item → Type 0
 NewNames earlier [] = Unit {0}
 NewNames earlier (Fixed text modifier ∷ items) = NewNames earlier items

@@ -28,16 +28,16 @@ use Rattle.urlpattern_syntax.proofs.TokenExamples.{no}
 
 -- ---- trees
 
--- the pattern `/users/:id`
+-- The pattern `/users/:id`.
 pub users_of : tree_of pathname_options users_parts ≡ users_tree
 users_of = refl
 
--- the delimiter `]` has a backslash in the class
+-- The delimiter `]` has a backslash in the class.
 pub bracket_of : tree_of (standard_options (Some (slice_index (codes "]") 0)) []) (group SegmentWildcard [] (codes "x") [] modifiers.None ∷ [])
     ≡ once (Captured (Item (AnyBut (Escaped (slice_index (codes "]") 0))) LazyOneOrMore Nothing))
 bracket_of = refl
 
--- the pattern `{a:x}*`: copies between one prefix and the end, or nothing
+-- The pattern `{a:x}*`: copies between one prefix and the end, or nothing.
 abbrev pub segment_x : Items
 segment_x = Item (AnyBut (Plain (slice_index (codes "/") 0))) LazyOneOrMore Nothing
 
@@ -47,17 +47,17 @@ copies_of = refl
 
 -- ---- an engine that follows
 
--- the pattern `{a}?`, whose regular expression is `^(?:a)?$`
+-- The pattern `{a}?`, whose regular expression is `^(?:a)?$`.
 abbrev pub optional_parts : List PartView
 optional_parts = fixed_text (codes "a") modifiers.Optional ∷ []
 
--- the results of an engine for the optional `a`
+-- The results of an engine for the optional `a`.
 abbrev pub optional_answer : List ℕ → Option Captures
 optional_answer [] = Some []
 optional_answer (c ∷ []) = if c == slice_index (codes "a") 0 then Some [] else None
 optional_answer (c ∷ d ∷ text) = None
 
--- the part `{a}?` matches only the empty text and `a`
+-- The part `{a}?` matches only the empty text and `a`.
 optional_count : (n : ℕ) (text : List ℕ) → n ≤ 1 → IsRepeated (λ stretch. stretch ≡ codes "a") n text → (text ≡ []) ⊎ (text ≡ codes "a")
 optional_count zero text few is = inl is
 optional_count (suc zero) text few (first, rest, cut, is, ended) = inr (rw (cut, ended, is))
@@ -85,24 +85,24 @@ pub optional_follows : Follows (codes "^(?:a)?$") optional_answer
 unfolding escaped part_regexp
 optional_follows = agrees_follows default_options optional_parts optional_custom optional_answer (λ text scalars. optional_agrees text)
 
--- the engine for `{a}?` follows the middle of `{a}?b`
+-- The engine for `{a}?` follows the middle of `{a}?b`.
 pub optional_middle : (E : Type 0) (engine : E) → FollowsMiddle (λ engine. optional_answer) default_options (fixed_text (codes "a") modifiers.Optional ∷ plain (codes "b") ∷ []) (RegExp (Ok engine))
 unfolding escaped part_regexp
 optional_middle E engine = (None, optional_parts, Some (plain (codes "b")), record { cut = refl; front_removed = no; back_removed = refl }, optional_follows)
 
--- an engine that matches nothing does not follow `^(?:a)?$`
+-- An engine that matches nothing does not follow `^(?:a)?$`.
 pub silent : ¬ Follows (codes "^(?:a)?$") (λ text. None)
 unfolding escaped part_regexp
 silent follows = follows_agrees default_options optional_parts optional_custom (λ text. None) follows [] refl [] (optional_agrees [])
 
--- an error that is kept does not follow the middle of any parts
+-- An error that is kept does not follow the middle of any parts.
 pub kept_error : (E : Type 0) (answer : E → List ℕ → Option Captures) (parts : List PartView) (error : ErrorView) → ¬ FollowsMiddle answer default_options parts (RegExp (Err error))
 kept_error E answer parts error follows = follows
 
 -- ---- where a premise does not hold
 
--- the pattern `(a)`: its regular expression `^(a)$` has a tree that captures, and the part means
--- nothing
+-- The pattern `(a)`: its regular expression `^(a)$` has a tree that captures, and the part means
+-- nothing.
 abbrev pub custom_parts : List PartView
 custom_parts = (record { kind = Regexp; value = codes "a"; modifier = modifiers.None; name = codes "0"; prefix = []; suffix = [] }) ∷ []
 
@@ -116,7 +116,7 @@ custom_captures = (codes "a", [], Some (codes "a") ∷ [], [], refl, refl, ([], 
 pub custom_none : (text : List ℕ) (captures : Captures) → ¬ PartsMean default_options custom_parts text captures
 custom_none text captures means = (part_alone means).are_captures
 
--- the pattern `*` on a line feed: the matcher matches, and the parts do not mean the text
+-- The pattern `*` on a line feed: the matcher matches, and the parts do not mean the text.
 pub feed_shape : (E : Type 0) → HasShapeOf default_options (wildcard (codes "0") ∷ []) (wildcard_matcher E [] [])
 feed_shape E = record { front = None; middle = wildcard (codes "0") ∷ []; back = None; are_peeled = record { cut = refl; front_removed = no; back_removed = no }; is_made = refl }
 
@@ -134,7 +134,7 @@ feed_copies n e is = alone (rw e at is)
 pub feed_differs : ¬ Agrees default_options (wildcard (codes "0") ∷ []) (codes "\n") (Some (Some (codes "\n") ∷ []))
 feed_differs means = let part = part_alone means in feed_copies part.count part.allowed part.are_copies
 
--- the pattern `A` where case is ignored: the matcher matches `a`, and the part does not mean it
+-- The pattern `A` where case is ignored: the matcher matches `a`, and the part does not mean it.
 abbrev pub ignoring_case : OptionsView
 ignoring_case = record default_options { ignore_case = true }
 

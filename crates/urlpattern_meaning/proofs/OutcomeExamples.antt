@@ -13,12 +13,12 @@ use Rattle.urlpattern_syntax.proofs.ReadingExamples.{apart_cut, apart_pieces, ap
 use Rattle.urlpattern_syntax.proofs.PieceExamples.{pieces_of}
 use Rattle.urlpattern_syntax.proofs.TokenExamples.{token}
 
--- for `a{}?b` the encoding is called with a text where each demand before it is met
+-- For `a{}?b` the encoding is called with a text where each demand before it is met.
 asks : (encoding : Encoding) (before : List Demand) (asked : List ℕ) (behind : List Demand) → demands (items_of apart_pieces) (Stops (token End 5 [])) ≡ before ++ Encode asked ∷ behind → AreMet encoding before → Asks (codes "a{}?b") default_options encoding asked
 asks encoding before asked behind split met =
     record { tokens = _; pieces = apart_pieces; ending = Stops (token End 5 []); before = before; later = behind; are_tokens = apart_tokens; are_pieces = pieces_of apart_cut; asks = split; are_met = met }
 
--- the encoding is called with `a` first
+-- The encoding is called with `a` first.
 asks_first : LacksAnswer (codes "a{}?b") default_options (listed [])
 asks_first = (
   codes "a",
@@ -26,7 +26,7 @@ asks_first = (
   λ h. omega (arith, h.1.1),
 )
 
--- the encoding is called with `b` next, where it returns a text for `a`
+-- The encoding is called with `b` next, where it returns a text for `a`.
 asks_next : LacksAnswer (codes "a{}?b") default_options (listed ((codes "a", Ok (codes "x")) ∷ []))
 asks_next = (
   codes "b",

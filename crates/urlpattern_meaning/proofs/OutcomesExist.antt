@@ -23,7 +23,7 @@ use Rattle.urlpattern_syntax.specs.Tokens.{AreTokens, TokenView}
 
 -- ---- decisions
 
--- two kinds are equal or not
+-- Two kinds are equal or not.
 kind_or_other : (kind other : TokenType) → (kind ≡ other) ⊎ (kind ≢ other)
 kind_or_other Open Open = inl refl
 kind_or_other Close Close = inl refl
@@ -37,7 +37,7 @@ kind_or_other End End = inl refl
 kind_or_other InvalidChar InvalidChar = inl refl
 kind_or_other kind other = inr (λ e. cc e)
 
--- a name is among some names or not
+-- A name is among some names or not.
 contained_or_not : (names : List (List ℕ)) (name : List ℕ) → Contains names name ⊎ (¬ Contains names name)
 contained_or_not names name = by_test (is_member bytes_eq names name) refl
   where
@@ -60,7 +60,7 @@ more_answers first answers text false e (inr none) = inr not_there
         false≢true (sym e ∙ (bytes_eq-Decides first.0 text).1 (ap (λ (pair : Answered). pair.0) same))
     not_there (answer, (suc k, below, same)) = none (answer, (k, omega (arith, below), same))
 
--- a list of results has one for a text or not
+-- A list of results has one for a text or not.
 answered_or_not : (answers : List Answered) (text : List ℕ) → HasAnswer (listed answers) text ⊎ (¬ HasAnswer (listed answers) text)
 answered_or_not [] text = inr (λ h. absurd (omega (arith, h.1.1)))
 answered_or_not (first ∷ answers) text = more_answers first answers text (bytes_eq first.0 text) refl (answered_or_not answers text)
@@ -75,7 +75,7 @@ data Verdict (encoding : Encoding) (Is : List ℕ → Type 0) (all : List Demand
   Unanswered : (before behind : List Demand) (asked : List ℕ) → all ≡ before ++ Encode asked ∷ behind → AreMet encoding before → Is asked → Verdict encoding Is all
 
 module _ (encoding : Encoding) (Is : List ℕ → Type 0) where
-  -- each text that the encoding is called with has a result, or `Is` holds of it
+  -- Each text that the encoding is called with has a result, or `Is` holds of it.
   abbrev Reported : List Demand → Type 0
   Reported all = (before behind : List Demand) (asked : List ℕ) → all ≡ before ++ Encode asked ∷ behind → AreMet encoding before → HasAnswer encoding asked ⊎ Is asked
 
@@ -112,7 +112,7 @@ met_after : (encoding : Encoding) (xs ys : List Demand) → AreMet encoding (xs 
 met_after encoding [] ys h = h
 met_after encoding (x ∷ xs) ys h = met_after encoding xs ys h.1
 
--- before the end of the tokens the encoding is called with each fixed text
+-- Before the end of the tokens the encoding is called with each fixed text.
 demands-stops : (earlier : List (List ℕ)) (text : List ℕ) (modifier : PartModifier) (items : List Item) (found : TokenView) → demands_after earlier (Fixed text modifier ∷ items) (endings.Stops found) ≡ encode_fixed text ++ demands_after earlier items (endings.Stops found)
 demands-stops earlier text modifiers.None [] found = refl
 demands-stops earlier text modifiers.None (x ∷ items) found = refl
@@ -120,7 +120,7 @@ demands-stops earlier text modifiers.Optional items found = refl
 demands-stops earlier text modifiers.ZeroOrMore items found = refl
 demands-stops earlier text modifiers.OneOrMore items found = refl
 
--- where all demands are met there are parts
+-- Where all demands are met there are parts.
 parts_exist : (options : OptionsView) (encoding : Encoding) (earlier : List (List ℕ)) (items : List Item) (found : TokenView) → AreMet encoding (demands_after earlier items (endings.Stops found)) → (parts : List PartView) × AreParts options encoding items parts
 parts_exist options encoding earlier [] found met = ([], refl)
 parts_exist options encoding earlier (Fixed [] modifier ∷ items) found met =
@@ -135,7 +135,7 @@ parts_exist options encoding earlier (Capture prefix name match suffix modifier 
     let after = met.1.1.0 in
     (capture_part options before.0 name match after.0 modifier ∷ more.0, (before.0, after.0, more.0, refl, before.1, after.1, more.1))
 
--- the last demand of a group that lacks its Close
+-- The last demand of a group that lacks its Close.
 met_close : (encoding : Encoding) (earlier : List (List ℕ)) (items : List Item) (found : TokenView) → AreMet encoding (demands_after earlier items (endings.LacksClose found)) → found.kind ≡ Close
 met_close encoding earlier [] found met = met.0
 met_close encoding earlier (Fixed text modifiers.None ∷ []) found met = met.0
@@ -150,7 +150,7 @@ met_close encoding earlier (Fixed text modifiers.OneOrMore ∷ items) found met 
 met_close encoding earlier (Capture prefix name match suffix modifier ∷ items) found met =
     met_close encoding (earlier ++ name ∷ []) items found met.1.1.1
 
--- tokens at which pieces end
+-- Tokens at which pieces end.
 ending_tokens : (point : List ℕ) (tokens : List TokenView) (pieces : List Piece) (ending : Ending) → ArePieces point tokens pieces ending → (left : List TokenView) × IsEnding left ending
 ending_tokens point tokens [] ending h = (tokens, h)
 ending_tokens point tokens (piece ∷ pieces) ending h = ending_tokens point h.1 pieces ending h.4
@@ -158,7 +158,7 @@ ending_tokens point tokens (piece ∷ pieces) ending h = ending_tokens point h.1
 -- ---- outcomes
 
 module _ (text : List ℕ) (options : OptionsView) (encoding : Encoding) (Is : List ℕ → Type 0) where
-  -- the text has an outcome, or the encoding is called with a text of which `Is` holds
+  -- The text has an outcome, or the encoding is called with a text of which `Is` holds.
   abbrev Outcome : Type 0
   Outcome = HasSomeOutcome text options encoding ⊎ ((asked : List ℕ) × Asks text options encoding asked × Is asked)
 

@@ -17,12 +17,12 @@ use Rattle.urlpattern_syntax.proofs.TokenExamples.{no}
 
 -- ---- captures between prefix and suffix
 
--- a single copy, where the modifier allows no more
+-- A single copy, where the modifier allows no more.
 one_allowed : (IsPiece : List ℕ → Type 0) (prefix suffix : List ℕ) (n : ℕ) (text : List ℕ) → suc n ≤ 1 → IsCore IsPiece prefix suffix n text → IsPiece text
 one_allowed IsPiece prefix suffix zero text few is = one_core IsPiece prefix suffix text is
 one_allowed IsPiece prefix suffix (suc n) text few is = absurd (omega (arith, few))
 
--- some copies that the modifier allows, without the first prefix and the last suffix
+-- Some copies that the modifier allows, without the first prefix and the last suffix.
 abbrev pub IsAllowedCore : (List ℕ → Type 0) → PartModifier → (prefix suffix text : List ℕ) → Type 0
 IsAllowedCore IsPiece modifier prefix suffix text = (n : ℕ) × Allows modifier (suc n) × IsCore IsPiece prefix suffix n text
 
@@ -68,15 +68,15 @@ core_groups modifiers.OneOrMore marks prefix piece suffix e = copies_groups mark
 between_groups : (marks prefix : List ℕ) (core : Items) (suffix : List ℕ) → group_count core ≡ 0 → group_count (between marks prefix core suffix) ≡ 1
 between_groups marks prefix core suffix e = put_groups marks prefix _ ∙ ap (λ n. suc n + group_count (put marks suffix Nothing)) e ∙ ap (λ n. suc 0 + n) (put_groups marks suffix Nothing)
 
--- the group of an atom that is skipped leaves a single None
+-- The group of an atom that is skipped leaves a single None.
 left_none : (groups : ℕ) (captures : Captures) → groups ≡ 1 → (captures ≡ replicate groups None) ↔ (captures ≡ None ∷ [])
 left_none groups captures e = let same : replicate groups None ≡ None ∷ [] = ap (λ n. replicate n None) e in (λ f. f ∙ same, λ f. f ∙ sym same)
 
--- an atom that cannot be skipped
+-- An atom that cannot be skipped.
 always : (A B C : Type 0) → B ↔ A → ¬ C → B ↔ (C ⊎ A)
 always A B C same never = (λ b. inr (same.0 b), λ either. elim either [ inl c ↦ absurd (never c) | inr a ↦ same.1 a ])
 
--- an atom that can be skipped
+-- An atom that can be skipped.
 sometimes : (A B C D : Type 0) → B ↔ A → D ↔ C → (B ⊎ D) ↔ (C ⊎ A)
 sometimes A B C D same same_none = (
   λ either. elim either [ inl b ↦ inr (same.0 b) | inr d ↦ inl (same_none.0 d) ],
@@ -106,14 +106,14 @@ affixed_means modifiers.ZeroOrMore marks prefix piece suffix IsPiece stands e te
 
 -- ---- a group with neither prefix nor suffix
 
--- copies with nothing between them are the pieces
+-- Copies with nothing between them are the pieces.
 pieces_core : (IsPiece : List ℕ → Type 0) (n : ℕ) (text : List ℕ) → IsRepeated IsPiece (suc n) text → IsCore IsPiece [] [] n text
 pieces_core IsPiece n text (first, rest, e, is, more) = (first, rest, e, is, repeated_map IsPiece (IsFurther IsPiece [] []) (λ t is. (t, refl, is)) n rest more)
 
 core_pieces : (IsPiece : List ℕ → Type 0) (n : ℕ) (text : List ℕ) → IsCore IsPiece [] [] n text → IsRepeated IsPiece (suc n) text
 core_pieces IsPiece n text (first, rest, e, is, more) = (first, rest, e, is, repeated_map (IsFurther IsPiece [] []) IsPiece (λ t found. subst IsPiece (sym found.1) found.2) n rest more)
 
--- a single piece is captured whole
+-- A single piece is captured whole.
 captured_means : (modifier : PartModifier) (piece : Items) (IsPiece : List ℕ → Type 0) → StandsFor piece IsPiece → ((n : ℕ) → Allows modifier (suc n) → suc n ≤ 1) → Allows modifier 1 → (text : List ℕ) (captures : Captures) →
     AtomMeans (Captured piece) text captures ↔ TakesCopies IsPiece modifier [] [] text captures
 captured_means modifier piece IsPiece stands few one text captures = (
@@ -125,7 +125,7 @@ captured_means modifier piece IsPiece stands few one text captures = (
       ([], f ∙ ap (λ t. Some t ∷ []) same, (stands.means text []).1 (subst IsPiece same (one_allowed IsPiece [] [] n core (few n allowed) is), refl)),
 )
 
--- pieces that are captured together
+-- Pieces that are captured together.
 several : (IsPiece : List ℕ → Type 0) (modifier : PartModifier) (n : ℕ) (text : List ℕ) (captures : Captures) → Allows modifier (suc n) → IsRepeated IsPiece (suc n) text → captures ≡ Some text ∷ [] →
     TakesCopies IsPiece modifier [] [] text captures
 several IsPiece modifier n text captures allowed are e = (n, text, allowed, sym (append-nil text), pieces_core IsPiece n text are, e)

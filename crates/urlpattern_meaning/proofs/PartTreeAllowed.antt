@@ -51,11 +51,11 @@ put_allowed : (marks text : List ℕ) (items : Items) → AreMarks marks → Are
 put_allowed marks [] items are allowed = allowed
 put_allowed marks (c ∷ text) items are allowed = (character_by marks are c (is_among marks c) refl, tt, put_allowed marks text items are allowed)
 
--- a text alone is allowed
+-- A text alone is allowed.
 pub text_allowed : (options : OptionsView) (text : List ℕ) → AreItems (put (escaped_marks options.syntax) text Nothing)
 text_allowed options text = put_allowed (escaped_marks options.syntax) text Nothing (marks_of options.syntax) tt
 
--- a text has no groups
+-- A text has no groups.
 pub put_groups : (marks text : List ℕ) (items : Items) → group_count (put marks text items) ≡ group_count items
 put_groups marks [] items = refl
 put_groups marks (c ∷ text) items = let e : 0 + group_count (put marks text items) ≡ group_count (put marks text items) = omega arith in e ∙ put_groups marks text items
@@ -115,7 +115,7 @@ group_allowed true modifier marks prefix piece suffix are groupless = bare_allow
 group_allowed false modifier marks prefix piece suffix are groupless =
     put_allowed marks prefix _ are (affixed_allowed modifier marks prefix piece suffix are groupless, tt, put_allowed marks suffix Nothing are tt)
 
--- the atom of a group is not repeated
+-- The atom of a group is not repeated.
 group_taken : (is_bare : Bool) (modifier : PartModifier) (groups : ℕ) → AllowsGroups (group_quantifier is_bare modifier) groups
 group_taken true modifiers.None groups = tt
 group_taken true modifiers.Optional groups = tt

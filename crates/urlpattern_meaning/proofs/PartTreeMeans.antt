@@ -39,7 +39,7 @@ text_one value text (first, rest, cut, e, ended) = cut ∙ ap (λ t. first ++ t)
 no_groups : (marks value : List ℕ) → replicate {A = Option (List ℕ)} (group_count (put marks value Nothing)) None ≡ []
 no_groups marks value = ap (λ n. replicate {A = Option (List ℕ)} n None) (put_groups marks value Nothing)
 
--- a text that may be left out
+-- A text that may be left out.
 optional_text : (marks value text : List ℕ) (captures : Captures) (n : ℕ) → n ≤ 1 → IsRepeated (λ stretch. stretch ≡ value) n text → captures ≡ [] →
     IsTaken (quantifier_of modifiers.Optional) (group_count (put marks value Nothing)) (Means (put marks value Nothing)) text captures
 optional_text marks value text captures zero few are e = inr (are, e ∙ sym (no_groups marks value))
@@ -53,13 +53,13 @@ some_texts marks value text captures (suc n) some are e = (n, of_texts marks val
 
 -- ---- a part before items
 
--- the meaning of a part and items after it
+-- The meaning of a part and items after it.
 abbrev pub MeansBefore : OptionsView → PartView → Items → List ℕ → Captures → Type 0
 MeansBefore options part items text captures =
     (first rest : List ℕ) × (own others : Captures) × (text ≡ first ++ rest) × (captures ≡ own ++ others)
     × PartMeans options part first own × Means items rest others
 
--- an atom before items, where the atom means what the part means
+-- An atom before items, where the atom means what the part means.
 atom_before : (options : OptionsView) (part : PartView) (atom : Atom) (quantifier : Quantifier) (items : Items) →
     ((text : List ℕ) (captures : Captures) → IsTaken quantifier (atom_group_count atom) (AtomMeans atom) text captures ↔ PartMeans options part text captures) →
     (text : List ℕ) (captures : Captures) → Means (Item atom quantifier items) text captures ↔ MeansBefore options part items text captures
@@ -129,7 +129,7 @@ part_before options FullWildcard modifier value name prefix suffix items h text 
 
 -- ---- a list of parts
 
--- the tree matches a text with captures exactly where the parts mean that text with these captures
+-- The tree matches a text with captures exactly where the parts mean that text with these captures.
 pub tree_means : (options : OptionsView) (parts : List PartView) → All IsNotCustom parts → (text : List ℕ) (captures : Captures) → Means (tree_of options parts) text captures ↔ PartsMean options parts text captures
 tree_means options [] h text captures = (λ means. means, λ means. means)
 tree_means options (part ∷ parts) h text captures =

@@ -59,7 +59,7 @@ fixed_text_by modifiers.Optional marks value items = ap (λ t. grouped t ++ code
 fixed_text_by modifiers.ZeroOrMore marks value items = ap (λ t. grouped t ++ codes "*" ++ items_text items) (alone_text marks value)
 fixed_text_by modifiers.OneOrMore marks value items = ap (λ t. grouped t ++ codes "+" ++ items_text items) (alone_text marks value)
 
--- a group with neither prefix nor suffix
+-- A group with neither prefix nor suffix.
 bare_text : (modifier : PartModifier) (piece items : Items) →
     items_text (Item (Captured (bare_core modifier piece)) (bare_quantifier modifier) items) ≡ bare_regexp modifier (items_text piece) ++ items_text items
 bare_text modifiers.None piece items = ap (λ t. t ++ items_text items) (append-nil (captured (items_text piece)))
@@ -69,7 +69,7 @@ bare_text modifiers.ZeroOrMore piece items =
 bare_text modifiers.OneOrMore piece items =
     ap (λ t. t ++ items_text items) (append-nil (captured (grouped (items_text piece) ++ codes "+" ++ [])) ∙ ap captured (append-nil (grouped (items_text piece) ++ codes "+")))
 
--- a capture between prefix and suffix
+-- A capture between prefix and suffix.
 between_text : (marks prefix : List ℕ) (core : Items) (suffix : List ℕ) → items_text (between marks prefix core suffix) ≡ escaped marks prefix ++ captured (items_text core) ++ escaped marks suffix
 between_text marks prefix core suffix =
     put_text marks prefix _
@@ -77,7 +77,7 @@ between_text marks prefix core suffix =
     ∙ ap (λ t. escaped marks prefix ++ (captured (items_text core) ++ t)) (alone_text marks suffix)
     ∙ sym (append_assoc (escaped marks prefix) (captured (items_text core)) (escaped marks suffix))
 
--- copies without the first prefix and the last suffix
+-- Copies without the first prefix and the last suffix.
 further_text : (marks prefix : List ℕ) (piece : Items) (suffix : List ℕ) →
     items_text (further marks prefix piece suffix) ≡ escaped marks suffix ++ escaped marks prefix ++ grouped (items_text piece)
 further_text marks prefix piece suffix =
@@ -94,7 +94,7 @@ copies_text marks prefix piece suffix =
     ∙ ap (λ t. grouped (items_text piece) ++ (grouped t ++ codes "*")) (further_text marks prefix piece suffix)
     ∙ sym (append_assoc (grouped (items_text piece)) (grouped (escaped marks suffix ++ escaped marks prefix ++ grouped (items_text piece))) (codes "*"))
 
--- a group with a prefix or a suffix
+-- A group with a prefix or a suffix.
 affixed_text : (modifier : PartModifier) (marks prefix : List ℕ) (piece : Items) (suffix : List ℕ) (items : Items) →
     items_text (Item (Grouped (between marks prefix (affixed_core modifier marks prefix piece suffix) suffix)) (affixed_quantifier modifier) items)
     ≡ affixed_regexp modifier (escaped marks prefix) (items_text piece) (escaped marks suffix) ++ items_text items
@@ -139,6 +139,6 @@ parts_text options (part ∷ parts) h =
     part_text_by options part.kind part.modifier part.value part.name part.prefix part.suffix (tree_of options parts) (All-head IsNotCustom part parts h)
     ∙ ap (λ t. part_regexp options part ++ t) (parts_text options parts (All-tail IsNotCustom part parts h))
 
--- the text of the tree is the regular expression of the parts
+-- The text of the tree is the regular expression of the parts.
 pub tree_text : (options : OptionsView) (parts : List PartView) → All IsNotCustom parts → regexp_text options parts ≡ codes "^" ++ items_text (tree_of options parts) ++ codes "$"
 tree_text options parts h = ap (λ t. codes "^" ++ t ++ codes "$") (sym (parts_text options parts h))

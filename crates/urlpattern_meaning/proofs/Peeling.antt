@@ -32,7 +32,7 @@ front_one parts (Some front) None middle other back end e f goes stays ends ends
 front_one parts None (Some begin) middle other back end e f stays goes ends ends_too = absurd (stays (subst BeginsPlain (sym f) goes))
 front_one parts None None middle other back end e f stays stays_too ends ends_too = back_one middle other back end ends ends_too (sym e ∙ f)
 
--- at most one middle is left
+-- At most one middle is left.
 pub middle_one : (parts : List PartView) (front begin : Option PartView) (middle other : List PartView) (back end : Option PartView) →
     ArePeeled parts front middle back → ArePeeled parts begin other end → middle ≡ other
 middle_one parts front begin middle other back end peeled peeled_too =

@@ -12,7 +12,7 @@ use Rattle.urlpattern_meaning.proofs.BraceForms.{Content, Texts, Filled, Content
 
 -- ---- one step
 
--- the beginning of a list of tokens: a piece and the tokens after it, or an ending
+-- The beginning of a list of tokens: a piece and the tokens after it, or an ending.
 data Outcome : Type 0 where
   Goes : Piece → List TokenView → Outcome
   Ends : Ending → Outcome
@@ -42,7 +42,7 @@ data Form (point : List ℕ) (tokens : List TokenView) (outcome : Outcome) : Typ
   enclosed : (opening : TokenView) (behind rest : List TokenView) (content : Content) → tokens ≡ opening ∷ behind → opening.kind ≡ Open → ¬ BeginsWithKind is_text rest → ContentForm behind rest content → Finish rest content outcome → Form point tokens outcome
   stopped : (token : TokenView) (more : List TokenView) → tokens ≡ token ∷ more → IsTrue (is_stop token.kind) → outcome ≡ Ends (Stops token) → Form point tokens outcome
 
--- the family of the first token of a form
+-- The family of the first token of a form.
 abbrev form_family : {point : List ℕ} {tokens : List TokenView} {outcome : Outcome} → Form point tokens outcome → TokenType
 form_family (alone token rest e h t s) = Char
 form_family (prefixed token behind back rest placeholder modifier e k v p m s) = Char
@@ -50,7 +50,7 @@ form_family (unprefixed back rest placeholder modifier p m s) = Name
 form_family (enclosed opening behind rest content e k none c f) = Open
 form_family (stopped token more e h s) = End
 
--- the family of the first token
+-- The family of the first token.
 form_first : (point : List ℕ) (tokens : List TokenView) (outcome : Outcome) (form : Form point tokens outcome) → first_family tokens ≡ Some (form_family form)
 form_first point tokens outcome (alone token rest e h t s) = ap first_family e ∙ ap Some (text_family token.kind h)
 form_first point tokens outcome (prefixed token behind back rest placeholder modifier e k v p m s) = ap first_family e ∙ ap Some (family_of token.kind Char k)
@@ -61,7 +61,7 @@ form_first point tokens outcome (stopped token more e h s) = ap first_family e �
 one_family : (point : List ℕ) (tokens : List TokenView) (x y : Outcome) (f : Form point tokens x) (g : Form point tokens y) → form_family f ≡ form_family g
 one_family point tokens x y f g = cc (form_first point tokens x f, form_first point tokens y g)
 
--- a Char that is the prefix code point is not alone before a placeholder
+-- A Char that is the prefix code point is not alone before a placeholder.
 not_alone : (point : List ℕ) (token other : TokenView) (rest behind back : List TokenView) (p : Placeholder) → OneList token other rest behind → TakesPrefix point token rest → other.kind ≡ Char → other.value ≡ point → PlaceholderForm behind back p → ⊥
 not_alone point token other rest behind back p one h k v f =
     h (ap (λ (z : TokenView). z.kind) one.first ∙ k) (ap (λ (z : TokenView). z.value) one.first ∙ v)
@@ -94,7 +94,7 @@ form_one point tokens x y f g = absurd (cc (one_family point tokens x y f g))
 
 -- ---- pieces and endings
 
--- a prefix or none, and a placeholder
+-- A prefix or none, and a placeholder.
 prefix_form : (point prefix : List ℕ) (front behind back rest : List TokenView) (placeholder : Placeholder) (modifier : PartModifier) → IsPrefixOf point front prefix → PlaceholderForm behind back placeholder → ModifierForm back rest modifier → Form point (front ++ behind) (Goes (pieces.Bare prefix placeholder modifier) rest)
 prefix_form point prefix front behind back rest placeholder modifier (inl h) p m =
     unprefixed back rest placeholder modifier (subst (λ z. PlaceholderForm (z ++ behind) back placeholder) (sym (h.0)) p) m
@@ -105,7 +105,7 @@ prefix_form point prefix (a ∷ []) behind back rest placeholder modifier (inr h
     (ap (λ z. Goes (pieces.Bare z placeholder modifier) rest) (h.2))
 prefix_form point prefix (a ∷ b ∷ more) behind back rest placeholder modifier (inr h) p m = absurd (cc (h.0))
 
--- braces round their content
+-- Braces round their content.
 group_form : (point : List ℕ) (tokens inner rest : List TokenView) (content : Content) (modifier : PartModifier) (braces : IsBraced tokens inner modifier rest) → ContentForm (inner ++ braces.closing ∷ (braces.back ++ rest)) (braces.closing ∷ (braces.back ++ rest)) content → Form point (tokens ++ rest) (Goes (group_of content modifier) rest)
 group_form point tokens inner rest content modifier b f =
     enclosed b.opening (inner ++ b.closing ∷ (b.back ++ rest)) (b.closing ∷ (b.back ++ rest)) content
@@ -140,7 +140,7 @@ ending_form point tokens (LacksClose found) h = elim (h.5.1) [
     with_content : (content : Content) → ContentForm (h.1 ++ found ∷ h.2) (found ∷ h.2) content → Form point tokens (Ends (LacksClose found))
     with_content content c = enclosed (h.0) (h.1 ++ found ∷ h.2) (found ∷ h.2) content (h.3) (h.4) (h.5.0) c (lacks found (h.2) refl (h.6) refl)
 
--- tokens have at most one list of pieces, with one ending
+-- Tokens have at most one list of pieces, with one ending.
 pub pieces_one : (point : List ℕ) (tokens : List TokenView) (pieces others : List Piece) (ending other : Ending) → ArePieces point tokens pieces ending → ArePieces point tokens others other → (pieces ≡ others) × (ending ≡ other)
 pieces_one point tokens [] [] ending other h g =
     let e = form_one point tokens (Ends ending) (Ends other) (ending_form point tokens ending h) (ending_form point tokens other g) in

@@ -11,24 +11,24 @@ use Rattle.urlpattern_syntax.specs.Tokens.{TokenView}
 
 -- ---- lists and kinds
 
--- the first elements are equal, and so are the rests
+-- The first elements are equal, and so are the rests.
 pub record OneList (a b : TokenView) (x y : List TokenView) : Type 0 where
   pub first : a ≡ b
   pub others : x ≡ y
 
--- the first element and the rest of a list are determined
+-- The first element and the rest of a list are determined.
 pub cons_one : {tokens : List TokenView} {a b : TokenView} {x y : List TokenView} → tokens ≡ a ∷ x → tokens ≡ b ∷ y → OneList a b x y
 cons_one e f = record { first = cc (e, f); others = cc (e, f) }
 
--- the kind of a list's first element
+-- The kind of a list's first element.
 kinds_one : {tokens : List TokenView} {a b : TokenView} {x y : List TokenView} {k l : TokenType} → tokens ≡ a ∷ x → tokens ≡ b ∷ y → a.kind ≡ k → b.kind ≡ l → k ≡ l
 kinds_one e f g h = sym g ∙ ap (λ (token : TokenView). token.kind) (cons_one e f).first ∙ h
 
--- a test of a kind that is known
+-- A test of a kind that is known.
 tested : (test : TokenType → Bool) (kind known : TokenType) → kind ≡ known → IsTrue (test known) → IsTrue (test kind)
 tested test kind known e h = subst (λ k. IsTrue (test k)) (sym e) h
 
--- a representative of the kinds with which the same pieces begin
+-- A representative of the kinds with which the same pieces begin.
 abbrev pub family : TokenType → TokenType
 family Open = Open
 family kind = if is_text kind then Char else if is_placeholder kind then Name else End
@@ -58,16 +58,16 @@ stop_family OtherModifier h = refl
 stop_family InvalidChar h = refl
 stop_family other h = absurd (false≢true h)
 
--- the family of tokens that begin with a kind
+-- The family of tokens that begin with a kind.
 pub begins_family : (test : TokenType → Bool) (known : TokenType) → ((kind : TokenType) → IsTrue (test kind) → family kind ≡ known) → (tokens : List TokenView) → BeginsWithKind test tokens → first_family tokens ≡ Some known
 begins_family test known h [] g = absurd g
 begins_family test known h (token ∷ tokens) g = ap Some (h token.kind g)
 
--- tokens that begin with a placeholder do not begin with a text
+-- Tokens that begin with a placeholder do not begin with a text.
 pub no_text : (tokens : List TokenView) → BeginsWithKind is_placeholder tokens → ¬ BeginsWithKind is_text tokens
 no_text tokens h g = absurd (cc (begins_family is_placeholder Name placeholder_family tokens h, begins_family is_text Char text_family tokens g))
 
--- a test of the first token
+-- A test of the first token.
 pub begins : (test : TokenType → Bool) (tokens rest : List TokenView) (token : TokenView) → tokens ≡ token ∷ rest → IsTrue (test token.kind) → BeginsWithKind test tokens
 begins test tokens rest token e h = subst (BeginsWithKind test) (sym e) h
 
@@ -83,7 +83,7 @@ pub data PlaceholderForm (tokens behind : List TokenView) (placeholder : Placeho
   unnamed : (body : TokenView) → tokens ≡ body ∷ behind → body.kind ≡ Regexp → placeholder ≡ placeholder_of None (matched.Custom body.value) → PlaceholderForm tokens behind placeholder
   anything : (asterisk : TokenView) → tokens ≡ asterisk ∷ behind → asterisk.kind ≡ Asterisk → placeholder ≡ placeholder_of None matched.Anything → PlaceholderForm tokens behind placeholder
 
--- a placeholder, as its tokens determine it
+-- A placeholder, as its tokens determine it.
 pub placeholder_form : (middle behind : List TokenView) (name : Option (List ℕ)) (what : Matched) → IsPlaceholderOf middle name what → TakesRegexp what behind → PlaceholderForm (middle ++ behind) behind (placeholder_of name what)
 placeholder_form [] behind (Some name) matched.Segment h t = absurd (cc (h.0))
 placeholder_form [] behind (Some name) (matched.Custom body) h t = absurd (cc (h.0))
@@ -104,7 +104,7 @@ placeholder_form (a ∷ b ∷ more) behind None matched.Anything h t = absurd (c
 placeholder_form middle behind (Some name) matched.Anything h t = absurd h
 placeholder_form middle behind None matched.Segment h t = absurd h
 
--- the rests are equal, and so are the placeholders
+-- The rests are equal, and so are the placeholders.
 pub record OnePlaceholder (behind other : List TokenView) (p q : Placeholder) : Type 0 where
   pub rest : behind ≡ other
   pub placeholder : p ≡ q
@@ -139,7 +139,7 @@ placeholder_one tokens behind other p q (anything a e k s) (segment b f l none t
 placeholder_one tokens behind other p q (anything a e k s) (custom b c f l h t) = absurd (cc (kinds_one e f k l))
 placeholder_one tokens behind other p q (anything a e k s) (unnamed b f l t) = absurd (cc (kinds_one e f k l))
 
--- the tokens begin with a placeholder's kind
+-- The tokens begin with a placeholder's kind.
 pub form_begins : (tokens behind : List TokenView) (p : Placeholder) → PlaceholderForm tokens behind p → BeginsWithKind is_placeholder tokens
 form_begins tokens behind p (segment a e k none s) = begins is_placeholder tokens behind a e (tested is_placeholder a.kind Name k refl)
 form_begins tokens behind p (custom a b e k l s) = begins is_placeholder tokens (b ∷ behind) a e (tested is_placeholder a.kind Name k refl)
@@ -148,7 +148,7 @@ form_begins tokens behind p (anything a e k s) = begins is_placeholder tokens be
 
 -- ---- modifiers
 
--- the token is this modifier
+-- The token is this modifier.
 abbrev pub Marks : TokenView → PartModifier → Type 0
 Marks token modifiers.None = ⊥
 Marks token modifiers.Optional = (token.kind ≡ OtherModifier) × (token.value ≡ codes "?")
@@ -160,7 +160,7 @@ pub data ModifierForm (tokens rest : List TokenView) (modifier : PartModifier) :
   unmarked : tokens ≡ rest → ¬ BeginsWithKind is_modifier rest → modifier ≡ modifiers.None → ModifierForm tokens rest modifier
   marked : (token : TokenView) → tokens ≡ token ∷ rest → Marks token modifier → ModifierForm tokens rest modifier
 
--- a modifier, as its token determines it
+-- A modifier, as its token determines it.
 pub modifier_form : (back rest : List TokenView) (modifier : PartModifier) → IsModifier back modifier → TakesModifier modifier rest → ModifierForm (back ++ rest) rest modifier
 modifier_form back rest modifiers.None h t = unmarked (ap (λ x. x ++ rest) h) t refl
 modifier_form [] rest modifiers.Optional h t = absurd (cc (h.0))
@@ -195,7 +195,7 @@ marks_one token modifiers.OneOrMore modifiers.ZeroOrMore h g = absurd (cc (h.0, 
 marks_one token modifiers.ZeroOrMore modifiers.Optional h g = absurd (cc (h, g.0))
 marks_one token modifiers.ZeroOrMore modifiers.OneOrMore h g = absurd (cc (h, g.0))
 
--- the rests are equal, and so are the modifiers
+-- The rests are equal, and so are the modifiers.
 pub record OneModifier (x y : List TokenView) (m n : PartModifier) : Type 0 where
   pub rest : x ≡ y
   pub modifier : m ≡ n

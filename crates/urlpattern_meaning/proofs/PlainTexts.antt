@@ -17,11 +17,11 @@ use Rattle.urlpattern_syntax.specs.Text.{BeginsAt, byte_len, is_among}
 use Rattle.urlpattern_syntax.specs.Tokens.{AreTokens, IsCut, IsTokenOf, TokenView, end_of, is_ignored, marks}
 use Rattle.urlpattern_syntax.specs.declared.tokenizer.TokenType.TheVariants.{Char}
 
--- an ASCII character that is neither a mark nor skipped
+-- An ASCII character that is neither a mark nor skipped.
 abbrev pub is_plain_character : ℕ → Bool
 is_plain_character c = ltb c 128 && (not (is_among marks c) && not (is_ignored c))
 
--- a token for each character, from an index on
+-- A token for each character, from an index on.
 abbrev pub letters : ℕ → List ℕ → List TokenView
 letters index [] = []
 letters index (c ∷ text) = token Char index (c ∷ []) ∷ letters (index + 1) text
@@ -35,7 +35,7 @@ one_byte c ascii = ap length (encodes-IsAscii (c ∷ []) (IsAscii-cons c [] asci
 next_place : (whole rest : List ℕ) (c index : ℕ) → c < 128 → BeginsAt whole (c ∷ rest) index → BeginsAt whole rest (index + 1)
 next_place whole rest c index ascii place = omega (arith, byte_len-append (c ∷ []) rest, one_byte c ascii)
 
--- plain characters before a cut
+-- Plain characters before a cut.
 pub plain_cut : (Item : List ℕ → TokenView → List ℕ → Type 0) (whole : List ℕ) → ((text rest : List ℕ) (one : TokenView) → IsTokenOf whole text one rest → Item text one rest) →
     (text rest left : List ℕ) (index : ℕ) (tokens : List TokenView) → IsTrue (list_all is_plain_character text) → BeginsAt whole (text ++ rest) index →
     IsCut Item rest tokens left → IsCut Item (text ++ rest) (letters index text ++ tokens) left
@@ -57,7 +57,7 @@ abbrev pub plain_pieces : List ℕ → List Piece
 plain_pieces [] = []
 plain_pieces (c ∷ text) = Text (c ∷ []) ∷ plain_pieces text
 
--- no placeholder follows
+-- No placeholder follows.
 before_none : (index : ℕ) (text : List ℕ) (tokens : List TokenView) → ¬ BeginsWithKind is_placeholder tokens → ¬ BeginsWithKind is_placeholder (letters index text ++ tokens)
 before_none index [] tokens other = other
 before_none index (c ∷ text) tokens other = no
@@ -75,7 +75,7 @@ plain_pieces_are point (c ∷ text) index tokens pieces ending other are = (
 
 -- ---- the parts of a text that is read
 
--- the parts of a text that is read are those of its pieces
+-- The parts of a text that is read are those of its pieces.
 pub parts_of : {text : List ℕ} {options : OptionsView} {encoding : Encoding} {parts : List PartView} (tokens : List TokenView) (pieces : List Piece) (found : TokenView) →
     AreTokens text tokens → ArePieces options.prefix tokens pieces (Stops found) → Reads text options encoding parts → AreParts options encoding (items_of pieces) parts
 parts_of {text} {options} {encoding} {parts} tokens pieces found are_tokens are_pieces reads =
@@ -83,7 +83,7 @@ parts_of {text} {options} {encoding} {parts} tokens pieces found are_tokens are_
     (text_pieces_one text options.prefix reads.tokens tokens reads.pieces pieces (Stops reads.found) (Stops found) reads.are_tokens are_tokens reads.are_pieces are_pieces).0
     reads.are_parts
 
--- a whole text of plain characters
+-- A whole text of plain characters.
 pub plain_tokens : (text : List ℕ) → IsTrue (list_all is_plain_character text) → AreTokens text (letters 0 text ++ end_of text ∷ [])
 plain_tokens text plain =
     let nothing_left : IsCut (IsTokenOf text) (text ++ []) (letters 0 text ++ []) [] = plain_cut (IsTokenOf text) text (λ start rest one is. is) text [] [] 0 [] plain (rw append-nil (omega arith)) none in

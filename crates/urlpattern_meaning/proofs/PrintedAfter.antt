@@ -21,7 +21,7 @@ pub record Behind (options : OptionsView) (before : PartView) (next : Option Par
   pub no_regexp : IsTrue (is_name_alone before) → IsTrue (is_unmodified before.modifier) → takes_next before next ≡ false → ¬ BeginsWithKind is_regexp tokens
   pub no_name_part : IsTrue (is_name_alone before) → IsTrue (is_unmodified before.modifier) → takes_next before next ≡ false → ¬ BeginsWith is_name_part text
 
--- the text after a part, if there is one, takes nothing from the part
+-- The text after a part, if there is one, takes nothing from the part.
 abbrev pub AfterAny : OptionsView → (before next : Option PartView) → List ℕ → List TokenView → Type 0
 AfterAny options None next text tokens = Unit {0}
 AfterAny options (Some before) next text tokens = Behind options before next text tokens
@@ -71,11 +71,11 @@ third true true c e f h = h
 third true false c e f h = absurd (false≢true f)
 third false b c e f h = absurd (false≢true e)
 
--- the next part does not go on with a name alone before it, where the name does not take it
+-- The next part does not go on with a name alone before it, where the name does not take it.
 pub goes_not : (before next : PartView) → IsTrue (is_name_alone before) → IsTrue (is_unmodified before.modifier) → takes_next before (Some next) ≡ false → goes_on next ≡ false
 goes_not before next alone plain h = third (is_name_alone before) (is_unmodified before.modifier) (goes_on next) alone plain h
 
--- a part without prefix and suffix goes on exactly where its value or its name does
+-- A part without prefix and suffix goes on exactly where its value or its name does.
 pub goes_by : (prefix suffix : List ℕ) (last : Bool) → prefix ≡ [] → suffix ≡ [] → (is_empty prefix && is_empty suffix && last) ≡ last
 goes_by [] [] last e f = refl
 goes_by [] (c ∷ suffix) last e f = absurd (cc f)

@@ -36,21 +36,21 @@ modifier_is total modifiers.Optional rest = (refl, refl)
 modifier_is total modifiers.ZeroOrMore rest = refl
 modifier_is total modifiers.OneOrMore rest = (refl, refl)
 
--- without a modifier, no modifier follows
+-- Without a modifier, no modifier follows.
 pub modifier_takes : (modifier : PartModifier) (behind : List TokenView) → (IsTrue (is_unmodified modifier) → ¬ BeginsWithKind is_modifier behind) → TakesModifier modifier behind
 modifier_takes modifiers.None behind free = free refl
 modifier_takes modifiers.Optional behind free = tt
 modifier_takes modifiers.ZeroOrMore behind free = tt
 modifier_takes modifiers.OneOrMore behind free = tt
 
--- a modifier ends a name
+-- A modifier ends a name.
 pub modifier_ends : (modifier : PartModifier) (rest : List ℕ) → (IsTrue (is_unmodified modifier) → ¬ BeginsWith is_name_part rest) → ¬ BeginsWith is_name_part (modifier_text modifier ++ rest)
 modifier_ends modifiers.None rest free = free refl
 modifier_ends modifiers.Optional rest free = mark_ends (codes "?") refl
 modifier_ends modifiers.ZeroOrMore rest free = mark_ends (codes "*") refl
 modifier_ends modifiers.OneOrMore rest free = mark_ends (codes "+") refl
 
--- a modifier is not a Regexp
+-- A modifier is not a Regexp.
 pub modifier_regexp : (total : ℕ) (modifier : PartModifier) (rest : List ℕ) (behind : List TokenView) → (IsTrue (is_unmodified modifier) → ¬ BeginsWithKind is_regexp behind) → ¬ BeginsWithKind is_regexp (modifier_tokens total modifier rest ++ behind)
 modifier_regexp total modifiers.None rest behind free = free refl
 modifier_regexp total modifiers.Optional rest behind free = no
@@ -59,7 +59,7 @@ modifier_regexp total modifiers.OneOrMore rest behind free = no
 
 -- ---- braces
 
--- the closing brace of a group, its modifier, and the rest
+-- The closing brace of a group, its modifier, and the rest.
 abbrev pub closing_text : PartModifier → (rest : List ℕ) → List ℕ
 closing_text modifier rest = codes "}" ++ (modifier_text modifier ++ rest)
 
@@ -98,20 +98,20 @@ one_ends : (c : ℕ) (rest : List ℕ) (mark : Bool) → is_name_part c ≡ fals
 one_ends c rest true e = mark_ends (codes "\\") refl
 one_ends c rest false e = both_ways (is_name_part c) e
 
--- an escaped text that does not begin with a name character ends a name
+-- An escaped text that does not begin with a name character ends a name.
 pub text_ends : (text rest : List ℕ) → begins_with is_name_part text ≡ false → (text ≡ [] → ¬ BeginsWith is_name_part rest) → ¬ BeginsWith is_name_part (escaped_pattern text ++ rest)
 text_ends [] rest e free = subst (λ t. ¬ BeginsWith is_name_part t) (sym (escaped_none rest)) (free refl)
 text_ends (c ∷ text) rest e free =
     subst (λ t. ¬ BeginsWith is_name_part t) (sym (escaped_first c text rest)) (one_ends c (escaped_pattern text ++ rest) (is_among pattern_marks c) e)
 
--- texts before a token that is not a Regexp do not begin with a Regexp
+-- Texts before a token that is not a Regexp do not begin with a Regexp.
 pub texts_no_regexp : (tokens : List TokenView) (text : List ℕ) (last : TokenView) → AreTexts tokens text → ¬ IsTrue (is_regexp last.kind) → ¬ BeginsWithKind is_regexp (tokens ++ last ∷ [])
 texts_no_regexp [] text last are free = free
 texts_no_regexp (token ∷ tokens) text last are free = text_no_regexp token.kind (and_parts (is_text token.kind) (list_all (λ (t : TokenView). is_text t.kind) tokens) are.0).0
 
 -- ---- suffixes
 
--- a suffix, with a backslash where one separates the suffix from a name before it
+-- A suffix, with a backslash where one separates the suffix from a name before it.
 abbrev pub suffix_text : (kept : Bool) → List ℕ → List ℕ
 suffix_text kept suffix = (if kept then codes "\\" else []) ++ escaped_pattern suffix
 
@@ -143,7 +143,7 @@ suffix_tokens total true (c ∷ suffix) rest part h =
       are_texts = (more.0, ap (λ t. c ∷ t) more.1);
     }
 
--- a suffix with its backslash ends a name alone before it
+-- A suffix with its backslash ends a name alone before it.
 pub suffix_ends : (kept : Bool) (suffix rest : List ℕ) → begins_with is_name_part suffix ≡ kept → ¬ BeginsWith is_name_part rest → ¬ BeginsWith is_name_part (suffix_text kept suffix ++ rest)
 suffix_ends true suffix rest e free = mark_ends (codes "\\") refl
 suffix_ends false suffix rest e free = text_ends suffix rest e (λ f. free)

@@ -20,7 +20,7 @@ use Rattle.urlpattern_meaning.proofs.PrintedGroups.{GroupPiece, IsGroup, group_b
 use Rattle.urlpattern_meaning.proofs.PrintedTokens.{Run, run_joined}
 use Rattle.urlpattern_meaning.proofs.RoundTripWords.{IsItemOf}
 
--- a group is the item of its part
+-- A group is the item of its part.
 capture_item : (options : OptionsView) (kind : PartType) (part : PartView) (match : Matched) → is_fixed_text kind ≡ false → kind_of options (compared options match) ≡ part.kind → value_of part.kind (compared options match) ≡ part.value →
     IsItemOf options kind part (Capture part.prefix part.name match part.suffix part.modifier)
 capture_item options FixedText part match group k v = absurd (false≢true (sym group))
@@ -28,7 +28,7 @@ capture_item options Regexp part match group k v = (match, refl, k, v)
 capture_item options SegmentWildcard part match group k v = (match, refl, k, v)
 capture_item options FullWildcard part match group k v = (match, refl, k, v)
 
--- a group is printed with braces or without
+-- A group is printed with braces or without.
 group_printed : (options : OptionsView) (before : Option PartView) (part : PartView) (next : Option PartView) (braces : Bool) → is_fixed_text part.kind ≡ false → needs_braces options before part next ≡ braces →
     printed_part options before part next ≡ printed_group options before part braces
 unfolding printed_part
@@ -46,18 +46,18 @@ filled_text (c ∷ text) h = refl
 
 -- ---- beginnings of groups
 
--- after a group without modifier no asterisk is printed
+-- After a group without modifier no asterisk is printed.
 admits_none : (before : PartView) → is_fixed_text before.kind ≡ false → IsTrue (is_unmodified before.modifier) → admits_asterisk (Some before) ≡ false
 admits_none before group plain = ap (λ b. b || not (is_unmodified before.modifier)) group ∙ ap not plain
 
--- a fixed text that ends with the prefix code point would lose it to a group without braces and
--- prefix
+-- A fixed text that ends with the prefix code point would lose it to a group without braces and
+-- prefix.
 before_taken : (options : OptionsView) (before part : PartView) → part.prefix ≡ [] → IsTrue (is_fixed_text before.kind) → before.value ≢ [] → last_of before.value ≡ options.prefix → takes_before options (Some before) part ≡ true
 before_taken options before part e fixed filled f =
     and_from _ _ (and_from _ _ (and_from _ _ (ap is_empty e) fixed) (filled_text before.value filled)) ((bytes_eq-Decides (last_of before.value) options.prefix).1 f)
 
--- a group that does not go on with a name alone, without prefix and suffix, has a name that the
--- pattern gives
+-- A group that does not go on with a name alone, without prefix and suffix, has a name that the
+-- pattern gives.
 own_name : (part : PartView) → is_fixed_text part.kind ≡ false → part.prefix ≡ [] → part.suffix ≡ [] → goes_on part ≡ false → IsTrue (has_custom_name part)
 own_name part group e f h =
     not-false (has_custom_name part)

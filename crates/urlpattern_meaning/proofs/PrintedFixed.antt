@@ -26,12 +26,12 @@ use Rattle.urlpattern_meaning.proofs.RoundTripWords.{AreApart, AreItemsOf, IsIte
 
 -- ---- items
 
--- a fixed text is the item of its part
+-- A fixed text is the item of its part.
 fixed_item : (options : OptionsView) (kind : PartType) (part : PartView) → kind ≡ FixedText → IsItemOf options kind part (Fixed part.value part.modifier)
 fixed_item options FixedText part e = refl
 fixed_item options kind part e = absurd (cc e)
 
--- a text before the item of a part that is no plain fixed text
+-- A text before the item of a part that is no plain fixed text.
 text_before : (options : OptionsView) (kind : PartType) (part : PartView) (c : ℕ) (text : List ℕ) (first : Item) (items : List Item) → (is_fixed_text kind && is_unmodified part.modifier) ≡ false → IsItemOf options kind part first →
     with_text (c ∷ text) (first ∷ items) ≡ Fixed (c ∷ text) modifiers.None ∷ first ∷ items
 text_before options FixedText part c text first items plain is =
@@ -49,7 +49,7 @@ text_before options SegmentWildcard part c text first items plain is =
 text_before options FullWildcard part c text first items plain is =
     ap (λ x. with_text (c ∷ text) (x ∷ items)) is.1 ∙ ap (λ x. Fixed (c ∷ text) modifiers.None ∷ x ∷ items) (sym is.1)
 
--- a text before the items of parts that begin with no plain fixed text
+-- A text before the items of parts that begin with no plain fixed text.
 text_apart : (options : OptionsView) (part : PartView) (parts : List PartView) (text : List ℕ) (items : List Item) → IsTrue (is_plain part) → text ≢ [] → AreApart (part ∷ parts) → AreItemsOf options parts items →
     with_text text items ≡ Fixed text modifiers.None ∷ items
 text_apart options part parts [] items plain filled apart are = absurd (filled refl)
@@ -89,11 +89,11 @@ module _ (options : OptionsView) (whole : List ℕ) (before : Option PartView) (
   abbrev total : ℕ
   total = byte_len whole
 
-  -- the text after the part
+  -- The text after the part.
   abbrev rest : List ℕ
   rest = printed_after options (Some part) parts
 
-  -- a fixed text that is printed as this text, with its tokens and pieces before the others
+  -- A fixed text that is printed as this text, with its tokens and pieces before the others.
   step_fixed : (text : List ℕ) (first : List TokenView) (own : List Piece) → IsTrue (is_fixed_text part.kind) → text ≡ printed_part options before part (first_part parts) → (more : ReadsBack options whole (Some part) number parts) →
       Run total [] (text ++ rest) (first ++ more.tokens) → ArePieces options.prefix ((first ++ more.tokens) ++ end_of whole ∷ []) (own ++ more.pieces) (endings.Stops (end_of whole)) →
       joined_items (items_from number (own ++ more.pieces)) ≡ Fixed part.value part.modifier ∷ joined_items (items_from number more.pieces) →

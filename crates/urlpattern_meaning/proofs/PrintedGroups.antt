@@ -43,7 +43,7 @@ pub record GroupPiece (options : OptionsView) (total number : ℕ) (before : Opt
   pub no_regexp : (part.prefix ≡ [] → braces ≡ false → IsTrue (has_custom_name part)) → ¬ BeginsWithKind is_regexp (tokens ++ behind)
   pub no_name_part : (part.prefix ≡ [] → braces ≡ false → IsTrue (has_custom_name part)) → ¬ BeginsWith is_name_part (printed_group options before part braces ++ rest)
 
--- no asterisk follows a name
+-- No asterisk follows a name.
 unnamed_asterisk : (custom other : Bool) → IsTrue custom → (not custom && other) ≡ false
 unnamed_asterisk true other h = refl
 unnamed_asterisk false other h = absurd (no h)
@@ -126,12 +126,12 @@ group_braced options total number before part rest behind is free = record {
 
 -- ---- without braces
 
--- the prefix code point is a Char
+-- The prefix code point is a Char.
 point_kind : (c : ℕ) (mark : Bool) → is_among pattern_marks c ≡ mark → ¬ IsTrue (is_among pattern_marks c) → kind_by mark ≡ Char
 point_kind c true e h = absurd (h e)
 point_kind c false e h = refl
 
--- a prefix that needs no braces is empty, or the prefix code point
+-- A prefix that needs no braces is empty, or the prefix code point.
 prefix_point : (point prefix : List ℕ) → (not (is_empty prefix) && not (bytes_eq prefix point)) ≡ false → prefix ≢ [] → prefix ≡ point
 prefix_point point [] h filled = absurd (filled refl)
 prefix_point point (c ∷ prefix) h filled = (bytes_eq-Decides (c ∷ prefix) point).0 (not-false (bytes_eq (c ∷ prefix) point) h)
@@ -142,13 +142,13 @@ bare_prefix point total (c ∷ []) rest e is =
     inr (ap (λ kind. kind ∷ []) (point_kind c (is_among pattern_marks c) refl (is (λ f. cc f)).0), refl, e (λ f. cc f))
 bare_prefix point total (c ∷ d ∷ prefix) rest e is = absurd (is (λ f. cc f))
 
--- the prefix code point ends a name
+-- The prefix code point ends a name.
 point_ends : (prefix rest : List ℕ) → (prefix ≢ [] → IsPrefixPoint prefix) → (prefix ≡ [] → ¬ BeginsWith is_name_part rest) → ¬ BeginsWith is_name_part (escaped_pattern prefix ++ rest)
 point_ends [] rest is free = text_ends [] rest refl free
 point_ends (c ∷ []) rest is free = text_ends (c ∷ []) rest (false_from_ne_true (is_name_part c) (is (λ f. cc f)).1) (λ f. absurd (cc f))
 point_ends (c ∷ d ∷ prefix) rest is free = absurd (is (λ f. cc f))
 
--- an empty suffix is printed as nothing
+-- An empty suffix is printed as nothing.
 no_suffix : (alone : Bool) → suffix_text (alone && false) [] ≡ []
 unfolding escaped
 no_suffix true = refl
@@ -162,7 +162,7 @@ bare_text : (a b c d m rest : List ℕ) → d ≡ [] → a ++ (b ++ (c ++ (m ++ 
 bare_text a b c [] m rest e = simp append_assoc
 bare_text a b c (x ∷ d) m rest e = absurd (cc e)
 
--- the text of a group with a name that the pattern gives begins with a colon
+-- The text of a group with a name that the pattern gives begins with a colon.
 colon_ends : (custom : Bool) (name rest : List ℕ) → IsTrue custom → ¬ BeginsWith is_name_part ((if custom then codes ":" ++ name else []) ++ rest)
 colon_ends true name rest h = mark_ends (codes ":") refl
 colon_ends false name rest h = absurd (no h)
@@ -170,7 +170,7 @@ colon_ends false name rest h = absurd (no h)
 three_lists : (a b c d : List TokenView) → (a ++ b ++ c) ++ d ≡ a ++ (b ++ (c ++ d))
 three_lists a b c d = simp append_assoc
 
--- an asterisk without braces and without a prefix follows a part that admits one
+-- An asterisk without braces and without a prefix follows a part that admits one.
 no_asterisk : (custom admits : Bool) (prefix : List ℕ) → prefix ≡ [] → admits ≡ false → (not custom && (admits || false || not (is_empty prefix))) ≡ false
 no_asterisk true admits prefix e f = refl
 no_asterisk false true prefix e f = absurd (false≢true (sym f))

@@ -71,7 +71,7 @@ reads_back options whole before number (part ∷ parts) point fields named fille
       more = reads_back options whole (Some part) (following_number number part.kind part) parts point fields.1 named.1 filled.1 unskipped.1 (apart_rest part parts apart);
     })
 
--- parts that are apart print as a text whose tokens and pieces spell the parts, one by one
+-- Parts that are apart print as a text whose tokens and pieces spell the parts, one by one.
 pub prints_its_parts : (options : OptionsView) (parts : List PartView) → IsPrefixPoint options.prefix → ArePatternParts options parts → HaveTexts parts → AreUnskipped parts → AreApart parts → PrintsItsParts options parts
 prints_its_parts options parts point are filled unskipped apart =
     let read = reads_back options (printed options parts) None 0 parts point are.fields are.names filled unskipped apart in

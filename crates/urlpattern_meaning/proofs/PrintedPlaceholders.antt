@@ -40,7 +40,7 @@ full_other syntax (Some c) e = false≢true (sym (ap (λ t. bytes_eq t full_wild
 
 -- ---- the placeholder of a part
 
--- a name that the pattern gives
+-- A name that the pattern gives.
 abbrev pub name_by : (custom : Bool) → List ℕ → Option (List ℕ)
 name_by custom name = if custom then Some name else None
 
@@ -60,7 +60,7 @@ digited_or : (digited : Bool) → digited ≡ true → not digited ≡ true → 
 digited_or true e f = no f
 digited_or false e f = no e
 
--- a group's name is one that the pattern gives, or a number
+-- A group's name is one that the pattern gives, or a number.
 name_given : (number : ℕ) (kind : PartType) (name : List ℕ) → is_fixed_text kind ≡ false → IsNamed number kind name → not (begins_with is_ascii_digit name) ≡ true → IsName name
 name_given number FixedText name group h e = absurd (false≢true (sym group))
 name_given number Regexp name group (inl h) e = h
@@ -141,7 +141,7 @@ placed_name total name rest is ends = record {
   is_placeholder = (refl, refl);
 }
 
--- an opening bracket ends a name
+-- An opening bracket ends a name.
 bracket_no_part : ¬ IsTrue (is_name_part 40)
 bracket_no_part = mark_ends (codes "(") refl
 
@@ -166,7 +166,7 @@ placed_asterisk total rest = record {
   is_placeholder = refl;
 }
 
--- the text of a name and of a regular expression, by whether the pattern gives the name
+-- The text of a name and of a regular expression, by whether the pattern gives the name.
 abbrev name_text : (custom : Bool) → List ℕ → List ℕ
 name_text custom name = if custom then codes ":" ++ name else []
 
@@ -205,8 +205,8 @@ placed_by options total number kind part true false rest e none group h named en
     placed_named options total kind part rest group h (name_given number kind part.name group named e) (λ segment. ends (and_from _ _ segment refl))
 placed_by options total number kind part false asterisk rest e none group h named ends = placed_numbered options total kind part asterisk rest group h (both_ways (has_custom_name part) e)
 
--- the tokens of a part's name and of its regular expression, where no asterisk follows a name and
--- the rest does not go on with a name alone
+-- The tokens of a part's name and of its regular expression, where no asterisk follows a name and
+-- the rest does not go on with a name alone.
 pub placed_part : (options : OptionsView) (total number : ℕ) (kind : PartType) (part : PartView) (asterisk : Bool) (rest : List ℕ) → (IsTrue (has_custom_name part) → asterisk ≡ false) →
     is_fixed_text kind ≡ false → HasFields options kind part → IsNamed number kind part.name → (IsTrue (is_segment kind && has_custom_name part) → ¬ BeginsWith is_name_part rest) →
     Placed total (printed_name part ++ (printed_match options kind part asterisk ++ rest)) rest (placeholder_of options kind part asterisk)
@@ -219,7 +219,7 @@ placed_part options total number kind part asterisk rest none group h named ends
 first_kind : (token : TokenView) (first : List TokenView) (kind : TokenType) (more : List TokenType) → kinds (token ∷ first) ≡ kind ∷ more → token.kind ≡ kind
 first_kind token first kind more e = cc e
 
--- a placeholder with a name does not begin with a Regexp
+-- A placeholder with a name does not begin with a Regexp.
 pub named_no_regexp : (first behind : List TokenView) (name : List ℕ) (what : Matched) → IsPlaceholderOf first (Some name) what → ¬ BeginsWithKind is_regexp (first ++ behind)
 named_no_regexp [] behind name matched.Segment is b = cc (is.0)
 named_no_regexp [] behind name (matched.Custom body) is b = cc (is.0)
@@ -228,7 +228,7 @@ named_no_regexp (token ∷ first) behind name matched.Segment is b = no (subst (
 named_no_regexp (token ∷ first) behind name (matched.Custom body) is b = no (subst (λ k. IsTrue (is_regexp k)) (first_kind token first tokens.Name (tokens.Regexp ∷ []) is.0) b)
 named_no_regexp (token ∷ first) behind name matched.Anything is b = is
 
--- a placeholder that is not an asterisk begins with no modifier
+-- A placeholder that is not an asterisk begins with no modifier.
 pub placed_no_modifier : (first behind : List TokenView) (name : Option (List ℕ)) (what : Matched) → IsPlaceholderOf first name what → what ≢ matched.Anything → ¬ BeginsWithKind is_modifier (first ++ behind)
 placed_no_modifier first behind name matched.Anything is other b = other refl
 placed_no_modifier first behind None matched.Segment is other b = is
@@ -248,12 +248,12 @@ takes_by options SegmentWildcard value false asterisk behind group free = tt
 takes_by options FullWildcard value custom true behind group free = tt
 takes_by options FullWildcard value custom false behind group free = tt
 
--- a name alone takes a Regexp, and no other placeholder does
+-- A name alone takes a Regexp, and no other placeholder does.
 pub takes_regexp : (options : OptionsView) (kind : PartType) (part : PartView) (asterisk : Bool) (behind : List TokenView) → is_fixed_text kind ≡ false → (IsTrue (is_segment kind && has_custom_name part) → ¬ BeginsWithKind is_regexp behind) →
     TakesRegexp (placeholder_of options kind part asterisk).matched behind
 takes_regexp options kind part asterisk behind group free = takes_by options kind part.value (has_custom_name part) asterisk behind group free
 
--- a placeholder without an asterisk is not `Anything`
+-- A placeholder without an asterisk is not `Anything`.
 pub not_anything : (options : OptionsView) (kind : PartType) (part : PartView) (asterisk : Bool) → asterisk ≡ false → (placeholder_of options kind part asterisk).matched ≢ matched.Anything
 not_anything options kind part true h = absurd (false≢true (sym h))
 not_anything options kind part false h = by_kind kind (has_custom_name part)

@@ -17,7 +17,7 @@ use Rattle.urlpattern_meaning.proofs.PrintedTokens.{Run, backslash_lexed, char_l
 
 -- ---- tokens
 
--- a single character, with its backslash where it is a mark
+-- A single character, with its backslash where it is a mark.
 abbrev pub escaped_one : Bool → ℕ → List ℕ
 escaped_one mark c = if mark then codes "\\" ++ c ∷ [] else c ∷ []
 
@@ -27,7 +27,7 @@ kind_by mark = if mark then EscapedChar else Char
 abbrev pub text_kind : ℕ → TokenType
 text_kind c = kind_by (is_among pattern_marks c)
 
--- the tokens of a text before the rest
+-- The tokens of a text before the rest.
 abbrev pub text_tokens : (total : ℕ) → (text rest : List ℕ) → List TokenView
 text_tokens total [] rest = []
 text_tokens total (c ∷ text) rest = token_at total (escaped_pattern (c ∷ text) ++ rest) (text_kind c) (c ∷ []) ∷ text_tokens total text rest
@@ -36,7 +36,7 @@ pub escaped_none : (rest : List ℕ) → escaped_pattern [] ++ rest ≡ rest
 unfolding escaped
 escaped_none rest = refl
 
--- an escaped text by its first character
+-- An escaped text by its first character.
 pub escaped_first : (c : ℕ) (text rest : List ℕ) → escaped_pattern (c ∷ text) ++ rest ≡ escaped_one (is_among pattern_marks c) c ++ (escaped_pattern text ++ rest)
 unfolding escaped
 escaped_first c text rest = append_assoc (escaped_one (is_among pattern_marks c) c) (escaped_pattern text) rest
@@ -53,7 +53,7 @@ text_run total (c ∷ text) rest h =
     (one_lexed c (escaped_pattern text ++ rest) (is_among pattern_marks c) refl (not_true (is_ignored c) parts.0)))
     (text_run total text rest parts.1)
 
--- each token of a text has a text's kind
+-- Each token of a text has a text's kind.
 text_kind_text : (mark : Bool) → IsTrue (is_text (kind_by mark))
 text_kind_text true = refl
 text_kind_text false = refl
@@ -70,13 +70,13 @@ abbrev pub text_pieces : List ℕ → List Piece
 text_pieces [] = []
 text_pieces (c ∷ text) = pieces.Text (c ∷ []) ∷ text_pieces text
 
--- no placeholder begins with a text
+-- No placeholder begins with a text.
 pub text_no_placeholder : (kind : TokenType) → IsTrue (is_text kind) → ¬ IsTrue (is_placeholder kind)
 text_no_placeholder Char h = no
 text_no_placeholder EscapedChar h = no
 text_no_placeholder other h = absurd (no h)
 
--- a text begins with neither a Regexp nor a modifier
+-- A text begins with neither a Regexp nor a modifier.
 pub text_no_regexp : (kind : TokenType) → IsTrue (is_text kind) → ¬ IsTrue (is_regexp kind)
 text_no_regexp Char h = no
 text_no_regexp EscapedChar h = no
@@ -87,7 +87,7 @@ text_no_modifier Char h = no
 text_no_modifier EscapedChar h = no
 text_no_modifier other h = absurd (no h)
 
--- tokens that begin with a text do not begin with a token that no text begins with
+-- Tokens that begin with a text do not begin with a token that no text begins with.
 pub text_first : (test : TokenType → Bool) (total : ℕ) (text rest : List ℕ) (behind : List TokenView) → ((kind : TokenType) → IsTrue (is_text kind) → ¬ IsTrue (test kind)) → (text ≡ [] → ¬ BeginsWithKind test behind) →
     ¬ BeginsWithKind test (text_tokens total text rest ++ behind)
 text_first test total [] rest behind other free = free refl
@@ -98,7 +98,7 @@ takes_prefix : (point : List ℕ) (total c : ℕ) (text rest : List ℕ) (behind
 takes_prefix point total c [] rest behind token e free k v = free (sym e ∙ v)
 takes_prefix point total c (d ∷ text) rest behind token e free k v = text_no_placeholder (text_kind d) (text_kind_text (is_among pattern_marks d))
 
--- a text before other pieces, where the tokens after it do not take its last character
+-- A text before other pieces, where the tokens after it do not take its last character.
 pub are_text_pieces : (point : List ℕ) (total : ℕ) (text rest : List ℕ) (behind : List TokenView) (more : List Piece) (ending : Ending) →
     ArePieces point behind more ending → (text ≢ [] → last_of text ≡ point → ¬ BeginsWithKind is_placeholder behind) →
     ArePieces point (text_tokens total text rest ++ behind) (text_pieces text ++ more) ending
@@ -118,7 +118,7 @@ are_text_pieces point total (c ∷ text) rest behind more ending are free =
 
 -- ---- items
 
--- a character and a text, one after the other before items
+-- A character and a text, one after the other before items.
 with_one : (c : ℕ) (text : List ℕ) (items : List Item) → with_text (c ∷ []) (with_text text items) ≡ with_text (c ∷ text) items
 with_one c [] items = refl
 with_one c (d ∷ text) [] = refl
@@ -128,7 +128,7 @@ with_one c (d ∷ text) (Fixed more modifiers.ZeroOrMore ∷ items) = refl
 with_one c (d ∷ text) (Fixed more modifiers.OneOrMore ∷ items) = refl
 with_one c (d ∷ text) (Capture prefix name match suffix modifier ∷ items) = refl
 
--- the pieces of a text are a single fixed item, joined with the items after it
+-- The pieces of a text are a single fixed item, joined with the items after it.
 pub text_items : (number : ℕ) (text : List ℕ) (more : List Piece) → joined_items (items_from number (text_pieces text ++ more)) ≡ with_text text (joined_items (items_from number more))
 text_items number [] more = refl
 text_items number (c ∷ text) more = ap (with_text (c ∷ [])) (text_items number text more) ∙ with_one c text (joined_items (items_from number more))

@@ -13,7 +13,7 @@ use Rattle.urlpattern_meaning.specs.Printing.{pattern_marks}
 
 -- ---- characters
 
--- a test that some characters pass holds of a character among them
+-- A test that some characters pass holds of a character among them.
 among_all : (test : ℕ → Bool) (some : List ℕ) (c : ℕ) → IsTrue (list_all test some) → IsTrue (is_among some c) → IsTrue (test c)
 among_all test [] c all h = absurd (no h)
 among_all test (mark ∷ some) c all h =
@@ -23,11 +23,11 @@ among_all test (mark ∷ some) c all h =
       | inr more ↦ among_all test some c parts.1 more
     ]
 
--- a mark of tokens is a mark of patterns
+-- A mark of tokens is a mark of patterns.
 pub token_mark : (c : ℕ) → IsTrue (is_among marks c) → IsTrue (is_among pattern_marks c)
 token_mark c h = among_all (is_among pattern_marks) marks c refl h
 
--- a mark of patterns is not a character of names
+-- A mark of patterns is not a character of names.
 no_parts : IsTrue (list_all (λ c. not (is_name_part c)) pattern_marks)
 unfolding literals
 no_parts = refl
@@ -39,14 +39,14 @@ not_true false h g = no g
 pub mark_no_part : (c : ℕ) → IsTrue (is_among pattern_marks c) → ¬ IsTrue (is_name_part c)
 mark_no_part c h = not_true (is_name_part c) (among_all (λ x. not (is_name_part x)) pattern_marks c no_parts h)
 
--- a text that begins with a mark of patterns does not go on with a name
+-- A text that begins with a mark of patterns does not go on with a name.
 pub mark_ends : (text : List ℕ) → BeginsWith (is_among pattern_marks) text → ¬ BeginsWith is_name_part text
 mark_ends [] h = no
 mark_ends (c ∷ text) h = mark_no_part c h
 
 -- ---- one token
 
--- a token where this text begins, by the bytes of the whole
+-- A token where this text begins, by the bytes of the whole.
 abbrev pub token_at : (total : ℕ) → (text : List ℕ) → TokenType → List ℕ → TokenView
 token_at total text kind value = record { kind = kind; index = total - byte_len text; value = value }
 
@@ -90,7 +90,7 @@ pub run_joined : {total : ℕ} {middle left text : List ℕ} {tokens more : List
 run_joined done behind = behind
 run_joined (next lexed before) behind = next lexed (run_joined before behind)
 
--- each token is where its text begins
+-- Each token is where its text begins.
 run_cut : (whole left text : List ℕ) (tokens : List TokenView) → byte_len text ≤ byte_len whole → Run (byte_len whole) left text tokens → IsCut (IsTokenOf whole) text tokens left
 run_cut whole left text tokens within done = none
 run_cut whole left text tokens within (next {rest = rest} {kind = kind} {value = value} {tokens = more} lexed behind) =

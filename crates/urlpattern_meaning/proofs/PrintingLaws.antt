@@ -17,7 +17,7 @@ use Rattle.urlpattern_syntax.proofs.TokenExamples.{no}
 
 -- ---- tests of the neighbours of a part
 
--- a part as it is printed by the tests of its neighbours
+-- A part as it is printed by the tests of its neighbours.
 abbrev pub shaped : OptionsView → PartView → (next_taken before_taken admits : Bool) → List ℕ
 shaped options part next_taken before_taken admits =
     let braces = has_suffix part || has_other_prefix options part || next_taken || before_taken in
@@ -66,7 +66,7 @@ pub plain_modifier : (kind : PartType) (modifier : PartModifier) → IsTrue (is_
 plain_modifier FixedText modifiers.None h = refl
 plain_modifier kind modifier h = absurd (no h)
 
--- a plain fixed text prints as itself
+-- A plain fixed text prints as itself.
 pub plain_printed : (options : OptionsView) (before : Option PartView) (part : PartView) (next : Option PartView) → IsTrue (is_plain part) → printed_part options before part next ≡ escaped_pattern part.value
 unfolding printed_part
 plain_printed options before part next h =
@@ -74,7 +74,7 @@ plain_printed options before part next h =
 
 -- ---- neighbours
 
--- parts before with equal tests print alike
+-- Parts before with equal tests print alike.
 same_before : (options : OptionsView) (a b : Option PartView) (part : PartView) (next : Option PartView) →
     takes_before options a part ≡ takes_before options b part → admits_asterisk a ≡ admits_asterisk b → printed_part options a part next ≡ printed_part options b part next
 same_before options a b part next e f =
@@ -89,7 +89,7 @@ same_after options a b [] e f = refl
 same_after options a b (part ∷ parts) e f =
     ap (λ t. t ++ printed_after options (Some part) parts) (same_before options a b part (first_part parts) (e part) f)
 
--- parts after with equal tests print alike
+-- Parts after with equal tests print alike.
 same_next : (options : OptionsView) (before : Option PartView) (part : PartView) (a b : Option PartView) →
     takes_next part a ≡ takes_next part b → printed_part options before part a ≡ printed_part options before part b
 same_next options before part a b e =
@@ -97,7 +97,7 @@ same_next options before part a b e =
     ∙ ap (λ t. shaped options part t (takes_before options before part) (admits_asterisk before)) e
     ∙ sym (printed-shaped options before part b)
 
--- two texts in one end as the second does
+-- Two texts in one end as the second does.
 one_before : (options : OptionsView) (part next : PartView) → IsTrue (is_plain part) → IsTrue (is_plain next) → next.value ≢ [] →
     (behind : PartView) → takes_before options (Some (with_value part (part.value ++ next.value))) behind ≡ takes_before options (Some next) behind
 one_before options part next plain plain_next filled behind =
@@ -108,7 +108,7 @@ one_admits part next plain plain_next = rw (plain_fixed part plain, plain_fixed 
 
 -- ---- joining
 
--- two plain fixed texts print as one
+-- Two plain fixed texts print as one.
 pair_printed : (options : OptionsView) (before : Option PartView) (part next : PartView) (parts : List PartView) → IsTrue (is_plain part) → IsTrue (is_plain next) → next.value ≢ [] →
     printed_after options before (with_value part (part.value ++ next.value) ∷ parts) ≡ printed_after options before (part ∷ next ∷ parts)
 pair_printed options before part next parts plain plain_next filled =
@@ -121,7 +121,7 @@ pair_printed options before part next parts plain plain_next filled =
     ∙ sym (ap (λ t. t ++ (printed_part options (Some part) next (first_part parts) ++ behind)) (plain_printed options before part (Some next) plain)
     ∙ ap (λ t. escaped_pattern part.value ++ (t ++ behind)) (plain_printed options (Some part) next (first_part parts) plain_next))
 
--- the first part and the next, joined or not
+-- The first part and the next, joined or not.
 joined_pair : (options : OptionsView) (before : Option PartView) (part next : PartView) (parts : List PartView) (plain plain_next : Bool) →
     is_plain part ≡ plain → is_plain next ≡ plain_next → (IsTrue (is_fixed_text next.kind) → next.value ≢ []) →
     printed_after options before (if plain && plain_next then with_value part (part.value ++ next.value) ∷ parts else part ∷ next ∷ parts) ≡ printed_after options before (part ∷ next ∷ parts)
@@ -133,7 +133,7 @@ joined_first : (options : OptionsView) (before : Option PartView) (part : PartVi
 joined_first options before part [] filled = refl
 joined_first options before part (next ∷ parts) filled = joined_pair options before part next parts (is_plain part) (is_plain next) refl refl filled.0
 
--- no fixed text becomes empty
+-- No fixed text becomes empty.
 texts_pair : (part next : PartView) (parts : List PartView) (both : Bool) → (IsTrue (is_fixed_text part.kind) → part.value ≢ []) → HaveTexts (next ∷ parts) → (IsTrue both → next.value ≢ []) →
     HaveTexts (if both then with_value part (part.value ++ next.value) ∷ parts else part ∷ next ∷ parts)
 texts_pair part next parts true filled more next_filled = ((λ h. append-filled part.value next.value (next_filled refl)), more.1)
@@ -152,7 +152,7 @@ pub joined_texts : (parts : List PartView) → HaveTexts parts → HaveTexts (jo
 joined_texts [] filled = tt
 joined_texts (part ∷ parts) filled = texts_first part (joined parts) filled.0 (joined_texts parts filled.1)
 
--- a joined list begins as the list does
+-- A joined list begins as the list does.
 goes_pair : (part next : PartView) (parts : List PartView) (both : Bool) (before : PartView) → (IsTrue (is_fixed_text part.kind) → part.value ≢ []) →
     takes_next before (first_part (if both then with_value part (part.value ++ next.value) ∷ parts else part ∷ next ∷ parts)) ≡ takes_next before (Some part)
 goes_pair part next parts true before filled = ap (λ t. is_name_alone before && is_unmodified before.modifier && t) (goes_value (is_fixed_text part.kind) filled)
@@ -180,6 +180,6 @@ printed_joined_after options before (part ∷ parts) filled =
     ∙ ap (λ t. t ++ printed_after options (Some part) (joined parts)) (same_next options before part (first_part (joined parts)) (first_part parts) (goes_joined parts part filled.1))
     ∙ ap (λ t. printed_part options before part (first_part parts) ++ t) (printed_joined_after options (Some part) parts filled.1)
 
--- joining changes no printed text, where no fixed text is empty
+-- Joining changes no printed text, where no fixed text is empty.
 pub printed_joined : (options : OptionsView) (parts : List PartView) → HaveTexts parts → printed options (joined parts) ≡ printed options parts
 printed_joined options parts filled = printed_joined_after options None parts filled

@@ -24,7 +24,7 @@ use Rattle.urlpattern_syntax.proofs.NameCharacters.{decimal_starts, name_starts,
 
 -- ---- the bodies in tokens and placeholders
 
--- the value of each Regexp is a body
+-- The value of each Regexp is a body.
 abbrev BodyTokens : List TokenView → Type 0
 BodyTokens tokens = AllOfKind Regexp IsRegexpBody tokens
 
@@ -52,7 +52,7 @@ placeholder_body tokens name matched.Anything h is = tt
 placeholder_body tokens None (matched.Custom body) h is = first_body tokens body h is.0 is.1
 placeholder_body tokens (Some name) (matched.Custom body) h is = second_body tokens name body h is.0 is.1
 
--- a segment has a name of its own
+-- A segment has a name of its own.
 abbrev IsNamedSegment : Option (List ℕ) → Matched → Type 0
 IsNamedSegment None matched.Segment = ⊥
 IsNamedSegment name match = Unit {0}
@@ -71,7 +71,7 @@ record HasMatch (name : Option (List ℕ)) (what : Matched) : Type 0 where
 placeholder_match : (tokens : List TokenView) (name : Option (List ℕ)) (what : Matched) → BodyTokens tokens → IsPlaceholderOf tokens name what → HasMatch name what
 placeholder_match tokens name what h is = record { body = placeholder_body tokens name what h is; segment = placeholder_segment tokens name what is }
 
--- the placeholder of each piece has these properties
+-- The placeholder of each piece has these properties.
 abbrev MatchPieces : List Piece → Type 0
 MatchPieces list = PiecesHave HasMatch list
 
@@ -80,17 +80,17 @@ all_piece_matches = pieces_have Regexp IsRegexpBody HasMatch placeholder_match
 
 -- ---- items
 
--- the number of groups without a name of their own, up to the group of this name
+-- The number of groups without a name of their own, up to the group of this name.
 abbrev number_with : ℕ → List ℕ → ℕ
 number_with number name = if not (begins_with is_ascii_digit name) then number else suc number
 
--- a custom regular expression is a body, and a segment has a name of its own
+-- A custom regular expression is a body, and a segment has a name of its own.
 abbrev IsItemMatch : Matched → List ℕ → Type 0
 IsItemMatch matched.Segment name = IsName name
 IsItemMatch (matched.Custom body) name = IsRegexpBody body
 IsItemMatch matched.Anything name = Unit {0}
 
--- the properties of a group's match and name, where `number` groups without a name are before it
+-- The properties of a group's match and name, where `number` groups without a name are before it.
 record IsGroup (number : ℕ) (name : List ℕ) (match : Matched) : Type 0 where
   pub matches : IsItemMatch match name
   pub named : IsName name ⊎ (name ≡ decimal number)
@@ -112,7 +112,7 @@ with_or : (number : ℕ) (name : Option (List ℕ)) → GivesName name → numbe
 with_or number (Some name) is = with_name number name is
 with_or number None is = with_number number
 
--- the group of a placeholder
+-- The group of a placeholder.
 placeholder_group : (number : ℕ) (name : Option (List ℕ)) (match : Matched) → GivesName name → HasMatch name match → IsGroup number (name_or name number) match
 placeholder_group number (Some name) matched.Segment is h = record { matches = is; named = inl is }
 placeholder_group number (Some name) (matched.Custom body) is h = record { matches = h.body; named = inl is }
@@ -136,7 +136,7 @@ pieces_groups number (pieces.Group before placeholder after modifier ∷ list) h
       (pieces_groups (next_number placeholder.name number) list h.1 m.1),
 )
 
--- joining keeps the groups as they are
+-- Joining keeps the groups as they are.
 groups-with_text : (number : ℕ) (text : List ℕ) (items : List Item) → AreGroups number items → AreGroups number (with_text text items)
 groups-with_text number [] items h = h
 groups-with_text number (c ∷ text) [] h = h
@@ -156,12 +156,12 @@ groups-joined number (Capture prefix name match suffix modifier ∷ items) h = (
 
 -- ---- parts
 
--- two texts are equal or not
+-- Two texts are equal or not.
 same_or_other : (xs ys : List ℕ) (b : Bool) → bytes_eq xs ys ≡ b → (xs ≡ ys) ⊎ (xs ≢ ys)
 same_or_other xs ys true e = inl ((bytes_eq-Decides xs ys).0 e)
 same_or_other xs ys false e = inr (λ same. false≢true (sym e ∙ (bytes_eq-Decides xs ys).1 same))
 
--- the full wildcard is not the segment wildcard
+-- The full wildcard is not the segment wildcard.
 full_no_segment : (options : OptionsView) → full_wildcard ≢ segment_wildcard options
 full_no_segment options = by_delimiter options.delimiter
   where
@@ -169,12 +169,12 @@ full_no_segment options = by_delimiter options.delimiter
     by_delimiter None e = cc e
     by_delimiter (Some c) e = false≢true (sym (ap (λ t. begins_with (is_among (codes ".")) t) e))
 
--- the fields of a group with this regular expression
+-- The fields of a group with this regular expression.
 abbrev HasKind : OptionsView → (regexp name : List ℕ) → PartType → (before after : List ℕ) → PartModifier → Type 0
 HasKind options regexp name kind before after modifier =
     HasFields options kind (record { kind = kind; value = value_of kind regexp; modifier = modifier; name = name; prefix = before; suffix = after })
 
--- the kind of a group, by its regular expression
+-- The kind of a group, by its regular expression.
 kind_has : (options : OptionsView) (regexp name before after : List ℕ) (modifier : PartModifier) →
     (regexp ≡ segment_wildcard options → ¬ IsTrue (not (begins_with is_ascii_digit name)) → IsRegexpBody (segment_wildcard options)) →
     (regexp ≢ segment_wildcard options → regexp ≢ full_wildcard → IsRegexpBody regexp) →
@@ -210,7 +210,7 @@ parts_fields options encoding number (Capture prefix name match suffix modifier 
     subst (AllHaveFields options) (sym are.3)
     (capture_fields options are.0 name match are.1 modifier h.0.matches, parts_fields options encoding (number_with number name) items are.2 h.1 are.6)
 
--- a group is not a fixed text, whatever its kind
+-- A group is not a fixed text, whatever its kind.
 group_named : (options : OptionsView) (regexp : List ℕ) (number : ℕ) (name : List ℕ) → IsName name ⊎ (name ≡ decimal number) → IsNamed number (kind_of options regexp) name
 group_named options regexp number name h =
     cond_both (bytes_eq regexp (segment_wildcard options)) SegmentWildcard _ (λ kind. IsNamed number kind name) (λ _. h)
@@ -234,7 +234,7 @@ parts_names options encoding number (Capture prefix name match suffix modifier �
           (parts_names options encoding (number_with number name) items are.2 h.1 are.6),
     )
 
--- properties of parts that were read, under any options and any encoding
+-- Properties of parts that were read, under any options and any encoding.
 pub read_parts_are_pattern_parts : (text : List ℕ) (options : OptionsView) (encoding : Encoding) (parts : List PartView) → Reads text options encoding parts → ArePatternParts options parts
 read_parts_are_pattern_parts text options encoding parts reads =
     let names = all_piece_names options.prefix reads.tokens reads.pieces (endings.Stops reads.found) (text_names text reads.tokens reads.are_tokens) reads.are_pieces in

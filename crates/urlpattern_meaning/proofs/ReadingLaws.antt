@@ -48,7 +48,7 @@ module _ (options : OptionsView) (encoding : Encoding) (once : AnswersOnce encod
   all_or_first (demand ∷ rest) error m (inl f) = met_or_fails demand error m.0 f
   all_or_first (demand ∷ rest) error m (inr f) = all_or_first rest error m.1 f.1
 
--- a text has at most one list of pieces, with one ending
+-- A text has at most one list of pieces, with one ending.
 pub text_pieces_one : (text point : List ℕ) (tokens others : List TokenView) (pieces more : List Piece) (ending other : Ending) → AreTokens text tokens → AreTokens text others → ArePieces point tokens pieces ending → ArePieces point others more other → (pieces ≡ more) × (ending ≡ other)
 text_pieces_one text point tokens others pieces more ending other h g p q =
     pieces_one point others pieces more ending other (subst (λ x. ArePieces point x pieces ending) (tokens_one text tokens others h g) p) q

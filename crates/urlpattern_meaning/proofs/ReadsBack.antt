@@ -46,8 +46,8 @@ module _ (options : OptionsView) (encoding : Encoding) (Of : List ℕ → Type 0
       distinct_new [] (items_of prints.pieces) (λ k d lt. none_contained _)
       (subst (AllPairs Differ) (stand_names options Of parts (items_of prints.pieces) all_stand) facts.distinct)
 
-  -- the printed pattern reads as the parts, where the encoding may return each of their texts
-  -- unchanged
+  -- The printed pattern reads as the parts, where the encoding may return each of their texts
+  -- unchanged.
   reads_itself : ((text : List ℕ) → Of text → encoding text (Ok text)) → Reads (printed options parts) options encoding parts
   reads_itself itself = record {
     tokens = prints.tokens;
@@ -59,15 +59,15 @@ module _ (options : OptionsView) (encoding : Encoding) (Of : List ℕ → Type 0
     are_parts = stand_parts options encoding Of itself parts (items_of prints.pieces) all_stand;
   }
 
-  -- the printed pattern reads as no other parts, where the encoding changes none of their texts
+  -- The printed pattern reads as no other parts, where the encoding changes none of their texts.
   reads_only : ((text other : List ℕ) → Of text → encoding text (Ok other) → other ≡ text) → (others : List PartView) → Reads (printed options parts) options encoding others → others ≡ parts
   reads_only only others reads =
       let e = text_pieces_one (printed options parts) options.prefix reads.tokens prints.tokens reads.pieces prints.pieces (endings.Stops reads.found) (endings.Stops (end_of (printed options parts)))
       reads.are_tokens prints.are_tokens reads.are_pieces prints.are_pieces in
       stand_only options encoding Of only parts (items_of prints.pieces) others all_stand (subst (λ x. AreParts options encoding (items_of x) others) e.0 reads.are_parts)
 
-  -- the printed pattern is rejected only by an error that the encoding may return for one of the
-  -- texts
+  -- The printed pattern is rejected only by an error that the encoding may return for one of the
+  -- texts.
   reads_refused : (error : ErrorView) → Refuses (printed options parts) options encoding error → (text : List ℕ) × Of text × encoding text (Err error)
   reads_refused error (inl fault) = absurd (tokens_or_fault (printed options parts) prints.tokens fault.0 fault.1 prints.are_tokens fault.2)
   reads_refused error (inr refused) =
@@ -89,34 +89,34 @@ module _ (options : OptionsView) (encoding : Encoding) (Of : List ℕ → Type 0
   same_printed : printed options (joined parts) ≡ printed options parts
   same_printed = printed_joined options parts printable.texts
 
-  -- the printed pattern reads as the joined parts, where the encoding may return each of their
-  -- texts unchanged
+  -- The printed pattern reads as the joined parts, where the encoding may return each of their
+  -- texts unchanged.
   pub reads_back : ((text : List ℕ) → Of text → encoding text (Ok text)) → Reads (printed options parts) options encoding (joined parts)
   reads_back itself =
       subst (λ x. Reads x options encoding (joined parts)) same_printed
       (reads_itself options encoding Of (joined parts) joined_prints (joined_pattern_parts options parts printable.pattern_parts) (joined_texts parts printable.texts) texts itself)
 
-  -- the printed pattern reads as no other parts, where the encoding changes none of the texts of
-  -- the joined parts
+  -- The printed pattern reads as no other parts, where the encoding changes none of the texts of
+  -- the joined parts.
   pub reads_back_only : ((text other : List ℕ) → Of text → encoding text (Ok other) → other ≡ text) → (others : List PartView) → Reads (printed options parts) options encoding others → others ≡ joined parts
   reads_back_only only others reads =
       reads_only options encoding Of (joined parts) joined_prints (joined_pattern_parts options parts printable.pattern_parts) (joined_texts parts printable.texts) texts only others
       (subst (λ x. Reads x options encoding others) (sym same_printed) reads)
 
-  -- the printed pattern is rejected only by an error that the encoding may return for one of the
-  -- texts
+  -- The printed pattern is rejected only by an error that the encoding may return for one of the
+  -- texts.
   pub refused_back : (error : ErrorView) → Refuses (printed options parts) options encoding error → (text : List ℕ) × Of text × encoding text (Err error)
   refused_back error refuses =
       reads_refused options encoding Of (joined parts) joined_prints (joined_pattern_parts options parts printable.pattern_parts) (joined_texts parts printable.texts) texts error
       (subst (λ x. Refuses x options encoding error) (sym same_printed) refuses)
 
-  -- the parts that the printed pattern reads as print as the same text
+  -- The parts that the printed pattern reads as print as the same text.
   pub same_back : ((text other : List ℕ) → Of text → encoding text (Ok other) → other ≡ text) → (others : List PartView) → Reads (printed options parts) options encoding others → printed options others ≡ printed options parts
   same_back only others reads = ap (printed options) (reads_back_only only others reads) ∙ same_printed
 
 -- ---- encodings that keep the texts
 
--- the only result of the encoding for the text is the text itself
+-- The only result of the encoding for the text is the text itself.
 abbrev pub IsKept : Encoding → List ℕ → Type 0
 IsKept encoding text = (answer : Result (List ℕ) ErrorView) → encoding text answer ↔ (answer ≡ Ok text)
 
@@ -148,27 +148,27 @@ module _ (options : OptionsView) (encoding : Encoding) (parts : List PartView) (
   pub kept_same : (others : List PartView) → Reads (printed options parts) options encoding others → printed options others ≡ printed options parts
   kept_same = same_back options encoding (IsKept encoding) parts printable (each_kept encoding (encoded_texts (joined parts)) keeps.1) (kept_only encoding)
 
-  -- all four properties of printed patterns
+  -- All four properties of printed patterns.
   pub kept_reads_back : ReadsBack (printed options parts) options encoding parts
   kept_reads_back = record { reads = kept_reads; only = kept_reads_only; not_refused = kept_unrefused; same = kept_same }
 
 -- ---- encodings that may return an error
 
 module _ (options : OptionsView) (encoding : Encoding) (parts : List PartView) (printable : IsPrintable options parts) where
-  -- the printed pattern may read as the joined parts
+  -- The printed pattern may read as the joined parts.
   pub answered_reads : MayKeep encoding parts → Reads (printed options parts) options encoding (joined parts)
   answered_reads keeps = reads_back options encoding (Contains (encoded_texts (joined parts))) parts printable (each_contained (encoded_texts (joined parts))) keeps
 
-  -- the joined parts are all that the printed pattern may read as
+  -- The joined parts are all that the printed pattern may read as.
   pub answered_only : KeepsAnswered encoding parts → (others : List PartView) → Reads (printed options parts) options encoding others → others ≡ joined parts
   answered_only only = reads_back_only options encoding (Contains (encoded_texts (joined parts))) parts printable (each_contained (encoded_texts (joined parts))) only
 
-  -- the printed pattern is rejected only by an error that the encoding may return for one of the
-  -- texts of the joined parts
+  -- The printed pattern is rejected only by an error that the encoding may return for one of the
+  -- texts of the joined parts.
   pub answered_refused : (error : ErrorView) → Refuses (printed options parts) options encoding error → (text : List ℕ) × Contains (encoded_texts (joined parts)) text × encoding text (Err error)
   answered_refused = refused_back options encoding (Contains (encoded_texts (joined parts))) parts printable (each_contained (encoded_texts (joined parts)))
 
--- results of a callback are results of its encoding
+-- Results of a callback are results of its encoding.
 pub returned_kept : (returns : List ℕ → Result (String Global) Error → Type 0) (parts : List PartView) →
     ((text : List ℕ) (string : String Global) → Contains (encoded_texts (joined parts)) text → returns (encode_utf8_all text) (Ok string) → text_of string ≡ text) → KeepsAnswered (encoding_of returns) parts
 returned_kept returns parts kept text other asked (Ok string, returned, same) = (let e : other ≡ text_of string = cc same in e) ∙ kept text string asked returned

@@ -24,7 +24,7 @@ use Rattle.urlpattern_meaning.proofs.ReadsBack.{kept_reads}
 
 -- ---- printable parts
 
--- the encoding that keeps each text keeps those of any parts
+-- The encoding that keeps each text keeps those of any parts.
 keeps_texts : (texts : List (List ℕ)) → KeepsTexts keeping texts
 keeps_texts [] = tt
 keeps_texts (text ∷ texts) = (λ answer. (λ e. e, λ e. e), keeps_texts texts)
@@ -32,7 +32,7 @@ keeps_texts (text ∷ texts) = (λ answer. (λ e. e, λ e. e), keeps_texts texts
 pub keeps_parts : (parts : List PartView) → Keeps keeping parts
 keeps_parts parts = keeps_texts ([] ∷ encoded_texts (joined parts))
 
--- a slash and a name, which print as `/{:x}`
+-- A slash and a name, which print as `/{:x}`.
 pub slash_printable : IsPrintable pathname_options (plain (codes "/") ∷ segment [] (codes "x") [] ∷ [])
 unfolding literals
 slash_printable = record {
@@ -46,7 +46,7 @@ slash_printable = record {
   unskipped = (refl, ((refl, refl), tt));
 }
 
--- a slash and a name read back
+-- A slash and a name read back.
 pub slash_text : printed pathname_options (plain (codes "/") ∷ segment [] (codes "x") [] ∷ []) ≡ codes "/{:x}"
 unfolding printing
 slash_text = refl
@@ -61,14 +61,14 @@ slash_read =
 abbrev lone : Placeholder → Piece
 lone placeholder = Bare [] placeholder modifiers.None
 
--- two names, one after the other
+-- Two names, one after the other.
 names_cut : (point first second : List ℕ) (place end : ℕ)
     → PieceCut point (Stops (token tokens.End end [])) (token tokens.Name 0 first ∷ token tokens.Name place second ∷ token tokens.End end [] ∷ [])
     (lone (named first) ∷ lone (named second) ∷ [])
 names_cut point first second place end =
     piece 1 (bare 0 1 (inl (refl, refl)) (refl, refl) refl no no) (piece 1 (bare 0 1 (inl (refl, refl)) (refl, refl) refl no no) (ends (_, refl, refl)))
 
--- an empty fixed text: the printed text is empty, and reads as no parts
+-- An empty fixed text: the printed text is empty, and reads as no parts.
 pub empty_text : printed default_options (plain [] ∷ []) ≡ []
 unfolding printing
 empty_text = refl
@@ -76,7 +76,7 @@ empty_text = refl
 pub empty_read : Reads [] default_options keeping []
 empty_read = read_by [] (token tokens.End 0 []) empty (ends ([], refl, refl)) (refl, tt) refl
 
--- an empty fixed text after a name: the name takes the text after it
+-- An empty fixed text after a name: the name takes the text after it.
 pub between_text : printed default_options (segment [] (codes "x") [] ∷ plain [] ∷ plain (codes "b") ∷ []) ≡ codes ":xb"
 unfolding printing
 between_text = refl
@@ -94,7 +94,7 @@ between_cut = piece 1 (bare 0 1 (inl (refl, refl)) (refl, refl) refl no no) (end
 pub between_read : Reads (codes ":xb") default_options keeping (segment [] (codes "xb") [] ∷ [])
 between_read = read_by _ _ between_tokens between_cut (first_name, ((_, refl), ((_, refl), (refl, tt)))) ([], [], [], refl, refl, refl, refl)
 
--- a tab: it is skipped when it is read
+-- A tab: it is skipped when it is read.
 pub tab_text : printed default_options (plain (codes "\t") ∷ []) ≡ codes "\t"
 unfolding printing
 tab_text = refl
@@ -106,7 +106,7 @@ tab_tokens = record { front = []; cut = (codes "\t", refl, refl); all = refl }
 pub tab_read : Reads (codes "\t") default_options keeping []
 tab_read = read_by [] (token tokens.End 1 []) tab_tokens (ends ([], refl, refl)) (refl, tt) refl
 
--- a prefix code point that is a letter: the name before it takes it
+-- A prefix code point that is a letter: the name before it takes it.
 abbrev letter_options : OptionsView
 letter_options = standard_options None (codes "a")
 
@@ -123,17 +123,17 @@ letter_tokens =
 pub letter_read : Reads (codes ":xa:y") letter_options keeping (segment [] (codes "xa") [] ∷ segment [] (codes "y") [] ∷ [])
 letter_read = read_by _ _ letter_tokens (names_cut (codes "a") (codes "xa") (codes "y") 3 5) (first_name, ((_, refl), ((_, refl), (other_name (λ e. cc), ((_, refl), ((_, refl), (refl, tt))))))) ([], [], _, refl, refl, refl, ([], [], [], refl, refl, refl, refl))
 
--- a prefix code point that is a mark: its backslash separates it from the name after it
+-- A prefix code point that is a mark: its backslash separates it from the name after it.
 pub mark_text : printed (standard_options None (codes "*")) (segment (codes "*") (codes "x") [] ∷ []) ≡ codes "\\*:x"
 unfolding printing
 mark_text = refl
 
--- a prefix code point of two characters: no token is both
+-- A prefix code point of two characters: no token is both.
 pub pair_text : printed (standard_options None (codes "ab")) (segment (codes "ab") (codes "x") [] ∷ []) ≡ codes "ab:x"
 unfolding printing
 pair_text = refl
 
--- a first group with the name `1`: it is printed without a name, and numbered from 0
+-- A first group with the name `1`: it is printed without a name, and numbered from 0.
 pub number_text : printed default_options (wildcard (codes "1") ∷ []) ≡ codes "*"
 unfolding printing
 number_text = refl
@@ -152,7 +152,7 @@ pub number_read : Reads (codes "*") default_options keeping (wildcard (codes "0"
 unfolding digits
 number_read = read_by _ _ number_tokens number_cut (first_name, ((_, refl), ((_, refl), (refl, tt)))) ([], [], [], refl, refl, refl, refl)
 
--- two groups of one name
+-- Two groups of one name.
 pub twice_text : printed default_options (segment [] (codes "a") [] ∷ segment [] (codes "a") [] ∷ []) ≡ codes ":a:a"
 unfolding printing
 twice_text = refl
@@ -160,12 +160,12 @@ twice_text = refl
 pub twice_refused : Refuses (codes ":a:a") default_options keeping (views.DuplicateName (codes "a"))
 twice_refused = same_name
 
--- an empty name
+-- An empty name.
 pub nameless_text : printed default_options (segment [] [] [] ∷ []) ≡ codes ":"
 unfolding printing
 nameless_text = refl
 
--- an empty custom regular expression
+-- An empty custom regular expression.
 abbrev custom : List ℕ → PartView
 custom body = record (group Regexp [] (codes "0") [] modifiers.None) { value = body }
 
@@ -177,7 +177,7 @@ pub bodiless_refused : Refuses (codes "()") default_options keeping (views.Token
 unfolding literals
 bodiless_refused = inl (InvalidRegex (reason NoBody), 0, record { front = []; left = codes "()"; cut = none; place = refl; fault = (codes ")", NoBody, refl, ([], refl), refl) }, refl)
 
--- a full wildcard as a custom regular expression
+-- A full wildcard as a custom regular expression.
 pub full_text : printed default_options (custom (codes ".*") ∷ []) ≡ codes "(.*)"
 unfolding printing
 full_text = refl
@@ -205,23 +205,23 @@ pub full_read : Reads (codes "(.*)") default_options keeping (wildcard (codes "0
 unfolding escaped digits
 full_read = read_by _ _ full_tokens full_cut (first_name, ((_, refl), ((_, refl), (refl, tt)))) ([], [], [], refl, refl, refl, refl)
 
--- a value that no full wildcard has
+-- A value that no full wildcard has.
 pub value_text : printed default_options (record (wildcard (codes "0")) { value = codes "a" } ∷ []) ≡ codes "*"
 unfolding printing
 value_text = refl
 
--- a prefix that no fixed text has
+-- A prefix that no fixed text has.
 pub prefix_text : printed default_options (record (plain (codes "a")) { prefix = codes "b" } ∷ []) ≡ codes "a"
 unfolding printing
 prefix_text = refl
 
--- a delimiter that is not ASCII: the regular expression of the segment may not be written in
--- brackets
+-- A delimiter that is not ASCII: the regular expression of the segment may not be written in
+-- brackets.
 pub delimiter_text : printed (standard_options (Some 0xE9) []) (segment [] (codes "0") [] ∷ []) ≡ codes "([^é]+?)"
 unfolding printing
 delimiter_text = refl
 
--- an encoding that changes texts
+-- An encoding that changes texts.
 abbrev changing : Encoding
 changing text answer = answer ≡ Ok (codes "b")
 

@@ -10,20 +10,20 @@ use Rattle.urlpattern_syntax.specs.RegexpText.{is_plain}
 use Rattle.urlpattern_syntax.specs.Tokens.{AreTokens, TokenView, end_of}
 use Rattle.urlpattern_meaning.specs.Printing.{printed}
 
--- the item spells the part
+-- The item spells the part.
 abbrev pub IsItemOf : OptionsView → PartType → PartView → Item → Type 0
 IsItemOf options FixedText part item = item ≡ Fixed part.value part.modifier
 IsItemOf options kind part item =
     (match : Matched) × (item ≡ Capture part.prefix part.name match part.suffix part.modifier)
     × (kind_of options (compared options match) ≡ part.kind) × (value_of part.kind (compared options match) ≡ part.value)
 
--- the items spell the parts, one by one
+-- The items spell the parts, one by one.
 abbrev pub AreItemsOf : OptionsView → List PartView → List Item → Type 0
 AreItemsOf options [] items = items ≡ []
 AreItemsOf options (part ∷ parts) items =
     (item : Item) × (rest : List Item) × (items ≡ item ∷ rest) × IsItemOf options part.kind part item × AreItemsOf options parts rest
 
--- the printed text of the parts has tokens and pieces that spell the parts, one by one
+-- The printed text of the parts has tokens and pieces that spell the parts, one by one.
 pub record PrintsItsParts (options : OptionsView) (parts : List PartView) : Type 0 where
   pub tokens : List TokenView
   pub pieces : List Piece
@@ -31,7 +31,7 @@ pub record PrintsItsParts (options : OptionsView) (parts : List PartView) : Type
   pub are_pieces : ArePieces options.prefix tokens pieces (endings.Stops (end_of (printed options parts)))
   pub are_items : AreItemsOf options parts (items_of pieces)
 
--- at most one of two neighbours is a plain fixed text
+-- At most one of two neighbours is a plain fixed text.
 abbrev pub AreApart : List PartView → Type 0
 AreApart [] = Unit {0}
 AreApart (part ∷ []) = Unit {0}

@@ -22,7 +22,7 @@ use Rattle.urlpattern_meaning.proofs.RoundTripWords.{AreItemsOf, IsItemOf}
 
 -- ---- each item and its part
 
--- `Of` holds of each of the texts
+-- `Of` holds of each of the texts.
 abbrev pub EachText : (List ℕ → Type 0) → List (List ℕ) → Type 0
 EachText Of [] = Unit {0}
 EachText Of (text ∷ texts) = Of text × EachText Of texts
@@ -31,7 +31,7 @@ pub EachText-weaker : (Of Other : List ℕ → Type 0) → ((text : List ℕ) �
 EachText-weaker Of Other f [] h = tt
 EachText-weaker Of Other f (text ∷ texts) h = (f text h.0, EachText-weaker Of Other f texts h.1)
 
--- each of the texts is among the texts
+-- Each of the texts is among the texts.
 pub each_contained : (texts : List (List ℕ)) → EachText (Contains texts) texts
 each_contained [] = tt
 each_contained (text ∷ texts) =
@@ -44,7 +44,7 @@ pub data AllStand (options : OptionsView) (Of : List ℕ → Type 0) : List Part
   group : (prefix name : List ℕ) (match : Matched) (suffix : List ℕ) (modifier : PartModifier) (parts : List PartView) (items : List Item) → Of prefix → Of suffix → AllStand options Of parts items → AllStand options Of (capture_part options prefix name match suffix modifier ∷ parts) (Capture prefix name match suffix modifier ∷ items)
 
 module _ (options : OptionsView) (Of : List ℕ → Type 0) where
-  -- the texts of a part of this kind, and of the parts after it
+  -- The texts of a part of this kind, and of the parts after it.
   abbrev Texts : PartType → PartView → List PartView → Type 0
   Texts kind part parts = EachText Of ((if is_fixed_text kind then part.value ∷ [] else part.prefix ∷ part.suffix ∷ []) ++ encoded_texts parts)
 
@@ -52,7 +52,7 @@ module _ (options : OptionsView) (Of : List ℕ → Type 0) where
   after_texts FixedText part parts h = h.1
   after_texts kind part parts h = h.1.1
 
-  -- a fixed text that is not empty, before other parts
+  -- A fixed text that is not empty, before other parts.
   stand_fixed : (part : PartView) (item : Item) (parts : List PartView) (items : List Item) (value : List ℕ) → part ≡ fixed_text value part.modifier → value ≢ [] → Of value →
       item ≡ Fixed value part.modifier → AllStand options Of parts items → AllStand options Of (part ∷ parts) (item ∷ items)
   stand_fixed part item parts items [] e filled of is more = absurd (filled refl)
@@ -75,7 +75,7 @@ module _ (options : OptionsView) (Of : List ℕ → Type 0) where
       (subst (λ x. AllStand options Of (capture_part options part.prefix part.name is.0 part.suffix part.modifier ∷ parts) (x ∷ items)) (sym is.1)
       (group part.prefix part.name is.0 part.suffix part.modifier parts items texts.0 texts.1.0 more))
 
-  -- the items of parts whose fields and names are those of pattern parts
+  -- The items of parts whose fields and names are those of pattern parts.
   pub items_stand : (number : ℕ) (parts : List PartView) (items : List Item) → AreItemsOf options parts items → AllHaveFields options parts → AreNamed number parts → HaveTexts parts →
       EachText Of (encoded_texts parts) → AllStand options Of parts items
   items_stand number [] items is fields names filled texts = subst (AllStand options Of []) (sym is) none
@@ -92,12 +92,12 @@ pairs_head R x xs h = λ k d lt. h 0 (suc k) d (omega arith) (omega arith)
 pairs_tail : (R : List ℕ → List ℕ → Type 0) (x : List ℕ) (xs : List (List ℕ)) → AllPairs R (x ∷ xs) → AllPairs R xs
 pairs_tail R x xs h = λ i j d lt within. h (suc i) (suc j) d (omega arith) (omega arith)
 
--- a name that is neither among those before it nor the current name
+-- A name that is neither among those before it nor the current name.
 both_new : (earlier : List (List ℕ)) (name : List ℕ) (names : List (List ℕ)) → All (λ other. ¬ Contains earlier other) names → All (Differ name) names → All (λ other. ¬ Contains (earlier ++ name ∷ []) other) names
 both_new earlier name names behind differ = λ k d lt has.
     elim (Contains-push_cases earlier name (get_or names k d) has) [ inl old ↦ behind k d lt old | inr same ↦ differ k d lt same ]
 
--- names that differ are new, one after the other
+-- Names that differ are new, one after the other.
 pub distinct_new : (earlier : List (List ℕ)) (items : List Item) → All (λ other. ¬ Contains earlier other) (item_names items) → AllPairs Differ (item_names items) → NewNames earlier items
 distinct_new earlier [] behind distinct = tt
 distinct_new earlier (Fixed text modifier ∷ items) behind distinct = distinct_new earlier items behind distinct
@@ -120,7 +120,7 @@ demands-fixed earlier text modifiers.ZeroOrMore items found = refl
 demands-fixed earlier text modifiers.OneOrMore items found = refl
 
 module _ (options : OptionsView) (encoding : Encoding) (Of : List ℕ → Type 0) where
-  -- the demands are met, where the encoding may return each text unchanged
+  -- The demands are met, where the encoding may return each text unchanged.
   pub stand_met : ((text : List ℕ) → Of text → encoding text (Ok text)) → (earlier : List (List ℕ)) (parts : List PartView) (items : List Item) (found : TokenView) →
       AllStand options Of parts items → NewNames earlier items → found.kind ≡ End → AreMet encoding (demands_after earlier items (endings.Stops found))
   stand_met itself earlier [] [] found none new is_end = (is_end, tt)
@@ -130,7 +130,7 @@ module _ (options : OptionsView) (encoding : Encoding) (Of : List ℕ → Type 0
   stand_met itself earlier _ _ found (group prefix name match suffix modifier parts items of_prefix of_suffix more) new is_end =
       (new.0, ((prefix, itself prefix of_prefix), ((suffix, itself suffix of_suffix), stand_met itself (earlier ++ name ∷ []) parts items found more new.1 is_end)))
 
-  -- a demand that fails does so by an error that the encoding may return for one of the texts
+  -- A demand that fails does so by an error that the encoding may return for one of the texts.
   pub stand_failing : (earlier : List (List ℕ)) (parts : List PartView) (items : List Item) (found : TokenView) (error : ErrorView) →
       AllStand options Of parts items → NewNames earlier items → found.kind ≡ End → FirstFails encoding (demands_after earlier items (endings.Stops found)) error →
       (text : List ℕ) × Of text × encoding text (Err error)
@@ -153,14 +153,14 @@ module _ (options : OptionsView) (encoding : Encoding) (Of : List ℕ → Type 0
 
   -- ---- parts
 
-  -- the items make the parts, where the encoding may return each text unchanged
+  -- The items make the parts, where the encoding may return each text unchanged.
   pub stand_parts : ((text : List ℕ) → Of text → encoding text (Ok text)) → (parts : List PartView) (items : List Item) → AllStand options Of parts items → AreParts options encoding items parts
   stand_parts itself [] [] none = refl
   stand_parts itself _ _ (fixed c text modifier parts items of more) = (c ∷ text, parts, refl, itself (c ∷ text) of, stand_parts itself parts items more)
   stand_parts itself _ _ (group prefix name match suffix modifier parts items of_prefix of_suffix more) =
       (prefix, suffix, parts, refl, itself prefix of_prefix, itself suffix of_suffix, stand_parts itself parts items more)
 
-  -- the items make no other parts, where the encoding changes no text
+  -- The items make no other parts, where the encoding changes no text.
   pub stand_only : ((text other : List ℕ) → Of text → encoding text (Ok other) → other ≡ text) → (parts : List PartView) (items : List Item) (others : List PartView) →
       AllStand options Of parts items → AreParts options encoding items others → others ≡ parts
   stand_only only [] [] others none are = are

@@ -8,14 +8,14 @@ use Rattle.urlpattern_syntax.specs.declared.tokenizer.TokenType.TheVariants.{Nam
 use Rattle.urlpattern_meaning.specs.Laws.{spelling}
 use Rattle.urlpattern_syntax.specs.Tokens.{AreTokens, TokenView}
 
--- the value is a slice of the text
+-- The value is a slice of the text.
 abbrev IsSlice : (value text : List ℕ) → Type 0
 IsSlice value text = (before behind : List ℕ) × (text ≡ before ++ value ++ behind)
 
 slice_whole : (value : List ℕ) → IsSlice value value
 slice_whole value = ([], [], sym (append-nil value))
 
--- a spelling contains the token's value; the value of End is arbitrary
+-- A spelling contains the token's value; the value of End is arbitrary.
 spelled_value : (kind : TokenType) (value : List ℕ) → kind ≢ End → IsSlice value (spelling kind value)
 spelled_value EscapedChar value other = (codes "\\", [], ap (λ x. codes "\\" ++ x) (sym (append-nil value)))
 spelled_value Name value other = (codes ":", [], ap (λ x. codes ":" ++ x) (sym (append-nil value)))

@@ -15,7 +15,7 @@ use Rattle.urlpattern_syntax.specs.Tokens.{FaultView, IncompleteEscapeCode, Inva
 
 -- ---- characters that are skipped
 
--- the text after all the characters at the beginning that pass the test
+-- The text after all the characters at the beginning that pass the test.
 record Skipped (test : ℕ → Bool) (text : List ℕ) : Type 0 where
   pub rest : List ℕ
   pub skips : SkipsBy test text rest
@@ -40,7 +40,7 @@ data Lexing (text : List ℕ) : Type 0 where
   Lexed : (kind : TokenType) (value rest : List ℕ) → IsLexed text kind value rest → Lexing text
   Faulty : (fault : FaultView) → IsFaultAt text fault → Lexing text
 
--- a character among some marks is the first of them or among the others
+-- A character among some marks is the first of them or among the others.
 by_mark : (P : ℕ → Type 0) (mark c : ℕ) (many : List ℕ) → IsTrue (is_among (mark ∷ many) c) → P mark → (IsTrue (is_among many c) → P c) → P c
 by_mark P mark c many h here later =
     elim (or_cases (mark == c) (is_among many c) h) [ inl e ↦ subst P (eqb-true mark c e) here | inr g ↦ later g ]
@@ -61,7 +61,7 @@ name_lexing (c ∷ text) = by_start (is_name_start c) refl
 
 -- ---- the body of a custom regular expression
 
--- the body ends or has a fault, or it continues with fewer characters
+-- The body ends or has a fault, or it continues with fewer characters.
 data BodyStep (text rest : List ℕ) : Type 0 where
   Ends : Lexing (codes "(" ++ text) → BodyStep text rest
   GoesOn : (after : List ℕ) (depth : ℕ) → HasRead text after depth → length after < length rest → BodyStep text rest
@@ -148,7 +148,7 @@ regexp_lexing (c ∷ text) = by_question_mark (is_question_mark c) refl
 
 -- ---- the beginning of any text
 
--- a token of a single character
+-- A token of a single character.
 single : (kind : TokenType) (c : ℕ) (text : List ℕ) → ((spelling : List ℕ) → spelling ≡ c ∷ [] → Spells kind spelling spelling) → ((rest : List ℕ) → EndsThere kind rest) → Lexing (c ∷ text)
 single kind c text spells ends = Lexed kind (c ∷ []) text (character_lexed kind (c ∷ text) (c ∷ []) text c refl refl spells (ends text))
 
@@ -191,13 +191,13 @@ start_of text = let s = skipped is_ignored text in start_at text s.rest s.skips 
 
 -- ---- whole texts
 
--- skipping leaves no more bytes
+-- Skipping leaves no more bytes.
 Skips-fewer : (text rest : List ℕ) → Skips text rest → byte_len rest ≤ byte_len text
 Skips-fewer text rest s =
     let e = ap byte_len s.1 ∙ byte_len-append s.0 rest in
     omega arith
 
--- a place in the whole text
+-- A place in the whole text.
 begins_at : (whole rest : List ℕ) → byte_len rest ≤ byte_len whole → BeginsAt whole rest (byte_len whole - byte_len rest)
 begins_at whole rest le = omega arith
 

@@ -83,7 +83,7 @@ tokens_lay text tokens h = lenient_lay text tokens (lenient_strict text tokens h
 
 -- ---- indexes rise
 
--- the first index is at least `least`, and each is greater than the one before
+-- The first index is at least `least`, and each is greater than the one before.
 abbrev RisesFrom : ℕ → List TokenView → Type 0
 RisesFrom least [] = Unit {0}
 RisesFrom least (token ∷ tokens) = (least ≤ token.index) × RisesFrom (suc token.index) tokens

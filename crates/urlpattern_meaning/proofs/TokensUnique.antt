@@ -78,7 +78,7 @@ tokens_or_fault text tokens f i h g =
 
 -- ---- lenient tokens
 
--- a token, or a character in a fault's place
+-- A token, or a character in a fault's place.
 abbrev pub LenientItem : (whole start : List ℕ) → TokenView → List ℕ → Type 0
 LenientItem whole start token rest = IsTokenOf whole start token rest ⊎ IsInvalidCharOf whole start token rest
 

@@ -18,7 +18,7 @@ character_by false c = refl
 pub character_same : (marks : List ℕ) (c : ℕ) → character_of (character marks c) ≡ c
 character_same marks c = character_by (is_among marks c) c
 
--- a text before items matches itself, and captures nothing
+-- A text before items matches itself, and captures nothing.
 pub put_means : (marks front : List ℕ) (items : Items) (text : List ℕ) (captures : Captures) →
     Means (put marks front items) text captures ↔ ((rest : List ℕ) × (text ≡ front ++ rest) × Means items rest captures)
 put_means marks [] items text captures = (λ means. (text, refl, means), λ is. subst (λ t. Means items t captures) (sym is.1) is.2)
@@ -94,7 +94,7 @@ between_means marks prefix core suffix text captures = (
 pub record StandsFor (items : Items) (IsPiece : List ℕ → Type 0) : Type 0 where
   pub means : (text : List ℕ) (captures : Captures) → Means items text captures ↔ (IsPiece text × (captures ≡ []))
 
--- items that match pieces, on a whole text
+-- Items that match pieces, on a whole text.
 pub piece_means : (piece : Items) (IsPiece : List ℕ → Type 0) → StandsFor piece IsPiece → (text : List ℕ) → Means piece text [] ↔ IsPiece text
 piece_means piece IsPiece stands text = (λ means. ((stands.means text []).0 means).0, λ is. (stands.means text []).1 (is, refl))
 
@@ -115,7 +115,7 @@ further_means marks prefix piece suffix IsPiece stands text = (
       ),
 )
 
--- copies without the first prefix and the last suffix
+-- Copies without the first prefix and the last suffix.
 pub copies_means : (marks prefix : List ℕ) (piece : Items) (suffix : List ℕ) (IsPiece : List ℕ → Type 0) → StandsFor piece IsPiece → (text : List ℕ) (captures : Captures) →
     Means (copies marks prefix piece suffix) text captures ↔ ((n : ℕ) × IsCore IsPiece prefix suffix n text × (captures ≡ []))
 copies_means marks prefix piece suffix IsPiece stands text captures = (

@@ -5,7 +5,7 @@ use Rattle.urlpattern_meaning.proofs.DialectExamples.{once, plain, repeated_tree
 use Rattle.urlpattern_meaning.specs.Dialect.{Plain, Items, Nothing, Item, Atom, AnyBut, Captured, Dot, Grouped, Literal, Once, Optional, ZeroOrMore, LazyOneOrMore}
 use Rattle.urlpattern_meaning.specs.Ways.{first_way, first_way_by}
 
--- a group that captures any text, and one that captures a segment, which is lazy
+-- A group that captures any text, and one that captures a segment, which is lazy.
 abbrev pub any_text : Atom
 any_text = Captured (Item Dot ZeroOrMore Nothing)
 

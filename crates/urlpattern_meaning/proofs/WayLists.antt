@@ -69,7 +69,7 @@ has-continued next way more (other ∷ ways) (inl e) g =
 has-continued next way more (other ∷ ways) (inr h) g =
     has-right _ (map (joined_way other) (next other.rest)) (continued next ways) (has-continued next way more ways h g)
 
--- membership, as the library defines it
+-- Membership, as the library defines it.
 pub contains-has : {A : Type 0} (x : A) (xs : List A) → Has x xs → Contains xs x
 contains-has x [] h = absurd h
 contains-has x (y ∷ xs) (inl e) = (0, omega arith, sym e)

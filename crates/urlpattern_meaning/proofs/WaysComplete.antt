@@ -10,11 +10,11 @@ use Rattle.urlpattern_meaning.proofs.WayLists.{Has, has-left, has-right, has-map
 abbrev pub way_of : List ℕ → Captures → List ℕ → Way
 way_of taken captures rest = record { taken = taken; captures = captures; rest = rest }
 
--- each beginning of a text that `IsA` allows is among the ways of that text
+-- Each beginning of a text that `IsA` allows is among the ways of that text.
 abbrev pub IsComplete : Choice → (List ℕ → Captures → Type 0) → Type 0
 IsComplete choice IsA = (taken : List ℕ) (captures : Captures) (rest : List ℕ) → IsA taken captures → Has (way_of taken captures rest) (choice (taken ++ rest))
 
--- a meaning, and one of the rest
+-- A meaning, and one of the rest.
 has-behind : (next : Choice) (ways : Choice) (first later : List ℕ) (own others : Captures) (rest : List ℕ)
     → Has (way_of first own (later ++ rest)) (ways (first ++ (later ++ rest))) → Has (way_of later others rest) (next (later ++ rest))
     → Has (way_of (first ++ later) (own ++ others) rest) (continued next (ways ((first ++ later) ++ rest)))
@@ -23,7 +23,7 @@ has-behind next ways first later own others rest p q =
     (has-continued next (way_of first own (later ++ rest)) (way_of later others rest) (ways (first ++ (later ++ rest))) p q)
 
 module _ (atom : Choice) (IsA : List ℕ → Captures → Type 0) (complete : IsComplete atom IsA) where
-  -- a round that matches something, and more rounds
+  -- A round that matches something, and more rounds.
   round_here : (greedy : Bool) (m : ℕ) (c : ℕ) (first later rest : List ℕ) → IsA (c ∷ first) []
       → Has (way_of later [] rest) (more_rounds greedy atom m (later ++ rest))
       → Has (way_of ((c ∷ first) ++ later) [] rest) (more_rounds greedy atom (suc m) (((c ∷ first) ++ later) ++ rest))
@@ -49,7 +49,7 @@ module _ (atom : Choice) (IsA : List ℕ → Captures → Type 0) (complete : Is
       let fits : length later ≤ m = omega (arith, ap length e, length-append first later) in
       rw e (round_here greedy m c first later rest p (more_rounds-complete greedy n later rest m fits q))
 
-  -- a loop whose first round matches something
+  -- A loop whose first round matches something.
   loop_here : (greedy : Bool) (n : ℕ) (c : ℕ) (first later rest : List ℕ) → IsA (c ∷ first) [] → IsRepeated (λ stretch. IsA stretch []) n later
       → Has (way_of ((c ∷ first) ++ later) [] rest) (looped greedy atom (((c ∷ first) ++ later) ++ rest))
   loop_here greedy n c first later rest p q =
@@ -59,7 +59,7 @@ module _ (atom : Choice) (IsA : List ℕ → Captures → Type 0) (complete : Is
       (subst (Has (way_of later [] rest)) (sym (cond-true _ (more_rounds greedy atom (length (later ++ rest)) (later ++ rest)) (idle 0 (later ++ rest) ∷ []) (lt-ltb _ _ longer)))
       (more_rounds-complete greedy n later rest (length (later ++ rest)) (omega (arith, length-append later rest)) q))
 
-  -- a loop of one empty round
+  -- A loop of one empty round.
   nothing_here : (greedy : Bool) (rest : List ℕ) → IsA [] [] → Has (way_of [] [] rest) (looped greedy atom rest)
   nothing_here greedy rest p =
       has-behind (λ r. if is_shorter r rest then more_rounds greedy atom (length r) r else idle 0 r ∷ []) atom [] [] [] [] rest (complete [] [] rest p)

@@ -9,7 +9,7 @@ use Rattle.urlpattern_meaning.specs.Ways.{Way, Choice, idle, joined_way, continu
 use Rattle.urlpattern_meaning.proofs.WayLists.{Every, every-weaker, every-cond, every-ordered, every-continued}
 use Rattle.urlpattern_meaning.proofs.WaysSound.{IsSound, ways-sound, atom-sound}
 
--- no way leaves more than the text
+-- No way leaves more than the text.
 abbrev Falls : Choice → Type 0
 Falls choice = (text : List ℕ) → Every (λ way. length way.rest ≤ length text) (choice text)
 
@@ -27,7 +27,7 @@ sound-falls text IsA xs every =
     every-weaker (IsSound text IsA) _ xs (λ way p. omega (arith, ap length p.0, length-append way.taken way.rest)) every
 
 module _ (s : List ℕ) where
-  -- the way with `s` after its rest
+  -- The way with `s` after its rest.
   abbrev pub longer : Way → Way
   longer way = record way { rest = way.rest ++ s }
 
@@ -52,7 +52,7 @@ module _ (s : List ℕ) where
   cut-map f g rests same (way ∷ xs) us (inr (other, others, e, h, p)) =
       inr (g other, map g others, ap (map g) e, ap f h ∙ same other, cut-map f g rests same xs others p)
 
-  -- ways that leave less are not among the others
+  -- Ways that leave less are not among the others.
   cut-none : (xs : List Way) → Every (λ way. length way.rest < length s) xs → Cut xs []
   cut-none [] every = refl
   cut-none (way ∷ xs) every = inl (every.0, cut-none xs every.1)
@@ -116,7 +116,7 @@ module _ (s : List ℕ) where
       not_less e = ltb-false _ _ e
 
   module _ (greedy : Bool) (atom : Choice) (falls : Falls atom) (cut : IsCut atom atom) where
-    -- the ways after a round are cut as those of `long` and `none` are
+    -- The ways after a round are cut as those of `long` and `none` are.
     goes_on : (long short none : List ℕ → List Way) (inner : List ℕ) → IsCut none none
         → ((rest : List ℕ) → length rest < length inner → Cut (long (rest ++ s)) (short rest))
         → IsCut (λ rest. if is_shorter rest (inner ++ s) then long rest else none rest) (λ rest. if is_shorter rest inner then short rest else none rest)
@@ -132,7 +132,7 @@ module _ (s : List ℕ) where
     no_more [] next none = refl
     no_more (way ∷ xs) next none = rw (none way.rest) (no_more xs next none)
 
-    -- in the empty text no round follows, however many are allowed
+    -- In the empty text no round follows, however many are allowed.
     rounds-over : (n : ℕ) → more_rounds greedy atom n [] ≡ idle 0 [] ∷ []
     rounds-over zero = refl
     rounds-over (suc n) =

@@ -57,7 +57,7 @@ continued-twice next last (way ∷ xs) =
     ap₂ ◌++◌ (joined_all way last (next way.rest)) (continued-twice next last xs)
     ∙ sym (continued-both last (map (joined_way way) (next way.rest)) (continued next xs))
 
--- the items of both trees
+-- The items of both trees.
 abbrev pub both_items : Items → Items → Items
 both_items Nothing others = others
 both_items (Item atom quantifier items) others = Item atom quantifier (both_items items others)
@@ -79,7 +79,7 @@ both_put marks (c ∷ front) items others = ap (Item (Literal (character marks c
 abbrev pub takes_all : Way → Bool
 takes_all way = length way.rest == 0
 
--- the captures of the first of these ways that matches the whole text
+-- The captures of the first of these ways that matches the whole text.
 abbrev pub first_of : List Way → Option Captures
 first_of xs = option_map (λ way. way.captures) (find takes_all xs)
 
@@ -107,7 +107,7 @@ first_seen xs ys e = of_seen xs ∙ ap (λ all. option_map (λ (s : Seen). s.0) 
 
 -- ---- a fixed text
 
--- a fixed text before items matches itself
+-- A fixed text before items matches itself.
 pub put_ways : (marks front : List ℕ) (items : Items) (text : List ℕ) → seen (ways (put marks front items) (front ++ text)) ≡ seen (ways items text)
 put_ways marks [] items text = refl
 put_ways marks (c ∷ front) items text =

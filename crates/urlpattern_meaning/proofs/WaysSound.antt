@@ -7,18 +7,18 @@ use Rattle.urlpattern_syntax.specs.Text.{IsRepeated}
 use Rattle.urlpattern_meaning.specs.Ways.{Way, Choice, idle, one_that, is_shorter, more_rounds, looped, quantified_ways, capturing, ways, atom_ways}
 use Rattle.urlpattern_meaning.proofs.WayLists.{Every, every-append, every-map, every-weaker, every-cond, every-ordered, every-continued}
 
--- the way cuts the text in two, and `IsA` allows the first part with its captures
+-- The way cuts the text in two, and `IsA` allows the first part with its captures.
 abbrev pub IsSound : List ℕ → (List ℕ → Captures → Type 0) → Way → Type 0
 IsSound text IsA way = (text ≡ way.taken ++ way.rest) × IsA way.taken way.captures
 
 abbrev pub AreSound : Choice → (List ℕ → Captures → Type 0) → Type 0
 AreSound choice IsA = (text : List ℕ) → Every (IsSound text IsA) (choice text)
 
--- the text is the matches of two ways and the rest after both
+-- The text is the matches of two ways and the rest after both.
 behind : (text : List ℕ) (way more : Way) → text ≡ way.taken ++ way.rest → way.rest ≡ more.taken ++ more.rest → text ≡ (way.taken ++ more.taken) ++ more.rest
 behind text way more p q = p ∙ ap (λ r. way.taken ++ r) q ∙ sym (append_assoc way.taken more.taken more.rest)
 
--- any number of rounds without captures
+-- Any number of rounds without captures.
 abbrev AreRounds : (List ℕ → Captures → Type 0) → List ℕ → Captures → Type 0
 AreRounds IsA text captures = (n : ℕ) × IsRepeated (λ stretch. IsA stretch []) n text × (captures ≡ [])
 
@@ -62,7 +62,7 @@ count-replicate : (n : ℕ) → length {A = Option (List ℕ)} (replicate n None
 count-replicate zero = refl
 count-replicate (suc n) = ap suc (count-replicate n)
 
--- a meaning has as many captures as there are groups
+-- A meaning has as many captures as there are groups.
 pub taken-count : (quantifier : Quantifier) (groups : ℕ) (Is : List ℕ → Captures → Type 0) → AllowsGroups quantifier groups
     → ((text : List ℕ) (captures : Captures) → Is text captures → length captures ≡ groups)
     → (text : List ℕ) (captures : Captures) → IsTaken quantifier groups Is text captures → length captures ≡ groups

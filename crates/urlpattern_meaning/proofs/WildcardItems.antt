@@ -20,7 +20,7 @@ both : (a b : Bool) → IsTrue a → IsTrue b → IsTrue (a && b)
 both true b h k = k
 both false b h k = absurd (no h)
 
--- any number of characters other than `c`
+-- Any number of characters other than `c`.
 singles_lack : (c n : ℕ) (text : List ℕ) → IsRepeated (IsOneBut c) n text → IsTrue (lacks c text)
 singles_lack c zero text ended = rw ended refl
 singles_lack c (suc n) text (first, rest, cut, (other, e, differs), more) =
@@ -33,7 +33,7 @@ lack_singles c (other ∷ text) h =
     let more = lack_singles c text (and_right (not (other == c)) (lacks c text) h) in
     (suc more.0, (other ∷ [], text, refl, (other, refl, and_left (not (other == c)) (lacks c text) h), more.1))
 
--- a text without `c` that is not empty is at least one character other than `c`
+-- A text without `c` that is not empty is at least one character other than `c`.
 some_singles : (c : ℕ) (text : List ℕ) → text ≢ [] → IsTrue (lacks c text) → (n : ℕ) × IsRepeated (IsOneBut c) (suc n) text
 some_singles c [] some h = absurd (some refl)
 some_singles c (other ∷ text) some h =

@@ -6,6 +6,6 @@ use Rattle.std.specs.declared.vec.Vec.{Vec}
 use Rattle.urlpattern_meaning.specs.PartMeaning.{Captures}
 use Rattle.urlpattern_syntax.specs.Text.{option_text}
 
--- the texts of captures, or None
+-- The texts of captures, or None.
 abbrev pub captures_view : Option (Vec (Option (Bor (List ℕ))) Global) → Option Captures
 captures_view found = option_map (λ (captures : Vec (Option (Bor (List ℕ))) Global). map option_text captures.items) found

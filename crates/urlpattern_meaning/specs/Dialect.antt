@@ -33,17 +33,17 @@ mutual
 
 -- ---- the texts of trees
 
--- the character without its backslash
+-- The character without its backslash.
 abbrev pub character_of : Character → ℕ
 character_of (Plain c) = c
 character_of (Escaped c) = c
 
--- a character as it is spelled
+-- A character as it is spelled.
 abbrev pub character_text : Character → List ℕ
 character_text (Plain c) = c ∷ []
 character_text (Escaped c) = codes "\\" ++ c ∷ []
 
--- a quantifier as it is spelled
+-- A quantifier as it is spelled.
 abbrev pub quantifier_text : Quantifier → List ℕ
 quantifier_text Once = []
 quantifier_text Optional = codes "?"
@@ -52,12 +52,12 @@ quantifier_text OneOrMore = codes "+"
 quantifier_text LazyOneOrMore = codes "+?"
 
 abbrev mutual
-  -- the items as they are spelled
+  -- The items as they are spelled.
   pub items_text : Items → List ℕ
   items_text Nothing = []
   items_text (Item atom quantifier items) = atom_text atom ++ quantifier_text quantifier ++ items_text items
 
-  -- an atom as it is spelled
+  -- An atom as it is spelled.
   pub atom_text : Atom → List ℕ
   atom_text (Literal character) = character_text character
   atom_text Dot = codes "."
@@ -68,12 +68,12 @@ abbrev mutual
 -- ---- which trees are allowed
 
 abbrev mutual
-  -- the number of capturing brackets
+  -- The number of capturing brackets.
   pub group_count : Items → ℕ
   group_count Nothing = 0
   group_count (Item atom quantifier items) = atom_group_count atom + group_count items
 
-  -- the number of capturing brackets of an atom
+  -- The number of capturing brackets of an atom.
   pub atom_group_count : Atom → ℕ
   atom_group_count (Literal character) = 0
   atom_group_count Dot = 0
@@ -81,34 +81,34 @@ abbrev mutual
   atom_group_count (Captured items) = suc (group_count items)
   atom_group_count (Grouped items) = group_count items
 
--- a mark needs a backslash, a slash may have one, and any other character has none
+-- A mark needs a backslash, a slash may have one, and any other character has none.
 abbrev pub IsCharacter : Character → Type 0
 IsCharacter (Plain c) = ¬ IsTrue (is_among regexp_marks c)
 IsCharacter (Escaped c) = IsTrue (is_among (regexp_marks ++ codes "/") c)
 
--- the characters that need a backslash in a class
+-- The characters that need a backslash in a class.
 abbrev pub class_marks : List ℕ
 class_marks = codes "[\\"
 
--- in a class a mark or a slash may have a backslash, and any character but `[` and the backslash
--- may have none
+-- In a class a mark or a slash may have a backslash, and any character but `[` and the backslash
+-- may have none.
 abbrev pub IsClassCharacter : Character → Type 0
 IsClassCharacter (Plain c) = ¬ IsTrue (is_among class_marks c)
 IsClassCharacter (Escaped c) = IsTrue (is_among (regexp_marks ++ codes "/") c)
 
--- an atom that may be repeated captures nothing
+-- An atom that may be repeated captures nothing.
 abbrev pub AllowsGroups : Quantifier → ℕ → Type 0
 AllowsGroups Once groups = Unit {0}
 AllowsGroups Optional groups = Unit {0}
 AllowsGroups quantifier groups = groups ≡ 0
 
 abbrev mutual
-  -- the characters and quantifiers of the items are allowed
+  -- The characters and quantifiers of the items are allowed.
   pub AreItems : Items → Type 0
   AreItems Nothing = Unit {0}
   AreItems (Item atom quantifier items) = IsAtom atom × AllowsGroups quantifier (atom_group_count atom) × AreItems items
 
-  -- the characters and the items of the atom are allowed
+  -- The characters and the items of the atom are allowed.
   pub IsAtom : Atom → Type 0
   IsAtom (Literal character) = IsCharacter character
   IsAtom Dot = Unit {0}
@@ -116,17 +116,17 @@ abbrev mutual
   IsAtom (Captured items) = AreItems items
   IsAtom (Grouped items) = AreItems items
 
--- the tree of a whole text
+-- The tree of a whole text.
 abbrev pub IsTreeOf : List ℕ → Items → Type 0
 IsTreeOf text tree = (text ≡ codes "^" ++ items_text tree ++ codes "$") × AreItems tree
 
--- the text has a tree
+-- The text has a tree.
 abbrev pub HasTree : List ℕ → Type 0
 HasTree text = (tree : Items) × IsTreeOf text tree
 
 -- ---- what trees mean
 
--- a single character other than `c`
+-- A single character other than `c`.
 abbrev pub IsOneBut : ℕ → List ℕ → Type 0
 IsOneBut c text = (other : ℕ) × (text ≡ other ∷ []) × IsTrue (not (other == c))
 
@@ -140,14 +140,14 @@ IsTaken OneOrMore groups Atom text captures = (n : ℕ) × IsRepeated (λ stretc
 IsTaken LazyOneOrMore groups Atom text captures = (n : ℕ) × IsRepeated (λ stretch. Atom stretch []) (suc n) text × (captures ≡ [])
 
 abbrev mutual
-  -- the items match the whole text, with these captures in the order of the opening brackets
+  -- The items match the whole text, with these captures in the order of the opening brackets.
   pub Means : Items → List ℕ → Captures → Type 0
   Means Nothing text captures = (text ≡ []) × (captures ≡ [])
   Means (Item atom quantifier items) text captures =
       (first rest : List ℕ) × (own others : Captures) × (text ≡ first ++ rest) × (captures ≡ own ++ others)
       × IsTaken quantifier (atom_group_count atom) (AtomMeans atom) first own × Means items rest others
 
-  -- the atom matches the whole text, with these captures
+  -- The atom matches the whole text, with these captures.
   pub AtomMeans : Atom → List ℕ → Captures → Type 0
   AtomMeans (Literal character) text captures = (text ≡ character_of character ∷ []) × (captures ≡ [])
   AtomMeans Dot text captures = IsOneBut line_feed text × (captures ≡ [])
@@ -162,8 +162,8 @@ pub record IsOnlyTreeOf (text : List ℕ) (tree : Items) : Type 0 where
   pub is_tree : IsTreeOf text tree
   pub only : (other : Items) → IsTreeOf text other → other ≡ tree
 
--- the text has exactly one tree, which means each text with exactly the captures that the parts
--- have there
+-- The text has exactly one tree, which means each text with exactly the captures that the parts
+-- have there.
 abbrev pub HasMeaningOf : (regexp : List ℕ) → OptionsView → List PartView → Type 0
 HasMeaningOf regexp options parts =
     (tree : Items) × IsOnlyTreeOf regexp tree × ((text : List ℕ) (captures : Captures) → Means tree text captures ↔ PartsMean options parts text captures)

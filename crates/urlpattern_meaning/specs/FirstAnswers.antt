@@ -14,11 +14,11 @@ pub record IsFirstOf (options : OptionsView) (parts : List PartView) (text : Lis
   pub is_tree : IsTreeOf (regexp_text options parts) tree
   pub is_first : result ≡ first_way tree text
 
--- for a text of characters, an engine returns the first way of the tree of its own text
+-- For a text of characters, an engine returns the first way of the tree of its own text.
 abbrev pub AnswersFirst : (regexp : List ℕ) → (answer : List ℕ → Option Captures) → Type 0
 AnswersFirst regexp answer = (tree : Items) (text : List ℕ) → IsTreeOf regexp tree → IsTrue (all_scalars text) → answer text ≡ first_way tree text
 
--- an engine that is called returns the first way for the parts that are left to it
+-- An engine that is called returns the first way for the parts that are left to it.
 abbrev pub AnswersFirstInMiddle : {E : Type 0} → (answer : E → List ℕ → Option Captures) → OptionsView → List PartView → InnerView E → Type 0
 AnswersFirstInMiddle answer options parts inner = IsOfMiddle (λ engine middle. AnswersFirst (regexp_text options middle) (answer engine)) parts inner
 
@@ -29,7 +29,7 @@ AnswersByFirstWay answer options parts matcher =
     AreGenerated parts → options.ignore_case ≡ false → AnswersFirstInMiddle answer options parts matcher.inner →
     EachAnswerIs answer matcher (IsFirstOf options parts)
 
--- an engine that is needed accepted its text: no error is kept, and `Holds` is true of the value
+-- An engine that is needed accepted its text: no error is kept, and `Holds` is true of the value.
 abbrev pub TookText : {E : Type 0} → (Holds : E → Type 0) → InnerView E → Type 0
 TookText Holds (RegExp (Ok engine)) = Holds engine
 TookText Holds (RegExp (Err error)) = ⊥

@@ -3,6 +3,6 @@ use Rattle.std.specs.Prelude.{◌≡◌, ℕ, List}
 use Rattle.urlpattern_meaning.specs.PartMeaning.{AreGenerated}
 use Rattle.urlpattern_syntax.specs.{Options.OptionsView, Parts.PartView, RegexpText.regexp_text}
 
--- the text is, under some options, the regular expression of parts of which none is custom
+-- The text is, under some options, the regular expression of parts of which none is custom.
 abbrev pub IsGenerated : List ℕ → Type 0
 IsGenerated regexp = (options : OptionsView) × (parts : List PartView) × AreGenerated parts × (regexp ≡ regexp_text options parts)

@@ -9,13 +9,13 @@ use Rattle.urlpattern_syntax.specs.Text.{begins_with, byte_len}
 use Rattle.urlpattern_syntax.specs.declared.tokenizer.TokenType.{TokenType}
 use Rattle.urlpattern_syntax.specs.Tokens.{AreLenientTokens, AreTokens, FaultView, IsFault, TokenView, is_ignored}
 
--- at most one value has the property
+-- At most one value has the property.
 abbrev pub AtMostOne : {A : Type 0} → (Is : A → Type 0) → Type 0
 AtMostOne {A} Is = (value other : A) → Is value → Is other → value ≡ other
 
 -- ---- the places of tokens
 
--- the characters that make a token of this kind and value; End has none
+-- The characters that make a token of this kind and value; End has none.
 abbrev pub spelling : TokenType → List ℕ → List ℕ
 spelling TokenType.EscapedChar value = codes "\\" ++ value
 spelling TokenType.Name value = codes ":" ++ value
@@ -23,7 +23,7 @@ spelling TokenType.Regexp value = codes "(" ++ value ++ codes ")"
 spelling TokenType.End value = []
 spelling kind value = value
 
--- the token's spelling is in the text where its index says
+-- The token's spelling is in the text where its index says.
 abbrev pub IsSpelledAt : (text : List ℕ) → TokenView → Type 0
 IsSpelledAt text token =
     (before after : List ℕ) × (text ≡ before ++ spelling token.kind token.value ++ after) × (token.index ≡ byte_len before)
@@ -39,36 +39,36 @@ Lays place (token ∷ tokens) text =
 
 -- ---- what every text has
 
--- the text has strict tokens, or a first fault with its place
+-- The text has strict tokens, or a first fault with its place.
 abbrev pub HasTokensOrFault : (text : List ℕ) → Type 0
 HasTokensOrFault text =
     ((tokens : List TokenView) × AreTokens text tokens) ⊎ ((fault : FaultView) × (place : ℕ) × IsFault text fault place)
 
--- the text has lenient tokens
+-- The text has lenient tokens.
 abbrev pub HasLenientTokens : (text : List ℕ) → Type 0
 HasLenientTokens text = (tokens : List TokenView) × AreLenientTokens text tokens
 
 -- ---- encodings
 
--- texts with the results of an encoding
+-- Texts with the results of an encoding.
 abbrev pub Answered : Type 0
 Answered = List (List ℕ × Result (List ℕ) ErrorView)
 
--- the encoding that has these results and no others
+-- The encoding that has these results and no others.
 abbrev pub listed : Answered → Encoding
 listed answers text answer = Contains answers (text, answer)
 
--- the encoding has at most one result for each text
+-- The encoding has at most one result for each text.
 abbrev pub AnswersOnce : Encoding → Type 0
 AnswersOnce encoding = (text : List ℕ) → AtMostOne (encoding text)
 
--- the encoding has at most one result for each text other than that memory ran out
+-- The encoding has at most one result for each text other than that memory ran out.
 abbrev pub AnswersOnceGivenMemory : Encoding → Type 0
 AnswersOnceGivenMemory encoding =
     (text : List ℕ) (answer other : Result (List ℕ) ErrorView) → encoding text answer → encoding text other →
     answer ≢ Err ErrorView.OutOfMemory → other ≢ Err ErrorView.OutOfMemory → answer ≡ other
 
--- the encoding has a result for the text
+-- The encoding has a result for the text.
 abbrev pub HasAnswer : Encoding → (text : List ℕ) → Type 0
 HasAnswer encoding text = (answer : Result (List ℕ) ErrorView) × encoding text answer
 
@@ -85,42 +85,42 @@ pub record Asks (text : List ℕ) (options : OptionsView) (encoding : Encoding) 
   pub asks : demands (items_of pieces) ending ≡ before ++ Encode asked ∷ later
   pub are_met : AreMet encoding before
 
--- the encoding has a result for each text that it is called with
+-- The encoding has a result for each text that it is called with.
 abbrev pub AnswersAsked : (text : List ℕ) → OptionsView → Encoding → Type 0
 AnswersAsked text options encoding = (asked : List ℕ) → Asks text options encoding asked → HasAnswer encoding asked
 
--- the encoding is called with a text for which it has no result
+-- The encoding is called with a text for which it has no result.
 abbrev pub LacksAnswer : (text : List ℕ) → OptionsView → Encoding → Type 0
 LacksAnswer text options encoding = (asked : List ℕ) × Asks text options encoding asked × ¬ HasAnswer encoding asked
 
 -- ---- outcomes
 
--- the parts that a text reads as, or the error that it is rejected with
+-- The parts that a text reads as, or the error that it is rejected with.
 abbrev pub Outcome : Type 0
 Outcome = Result (List PartView) ErrorView
 
--- the text reads as these parts, or is rejected with this error
+-- The text reads as these parts, or is rejected with this error.
 abbrev pub HasOutcome : (text : List ℕ) → OptionsView → Encoding → Outcome → Type 0
 HasOutcome text options encoding (Ok parts) = Reads text options encoding parts
 HasOutcome text options encoding (Err error) = Refuses text options encoding error
 
--- the text reads as some parts, or is rejected with some error
+-- The text reads as some parts, or is rejected with some error.
 abbrev pub HasSomeOutcome : (text : List ℕ) → OptionsView → Encoding → Type 0
 HasSomeOutcome text options encoding = (outcome : Outcome) × HasOutcome text options encoding outcome
 
 -- ---- names
 
--- the names that begin with a digit
+-- The names that begin with a digit.
 abbrev pub numbers_among : List (List ℕ) → List (List ℕ)
 numbers_among names = filter (λ name. begins_with is_ascii_digit name) names
 
--- the names are this number, the next, and so on
+-- The names are this number, the next, and so on.
 abbrev pub CountFrom : ℕ → List (List ℕ) → Type 0
 CountFrom number [] = Unit {0}
 CountFrom number (name ∷ names) = (name ≡ decimal number) × CountFrom (suc number) names
 
 -- ---- matchers
 
--- the matcher is made from the parts, with any value or error for its engine
+-- The matcher is made from the parts, with any value or error for its engine.
 abbrev pub HasShapeOf : {E : Type 0} → OptionsView → List PartView → MatcherView E → Type 0
 HasShapeOf options parts matcher = IsMadeOf (λ regexp engine. Unit {0}) options parts matcher

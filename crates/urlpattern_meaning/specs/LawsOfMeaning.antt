@@ -12,8 +12,8 @@ use Rattle.urlpattern_syntax.specs.RegexpText.{IsWildcard, group_names, regexp_t
 
 -- ---- lists of parts
 
--- parts match a plain fixed text at either end, where one is removed there, and between them what
--- the remaining parts match, with the same captures
+-- Parts match a plain fixed text at either end, where one is removed there, and between them what
+-- the remaining parts match, with the same captures.
 abbrev pub PlainEndsAreRemoved : Type 0
 PlainEndsAreRemoved =
     (options : OptionsView) (parts : List PartView) (front : Option PartView) (middle : List PartView) (back : Option PartView)
@@ -21,25 +21,25 @@ PlainEndsAreRemoved =
     PartsMean options parts text captures
     ↔ ((inner : List ℕ) × (text ≡ end_text front ++ inner ++ end_text back) × PartsMean options middle inner captures)
 
--- a meaning of parts has as many captures as the parts have names
+-- A meaning of parts has as many captures as the parts have names.
 abbrev pub CapturesHaveNames : Type 0
 CapturesHaveNames = (options : OptionsView) (parts : List PartView) (text : List ℕ) (captures : Captures) →
     PartsMean options parts text captures → length captures ≡ length (group_names parts)
 
 -- ---- copies of a wildcard
 
--- copies are captured as one text: all of them but the first prefix and the last suffix
+-- Copies are captured as one text: all of them but the first prefix and the last suffix.
 abbrev pub CopiesAreOneCapture : Type 0
 CopiesAreOneCapture = (options : OptionsView) (part : PartView) (n : ℕ) (text : List ℕ) →
     IsWildcard part.kind → Allows part.modifier (suc n) → AreCopies options part (suc n) text →
     (inner : List ℕ) × (text ≡ part.prefix ++ inner ++ part.suffix) × PartMeans options part text (Some inner ∷ [])
 
--- a wildcard with no copies has one capture too
+-- A wildcard with no copies has one capture too.
 abbrev pub NoCopiesAreOneCapture : Type 0
 NoCopiesAreOneCapture = (options : OptionsView) (part : PartView) →
     IsWildcard part.kind → Allows part.modifier 0 → PartMeans options part [] (capture_of_no_copies part ∷ [])
 
--- a wildcard captures nothing else
+-- A wildcard captures nothing else.
 abbrev pub WildcardsCaptureNothingElse : Type 0
 WildcardsCaptureNothingElse = (options : OptionsView) (part : PartView) (text : List ℕ) (captures : Captures) →
     IsWildcard part.kind → PartMeans options part text captures →
@@ -48,33 +48,33 @@ WildcardsCaptureNothingElse = (options : OptionsView) (part : PartView) (text : 
 
 -- ---- trees of the dialect
 
--- `Says` holds of each tree, each text and each list of captures
+-- `Says` holds of each tree, each text and each list of captures.
 abbrev pub OfEachTree : (Says : Items → (text : List ℕ) → Captures → Type 0) → Type 0
 OfEachTree Says = (tree : Items) → AreItems tree → (text : List ℕ) (captures : Captures) → Says tree text captures
 
--- the ways of a tree are exactly its meanings of the beginnings of a text
+-- The ways of a tree are exactly its meanings of the beginnings of a text.
 abbrev pub WaysAreMeanings : Type 0
 WaysAreMeanings = (tree : Items) → AreItems tree → (text : List ℕ) (way : Way) →
     Contains (ways tree text) way ↔ ((text ≡ way.taken ++ way.rest) × Means tree way.taken way.captures)
 
 -- ---- the regular expression of parts
 
--- the tree of the regular expression means a text with captures exactly where the parts do
+-- The tree of the regular expression means a text with captures exactly where the parts do.
 abbrev pub TreesMeanTheParts : Type 0
 TreesMeanTheParts = (options : OptionsView) (parts : List PartView) (tree : Items) (text : List ℕ) (captures : Captures) →
     AreGenerated parts → IsTreeOf (regexp_text options parts) tree →
     Means tree text captures ↔ PartsMean options parts text captures
 
--- an engine follows the regular expression exactly where it returns what the parts mean
+-- An engine follows the regular expression exactly where it returns what the parts mean.
 abbrev pub FollowingIsAgreeing : Type 0
 FollowingIsAgreeing = (options : OptionsView) (parts : List PartView) (answer : List ℕ → Option Captures) → AreGenerated parts →
     Follows (regexp_text options parts) answer ↔ ((text : List ℕ) → IsTrue (all_scalars text) → Agrees options parts text (answer text))
 
--- two results that are the first way are equal
+-- Two results that are the first way are equal.
 abbrev pub FirstWayIsOne : Type 0
 FirstWayIsOne = (options : OptionsView) (parts : List PartView) (text : List ℕ) → AtMostOne (IsFirstOf options parts text)
 
--- a result that is the first way is what the parts mean
+-- A result that is the first way is what the parts mean.
 abbrev pub FirstWayIsMeant : Type 0
 FirstWayIsMeant = (options : OptionsView) (parts : List PartView) (text : List ℕ) (result : Option Captures) →
     AreGenerated parts → IsFirstOf options parts text result → Agrees options parts text result
@@ -82,14 +82,14 @@ FirstWayIsMeant = (options : OptionsView) (parts : List PartView) (text : List �
 -- ---- matchers, of any type of engines' values
 
 -- `Says` holds of each matcher, the parts that it is made from, and any results of engines' values
--- of this type
+-- of this type.
 abbrev pub OfEachMatcher : (E : Type 0) → (Says : (answer : E → List ℕ → Option Captures) → OptionsView → List PartView → MatcherView E → Type 0) → Type 0
 OfEachMatcher E Says =
     (answer : E → List ℕ → Option Captures) (options : OptionsView) (parts : List PartView) (matcher : MatcherView E) →
     HasShapeOf options parts matcher → Says answer options parts matcher
 
--- the matcher returns what the parts mean, custom or not, if an engine that is called returns what
--- the parts left to it mean
+-- The matcher returns what the parts mean, custom or not, if an engine that is called returns what
+-- the parts left to it mean.
 abbrev pub AnswersWhereEnginesAgree : {E : Type 0} → (answer : E → List ℕ → Option Captures) → OptionsView → List PartView → MatcherView E → Type 0
 AnswersWhereEnginesAgree answer options parts matcher =
     options.ignore_case ≡ false → AgreesInMiddle answer options parts matcher.inner → EachAnswerIs answer matcher (Agrees options parts)

@@ -11,89 +11,89 @@ use Rattle.urlpattern_syntax.specs.Tokens.{AreTokens, FaultView, IsFault, TokenV
 
 -- ---- tokens
 
--- a text has at most one first fault, at one place
+-- A text has at most one first fault, at one place.
 abbrev pub FaultsAreOne : Type 0
 FaultsAreOne = (text : List ℕ) (fault other : FaultView) (place another : ℕ) →
     IsFault text fault place → IsFault text other another → (fault ≡ other) × (place ≡ another)
 
--- no text has both strict tokens and a fault
+-- No text has both strict tokens and a fault.
 abbrev pub TokensExcludeFaults : Type 0
 TokensExcludeFaults = (text : List ℕ) (tokens : List TokenView) (fault : FaultView) (place : ℕ) →
     AreTokens text tokens → ¬ IsFault text fault place
 
--- `Says` holds of each strict token of each text, and the tokens after it
+-- `Says` holds of each strict token of each text, and the tokens after it.
 abbrev pub OfEachToken : (Says : (text : List ℕ) → TokenView → (later : List TokenView) → Type 0) → Type 0
 OfEachToken Says = (text : List ℕ) (front later : List TokenView) (token : TokenView) → AreTokens text (front ++ token ∷ later) → Says text token later
 
--- each token begins after the one before it
+-- Each token begins after the one before it.
 abbrev pub IndicesRise : Type 0
 IndicesRise = (text : List ℕ) (front between back : List TokenView) (token later : TokenView) →
     AreTokens text (front ++ token ∷ (between ++ later ∷ back)) → token.index < later.index
 
 -- ---- pieces
 
--- tokens have at most one list of pieces, with one ending
+-- Tokens have at most one list of pieces, with one ending.
 abbrev pub PiecesAreOne : Type 0
 PiecesAreOne = (point : List ℕ) (tokens : List TokenView) (pieces others : List Piece) (ending other : Ending) →
     ArePieces point tokens pieces ending → ArePieces point tokens others other → (pieces ≡ others) × (ending ≡ other)
 
--- the tokens of a text have a list of pieces
+-- The tokens of a text have a list of pieces.
 abbrev pub TokensHavePieces : Type 0
 TokensHavePieces = (point text : List ℕ) (tokens : List TokenView) →
     AreTokens text tokens → (pieces : List Piece) × (ending : Ending) × ArePieces point tokens pieces ending
 
 -- ---- encodings
 
--- the statement holds of each encoding that is a list of texts with their results
+-- The statement holds of each encoding that is a list of texts with their results.
 abbrev pub UnderEachList : (Sentence : Encoding → Type 0) → Type 0
 UnderEachList Sentence = (answers : Answered) → Sentence (listed answers)
 
--- the statement holds of the results that each callback of a type may return
+-- The statement holds of the results that each callback of a type may return.
 abbrev pub UnderEachCallback : {F : Type 0} → Calls F → (Sentence : Encoding → Type 0) → Type 0
 UnderEachCallback {F} calls Sentence = (callback : F) → Sentence (encoding_by calls callback)
 
 -- ---- readings and rejections
 
--- at most one value has the property for a text, where the encoding has at most one result for each
--- text
+-- At most one value has the property for a text, where the encoding has at most one result for each
+-- text.
 abbrev pub HaveOneAtMost : {A : Type 0} → (Has : (text : List ℕ) → OptionsView → Encoding → A → Type 0) → Encoding → Type 0
 HaveOneAtMost {A} Has encoding = (text : List ℕ) (options : OptionsView) (value other : A) → AnswersOnce encoding →
     Has text options encoding value → Has text options encoding other → value ≡ other
 
--- a text has at most one outcome, where the encoding has at most one result for each text
+-- A text has at most one outcome, where the encoding has at most one result for each text.
 abbrev pub OutcomesAreOne : Encoding → Type 0
 OutcomesAreOne encoding = HaveOneAtMost HasOutcome encoding
 
--- no text has both a reading and a rejection, where the encoding has at most one result for each
--- text
+-- No text has both a reading and a rejection, where the encoding has at most one result for each
+-- text.
 abbrev pub ReadingsExcludeRefusals : Encoding → Type 0
 ReadingsExcludeRefusals encoding = (text : List ℕ) (options : OptionsView) (parts : List PartView) (error : ErrorView) →
     AnswersOnce encoding → Reads text options encoding parts → ¬ Refuses text options encoding error
 
--- other than that memory ran out, a text has at most one outcome where the encoding has at most one
--- result for each text
+-- Other than that memory ran out, a text has at most one outcome where the encoding has at most one
+-- result for each text.
 abbrev pub OutcomesAreOneGivenMemory : Encoding → Type 0
 OutcomesAreOneGivenMemory encoding = (text : List ℕ) (options : OptionsView) (outcome other : Outcome) → AnswersOnceGivenMemory encoding →
     outcome ≢ Err ErrorView.OutOfMemory → other ≢ Err ErrorView.OutOfMemory →
     HasOutcome text options encoding outcome → HasOutcome text options encoding other → outcome ≡ other
 
--- every text has an outcome, or else the encoding is called with a text for which it has no result
+-- Every text has an outcome, or else the encoding is called with a text for which it has no result.
 abbrev pub OutcomesLackOnlyAnswers : Encoding → Type 0
 OutcomesLackOnlyAnswers encoding = (text : List ℕ) (options : OptionsView) →
     HasSomeOutcome text options encoding ⊎ LacksAnswer text options encoding
 
--- every text has an outcome where the encoding has a result for each text that it is called with
+-- Every text has an outcome where the encoding has a result for each text that it is called with.
 abbrev pub AnsweredTextsHaveOutcomes : Encoding → Type 0
 AnsweredTextsHaveOutcomes encoding = (text : List ℕ) (options : OptionsView) →
     AnswersAsked text options encoding → HasSomeOutcome text options encoding
 
--- `Says` holds of the parts of each reading
+-- `Says` holds of the parts of each reading.
 abbrev pub OfEachReading : (Says : OptionsView → List PartView → Type 0) → Encoding → Type 0
 OfEachReading Says encoding = (text : List ℕ) (options : OptionsView) (parts : List PartView) → Reads text options encoding parts → Says options parts
 
 -- ---- printed patterns
 
--- parts that were read under standard options, with texts that may be printed, are printable
+-- Parts that were read under standard options, with texts that may be printed, are printable.
 abbrev pub ReadPartsArePrintable : Encoding → Type 0
 ReadPartsArePrintable encoding = (text : List ℕ) (options : OptionsView) (parts : List PartView) →
     WereRead text options encoding parts → IsPrintable options parts
@@ -103,31 +103,31 @@ abbrev pub Saying : Type 1
 Saying = (text : List ℕ) → OptionsView → Encoding → List PartView → Type 0
 
 -- `Says` holds of the printed pattern of all printable parts, under each list of results that keeps
--- their texts
+-- their texts.
 abbrev pub OfPrintableParts : Saying → Type 0
 OfPrintableParts Says = (options : OptionsView) (answers : Answered) (parts : List PartView) →
     IsPrintable options parts → Keeps (listed answers) parts → Says (printed options parts) options (listed answers) parts
 
 -- `Says` holds of the printed pattern of parts that were read under one list of results, under each
--- list that keeps their texts
+-- list that keeps their texts.
 abbrev pub OfPartsThatWereRead : Saying → Type 0
 OfPartsThatWereRead Says = (text : List ℕ) (options : OptionsView) (first answers : Answered) (parts : List PartView) →
     WereRead text options (listed first) parts → Keeps (listed answers) parts → Says (printed options parts) options (listed answers) parts
 
--- the printed pattern may be read as the joined parts, where the encoding may return each of their
--- texts unchanged
+-- The printed pattern may be read as the joined parts, where the encoding may return each of their
+-- texts unchanged.
 abbrev pub PrintedMayReadAsJoined : Encoding → Type 0
 PrintedMayReadAsJoined encoding = (options : OptionsView) (parts : List PartView) →
     IsPrintable options parts → MayKeep encoding parts → ReadsAsJoined (printed options parts) options encoding parts
 
--- the printed pattern is read as nothing else, where the encoding changes none of the texts of the
--- joined parts
+-- The printed pattern is read as nothing else, where the encoding changes none of the texts of the
+-- joined parts.
 abbrev pub PrintedReadsOnlyAsJoined : Encoding → Type 0
 PrintedReadsOnlyAsJoined encoding = (options : OptionsView) (parts : List PartView) →
     IsPrintable options parts → KeepsAnswered encoding parts → ReadsOnlyAsJoined (printed options parts) options encoding parts
 
--- the printed pattern is rejected only by an error that the encoding may return for one of the
--- texts of the joined parts
+-- The printed pattern is rejected only by an error that the encoding may return for one of the
+-- texts of the joined parts.
 abbrev pub PrintedFailsByTheEncoding : Encoding → Type 0
 PrintedFailsByTheEncoding encoding = (options : OptionsView) (parts : List PartView) (error : ErrorView) →
     IsPrintable options parts → Refuses (printed options parts) options encoding error → FailsText encoding (encoded_texts (joined parts)) error

@@ -25,23 +25,23 @@ pub record MatcherView (E : Type 0) : Type 0 where
 
 -- ---- making
 
--- the first part is a plain fixed text
+-- The first part is a plain fixed text.
 abbrev pub BeginsPlain : List PartView → Type 0
 BeginsPlain [] = ⊥
 BeginsPlain (part ∷ parts) = IsTrue (is_plain part)
 
--- the last part is a plain fixed text
+-- The last part is a plain fixed text.
 abbrev pub EndsPlain : List PartView → Type 0
 EndsPlain [] = ⊥
 EndsPlain (part ∷ []) = IsTrue (is_plain part)
 EndsPlain (part ∷ next ∷ parts) = EndsPlain (next ∷ parts)
 
--- a plain fixed text that is removed, or none where no such part exists
+-- A plain fixed text that is removed, or none where no such part exists.
 abbrev pub IsRemoved : Option PartView → (IsThere : Type 0) → Type 0
 IsRemoved (Some part) IsThere = IsTrue (is_plain part)
 IsRemoved None IsThere = ¬ IsThere
 
--- the text of the removed part
+-- The text of the removed part.
 abbrev pub end_text : Option PartView → List ℕ
 end_text (Some part) = part.value
 end_text None = []
@@ -52,13 +52,13 @@ pub record ArePeeled (parts : List PartView) (front : Option PartView) (middle :
   pub front_removed : IsRemoved front (BeginsPlain parts)
   pub back_removed : IsRemoved back (EndsPlain middle)
 
--- the parts between prefix and suffix are matched by an engine, by their regular expression
+-- The parts between prefix and suffix are matched by an engine, by their regular expression.
 abbrev pub IsMadeByEngine : {E : Type 0} → (IsEngine : (regexp : List ℕ) → Result E ErrorView → Type 0) → OptionsView → (prefix : List ℕ) → List PartView → (suffix : List ℕ) → MatcherView E → Type 0
 IsMadeByEngine {E} IsEngine options prefix middle suffix matcher =
     (engine : Result E ErrorView) × IsEngine (regexp_text options middle) engine
     × (matcher ≡ record { prefix = prefix; suffix = suffix; inner = RegExp engine; ignore_case = options.ignore_case })
 
--- a single capture, between both prefixes and both suffixes
+-- A single capture, between both prefixes and both suffixes.
 abbrev pub single_capture_matcher : {E : Type 0} → OptionsView → (prefix : List ℕ) → PartView → (suffix : List ℕ) → (filter : Option ℕ) → (allow_empty : Bool) → MatcherView E
 single_capture_matcher options prefix part suffix filter allow_empty = record {
   prefix = prefix ++ part.prefix;
@@ -67,7 +67,7 @@ single_capture_matcher options prefix part suffix filter allow_empty = record {
   ignore_case = options.ignore_case;
 }
 
--- for a single part that is left: a wildcard without modifier is a single capture
+-- For a single part that is left: a wildcard without modifier is a single capture.
 abbrev pub IsMadeOfOne : {E : Type 0} → (IsEngine : (regexp : List ℕ) → Result E ErrorView → Type 0) → PartType → PartModifier → OptionsView → (prefix : List ℕ) → PartView → (suffix : List ℕ) → MatcherView E → Type 0
 IsMadeOfOne IsEngine PartType.FullWildcard PartModifier.None options prefix part suffix matcher =
     matcher ≡ single_capture_matcher options prefix part suffix None true
@@ -76,7 +76,7 @@ IsMadeOfOne IsEngine PartType.SegmentWildcard PartModifier.None options prefix p
 IsMadeOfOne IsEngine kind modifier options prefix part suffix matcher =
     IsMadeByEngine IsEngine options prefix (part ∷ []) suffix matcher
 
--- the parts that are left between the removed texts make this matcher
+-- The parts that are left between the removed texts make this matcher.
 abbrev pub IsMadeBetween : {E : Type 0} → (IsEngine : (regexp : List ℕ) → Result E ErrorView → Type 0) → OptionsView → (prefix : List ℕ) → List PartView → (suffix : List ℕ) → MatcherView E → Type 0
 IsMadeBetween IsEngine options prefix [] suffix matcher =
     matcher ≡ record { prefix = []; suffix = []; inner = Literal (prefix ++ suffix); ignore_case = options.ignore_case }
@@ -96,37 +96,37 @@ pub record IsMadeOf {E : Type 0} (IsEngine : (regexp : List ℕ) → Result E Er
 
 -- ---- matching
 
--- a text as it is compared
+-- A text as it is compared.
 abbrev pub folded : (ignore_case : Bool) → List ℕ → List ℕ
 folded ignore_case text = if ignore_case then map to_ascii_lowercase text else text
 
--- a character as it is compared
+-- A character as it is compared.
 abbrev pub folded_character : (ignore_case : Bool) → ℕ → ℕ
 folded_character ignore_case c = if ignore_case then to_ascii_lowercase c else c
 
--- captures as they are compared where case is ignored
+-- Captures as they are compared where case is ignored.
 abbrev pub folded_captures : Captures → Captures
 folded_captures captures = map (λ capture. option_map (folded true) capture) captures
 
--- the two characters are equal, except for the case of ASCII letters where case is ignored
+-- The two characters are equal, except for the case of ASCII letters where case is ignored.
 abbrev pub is_same_character : (ignore_case : Bool) → (c other : ℕ) → Bool
 is_same_character ignore_case c other = folded_character ignore_case c == folded_character ignore_case other
 
--- the two texts are equal, except for the case of ASCII letters where case is ignored
+-- The two texts are equal, except for the case of ASCII letters where case is ignored.
 abbrev pub IsSame : (ignore_case : Bool) → (text other : List ℕ) → Type 0
 IsSame ignore_case text other = folded ignore_case text ≡ folded ignore_case other
 
--- the text does not contain the filter's character
+-- The text does not contain the filter's character.
 abbrev pub PassesFilter : (ignore_case : Bool) → Option ℕ → List ℕ → Type 0
 PassesFilter ignore_case None text = Unit {0}
 PassesFilter ignore_case (Some c) text = IsTrue (lacks (folded_character ignore_case c) (folded ignore_case text))
 
--- a text may be empty only where `allow_empty` is set
+-- A text may be empty only where `allow_empty` is set.
 abbrev pub MayBeEmpty : (allow_empty : Bool) → List ℕ → Type 0
 MayBeEmpty true text = Unit {0}
 MayBeEmpty false text = text ≢ []
 
--- the text between prefix and suffix is accepted by the inner matcher, with these captures
+-- The text between prefix and suffix is accepted by the inner matcher, with these captures.
 abbrev pub Accepts : {E : Type 0} → (answer : E → List ℕ → Option Captures) → (ignore_case : Bool) → InnerView E → List ℕ → Captures → Type 0
 Accepts answer ignore_case (Literal literal) text captures = IsSame ignore_case text literal × (captures ≡ [])
 Accepts answer ignore_case (SingleCapture filter allow_empty) text captures =
@@ -134,58 +134,58 @@ Accepts answer ignore_case (SingleCapture filter allow_empty) text captures =
 Accepts answer ignore_case (RegExp (Ok engine)) text captures = answer engine text ≡ Some captures
 Accepts answer ignore_case (RegExp (Err error)) text captures = ⊥
 
--- the text is prefix, middle and suffix, without overlap; prefix and suffix are compared as a
--- literal is
+-- The text is prefix, middle and suffix, without overlap; prefix and suffix are compared as a
+-- literal is.
 abbrev pub HasMiddle : {E : Type 0} → MatcherView E → List ℕ → (middle : List ℕ) → Type 0
 HasMiddle matcher text middle =
     (front back : List ℕ) × (text ≡ front ++ middle ++ back)
     × IsSame matcher.ignore_case front matcher.prefix × IsSame matcher.ignore_case back matcher.suffix
 
--- the text has prefix and suffix, and the text between them is accepted, with these captures
+-- The text has prefix and suffix, and the text between them is accepted, with these captures.
 abbrev pub Matches : {E : Type 0} → (answer : E → List ℕ → Option Captures) → MatcherView E → List ℕ → Captures → Type 0
 Matches answer matcher text captures =
     (middle : List ℕ) × HasMiddle matcher text middle × Accepts answer matcher.ignore_case matcher.inner middle captures
 
--- the result of a matcher for a text, where `answer` is the result of an engine: captures, or None
--- where there are none
+-- The result of a matcher for a text, where `answer` is the result of an engine: captures, or None
+-- where there are none.
 abbrev pub Answers : {E : Type 0} → (answer : E → List ℕ → Option Captures) → MatcherView E → List ℕ → Option Captures → Type 0
 Answers answer matcher text (Some captures) = Matches answer matcher text captures
 Answers answer matcher text None = (captures : Captures) → ¬ Matches answer matcher text captures
 
--- the text matches, with some captures
+-- The text matches, with some captures.
 abbrev pub IsMatched : {E : Type 0} → (answer : E → List ℕ → Option Captures) → MatcherView E → List ℕ → Type 0
 IsMatched answer matcher text = (captures : Captures) × Matches answer matcher text captures
 
 -- ---- when memory is allocated
 
--- an engine is between prefix and suffix
+-- An engine is between prefix and suffix.
 abbrev pub HoldsEngine : {E : Type 0} → InnerView E → Type 0
 HoldsEngine (RegExp (Ok engine)) = Unit {0}
 HoldsEngine other = ⊥
 
--- a capture is between prefix and suffix
+-- A capture is between prefix and suffix.
 abbrev pub CapturesOne : {E : Type 0} → InnerView E → Type 0
 CapturesOne (SingleCapture filter allow_empty) = Unit {0}
 CapturesOne other = ⊥
 
--- an engine is called, as the text begins with the prefix and ends with the suffix
+-- An engine is called, as the text begins with the prefix and ends with the suffix.
 abbrev pub AsksEngine : {E : Type 0} → MatcherView E → List ℕ → Type 0
 AsksEngine matcher text = (middle : List ℕ) × HasMiddle matcher text middle × HoldsEngine matcher.inner
 
--- memory is allocated, by an engine or for the list of one capture
+-- Memory is allocated, by an engine or for the list of one capture.
 abbrev pub MayRunOutOfMemory : {E : Type 0} → (answer : E → List ℕ → Option Captures) → MatcherView E → List ℕ → Type 0
 MayRunOutOfMemory answer matcher text = AsksEngine matcher text ⊎ (CapturesOne matcher.inner × IsMatched answer matcher text)
 
 -- ---- agreeing with the parts
 
--- the result for a text is what the parts mean: captures that they have there, or None where they
--- have none
+-- The result for a text is what the parts mean: captures that they have there, or None where they
+-- have none.
 abbrev pub Agrees : OptionsView → List PartView → List ℕ → Option Captures → Type 0
 Agrees options parts text (Some captures) = PartsMean options parts text captures
 Agrees options parts text None = (captures : Captures) → ¬ PartsMean options parts text captures
 
--- each value made from the regular expression of parts, none of them custom, with the flag `u`
--- alone, returns what the parts mean
+-- Each value made from the regular expression of parts, none of them custom, with the flag `u`
+-- alone, returns what the parts mean.
 abbrev pub ValuesAgreeWithParts : {E : Type 0} → (IsMade : E → (regexp flags : List ℕ) → Type 0)
     → (answer : E → List ℕ → Option Captures) → Type 0
 ValuesAgreeWithParts {E} IsMade answer =
@@ -193,24 +193,24 @@ ValuesAgreeWithParts {E} IsMade answer =
     IsMade value (regexp_text options parts) (codes "u") →
     (text : List ℕ) → Agrees options parts text (answer value text)
 
--- where an engine is called, `Is` holds of its value and the parts left between the ends; a kept
--- error fails this
+-- Where an engine is called, `Is` holds of its value and the parts left between the ends; a kept
+-- error fails this.
 abbrev pub IsOfMiddle : {E : Type 0} → (Is : E → (middle : List PartView) → Type 0) → List PartView → InnerView E → Type 0
 IsOfMiddle Is parts (RegExp (Ok engine)) =
     (front : Option PartView) × (middle : List PartView) × (back : Option PartView) × ArePeeled parts front middle back × Is engine middle
 IsOfMiddle Is parts (RegExp (Err error)) = ⊥
 IsOfMiddle Is parts inner = Unit {0}
 
--- the engine's value follows the regular expression of the parts that are left to it
+-- The engine's value follows the regular expression of the parts that are left to it.
 abbrev pub FollowsMiddle : {E : Type 0} → (answer : E → List ℕ → Option Captures) → OptionsView → List PartView → InnerView E → Type 0
 FollowsMiddle answer options parts inner = IsOfMiddle (λ engine middle. Follows (regexp_text options middle) (answer engine)) parts inner
 
--- for texts of characters, the engine's value returns what the parts that are left to it mean
+-- For texts of characters, the engine's value returns what the parts that are left to it mean.
 abbrev pub AgreesInMiddle : {E : Type 0} → (answer : E → List ℕ → Option Captures) → OptionsView → List PartView → InnerView E → Type 0
 AgreesInMiddle answer options parts inner =
     IsOfMiddle (λ engine middle. (text : List ℕ) → IsTrue (all_scalars text) → Agrees options middle text (answer engine text)) parts inner
 
--- `Is` holds of each result of the matcher for a text of characters without line feed
+-- `Is` holds of each result of the matcher for a text of characters without line feed.
 abbrev pub EachAnswerIs : {E : Type 0} → (answer : E → List ℕ → Option Captures) → MatcherView E → (Is : (text : List ℕ) → Option Captures → Type 0) → Type 0
 EachAnswerIs answer matcher Is =
     (text : List ℕ) (result : Option Captures) → IsTrue (lacks line_feed text) → IsTrue (all_scalars text) →

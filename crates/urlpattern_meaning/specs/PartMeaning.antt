@@ -11,48 +11,48 @@ Captures = List (Option (List ℕ))
 
 -- ---- copies of a part
 
--- a wildcard of this kind matches the text: a segment is not empty and has no delimiter (without
--- one, no line feed); a full wildcard is any text without line feed
+-- A wildcard of this kind matches the text: a segment is not empty and has no delimiter (without
+-- one, no line feed); a full wildcard is any text without line feed.
 abbrev pub IsWildcardText : OptionsView → PartType → List ℕ → Type 0
 IsWildcardText options PartType.SegmentWildcard text = (text ≢ []) × IsTrue (lacks (unwrap_or options.delimiter line_feed) text)
 IsWildcardText options PartType.FullWildcard text = IsTrue (lacks line_feed text)
--- only the two wildcards match
+-- Only the two wildcards match.
 IsWildcardText options kind text = ⊥
 
--- a copy of a part of this kind: a fixed text, or a wildcard's text between prefix and suffix
+-- A copy of a part of this kind: a fixed text, or a wildcard's text between prefix and suffix.
 abbrev pub IsCopyOf : OptionsView → PartType → PartView → List ℕ → Type 0
 IsCopyOf options PartType.FixedText part text = text ≡ part.value
 IsCopyOf options kind part text = (piece : List ℕ) × (text ≡ part.prefix ++ piece ++ part.suffix) × IsWildcardText options kind piece
 
--- n copies of the part, end to end
+-- n copies of the part, end to end.
 abbrev pub AreCopies : OptionsView → PartView → ℕ → List ℕ → Type 0
 AreCopies options part n text = IsRepeated (IsCopyOf options part.kind part) n text
 
 -- ---- one part
 
--- the modifier allows n copies
+-- The modifier allows n copies.
 abbrev pub Allows : PartModifier → ℕ → Type 0
 Allows PartModifier.None n = n ≡ 1
 Allows PartModifier.Optional n = n ≤ 1
 Allows PartModifier.ZeroOrMore n = Unit {0}
 Allows PartModifier.OneOrMore n = 1 ≤ n
 
--- the capture of no copies, by whether the part has neither prefix nor suffix
+-- The capture of no copies, by whether the part has neither prefix nor suffix.
 abbrev pub capture_of_none : PartModifier → (is_bare : Bool) → Option (List ℕ)
 capture_of_none PartModifier.ZeroOrMore true = Some []
 capture_of_none modifier is_bare = None
 
--- the capture of no copies of the part
+-- The capture of no copies of the part.
 abbrev pub capture_of_no_copies : PartView → Option (List ℕ)
 capture_of_no_copies part = capture_of_none part.modifier (is_empty part.prefix && is_empty part.suffix)
 
--- the capture of n copies with this text: all but the first prefix and the last suffix
+-- The capture of n copies with this text: all but the first prefix and the last suffix.
 abbrev pub IsCapture : PartView → ℕ → List ℕ → Option (List ℕ) → Type 0
 IsCapture part zero text capture = capture ≡ capture_of_no_copies part
 IsCapture part (suc n) text capture = (inner : List ℕ) × (text ≡ part.prefix ++ inner ++ part.suffix) × (capture ≡ Some inner)
 
--- the captures of n copies of a part of this kind: none for a fixed text, and one text for a
--- wildcard
+-- The captures of n copies of a part of this kind: none for a fixed text, and one text for a
+-- wildcard.
 abbrev pub AreCaptures : PartType → PartView → ℕ → List ℕ → Captures → Type 0
 AreCaptures PartType.FixedText part n text captures = captures ≡ []
 AreCaptures PartType.Regexp part n text captures = ⊥
@@ -67,18 +67,18 @@ pub record PartMeans (options : OptionsView) (part : PartView) (text : List ℕ)
 
 -- ---- a list of parts
 
--- the parts match the text one after the other, with these captures
+-- The parts match the text one after the other, with these captures.
 abbrev pub PartsMean : OptionsView → List PartView → List ℕ → Captures → Type 0
 PartsMean options [] text captures = (text ≡ []) × (captures ≡ [])
 PartsMean options (part ∷ parts) text captures =
     (first rest : List ℕ) × (own others : Captures) × (text ≡ first ++ rest) × (captures ≡ own ++ others)
     × PartMeans options part first own × PartsMean options parts rest others
 
--- two lists of parts mean the same texts with the same captures
+-- Two lists of parts mean the same texts with the same captures.
 abbrev pub MeanTheSame : OptionsView → (parts others : List PartView) → Type 0
 MeanTheSame options parts others =
     (text : List ℕ) (captures : Captures) → PartsMean options parts text captures ↔ PartsMean options others text captures
 
--- none of the parts is a custom regular expression
+-- None of the parts is a custom regular expression.
 abbrev pub AreGenerated : List PartView → Type 0
 AreGenerated parts = All (λ part. part.kind ≢ PartType.Regexp) parts

@@ -11,7 +11,7 @@ pub use Rattle.urlpattern_syntax.specs.PatternText.{escaped_pattern, pattern_mar
 
 -- ---- tests of parts
 
--- a name that the pattern gives, not a number
+-- A name that the pattern gives, not a number.
 abbrev pub has_custom_name : PartView → Bool
 has_custom_name part = not (begins_with is_ascii_digit part.name)
 
@@ -19,11 +19,11 @@ abbrev pub is_segment : PartType → Bool
 is_segment PartType.SegmentWildcard = true
 is_segment kind = false
 
--- a name alone: a segment with a name that the pattern gives
+-- A name alone: a segment with a name that the pattern gives.
 abbrev pub is_name_alone : PartView → Bool
 is_name_alone part = is_segment part.kind && has_custom_name part
 
--- the last character, as a text
+-- The last character, as a text.
 abbrev pub last_of : List ℕ → List ℕ
 last_of [] = []
 last_of (c ∷ []) = c ∷ []
@@ -35,27 +35,27 @@ first_part (part ∷ parts) = Some part
 
 -- ---- when a part needs braces
 
--- the part has a suffix
+-- The part has a suffix.
 abbrev pub has_suffix : PartView → Bool
 has_suffix part = not (is_empty part.suffix)
 
--- the part has a prefix other than the prefix code point
+-- The part has a prefix other than the prefix code point.
 abbrev pub has_other_prefix : OptionsView → PartView → Bool
 has_other_prefix options part = not (is_empty part.prefix) && not (bytes_eq part.prefix options.prefix)
 
--- the text of the next part, printed without braces, begins with a name character or a bracket,
--- which a name before it would take
+-- The text of the next part, printed without braces, begins with a name character or a bracket,
+-- which a name before it would take.
 abbrev pub goes_on : PartView → Bool
 goes_on next =
     is_empty next.prefix && is_empty next.suffix
     && (if is_fixed_text next.kind then begins_with is_name_part next.value else not (has_custom_name next))
 
--- the part is a name alone, and would take the beginning of the next part
+-- The part is a name alone, and would take the beginning of the next part.
 abbrev pub takes_next : PartView → Option PartView → Bool
 takes_next part None = false
 takes_next part (Some next) = is_name_alone part && is_unmodified part.modifier && goes_on next
 
--- the part has no prefix, and would take the last character of the fixed text before it as one
+-- The part has no prefix, and would take the last character of the fixed text before it as one.
 abbrev pub takes_before : OptionsView → Option PartView → PartView → Bool
 takes_before options None part = false
 takes_before options (Some before) part =
@@ -67,36 +67,36 @@ needs_braces options before part next =
 
 -- ---- the text of a part
 
--- an asterisk after the part before is not the modifier of that part
+-- An asterisk after the part before is not the modifier of that part.
 abbrev pub admits_asterisk : Option PartView → Bool
 admits_asterisk None = true
 admits_asterisk (Some before) = is_fixed_text before.kind || not (is_unmodified before.modifier)
 
--- a full wildcard may be printed as an asterisk
+-- A full wildcard may be printed as an asterisk.
 abbrev pub is_asterisk : (before : Option PartView) → PartView → (braces : Bool) → Bool
 is_asterisk before part braces = not (has_custom_name part) && (admits_asterisk before || braces || not (is_empty part.prefix))
 
--- the regular expression or asterisk of a part of this kind, which follows its name
+-- The regular expression or asterisk of a part of this kind, which follows its name.
 abbrev pub printed_match : OptionsView → PartType → PartView → (asterisk : Bool) → List ℕ
 printed_match options PartType.FixedText part asterisk = []
 printed_match options PartType.Regexp part asterisk = captured part.value
 printed_match options PartType.SegmentWildcard part asterisk = if has_custom_name part then [] else captured (segment_wildcard options)
 printed_match options PartType.FullWildcard part asterisk = if asterisk then codes "*" else captured full_wildcard
 
--- the name after a colon, if the pattern gives the name
+-- The name after a colon, if the pattern gives the name.
 abbrev pub printed_name : PartView → List ℕ
 printed_name part = if has_custom_name part then codes ":" ++ part.name else []
 
--- the suffix, which a backslash separates from a name before it
+-- The suffix, which a backslash separates from a name before it.
 abbrev pub printed_suffix : PartView → List ℕ
 printed_suffix part =
     (if is_name_alone part && begins_with is_name_part part.suffix then codes "\\" else []) ++ escaped_pattern part.suffix
 
--- the text, between braces or not
+-- The text, between braces or not.
 abbrev pub in_braces : Bool → List ℕ → List ℕ
 in_braces braces text = if braces then codes "{" ++ text ++ codes "}" else text
 
--- a group with its modifier, between braces or not
+-- A group with its modifier, between braces or not.
 abbrev pub printed_group : OptionsView → (before : Option PartView) → PartView → (braces : Bool) → List ℕ
 printed_group options before part braces =
     in_braces braces (
@@ -104,53 +104,53 @@ printed_group options before part braces =
     ++ printed_match options part.kind part (is_asterisk before part braces) ++ printed_suffix part)
     ++ modifier_text part.modifier
 
--- a fixed text, in braces where it has a modifier
+-- A fixed text, in braces where it has a modifier.
 abbrev pub printed_fixed : PartView → List ℕ
 printed_fixed part = in_braces (not (is_unmodified part.modifier)) (escaped_pattern part.value) ++ modifier_text part.modifier
 
--- a part between its neighbours
+-- A part between its neighbours.
 unfoldable pub printed_part : OptionsView → (before : Option PartView) → PartView → (next : Option PartView) → List ℕ
 printed_part options before part next =
     if is_fixed_text part.kind then printed_fixed part
     else printed_group options before part (needs_braces options before part next)
 
--- the parts after the part `before`
+-- The parts after the part `before`.
 abbrev pub printed_after : OptionsView → (before : Option PartView) → List PartView → List ℕ
 printed_after options before [] = []
 printed_after options before (part ∷ parts) = printed_part options before part (first_part parts) ++ printed_after options (Some part) parts
 
--- the pattern text of a list of parts
+-- The pattern text of a list of parts.
 abbrev pub printed : OptionsView → List PartView → List ℕ
 printed options parts = printed_after options None parts
 
 -- ---- the parts that the printed text is read as
 
--- a part before others, made one with the next if both are plain fixed texts
+-- A part before others, made one with the next if both are plain fixed texts.
 abbrev pub joined_with : PartView → List PartView → List PartView
 joined_with part [] = part ∷ []
 joined_with part (next ∷ parts) =
     if is_plain part && is_plain next then record part { value = part.value ++ next.value } ∷ parts else part ∷ next ∷ parts
 
--- the parts, with neighbouring plain fixed texts made one
+-- The parts, with neighbouring plain fixed texts made one.
 abbrev pub joined : List PartView → List PartView
 joined [] = []
 joined (part ∷ parts) = joined_with part (joined parts)
 
--- no fixed text is empty
+-- No fixed text is empty.
 abbrev pub HaveTexts : List PartView → Type 0
 HaveTexts [] = Unit {0}
 HaveTexts (part ∷ parts) = (IsTrue (is_fixed_text part.kind) → part.value ≢ []) × HaveTexts parts
 
--- the texts of parts that are encoded
+-- The texts of parts that are encoded.
 abbrev pub encoded_texts : List PartView → List (List ℕ)
 encoded_texts parts = flat_map (λ part. if is_fixed_text part.kind then part.value ∷ [] else part.prefix ∷ part.suffix ∷ []) parts
 
--- the only result of the encoding for each text is the text itself
+-- The only result of the encoding for each text is the text itself.
 abbrev pub KeepsTexts : Encoding → List (List ℕ) → Type 0
 KeepsTexts encoding [] = Unit {0}
 KeepsTexts encoding (text ∷ texts) =
     ((answer : Result (List ℕ) ErrorView) → encoding text answer ↔ (answer ≡ Ok text)) × KeepsTexts encoding texts
 
--- the encoding keeps the texts of the joined parts, and the empty text
+-- The encoding keeps the texts of the joined parts, and the empty text.
 abbrev pub Keeps : Encoding → List PartView → Type 0
 Keeps encoding parts = KeepsTexts encoding ([] ∷ encoded_texts (joined parts))

@@ -13,17 +13,18 @@ use Rattle.urlpattern_meaning.specs.Printing.{HaveTexts, encoded_texts, has_cust
 
 -- ---- options
 
--- a prefix code point: none, or one character that is neither a mark of patterns nor part of a name
+-- A prefix code point: none, or one character that is neither a mark of patterns nor part of a
+-- name.
 abbrev pub IsPrefixPoint : List ℕ → Type 0
 IsPrefixPoint [] = Unit {0}
 IsPrefixPoint (c ∷ []) = ¬ IsTrue (is_among pattern_marks c) × ¬ IsTrue (is_name_part c)
 IsPrefixPoint (c ∷ d ∷ text) = ⊥
 
--- two sets of options have the same delimiter and prefix code point
+-- Two sets of options have the same delimiter and prefix code point.
 abbrev pub HasPointsOf : (other options : OptionsView) → Type 0
 HasPointsOf other options = (options.delimiter ≡ other.delimiter) × (options.prefix ≡ other.prefix)
 
--- the default, hostname or pathname options, in either syntax
+-- The default, hostname or pathname options, in either syntax.
 abbrev pub IsStandard : OptionsView → Type 0
 IsStandard options = HasPointsOf default_options options ⊎ (HasPointsOf hostname_options options ⊎ HasPointsOf pathname_options options)
 
@@ -38,23 +39,23 @@ HasFields options PartType.Regexp part = IsRegexpBody part.value × (part.value 
 HasFields options PartType.SegmentWildcard part = (part.value ≡ []) × (¬ IsTrue (has_custom_name part) → IsRegexpBody (segment_wildcard options))
 HasFields options PartType.FullWildcard part = part.value ≡ []
 
--- each part has only the fields of its kind
+-- Each part has only the fields of its kind.
 abbrev pub AllHaveFields : OptionsView → List PartView → Type 0
 AllHaveFields options [] = Unit {0}
 AllHaveFields options (part ∷ parts) = HasFields options part.kind part × AllHaveFields options parts
 
--- a fixed text has no name; a group has a name that a pattern gives, or else its number among the
--- groups without one
+-- A fixed text has no name; a group has a name that a pattern gives, or else its number among the
+-- groups without one.
 abbrev pub IsNamed : ℕ → PartType → List ℕ → Type 0
 IsNamed number PartType.FixedText name = name ≡ []
 IsNamed number kind name = IsName name ⊎ (name ≡ decimal number)
 
--- the number of groups without a name of their own, up to this part
+-- The number of groups without a name of their own, up to this part.
 abbrev pub following_number : ℕ → PartType → PartView → ℕ
 following_number number PartType.FixedText part = number
 following_number number kind part = if has_custom_name part then number else suc number
 
--- the names of these parts fit, where `number` groups without a name are before them
+-- The names of these parts fit, where `number` groups without a name are before them.
 abbrev pub AreNamed : ℕ → List PartView → Type 0
 AreNamed number [] = Unit {0}
 AreNamed number (part ∷ parts) = IsNamed number part.kind part.name × AreNamed (following_number number part.kind part) parts
@@ -67,16 +68,16 @@ pub record ArePatternParts (options : OptionsView) (parts : List PartView) : Typ
 
 -- ---- which texts of parts may be printed
 
--- nothing is skipped in the text
+-- Nothing is skipped in the text.
 abbrev pub IsUnskipped : List ℕ → Type 0
 IsUnskipped text = IsTrue (list_all (λ c. not (is_ignored c)) text)
 
--- nothing is skipped in a fixed text, or in a group's prefix and suffix
+-- Nothing is skipped in a fixed text, or in a group's prefix and suffix.
 abbrev pub HasUnskipped : PartType → PartView → Type 0
 HasUnskipped PartType.FixedText part = IsUnskipped part.value
 HasUnskipped kind part = IsUnskipped part.prefix × IsUnskipped part.suffix
 
--- no text of a part has characters that are skipped between tokens
+-- No text of a part has characters that are skipped between tokens.
 abbrev pub AreUnskipped : List PartView → Type 0
 AreUnskipped [] = Unit {0}
 AreUnskipped (part ∷ parts) = HasUnskipped part.kind part × AreUnskipped parts
@@ -102,29 +103,29 @@ pub record WereRead (text : List ℕ) (options : OptionsView) (encoding : Encodi
 abbrev pub KeepsAnswered : Encoding → List PartView → Type 0
 KeepsAnswered encoding parts = (text other : List ℕ) → Contains (encoded_texts (joined parts)) text → encoding text (Ok other) → other ≡ text
 
--- the encoding may return each text of the joined parts unchanged
+-- The encoding may return each text of the joined parts unchanged.
 abbrev pub MayKeep : Encoding → List PartView → Type 0
 MayKeep encoding parts = (text : List ℕ) → Contains (encoded_texts (joined parts)) text → encoding text (Ok text)
 
--- the encoding may reject one of these texts with this error
+-- The encoding may reject one of these texts with this error.
 abbrev pub FailsText : Encoding → (texts : List (List ℕ)) → ErrorView → Type 0
 FailsText encoding texts error = (text : List ℕ) × Contains texts text × encoding text (Err error)
 
 -- ---- the theorem of one text
 
--- the text reads as the joined parts
+-- The text reads as the joined parts.
 abbrev pub ReadsAsJoined : (text : List ℕ) → OptionsView → Encoding → List PartView → Type 0
 ReadsAsJoined text options encoding parts = Reads text options encoding (joined parts)
 
--- the text reads as no other parts
+-- The text reads as no other parts.
 abbrev pub ReadsOnlyAsJoined : (text : List ℕ) → OptionsView → Encoding → List PartView → Type 0
 ReadsOnlyAsJoined text options encoding parts = (others : List PartView) → Reads text options encoding others → others ≡ joined parts
 
--- the text is not rejected
+-- The text is not rejected.
 abbrev pub IsNotRefused : (text : List ℕ) → OptionsView → Encoding → List PartView → Type 0
 IsNotRefused text options encoding parts = (error : ErrorView) → ¬ Refuses text options encoding error
 
--- printing what the text reads as returns the text
+-- Printing what the text reads as returns the text.
 abbrev pub PrintsTheSame : (text : List ℕ) → OptionsView → Encoding → List PartView → Type 0
 PrintsTheSame text options encoding parts = (others : List PartView) → Reads text options encoding others → printed options others ≡ text
 

@@ -11,42 +11,42 @@ pub record Way : Type 0 where
   pub captures : Captures
   pub rest : List ℕ
 
--- the ways to match at the beginning of a text, the preferred ones first
+-- The ways to match at the beginning of a text, the preferred ones first.
 abbrev pub Choice : Type 0
 Choice = List ℕ → List Way
 
 -- ---- one way after another
 
--- the empty text is matched, and each of these groups captures nothing
+-- The empty text is matched, and each of these groups captures nothing.
 abbrev pub idle : (groups : ℕ) → List ℕ → Way
 idle groups text = record { taken = []; captures = replicate groups None; rest = text }
 
--- a way and the next as one
+-- A way and the next as one.
 abbrev pub joined_way : (way next : Way) → Way
 joined_way way next = record { taken = way.taken ++ next.taken; captures = way.captures ++ next.captures; rest = next.rest }
 
--- each way is continued by all that can follow it, before the next way is tried
+-- Each way is continued by all that can follow it, before the next way is tried.
 abbrev pub continued : (next : Choice) → List Way → List Way
 continued next ways = flat_map (λ way. map (joined_way way) (next way.rest)) ways
 
 -- ---- characters
 
--- a character that passes the test
+-- A character that passes the test.
 abbrev pub one_that : (passes : ℕ → Bool) → Choice
 one_that passes [] = []
 one_that passes (c ∷ text) = if passes c then record { taken = c ∷ []; captures = []; rest = text } ∷ [] else []
 
 -- ---- loops
 
--- where the loop is greedy, going on is tried before stopping; where it is lazy, after it
+-- Where the loop is greedy, going on is tried before stopping; where it is lazy, after it.
 abbrev pub ordered : (greedy : Bool) → (going_on stopping : List Way) → List Way
 ordered greedy going_on stopping = if greedy then going_on ++ stopping else stopping ++ going_on
 
--- some of the text was matched
+-- Some of the text was matched.
 abbrev pub is_shorter : (rest text : List ℕ) → Bool
 is_shorter rest text = nat_lt (length rest) (length text)
 
--- at most n more rounds, none of them empty
+-- At most n more rounds, none of them empty.
 abbrev pub more_rounds : (greedy : Bool) → Choice → (n : ℕ) → Choice
 more_rounds greedy atom zero text = idle 0 text ∷ []
 more_rounds greedy atom (suc n) text =
@@ -60,7 +60,7 @@ looped greedy atom text =
 
 -- ---- trees
 
--- an atom with its quantifier
+-- An atom with its quantifier.
 abbrev pub quantified_ways : Quantifier → (groups : ℕ) → Choice → Choice
 quantified_ways Once groups atom text = atom text
 quantified_ways Optional groups atom text = atom text ++ idle groups text ∷ []
@@ -68,18 +68,18 @@ quantified_ways ZeroOrMore groups atom text = looped true atom text ++ idle grou
 quantified_ways OneOrMore groups atom text = looped true atom text
 quantified_ways LazyOneOrMore groups atom text = looped false atom text
 
--- the text that was matched is the first capture
+-- The text that was matched is the first capture.
 abbrev pub capturing : Way → Way
 capturing way = record way { captures = Some way.taken ∷ way.captures }
 
 abbrev mutual
-  -- the ways of items; where case is ignored, an ASCII letter is compared as its lower case
+  -- The ways of items; where case is ignored, an ASCII letter is compared as its lower case.
   pub ways_by : (ignore_case : Bool) → Items → Choice
   ways_by ignore_case Nothing text = idle 0 text ∷ []
   ways_by ignore_case (Item atom quantifier items) text =
       continued (ways_by ignore_case items) (quantified_ways quantifier (atom_group_count atom) (atom_ways_by ignore_case atom) text)
 
-  -- the ways of an atom
+  -- The ways of an atom.
   pub atom_ways_by : (ignore_case : Bool) → Atom → Choice
   atom_ways_by ignore_case (Literal character) text = one_that (λ c. is_same_character ignore_case c (character_of character)) text
   atom_ways_by ignore_case Dot text = one_that (λ c. not (is_same_character ignore_case c line_feed)) text
@@ -87,36 +87,36 @@ abbrev mutual
   atom_ways_by ignore_case (Captured items) text = map capturing (ways_by ignore_case items text)
   atom_ways_by ignore_case (Grouped items) text = ways_by ignore_case items text
 
--- the ways of items where case counts
+-- The ways of items where case counts.
 abbrev pub ways : Items → Choice
 ways items = ways_by false items
 
--- the ways of an atom where case counts
+-- The ways of an atom where case counts.
 abbrev pub atom_ways : Atom → Choice
 atom_ways atom = atom_ways_by false atom
 
--- the captures of the first way that matches the whole text; None where no way does
+-- The captures of the first way that matches the whole text; None where no way does.
 unfoldable pub first_way_by : (ignore_case : Bool) → Items → List ℕ → Option Captures
 first_way_by ignore_case tree text = option_map (λ way. way.captures) (find (λ way. length way.rest == 0) (ways_by ignore_case tree text))
 
--- the captures of the first way where case counts
+-- The captures of the first way where case counts.
 abbrev pub first_way : Items → List ℕ → Option Captures
 first_way tree text = first_way_by false tree text
 
 -- ---- where case is ignored
 
--- the character folded, with its backslash
+-- The character folded, with its backslash.
 abbrev pub folded_written : Character → Character
 folded_written (Plain c) = Plain (folded_character true c)
 folded_written (Escaped c) = Escaped (folded_character true c)
 
 abbrev mutual
-  -- the tree with its characters folded
+  -- The tree with its characters folded.
   pub folded_items : Items → Items
   folded_items Nothing = Nothing
   folded_items (Item atom quantifier items) = Item (folded_atom atom) quantifier (folded_items items)
 
-  -- the atom with its characters folded
+  -- The atom with its characters folded.
   pub folded_atom : Atom → Atom
   folded_atom (Literal character) = Literal (folded_written character)
   folded_atom Dot = Dot

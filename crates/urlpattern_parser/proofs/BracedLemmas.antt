@@ -10,12 +10,12 @@ use Rattle.urlpattern_syntax.specs.Tokens.{TokenView, token_view}
 use Rattle.urlpattern_syntax.proofs.PieceLemmas.{filled, filled_cut, filled_group, not_first, open_ending, text_group}
 use Rattle.urlpattern_parser.proofs.ReaderLemmas.{takes_then}
 
--- the tokens begin with this opening brace and texts
+-- The tokens begin with this opening brace and texts.
 abbrev pub BeginsWithFront : (opening : TokenView) → (before : List ℕ) → (tokens rest : List TokenView) → Type 0
 BeginsWithFront opening before tokens rest =
     (behind : List TokenView) × (tokens ≡ opening ∷ behind) × BeginsWithTexts behind before rest
 
--- the tokens begin with this opening brace and a placeholder between texts, up to the rest
+-- The tokens begin with this opening brace and a placeholder between texts, up to the rest.
 pub record BeginsWithInner (opening : TokenView) (before : List ℕ) (placeholder : Placeholder) (after : List ℕ) (tokens rest : List TokenView) : Type 0 where
   pub inner : List TokenView
   pub behind : List TokenView
@@ -49,7 +49,7 @@ takes_inner a b c d opening before placeholder after front middle back =
 
 -- ---- the four ends of a group
 
--- texts in braces, and a modifier
+-- Texts in braces, and a modifier.
 pub takes_text_group : (old mid new : Reader) (before : List ℕ) (modifier : PartModifier) → old.token.kind ≡ Open →
     Takes old mid (BeginsWithFront (token_view old.token) before) → Takes mid new (λ tokens rest. BeginsWithClose tokens modifier rest) →
     Takes old new (λ tokens rest. (point : List ℕ) → BeginsWithPiece point tokens (pieces.TextGroup before modifier) rest)
@@ -59,7 +59,7 @@ takes_text_group old mid new before modifier is_open front closes =
     (λ x y z gx gy gz p q point. subst (λ w. BeginsWithPiece point w (pieces.TextGroup before modifier) z) (sym p.1)
     (text_group (token_view old.token) p.2.front p.0 y z modifier is_open p.2.cut q point before p.2.are_texts))
 
--- texts after a brace that is not closed
+-- Texts after a brace that is not closed.
 pub takes_open_texts : (old mid new : Reader) (before : List ℕ) → old.token.kind ≡ Open → is_placeholder mid.token.kind ≡ false → new.token.kind ≢ Close →
     Takes old mid (BeginsWithFront (token_view old.token) before) → Takes mid new (λ tokens rest. tokens ≡ rest) →
     Takes old new (λ tokens rest. List ℕ → HasEndingAt tokens endings.LacksClose rest)
@@ -77,7 +77,7 @@ takes_open_texts old mid new before is_open none other front lacks =
     )
     other))
 
--- a placeholder between texts in braces, and a modifier
+-- A placeholder between texts in braces, and a modifier.
 pub takes_filled_group : (old mid new : Reader) (before : List ℕ) (placeholder : Placeholder) (after : List ℕ) (modifier : PartModifier) → old.token.kind ≡ Open →
     Takes old mid (BeginsWithInner (token_view old.token) before placeholder after) → Takes mid new (λ tokens rest. BeginsWithClose tokens modifier rest) →
     Takes old new (λ tokens rest. (point : List ℕ) → BeginsWithPiece point tokens (pieces.Group before placeholder after modifier) rest)
@@ -87,7 +87,7 @@ takes_filled_group old mid new before placeholder after modifier is_open inner c
     (λ x y z gx gy gz p q point. subst (λ w. BeginsWithPiece point w (pieces.Group before placeholder after modifier) z) (sym p.first)
     (filled_group (token_view old.token) p.inner p.behind y z modifier is_open p.cut q point before after placeholder (subst (IsFilled p.inner before placeholder after) q.cut p.is_filled)))
 
--- a placeholder between texts after a brace that is not closed
+-- A placeholder between texts after a brace that is not closed.
 pub takes_open_filled : (old mid new : Reader) (before : List ℕ) (placeholder : Placeholder) (after : List ℕ) → old.token.kind ≡ Open → new.token.kind ≢ Close →
     Takes old mid (BeginsWithInner (token_view old.token) before placeholder after) → Takes mid new (λ tokens rest. tokens ≡ rest) →
     Takes old new (λ tokens rest. List ℕ → HasEndingAt tokens endings.LacksClose rest)

@@ -31,7 +31,7 @@ pub record LeavesLast (text last rest : List ℕ) : Type 0 where
 pub leaves_all : (text : List ℕ) → LeavesLast text text text
 leaves_all text = record { characters = []; cut = refl; stand = refl; one = inl (refl, refl) }
 
--- the next character stands for itself too
+-- The next character stands for itself too.
 pub leaves_next : (text last rest after : List ℕ) (c : ℕ) → LeavesLast text last rest → rest ≡ c ∷ after → stands_for_itself c ≡ true → LeavesLast text rest after
 leaves_next text last rest after c h e stands = by_one h.one
   where
@@ -70,7 +70,7 @@ pub stands_there : (text : List ℕ) → BeginsWith stands_for_itself text → �
 stands_there [] h g = both_ways false refl h
 stands_there (c ∷ text) h g = both_ways (is_ignored c) (not_skipped c h) g
 
--- the rest begins with these texts, the tokens of these characters
+-- The rest begins with these texts, the tokens of these characters.
 pub record BeginsWithTokens (whole rest characters next : List ℕ) : Type 0 where
   pub row : List TokenView
   pub place : IsPlace whole next
@@ -173,7 +173,7 @@ text_after whole (c ∷ rest) next token (inr h) stands =
 
 -- ---- characters that are consumed
 
--- consuming characters leaves fewer tokens
+-- Consuming characters leaves fewer tokens.
 pub row_less : (old new : Reader) (middle : List ℕ) → length middle ≤ length old.cursor.rest.now → length new.cursor.rest.now + tokens_left new.token.kind ≤ length middle → old.token.kind ≢ End → reader_left new < reader_left old
 row_less old new middle le len other =
     let one = one_left old.token.kind other in
@@ -221,13 +221,13 @@ module _ (old new : Reader) (middle : List ℕ) (more : List ℕ) (whole : new.c
         );
   }
 
--- no character is consumed after the first
+-- No character is consumed after the first.
 pub row_alone : (old new : Reader) (more : List ℕ) → Takes old new (λ tokens rest. BeginsWithCharacters tokens (token_view old.token) more rest) → more ≡ [] → Takes old new (λ tokens rest. tokens ≡ token_view old.token ∷ rest)
 row_alone old new more t e =
     takes_weaker old new (λ tokens rest. BeginsWithCharacters tokens (token_view old.token) more rest) (λ tokens rest. tokens ≡ token_view old.token ∷ rest) t
     (λ tokens rest g h r. r.cut ∙ ap (λ row. token_view old.token ∷ row ++ rest) (r.none e))
 
--- characters are consumed after the first
+-- Characters are consumed after the first.
 pub row_texts : (old new : Reader) (first more : List ℕ) → Takes old new (λ tokens rest. BeginsWithCharacters tokens (token_view old.token) more rest) → ¬ (more ≡ []) → first ≡ (token_view old.token).value → IsTrue (is_text old.token.kind) → Takes old new (λ tokens rest. BeginsWithRow tokens (first ++ more) rest)
 row_texts old new first more t some value text =
     takes_weaker old new (λ tokens rest. BeginsWithCharacters tokens (token_view old.token) more rest) (λ tokens rest. BeginsWithRow tokens (first ++ more) rest) t

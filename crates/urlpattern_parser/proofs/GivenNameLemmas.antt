@@ -21,7 +21,7 @@ use Rattle.urlpattern_syntax.proofs.TextLemmas.{bytes_same}
 none_there : (name : List ℕ) → ¬ Contains [] name
 none_there name h = absurd (omega (arith, h.1))
 
--- an empty set of names
+-- An empty set of names.
 pub knows_none : (given : GivenNames) → ((name : List ℕ) → has_name given name ≡ false) → KnowsNames [] given 0
 knows_none given none = record {
   named = λ name u g. (λ h. absurd (none_there (chars name) h), λ h. absurd (both_ways _ (none name) h));
@@ -29,11 +29,11 @@ knows_none given none = record {
 }
 
 module _ (names : List (List ℕ)) (given : GivenNames) (number : ℕ) (knows : KnowsNames names given number) where
-  -- the next number is not among the names
+  -- The next number is not among the names.
   pub number_is_new : number < 2 ^ 64 → ¬ Contains names (decimal number)
   number_is_new small = knows.numbered number (omega arith) small
 
-  -- a number is added to the names
+  -- A number is added to the names.
   pub knows_number : number < 2 ^ 64 → KnowsNames (names ++ decimal number ∷ []) given (number + 1)
   knows_number small = record {
     named = λ name u g. (
@@ -49,7 +49,7 @@ module _ (names : List (List ℕ)) (given : GivenNames) (number : ℕ) (knows : 
     ];
   }
 
-  -- a name is added to the names
+  -- A name is added to the names.
   pub knows_name : (new : GivenNames) (name : Bor (List ℕ)) → IsUtf8 name.now → IsGiven (chars name.now) → ((other : List ℕ) → has_name new other ≡ (has_bytes other name || has_name given other)) →
       KnowsNames (names ++ chars name.now ∷ []) new number
   knows_name new name u g added = record {
@@ -88,7 +88,7 @@ pending_unnamed : (text : List ℕ) → item_names (pending_items text) ≡ []
 pending_unnamed [] = refl
 pending_unnamed (c ∷ text) = refl
 
--- the pending text and more items have the names of these items
+-- The pending text and more items have the names of these items.
 pub names_with : (options : OptionsView) (encoding : Encoding) (old new : PartListView) (items : List Item) → AddsParts options encoding old (pending_items old.pending ++ items) new → group_names new.parts ≡ group_names old.parts ++ item_names items
 names_with options encoding old new items a =
     names_added options encoding old new (pending_items old.pending ++ items) a
@@ -98,12 +98,12 @@ pub names_pending : (options : OptionsView) (encoding : Encoding) (old new : Par
 names_pending options encoding old new a =
     names_added options encoding old new (pending_items old.pending) a ∙ ap (λ x. group_names old.parts ++ x) (pending_unnamed old.pending) ∙ append-nil (group_names old.parts)
 
--- equal names, sets of names and next numbers are known alike
+-- Equal names, sets of names and next numbers are known alike.
 pub knows_same : (names others : List (List ℕ)) (given same : GivenNames) (number next : ℕ) → others ≡ names → same ≡ given → next ≡ number → KnowsNames names given number → KnowsNames others same next
 knows_same names others given same number next e f g h =
     subst (λ x. KnowsNames x same next) (sym e) (subst (λ x. KnowsNames names x next) (sym f) (subst (KnowsNames names given) (sym g) h))
 
--- a consequence of three clauses of a call that succeeds
+-- A consequence of three clauses of a call that succeeds.
 pub ok_both : {T E : Type 0} (result : Result T E) {P Q R S : Type 0} → OnOk result P → OnOk result Q → OnOk result R → (P → Q → R → S) → OnOk result S
 ok_both (Ok x) p q r f = f p q r
 ok_both (Err e) p q r f = tt

@@ -11,7 +11,7 @@ use Rattle.urlpattern_syntax.specs.Reading.{Capture, Encoding, FirstFails, Item,
 use Rattle.urlpattern_syntax.specs.RegexpText.{group_names}
 use Rattle.urlpattern_syntax.proofs.ReadingLemmas.{adds_item, fails_item}
 
--- the part of a placeholder, by its fields
+-- The part of a placeholder, by its fields.
 pub capture_view : (options : OptionsView) (prefix name : List ℕ) (match : Matched) (suffix : List ℕ) (modifier : PartModifier) (kind : PartType) (value : List ℕ) → kind ≡ kind_of options (compared options match) → value ≡ value_of kind (compared options match) → record { kind = kind; value = value; modifier = modifier; name = name; prefix = prefix; suffix = suffix } ≡ capture_part options prefix name match suffix modifier
 capture_view options prefix name match suffix modifier kind value e f = λ i. record {
   kind = e i;
@@ -23,7 +23,7 @@ capture_view options prefix name match suffix modifier kind value e f = λ i. re
 }
 
 -- `mid` is the list after the pending text is added; the placeholder has the number that it had
--- before
+-- before.
 module _ (options : OptionsView) (encoding : Encoding) (old mid : PartListView) (added : AddsParts options encoding old (pending_items old.pending) mid) (same : mid.number ≡ old.number)
     (prefix : List ℕ) (placeholder : Placeholder) (suffix : List ℕ) (modifier : PartModifier) where
   abbrev name_at : ℕ → List ℕ
@@ -35,7 +35,7 @@ module _ (options : OptionsView) (encoding : Encoding) (old mid : PartListView) 
   is_new : ¬ Contains (group_names mid.parts) (name_at mid.number) → ¬ Contains (group_names mid.parts) (name_at old.number)
   is_new = subst (λ number. ¬ Contains (group_names mid.parts) (name_at number)) same
 
-  -- a demand of the placeholder fails
+  -- A demand of the placeholder fails.
   fails_group : (error : ErrorView) → FirstFails encoding (item_demands (group_names mid.parts) (group ∷ [])) error → FirstFails encoding (item_demands (group_names old.parts) (pending_items old.pending ++ group ∷ [])) error
   fails_group error h = fails_item options encoding old mid (pending_items old.pending) added group error h
 
@@ -52,7 +52,7 @@ module _ (options : OptionsView) (encoding : Encoding) (old mid : PartListView) 
       FirstFails encoding (item_demands (group_names old.parts) (pending_items old.pending ++ group ∷ [])) error
   suffix_fails before error new h g = fails_group error (inr (is_new new, inr ((before, h), inl g)))
 
-  -- all demands are met, and the part is after the others
+  -- All demands are met, and the part is after the others.
   pub adds_group : (new : PartListView) (before after : List ℕ) → ¬ Contains (group_names mid.parts) (name_at mid.number) → encoding prefix (Ok before) → encoding suffix (Ok after) →
       new.parts ≡ mid.parts ++ capture_part options before (name_at mid.number) placeholder.matched after modifier ∷ [] → new.pending ≡ mid.pending →
       AddsParts options encoding old (pending_items old.pending ++ group ∷ []) new

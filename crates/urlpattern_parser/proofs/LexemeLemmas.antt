@@ -15,7 +15,7 @@ pub LexesUnder-ok : (policy : TokenizePolicy) (text : List ℕ) (lexeme : Lexeme
 LexesUnder-ok policies.Strict text lexeme h = h
 LexesUnder-ok policies.Lenient text lexeme h = h
 
--- a fault is reported under the strict policy alone
+-- A fault is reported under the strict policy alone.
 pub ReportsFaultUnder-first : (policy : TokenizePolicy) (text left : List ℕ) (front : List TokenView) (fault : TokenizerError) (index : ℕ) → IsCutUnder policy text front left → LexesUnder policy left (Err fault) → BeginsAt text left index → ReportsFaultUnder policy text (errors.Tokenizer fault index)
 ReportsFaultUnder-first policies.Strict text left front fault index cut reported place = record { front = front; left = left; cut = cut; place = place; fault = reported }
 ReportsFaultUnder-first policies.Lenient text left front fault index cut reported place = absurd reported

@@ -12,7 +12,7 @@ use Rattle.std.proofs.lemmas.Map.Text.{is_eq-slice_cmp}
 use Rattle.urlpattern_parser.specs.declared.parser.given_names.GivenNames.{GivenNames}
 use Rattle.urlpattern_parser.specs.GivenNames.{has_name, has_bytes}
 
--- the order of names
+-- The order of names.
 abbrev text_cmp : Bor (List ℕ) → Bor (List ℕ) → Ordering
 text_cmp x y = slice_cmp nat_cmp x.now y.now
 

@@ -61,7 +61,7 @@ module _ (options : OptionsView) (encoding : Encoding) (tokens rest : List Token
   names_read : group_names old.parts ≡ item_names r.items
   names_read = names-AreParts options encoding r.items old.parts r.are_parts
 
-  -- a demand after those of the items fails
+  -- A demand after those of the items fails.
   fails_after : (more : List Piece) (ending : Ending) (left : List Item) (error : ErrorView) → ArePieces options.prefix rest more ending → with_text old.pending (joined_items (items_from old.number more)) ≡ left → FirstFails encoding (demands_after (item_names r.items) left ending) error → FailsTokens tokens options encoding error
   fails_after more ending left error are_pieces e h = record {
     pieces = r.pieces ++ more;

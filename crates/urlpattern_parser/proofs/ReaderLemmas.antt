@@ -30,7 +30,7 @@ cut_shorter whole text left (token ∷ tokens) h =
     let more = cut_shorter whole h.1 left tokens h.4 in
     omega (arith, e, less, more)
 
--- the text after a place is no longer than the whole text
+-- The text after a place is no longer than the whole text.
 pub place_within : (whole rest : List ℕ) → IsUtf8 whole → IsUtf8 rest → IsPlace (chars whole) (chars rest) → length rest ≤ length whole
 place_within whole rest u v p =
     let within = cut_shorter (chars whole) (chars whole) (chars rest) p.front p.cut in
@@ -38,11 +38,11 @@ place_within whole rest u v p =
     let f = byte_len-chars rest v in
     omega (arith, within, e, f)
 
--- the place before the first token
+-- The place before the first token.
 pub place_first : (whole rest : List ℕ) → Skips whole rest → ¬ BeginsWith is_ignored rest → IsPlace whole rest
 place_first whole rest skips begins = record { front = []; cut = skips; begins = begins }
 
--- the place after the next token
+-- The place after the next token.
 pub place_next : (whole rest value behind next : List ℕ) (kind : TokenType) (index : ℕ) → IsPlace whole rest → IsLexed rest kind value behind → BeginsAt whole rest index → Skips behind next → ¬ BeginsWith is_ignored next → IsPlace whole next
 place_next whole rest value behind next kind index p lexed place skips begins =
     let token : TokenView = record { kind = kind; index = index; value = value } in
@@ -74,13 +74,13 @@ after_other whole rest next token tokens (inr h) other t = record {
   all = ap (λ x. token ∷ x) t.all;
 }
 
--- the tokens of a text are those after the place before its first
+-- The tokens of a text are those after the place before its first.
 pub tokens_first : (text rest : List ℕ) (tokens : List TokenView) → Skips text rest → AreTokensAfter text rest tokens → AreTokens text tokens
 tokens_first text rest tokens skips t = record { front = t.front; cut = skip_cut (IsTokenOf text) text rest [] t.front skips t.cut; all = t.all }
 
 -- ---- tokens that are left
 
--- the tokens that are left, read from the place before the first of them
+-- The tokens that are left, read from the place before the first of them.
 pub given_after : (reader : Reader) (before : List ℕ) (tokens : List TokenView) → IsTokenAfter (reader_text reader) before (token_view reader.token) (chars reader.cursor.rest.now) → HasTokensLeft reader tokens → AreTokensAfter (reader_text reader) before tokens
 given_after reader before tokens after g = subst (AreTokensAfter (reader_text reader) before) (sym g.first) (by_others g.others)
   where
@@ -90,7 +90,7 @@ given_after reader before tokens after g = subst (AreTokensAfter (reader_text re
         (after_end (reader_text reader) before (chars reader.cursor.rest.now) (token_view reader.token) after h.0)
     by_others (inr h) = after_other (reader_text reader) before (chars reader.cursor.rest.now) (token_view reader.token) g.more after h.0 h.1
 
--- where the rest has tokens, tokens are left
+-- Where the rest has tokens, tokens are left.
 pub gives_some : (reader : Reader) (more : List TokenView) → Stands reader → AreTokensAfter (reader_text reader) (chars reader.cursor.rest.now) more → (tokens : List TokenView) × HasTokensLeft reader tokens
 gives_some reader more stands t = by_kind reader.token.kind refl
   where
@@ -112,7 +112,7 @@ gives_some reader more stands t = by_kind reader.token.kind refl
     by_kind End e = (token_view reader.token ∷ [], record { more = []; first = refl; closed = e; others = inl (e, refl) })
     by_kind other e = given (λ f. cc (e, f))
 
--- a token that was read is spelled as its kind is
+-- A token that was read is spelled as its kind is.
 pub mark_after : (whole rest next : List ℕ) (token : TokenView) → IsTokenAfter whole rest token next → IsModifierSpelled token
 mark_after whole rest next token (inl h) e = absurd (let k = ap (λ (x : TokenView). x.kind) h.1 in cc (k, e))
 mark_after whole rest next token (inr h) e = spelled_modifier token h.1.lexed.spelling h.1.lexed.spells e
@@ -129,7 +129,7 @@ pub tokens_left_most : (kind : TokenType) → tokens_left kind ≤ 1
 tokens_left_most End = omega arith
 tokens_left_most other = omega arith
 
--- the text after a token is shorter than the text that begins with the token
+-- The text after a token is shorter than the text that begins with the token.
 pub left_within : (rest behind next : List ℕ) (kind : TokenType) → IsUtf8 rest → IsUtf8 behind → byte_len (chars behind) < byte_len (chars rest) → length next ≤ length behind → length next + tokens_left kind ≤ length rest
 left_within rest behind next kind u v less le =
     let e = byte_len-chars rest u in
@@ -137,7 +137,7 @@ left_within rest behind next kind u v less le =
     let most = tokens_left_most kind in
     omega (arith, e, f, most, less, le)
 
--- a token is consumed
+-- A token is consumed.
 module _ (old new : Reader) (whole : new.cursor.input.now ≡ old.cursor.input.now) (place : IsPlace (reader_text old) (chars new.cursor.rest.now)) (after : IsTokenAfter (reader_text old) (chars old.cursor.rest.now) (token_view new.token) (chars new.cursor.rest.now)) (len : length new.cursor.rest.now + tokens_left new.token.kind ≤ length old.cursor.rest.now) (stands : Stands old) (other : old.token.kind ≢ End) where
   same_text : reader_text new ≡ reader_text old
   same_text = ap chars whole
@@ -173,7 +173,7 @@ module _ (old new : Reader) (whole : new.cursor.input.now ≡ old.cursor.input.n
         );
   }
 
--- nothing is consumed
+-- Nothing is consumed.
 pub takes_none : (reader : Reader) (Is : List TokenView → List TokenView → Type 0) → Stands reader → ((tokens : List TokenView) → HasTokensLeft reader tokens → Is tokens tokens) → Takes reader reader Is
 takes_none reader Is stands is = record {
   whole = refl;
@@ -205,7 +205,7 @@ takes_weaker a b P Q t weaker = record {
       (x.0, x.1, weaker x.0 rest x.1 g x.2);
 }
 
--- equal texts have the same faults
+-- Equal texts have the same faults.
 pub fault_same : {T : Type 0} (a b : List ℕ) (result : Result T Error) → chars a ≡ chars b → IfErr result (ReportsFault (chars a)) → IfErr result (ReportsFault (chars b))
 fault_same a b result e h = subst (λ text. IfErr result (ReportsFault text)) e h
 
@@ -213,7 +213,7 @@ pub ok_weaker : {T : Type 0} (result : Result T Error) (P Q : Type 0) → (P →
 ok_weaker (Ok x) P Q f h = f h
 ok_weaker (Err error) P Q f h = h
 
--- a reader at the first token of the text
+-- A reader at the first token of the text.
 pub starts : (text : List ℕ) (reader : Reader) (rest : List ℕ) → reader_text reader ≡ text → IsPlace text (chars reader.cursor.rest.now) → Skips text rest → IsTokenAfter text rest (token_view reader.token) (chars reader.cursor.rest.now) → StartsText text reader
 starts text reader rest whole place skips after = record {
   whole = whole;
@@ -228,7 +228,7 @@ starts text reader rest whole place skips after = record {
       (given_after reader rest tokens (subst (λ x. IsTokenAfter x rest (token_view reader.token) (chars reader.cursor.rest.now)) (sym whole) after) g));
 }
 
--- consuming a piece leaves fewer tokens
+-- Consuming a piece leaves fewer tokens.
 pub shorter_if : (result : Result Next Error) (new old : ℕ) → OnOk result (new < old) → IfOk result (IsShorter new old)
 shorter_if (Err error) new old h = tt
 shorter_if (Ok next) new old h = by_next next

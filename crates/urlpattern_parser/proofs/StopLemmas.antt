@@ -20,11 +20,11 @@ pub record Reached (point text : List ℕ) (rest : List TokenView) : Type 0 wher
   pub cut : tokens ≡ front ++ rest
   pub goes_on : (more : List Piece) (ending : Ending) → ArePieces point rest more ending → (all : List Piece) × ArePieces point tokens all ending
 
--- for any tokens that are left, the tokens of the text before them are pieces
+-- For any tokens that are left, the tokens of the text before them are pieces.
 abbrev pub ReachesBy : (point text : List ℕ) → Reader → Type 0
 ReachesBy point text reader = (rest : List TokenView) → HasTokensLeft reader rest → Reached point text rest
 
--- a row of texts before a text is pieces
+-- A row of texts before a text is pieces.
 row_pieces : (point : List ℕ) (row behind : List TokenView) → IsTrue (list_all (λ (token : TokenView). is_text token.kind) row) → BeginsWithKind is_text behind →
     (more : List Piece) (ending : Ending) → ArePieces point behind more ending → (all : List Piece) × ArePieces point (row ++ behind) all ending
 row_pieces point [] behind texts next more ending h = (more, h)
@@ -38,7 +38,7 @@ module _ (point text : List ℕ) where
   nothing_reached reader s rest g = record { tokens = rest; front = []; are_tokens = s.all rest g; cut = refl; goes_on = λ more ending h. (more, h) }
 
   module _ (old new : Reader) (reached : ReachesBy point text old) where
-    -- the next piece
+    -- The next piece.
     pub piece_reached : (piece : Piece) → Takes old new (λ tokens rest. BeginsWithPiece point tokens piece rest) → ReachesBy point text new
     piece_reached piece takes rest g =
         let t = takes.gives rest g in
@@ -51,7 +51,7 @@ module _ (point text : List ℕ) where
           goes_on = λ more ending h. r.goes_on (piece ∷ more) ending (t.2.0, rest, t.2.1, t.2.2, h);
         }
 
-    -- the next row of characters
+    -- The next row of characters.
     pub row_reached : (characters : List ℕ) → Takes old new (λ tokens rest. BeginsWithRow tokens characters rest) → ReachesBy point text new
     row_reached characters takes rest g =
         let t = takes.gives rest g in
@@ -67,7 +67,7 @@ module _ (point text : List ℕ) where
               r.goes_on all.0 ending (subst (λ x. ArePieces point x all.0 ending) (sym row.cut) all.1);
         }
 
-    -- the token with which no piece begins
+    -- The token with which no piece begins.
     pub stop_reached : (ending : TokenView → Ending) → ((found : TokenView) → found ≡ found_in (ending found)) → Takes old new (λ tokens rest. HasEndingAt tokens ending rest) →
         (tokens : List TokenView) × HasTokensLeft new tokens → IsStopOf text point (token_view old.token) (token_view new.token)
     stop_reached ending is takes left =

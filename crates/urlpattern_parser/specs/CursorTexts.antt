@@ -6,14 +6,14 @@ use Rattle.urlpattern_syntax.specs.Text.{chars}
 use Rattle.urlpattern_syntax.specs.Tokens.{token_view}
 use Rattle.urlpattern_syntax.specs.declared.tokenizer.Token.{Token}
 
--- the text that is read
+-- The text that is read.
 abbrev pub cursor_text : Cursor → List ℕ
 cursor_text cursor = chars cursor.input.now
 
--- the text after the place
+-- The text after the place.
 abbrev pub cursor_rest : Cursor → List ℕ
 cursor_rest cursor = chars cursor.rest.now
 
--- the cursor returns this token, and moves after it
+-- The cursor returns this token, and moves after it.
 abbrev pub GivesToken : (old : Cursor) → Token → (new : Cursor) → Type 0
 GivesToken old token new = IsTokenAfter (cursor_text old) (cursor_rest old) (token_view token) (cursor_rest new)

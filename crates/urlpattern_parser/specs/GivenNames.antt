@@ -4,10 +4,10 @@ use Rattle.std.specs.{Borrow.Bor, BTreeSet.contains_by, List.list_any, Ordering.
 use Rattle.std.specs.Cmp.Lexicographic.{slice_cmp}
 use Rattle.urlpattern_parser.specs.declared.parser.given_names.GivenNames.{GivenNames}
 
--- the text's bytes are these
+-- The text's bytes are these.
 abbrev pub has_bytes : List ℕ → Bor (List ℕ) → Bool
 has_bytes bytes text = bytes_eq text.now bytes
 
--- the name of these bytes is in the set
+-- The name of these bytes is in the set.
 abbrev pub has_name : GivenNames → List ℕ → Bool
 has_name names bytes = list_any (has_bytes bytes) names.few.items || contains_by (λ text. slice_cmp nat_cmp bytes text.now) names.others

@@ -21,88 +21,88 @@ use Rattle.urlpattern_syntax.specs.Text.{chars, option_text}
 
 -- ---- the parser
 
--- the options of the parser
+-- The options of the parser.
 abbrev pub parser_options : {F : Type 0} → PatternParser F → OptionsView
 parser_options parser = options_view parser.options.now
 
--- the results of the parser's callback
+-- The results of the parser's callback.
 abbrev pub parser_encoding : {F : Type 0} → Calls F → PatternParser F → Encoding
 parser_encoding calls parser = encoding_by calls parser.encoding_callback
 
--- the parser reads the text as these parts
+-- The parser reads the text as these parts.
 abbrev pub ParserReads : {F : Type 0} → Calls F → PatternParser F → List ℕ → List Part → Type 0
 ParserReads calls parser text parts = Reads text (parser_options parser) (parser_encoding calls parser) (parts_view parts)
 
--- the parser rejects the text with this error
+-- The parser rejects the text with this error.
 abbrev pub ParserRefuses : {F : Type 0} → Calls F → PatternParser F → List ℕ → ErrorView → Type 0
 ParserRefuses calls parser text error = Refuses text (parser_options parser) (parser_encoding calls parser) error
 
--- the regular expression that decides the kind of a placeholder's part
+-- The regular expression that decides the kind of a placeholder's part.
 abbrev pub matched_regexp : {F : Type 0} → PatternParser F → Matched → List ℕ
 matched_regexp parser matched = compared (parser_options parser) (matched_view matched)
 
 -- ---- the names of a list
 
--- the names of the groups of the list
+-- The names of the groups of the list.
 abbrev pub list_names : PartList → List (List ℕ)
 list_names list = group_names (part_list_view list).parts
 
--- the list keeps these names
+-- The list keeps these names.
 abbrev pub Knows : PartList → List (List ℕ) → Type 0
 Knows list names = KnowsNames names list.given_names list.next_numeric_name
 
--- the list keeps the names of its parts
+-- The list keeps the names of its parts.
 abbrev pub KnowsItsNames : PartList → Type 0
 KnowsItsNames list = Knows list (list_names list)
 
--- the name of the list's next placeholder: the given name, or else its number among those without
--- one
+-- The name of the list's next placeholder: the given name, or else its number among those without
+-- one.
 abbrev pub next_name : PartList → Option (Bor (List ℕ)) → List ℕ
 next_name list name = name_or (option_text name) list.next_numeric_name
 
--- the error reports that the name of the list's next placeholder is in the list already
+-- The error reports that the name of the list's next placeholder is in the list already.
 abbrev pub IsDuplicate : PartList → Option (Bor (List ℕ)) → ErrorView → Type 0
 IsDuplicate list name error = Contains (list_names list) (next_name list name) × (error ≡ ErrorView.DuplicateName (next_name list name))
 
 -- ---- additions to a list
 
--- the list's pending text, as an item if there is one
+-- The list's pending text, as an item if there is one.
 abbrev pub pending_item : PartList → List Item
 pending_item list = pending_items (part_list_view list).pending
 
--- the list's pending text, then the text of these bytes with a modifier
+-- The list's pending text, then the text of these bytes with a modifier.
 abbrev pub then_text : PartList → (bytes : List ℕ) → PartModifier → List Item
 then_text list bytes modifier = pending_item list ++ Fixed (chars bytes) modifier ∷ []
 
--- the list's pending text, then a placeholder between the texts of these bytes
+-- The list's pending text, then a placeholder between the texts of these bytes.
 abbrev pub then_group : PartList → (before : List ℕ) → Placeholder → (after : List ℕ) → PartModifier → List Item
 then_group list before placeholder after modifier =
     pending_item list ++ group_item (chars before) placeholder (chars after) modifier list.next_numeric_name ∷ []
 
--- the item of a piece after the list
+-- The item of a piece after the list.
 abbrev pub next_item : PartList → Piece → Item
 next_item list piece = item list.next_numeric_name (piece_view piece)
 
--- the demands at the last token: the encoding of the list's pending text, and that the token is the
--- end
+-- The demands at the last token: the encoding of the list's pending text, and that the token is the
+-- end.
 abbrev pub end_demands : PartList → Token → List Demand
 end_demands list token = encode_fixed (part_list_view list).pending ++ Expect End (token_view token) ∷ []
 
--- the parser puts the parts of these items after those of the list, and nothing is pending
+-- The parser puts the parts of these items after those of the list, and nothing is pending.
 abbrev pub AddsAll : {F : Type 0} → Calls F → PatternParser F → (old : PartList) → List Item → (new : PartList) → Type 0
 AddsAll calls parser old items new =
     AddsParts (parser_options parser) (parser_encoding calls parser) (part_list_view old) items (part_list_view new)
 
--- the parser adds the piece to the list
+-- The parser adds the piece to the list.
 abbrev pub AddsPiece : {F : Type 0} → Calls F → PatternParser F → (old : PartList) → Piece → (new : PartList) → Type 0
 AddsPiece calls parser old piece new =
     AddsItem (parser_options parser) (parser_encoding calls parser) (part_list_view old) (next_item old piece) (part_list_view new)
 
--- memory ran out, or a demand of these items after the list fails with the error
+-- Memory ran out, or a demand of these items after the list fails with the error.
 abbrev pub FailsToAdd : {F : Type 0} → Calls F → PatternParser F → PartList → List Item → Error → Type 0
 FailsToAdd calls parser list items error = FailsItems (parser_encoding calls parser) (part_list_view list).parts items error
 
--- the parser does not add the piece to the list
+-- The parser does not add the piece to the list.
 abbrev pub FailsToAddPiece : {F : Type 0} → Calls F → PatternParser F → PartList → Piece → Error → Type 0
 FailsToAddPiece calls parser list piece error =
     FailsItem (parser_encoding calls parser) (part_list_view list) (next_item list piece) error

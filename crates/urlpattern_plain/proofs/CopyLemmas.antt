@@ -3,7 +3,7 @@ use Rattle.std.proofs.Common.{◌≡◌, List, [], ◌∷◌, String, ap, map, r
 use Rattle.std.specs.List.{AllZip}
 use Rattle.std.specs.declared.alloc.Global.{Global}
 
--- copies of texts have the same bytes
+-- Copies of texts have the same bytes.
 pub same_bytes : (given copies : List (String Global)) → AllZip (λ text copy. string_bytes copy ≡ string_bytes text) given copies
     → map string_bytes copies ≡ map string_bytes given
 same_bytes [] [] same = refl

@@ -11,7 +11,7 @@ use Rattle.serde_json.specs.declared.value.Value.{Value}
 use Rattle.urlpattern_inputs.specs.Trees.{◌>>=◌}
 use Rattle.urlpattern_plain.specs.Json.{only, texts_of_items}
 
--- the texts read so far, and those of the items left
+-- The texts read so far, and those of the items left.
 abbrev pub with_front : List (List ℕ) → Option (List (List ℕ)) → Option (List (List ℕ))
 with_front front None = None
 with_front front (Some rest) = Some (front ++ rest)
@@ -36,19 +36,19 @@ item_first values i value lt e =
     let first : drop i values ≡ value ∷ drop (i + 1) values = rw (add-one, drop-cons values i value) (ap (λ (v : Value). v ∷ drop (suc i) values) (sym e)) in
     ap items_view first
 
--- a further text is read
+-- A further text is read.
 pub goes_on : (front : List (List ℕ)) (values : List Value) (i : ℕ) (value : Value) (text : List ℕ) (total : Option (List (List ℕ))) → i < length values → value ≡ get_or values i value → as_str (view value) ≡ Some text
     → with_front front (texts_of_items (items_view (drop i values))) ≡ total → with_front (front ++ text ∷ []) (texts_of_items (items_view (drop (i + 1) values))) ≡ total
 goes_on front values i value text total lt e is so_far =
     sym (at_item front (view value) (items_view (drop (i + 1) values)) text is) ∙ ap (λ items. with_front front (texts_of_items items)) (sym (item_first values i value lt e)) ∙ so_far
 
--- an item that is no string
+-- An item that is no string.
 pub ends : (front : List (List ℕ)) (values : List Value) (i : ℕ) (value : Value) (total : Option (List (List ℕ))) → i < length values → value ≡ get_or values i value → as_str (view value) ≡ None
     → with_front front (texts_of_items (items_view (drop i values))) ≡ total → total ≡ None
 ends front values i value total lt e is so_far =
     sym so_far ∙ ap (λ items. with_front front (texts_of_items items)) (item_first values i value lt e) ∙ at_other front (view value) (items_view (drop (i + 1) values)) is
 
--- no item is left
+-- No item is left.
 pub is_done : (front : List (List ℕ)) (values : List Value) (i : ℕ) (total : Option (List (List ℕ))) → drop i values ≡ [] → with_front front (texts_of_items (items_view (drop i values))) ≡ total → total ≡ Some front
 is_done front values i total none so_far =
     sym so_far ∙ ap (λ (rest : List Value). with_front front (texts_of_items (items_view rest))) none ∙ ap (λ (texts : List (List ℕ)). Some texts) (append-nil front)

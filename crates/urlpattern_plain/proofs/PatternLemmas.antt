@@ -17,7 +17,7 @@ pub pattern_from : (tree : Data) (pattern : PlainPatternView)
 unfolding pattern_read
 pattern_from tree pattern of_components of_groups = rw (of_groups, of_components) refl
 
--- a component is not read, for this reason
+-- A component is not read, for this reason.
 pub pattern_fails : (tree : Data) (reason : Unread)
     → IsUnread reason (read_each (λ name. member_read component_read (name_text name) tree)) → IsUnread reason (pattern_read tree)
 unfolding pattern_read

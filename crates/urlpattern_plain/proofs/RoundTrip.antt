@@ -80,7 +80,7 @@ component_again component h = component_from (component_tree component) componen
 
 -- ---- patterns
 
--- the component of a pattern is found by its name
+-- The component of a pattern is found by its name.
 member_again : (pattern : PlainPatternView) (name : ComponentName)
     → get (name_text name) (pattern_tree pattern) ≡ Some (component_tree (at pattern.components name))
 member_again pattern Protocol = refl

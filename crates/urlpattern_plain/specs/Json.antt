@@ -10,12 +10,12 @@ use Rattle.urlpattern_components.specs.Eight.{at, name_text}
 
 -- ---- trees
 
--- a string of one character, or null
+-- A string of one character, or null.
 abbrev pub filter_tree : Option ℕ → Data
 filter_tree None = null
 filter_tree (Some character) = string (encode_utf8 character)
 
--- the members of an inner matcher
+-- The members of an inner matcher.
 abbrev pub inner_members : PlainInnerView → List (List ℕ × Option Data)
 inner_members (literal bytes) = (codes "kind", Some (string (codes "literal"))) ∷ (codes "literal", Some (string bytes)) ∷ []
 inner_members (single_capture filter allow_empty) =
@@ -25,18 +25,18 @@ inner_members (single_capture filter allow_empty) =
     ∷ []
 inner_members (regexp bytes) = (codes "kind", Some (string (codes "regExp"))) ∷ (codes "regexp", Some (string bytes)) ∷ []
 
--- the tree of an inner matcher
+-- The tree of an inner matcher.
 abbrev pub inner_tree : PlainInnerView → Data
 inner_tree inner = object_of (inner_members inner)
 
--- the tree of a matcher, with the members of its inner matcher
+-- The tree of a matcher, with the members of its inner matcher.
 abbrev pub matcher_tree : PlainMatcherView → Data
 matcher_tree matcher = object_of (
     (codes "prefix", Some (string matcher.prefix))
     ∷ (codes "suffix", Some (string matcher.suffix))
     ∷ inner_members matcher.inner)
 
--- the tree of a component
+-- The tree of a component.
 abbrev pub component_tree : PlainComponentView → Data
 component_tree component = object_of (
     (codes "patternString", Some (string component.pattern_string))
@@ -45,7 +45,7 @@ component_tree component = object_of (
     ∷ (codes "groupNameList", Some (array (items_of (map string component.group_name_list))))
     ∷ [])
 
--- the tree of a pattern, with a member for each component
+-- The tree of a pattern, with a member for each component.
 abbrev pub pattern_tree : PlainPatternView → Data
 pattern_tree pattern = object_of (
     each_member (λ name. Some (component_tree (at pattern.components name)))
@@ -53,24 +53,24 @@ pattern_tree pattern = object_of (
 
 -- ---- reading
 
--- the character of a text that has exactly one
+-- The character of a text that has exactly one.
 abbrev pub only : List ℕ → Option ℕ
 only [] = None
 only (character ∷ []) = Some character
 only (character ∷ other ∷ rest) = None
 
--- the character read from a tree
+-- The character read from a tree.
 abbrev pub character_read : Data → Option ℕ
 character_read tree = as_str tree >>= λ bytes. only (chars bytes)
 
--- the capturing matcher read from a tree
+-- The capturing matcher read from a tree.
 unfoldable pub capture_read : Data → Option PlainInnerView
 capture_read tree = do
   filter ← optional_read character_read (codes "filter") tree
   allow_empty ← flag_read (codes "allowEmpty") tree
   Some (single_capture filter allow_empty)
 
--- the inner matcher of this kind read from a tree
+-- The inner matcher of this kind read from a tree.
 abbrev pub kind_read : Data → List ℕ → Option PlainInnerView
 kind_read tree kind =
     if bytes_eq kind (codes "literal") then option_map literal (text_read (codes "literal") tree)
@@ -78,11 +78,11 @@ kind_read tree kind =
     else if bytes_eq kind (codes "regExp") then option_map regexp (text_read (codes "regexp") tree)
     else None
 
--- the inner matcher read from a tree
+-- The inner matcher read from a tree.
 unfoldable pub inner_read : Data → Option PlainInnerView
 inner_read tree = text_read (codes "kind") tree >>= kind_read tree
 
--- the matcher read from a tree
+-- The matcher read from a tree.
 unfoldable pub matcher_read : Data → Option PlainMatcherView
 matcher_read tree = do
   prefix ← text_read (codes "prefix") tree
@@ -90,7 +90,7 @@ matcher_read tree = do
   inner ← inner_read tree
   Some (record { prefix = prefix; suffix = suffix; inner = inner })
 
--- the texts, if each item is a string
+-- The texts, if each item is a string.
 abbrev pub texts_of_items : Items → Option (List (List ℕ))
 texts_of_items no_items = Some []
 texts_of_items (item tree rest) = do
@@ -98,11 +98,11 @@ texts_of_items (item tree rest) = do
   others ← texts_of_items rest
   Some (first ∷ others)
 
--- the texts read from a tree
+-- The texts read from a tree.
 abbrev pub texts_read : Data → Option (List (List ℕ))
 texts_read tree = as_array tree >>= texts_of_items
 
--- the component read from a tree
+-- The component read from a tree.
 unfoldable pub component_read : Data → Option PlainComponentView
 component_read tree = do
   pattern_string ← text_read (codes "patternString") tree
@@ -111,7 +111,7 @@ component_read tree = do
   group_name_list ← member_read texts_read (codes "groupNameList") tree
   Some (record { pattern_string = pattern_string; regexp_string = regexp_string; matcher = matcher; group_name_list = group_name_list })
 
--- the pattern read from a tree
+-- The pattern read from a tree.
 unfoldable pub pattern_read : Data → Option PlainPatternView
 pattern_read tree = do
   has_regexp_groups ← flag_read (codes "hasRegexpGroups") tree

@@ -5,18 +5,18 @@ use Rattle.urlpattern_meaning.specs.Matching as matching
 use Rattle.urlpattern_plain.specs.Values.{PlainComponentView, PlainInnerView, PlainMatcherView, literal, regexp, single_capture}
 use Rattle.urlpattern_syntax.specs.Errors.{ErrorView}
 
--- the text that an engine was made of, or the empty text in place of an error
+-- The text that an engine was made of, or the empty text in place of an error.
 abbrev pub engine_text : {E : Type 0} → (text_made_of : E → List ℕ) → Result E ErrorView → List ℕ
 engine_text text_made_of (Ok engine) = text_made_of engine
 engine_text text_made_of (Err error) = []
 
--- the plain value of an inner matcher
+-- The plain value of an inner matcher.
 abbrev pub plain_inner : {E : Type 0} → (text_made_of : E → List ℕ) → matching.InnerView E → PlainInnerView
 plain_inner text_made_of (matching.Literal text) = literal text
 plain_inner text_made_of (matching.SingleCapture filter may_be_empty) = single_capture filter may_be_empty
 plain_inner text_made_of (matching.RegExp engine) = regexp (engine_text text_made_of engine)
 
--- the plain value of a matcher
+-- The plain value of a matcher.
 abbrev pub plain_matcher : {E : Type 0} → (text_made_of : E → List ℕ) → matching.MatcherView E → PlainMatcherView
 plain_matcher text_made_of matcher = record {
   prefix = matcher.prefix;
@@ -24,7 +24,7 @@ plain_matcher text_made_of matcher = record {
   inner = plain_inner text_made_of matcher.inner;
 }
 
--- the plain value of a component
+-- The plain value of a component.
 abbrev pub plain_component : {E : Type 0} → (text_made_of : E → List ℕ) → compiled.ComponentView E → PlainComponentView
 plain_component text_made_of component = record {
   pattern_string = component.pattern_string;

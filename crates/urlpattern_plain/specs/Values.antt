@@ -15,7 +15,7 @@ pub data PlainInnerView : Type 0 where
   single_capture : (filter : Option ℕ) → (allow_empty : Bool) → PlainInnerView
   regexp : List ℕ → PlainInnerView
 
--- an inner matcher, with each text through the view `seen`
+-- An inner matcher, with each text through the view `seen`.
 abbrev pub inner_by : (String Global → List ℕ) → InnerMatcher → PlainInnerView
 inner_by seen (InnerMatcher.Literal string) = literal (seen string)
 inner_by seen (InnerMatcher.SingleCapture filter allow_empty) = single_capture filter allow_empty
@@ -30,7 +30,7 @@ pub record PlainMatcherView : Type 0 where
   pub suffix : List ℕ
   pub inner : PlainInnerView
 
--- a matcher, with each text through the view `seen`
+-- A matcher, with each text through the view `seen`.
 abbrev pub matcher_by : (String Global → List ℕ) → Matcher → PlainMatcherView
 matcher_by seen matcher = record {
   prefix = seen matcher.prefix;
@@ -48,7 +48,7 @@ pub record PlainComponentView : Type 0 where
   pub matcher : PlainMatcherView
   pub group_name_list : List (List ℕ)
 
--- a component, with each text through the view `seen`
+-- A component, with each text through the view `seen`.
 abbrev pub component_by : (String Global → List ℕ) → UrlPatternComponent → PlainComponentView
 component_by seen component = record {
   pattern_string = seen component.pattern_string;
@@ -60,7 +60,7 @@ component_by seen component = record {
 abbrev pub plain_component_view : UrlPatternComponent → PlainComponentView
 plain_component_view component = component_by string_bytes component
 
--- the components of a pattern
+-- The components of a pattern.
 abbrev pub component_patterns : UrlPattern → Eight UrlPatternComponent
 component_patterns pattern = record { protocol = pattern.protocol; username = pattern.username; password = pattern.password; hostname = pattern.hostname; port = pattern.port; pathname = pattern.pathname; search = pattern.search; hash = pattern.hash }
 
@@ -69,7 +69,7 @@ pub record PlainPatternView : Type 0 where
   pub components : Eight PlainComponentView
   pub has_regexp_groups : Bool
 
--- a pattern, with each text through the view `seen`
+-- A pattern, with each text through the view `seen`.
 abbrev pub pattern_by : (String Global → List ℕ) → UrlPattern → PlainPatternView
 pattern_by seen pattern = record {
   components = each (λ name. component_by seen (at (component_patterns pattern) name));
@@ -81,12 +81,12 @@ plain_pattern_view pattern = pattern_by string_bytes pattern
 
 -- ---- numbers that are characters
 
--- the filter, if there is one, is a character
+-- The filter, if there is one, is a character.
 abbrev pub HasFilter : PlainInnerView → Type 0
 HasFilter (literal bytes) = ⊤
 HasFilter (single_capture filter allow_empty) = IfSome filter IsScalar
 HasFilter (regexp bytes) = ⊤
 
--- each filter is a character
+-- Each filter is a character.
 abbrev pub HasFilters : PlainPatternView → Type 0
 HasFilters pattern = (name : ComponentName) → HasFilter (at pattern.components name).matcher.inner

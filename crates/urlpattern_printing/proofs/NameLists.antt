@@ -12,7 +12,7 @@ use Rattle.urlpattern_syntax.specs.Text.{text_of}
 abbrev pub is_group : Part → Bool
 is_group part = not (is_fixed_text part.kind)
 
--- the names of a list of parts
+-- The names of a list of parts.
 abbrev pub names_of : List Part → List (List ℕ)
 names_of parts = group_names (map part_view parts)
 
@@ -48,7 +48,7 @@ pub names-more : (list : List Part) (i : ℕ) (part : Part) → i < length list 
 names-more list i part below here =
     ap (λ xs. names_of xs) (take_more list i part below ∙ ap (λ x. take i list ++ x ∷ []) (sym here)) ∙ names-append (take i list) (part ∷ [])
 
--- the names before a group are fewer than all names
+-- The names before a group are fewer than all names.
 pub names-left : (list : List Part) (i : ℕ) (part : Part) → i < length list → part ≡ get_or list i part → is_group part ≡ true → length (names_of (take i list)) < length (names_of list)
 names-left list i part below here group =
     let rest = names_of (drop (suc i) list) in

@@ -35,7 +35,7 @@ pub filled-append : (text : List ℕ) (c : ℕ) → is_empty (text ++ c ∷ []) 
 filled-append [] c = refl
 filled-append (d ∷ text) c = refl
 
--- the characters of a text whose bytes end with those of `c`
+-- The characters of a text whose bytes end with those of `c`.
 pub chars_before_char : (whole front : List ℕ) (c : ℕ) → IsUtf8 whole → IsScalar c → whole ≡ front ++ encode_utf8 c → chars whole ≡ chars front ++ c ∷ []
 chars_before_char whole front c u s e =
     let cut : take (length front) whole ≡ front = ap (λ xs. take (length front) xs) e ∙ take-append_seam front (encode_utf8 c) in
@@ -43,7 +43,8 @@ chars_before_char whole front c u s e =
     let v = subst P cut (IsUtf8-take whole (length front) u (IsCharBoundary-at_seam whole front (encode_utf8 c) e (IsUtf8-encode c s))) in
     ap chars e ∙ chars-append front (encode_utf8 c) v ∙ ap (λ xs. chars front ++ xs) (chars-encode c s)
 
--- a text that ends with this character ends with the prefix code point exactly where both are equal
+-- A text that ends with this character ends with the prefix code point exactly where both are
+-- equal.
 pub ends_with : {answer : Bool} (text front : List ℕ) (c : ℕ) (prefix : List ℕ) → text ≡ front ++ c ∷ [] → answer ≡ bytes_eq (c ∷ []) prefix → answer ≡ not (is_empty text) && bytes_eq (last_of text) prefix
 ends_with text front c prefix e h =
     rw (e, filled-append front c, last_of-append front c) h
@@ -58,20 +59,20 @@ alone (b ∷ rest) u =
     let some : length (b ∷ rest) ≡ 0 → ⊥ = λ e. omega (arith, e) in
     nothing_alone (chars (b ∷ rest)) (chars-some (b ∷ rest) u some) ∙ sym (grind arith)
 
--- the first character of the text is all of it exactly where no bytes are left
+-- The first character of the text is all of it exactly where no bytes are left.
 pub is_alone : (c : ℕ) (bytes rest : List ℕ) → IsUtf8 bytes → bytes ≡ encode_utf8 c ++ rest → bytes_eq (c ∷ []) (chars bytes) ≡ (length rest == 0)
 is_alone c bytes rest u e =
     let same : eqb c c ≡ true = eq-eqb c c refl in
     ap (λ text. bytes_eq (c ∷ []) text) (chars_past_char bytes rest c u e) ∙ ap (λ b. b && bytes_eq [] (chars rest)) same ∙ alone rest (IsUtf8-past_char bytes rest c u e)
 
--- the text does not begin with this character
+-- The text does not begin with this character.
 pub begins_else : (c : ℕ) (text : List ℕ) → false ≡ option_eq eqb (slice_get text 0) (Some c) → bytes_eq (c ∷ []) text ≡ false
 begins_else c [] e = refl
 begins_else c (d ∷ text) e =
     let one = same_from_decides (eqb c d) (eqb d c) (Decides-eqb c d) ((λ h. sym (eqb-true d c h)), (λ same. eq-eqb d c (sym same))) in
     ap (λ b. b && bytes_eq [] text) (one ∙ sym e)
 
--- the character that was found is `c`
+-- The character that was found is `c`.
 pub found_as : (found : Option ℕ) (c : ℕ) → true ≡ option_eq eqb found (Some c) → found ≡ Some c
 found_as None c e = absurd (cc e)
 found_as (Some d) c e = ap (λ x. Some x) (eqb-true d c (sym e))
@@ -90,14 +91,14 @@ bytes_eq-text one other =
 
 -- ---- neighbours
 
--- the first of the parts after a part
+-- The first of the parts after a part.
 pub first_neighbour : (first : Option (Bor Part)) (parts : List Part) → option_copied first ≡ slice_get parts 0 → neighbour first ≡ first_part (map part_view parts)
 first_neighbour None [] e = refl
 first_neighbour None (part ∷ parts) e = absurd (cc e)
 first_neighbour (Some first) [] e = absurd (cc e)
 first_neighbour (Some first) (part ∷ parts) e = ap (λ found. option_map part_view found) e
 
--- the text after a part's own text, where the list is cut after that part
+-- The text after a part's own text, where the list is cut after that part.
 pub printed-cut : (options : OptionsView) (previous : Option PartView) (part : Part) (after rest : List Part) (next : Option (Bor Part)) (front : List ℕ) {whole : List ℕ}
     → option_copied next ≡ slice_get after 0 → rest ≡ part ∷ after → front ++ printed_after options previous (map part_view rest) ≡ whole
     → front ++ (printed_part options previous (part_view part) (neighbour next) ++ printed_after options (Some (part_view part)) (map part_view after)) ≡ whole
@@ -115,7 +116,7 @@ printed-more options previous part after rest next front is_next cut is_whole =
 
 -- ---- the texts of parts, by the texts of their pieces
 
--- a piece that was escaped by its bytes
+-- A piece that was escaped by its bytes.
 pub escaped-by : {text bytes own : List ℕ} → text ≡ escaped_pattern (chars bytes) → bytes ≡ own → text ≡ escaped_pattern (chars own)
 escaped-by e same = e ∙ ap (λ bytes. escaped_pattern (chars bytes)) same
 
@@ -150,7 +151,7 @@ printed_part-group options before part next other = rw (not-fixed part.kind othe
 
 -- ---- parts without a prefix or a suffix
 
--- nothing is written for an empty text
+-- Nothing is written for an empty text.
 pub escaped-nothing : (text : List ℕ) → is_empty text ≡ true → escaped_pattern text ≡ []
 unfolding escaped
 escaped-nothing [] none = refl
@@ -163,6 +164,6 @@ suffix-nothing true [] none = refl
 suffix-nothing false [] none = refl
 suffix-nothing alone (c ∷ suffix) none = absurd (false≢true none)
 
--- nothing is written for the suffix of a part without one
+-- Nothing is written for the suffix of a part without one.
 pub no_suffix : (part : PartView) → is_empty part.suffix ≡ true → printed_suffix part ≡ []
 no_suffix part none = suffix-nothing (is_name_alone part) part.suffix none

@@ -27,7 +27,7 @@ pub bare-repeated : (modifier : PartModifier) (text : List ℕ) → (modifier �
 bare-repeated modifier text (inl e) = rw e
 bare-repeated modifier text (inr e) = rw e
 
--- the regular expression of a part, by its kind
+-- The regular expression of a part, by its kind.
 pub not-fixed : (kind : PartType) → (kind ≡ FixedText → ⊥) → is_fixed_text kind ≡ false
 not-fixed FixedText other = absurd (other refl)
 not-fixed Regexp other = refl
@@ -48,7 +48,7 @@ pub part_regexp-affixed : (options : OptionsView) (part : PartView) → (part.ki
 unfolding part_regexp
 part_regexp-affixed options part other e = rw (not-fixed part.kind other) (rw e)
 
--- the regular expressions of a list of parts: before one part, of that part, and after it
+-- The regular expressions of a list of parts: before one part, of that part, and after it.
 pub regexps-turn : (options : OptionsView) (list : List Part) (i : ℕ) (part : Part) → i < length list → part ≡ get_or list i part
     → flat_map (part_regexp options) (map part_view list)
     ≡ flat_map (part_regexp options) (map part_view (take i list)) ++ (part_regexp options (part_view part) ++ flat_map (part_regexp options) (map part_view (drop (suc i) list)))

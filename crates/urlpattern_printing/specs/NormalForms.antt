@@ -11,25 +11,25 @@ use Rattle.urlpattern_syntax.specs.declared.parser.Part.{Part}
 use Rattle.urlpattern_syntax.specs.Parts.{PartView, parts_view}
 use Rattle.urlpattern_syntax.specs.Reading.{Encoding, Reads, Refuses}
 
--- if the parts are printable, the text reads back under any encoding that keeps their texts
+-- If the parts are printable, the text reads back under any encoding that keeps their texts.
 abbrev pub ReadsBackIfKept : (text : List ℕ) → OptionsView → List PartView → Type 0
 ReadsBackIfKept text options parts =
     (answers : Answered) → IsPrintable options parts → Keeps (listed answers) parts → ReadsBack text options (listed answers) parts
 
--- if the parts are printable and the encoding changes none of their texts, `normal` is the parts
--- with neighbouring plain fixed texts joined
+-- If the parts are printable and the encoding changes none of their texts, `normal` is the parts
+-- with neighbouring plain fixed texts joined.
 abbrev pub IsJoinedIfKept : OptionsView → Encoding → List PartView → Vec Part Global → Type 0
 IsJoinedIfKept options encoding parts normal =
     IsPrintable options parts → KeepsAnswered encoding parts → parts_view normal.items ≡ joined parts
 
--- if the parts are printable, the error is that of one of their texts, or that memory ran out
+-- If the parts are printable, the error is that of one of their texts, or that memory ran out.
 abbrev pub FailsIfPrintable : OptionsView → Encoding → List PartView → Error → Type 0
 FailsIfPrintable options encoding parts error = IsPrintable options parts → MemoryOr (FailsText encoding (encoded_texts (joined parts))) error
 
--- the pattern text of the parts reads as `normal`
+-- The pattern text of the parts reads as `normal`.
 abbrev pub IsReadFrom : OptionsView → Encoding → List PartView → Vec Part Global → Type 0
 IsReadFrom options encoding parts normal = Reads (printed options parts) options encoding (parts_view normal.items)
 
--- the pattern text of the parts is rejected with this error, or memory ran out
+-- The pattern text of the parts is rejected with this error, or memory ran out.
 abbrev pub RefusesPrinted : OptionsView → Encoding → List PartView → Error → Type 0
 RefusesPrinted options encoding parts error = MemoryOr (Refuses (printed options parts) options encoding) error

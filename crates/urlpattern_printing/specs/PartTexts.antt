@@ -9,36 +9,36 @@ use Rattle.urlpattern_syntax.specs.RegexpText.{affixed_regexp, bare_regexp, esca
 
 -- ---- in the regular expression
 
--- the value with its special characters escaped
+-- The value with its special characters escaped.
 abbrev pub escaped_value : PartRegexp → List ℕ
 escaped_value regexp = escaped_regexp (options_view regexp.options.now) (text_of regexp.part.now.value)
 
--- the prefix with its special characters escaped
+-- The prefix with its special characters escaped.
 abbrev pub escaped_prefix : PartRegexp → List ℕ
 escaped_prefix regexp = escaped_regexp (options_view regexp.options.now) (text_of regexp.part.now.prefix)
 
--- the suffix with its special characters escaped
+-- The suffix with its special characters escaped.
 abbrev pub escaped_suffix : PartRegexp → List ℕ
 escaped_suffix regexp = escaped_regexp (options_view regexp.options.now) (text_of regexp.part.now.suffix)
 
--- the regular expression of one copy of the part, without prefix and suffix
+-- The regular expression of one copy of the part, without prefix and suffix.
 abbrev pub matched_text : PartRegexp → List ℕ
 matched_text regexp = matched_by (options_view regexp.options.now) regexp.part.now.kind (text_of regexp.part.now.value)
 
--- the regular expression of a fixed text
+-- The regular expression of a fixed text.
 abbrev pub fixed_part : PartRegexp → List ℕ
 fixed_part regexp = fixed_regexp regexp.part.now.modifier (escaped_value regexp)
 
--- the regular expression of a group with neither prefix nor suffix
+-- The regular expression of a group with neither prefix nor suffix.
 abbrev pub bare_part : PartRegexp → List ℕ
 bare_part regexp = bare_regexp regexp.part.now.modifier (matched_text regexp)
 
--- the regular expression of a group with a prefix or a suffix
+-- The regular expression of a group with a prefix or a suffix.
 abbrev pub affixed_part : PartRegexp → List ℕ
 affixed_part regexp = affixed_regexp regexp.part.now.modifier (escaped_prefix regexp) (matched_text regexp) (escaped_suffix regexp)
 
 -- ---- in the pattern text
 
--- the text of a part that is not a fixed text, between its neighbours
+-- The text of a part that is not a fixed text, between its neighbours.
 abbrev pub group_part : PrintedPart → (braces : Bool) → List ℕ
 group_part printed braces = printed_group (options_view printed.options.now) (neighbour printed.previous) (part_view printed.part.now) braces

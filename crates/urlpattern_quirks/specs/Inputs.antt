@@ -21,15 +21,15 @@ use Rattle.urlpattern_components.specs.Eight.{Values}
 
 -- ---- inits
 
--- the texts of a plain init
+-- The texts of a plain init.
 abbrev pub plain_values : PlainInit → Values
 plain_values init = values_of (plain_init_texts init)
 
--- the text of a plain init's base URL
+-- The text of a plain init's base URL.
 abbrev pub plain_base : PlainInit → Option (List ℕ)
 plain_base init = option_map string_bytes init.base_url
 
--- the result is a copy of an optional text, unless memory ran out
+-- The result is a copy of an optional text, unless memory ran out.
 abbrev pub IsCopyOfText : Option (List ℕ) → Result (Option (String Global)) AllocError → Type 0
 IsCopyOfText text copied = IfOk copied (λ copy. option_map text_of copy ≡ text)
 
@@ -38,21 +38,21 @@ pub record IsInitOf (plain : PlainInit) (init : UrlPatternInit) : Type 0 where
   pub has_texts : values_view init ≡ plain_values plain
   pub has_base : parsed_base (plain_base plain) ≡ Ok init.base_url
 
--- the input is an init and a base URL is passed with it
+-- The input is an init and a base URL is passed with it.
 abbrev pub HasInitAndBase : StringOrInit → (base : Option (List ℕ)) → Type 0
 HasInitAndBase (inputs.Init plain) (Some base) = ⊤
 HasInitAndBase input base = ⊥
 
 -- ---- constructing
 
--- the init that a pattern is constructed from; the crate `regex` decides which protocols are
--- special
+-- The init that a pattern is constructed from; the crate `regex` decides which protocols are
+-- special.
 abbrev pub IsConstructedFrom : StringOrInit → (base : Option (List ℕ)) → UrlPatternInit → Type 0
 IsConstructedFrom (inputs.String text) base init = IsInitOfText regex_engine (chars (cow_str_bytes text)) base init
 IsConstructedFrom (inputs.Init plain) None init = IsInitOf plain init
 IsConstructedFrom (inputs.Init plain) (Some base) init = ⊥
 
--- the input is rejected with this error
+-- The input is rejected with this error.
 abbrev pub RefusesInput : StringOrInit → (base : Option (List ℕ)) → ErrorView → Type 0
 RefusesInput (inputs.String text) base error = RefusesText (chars (cow_str_bytes text)) base error
 RefusesInput (inputs.Init plain) None error = Reports (parsed_base (plain_base plain)) (text_bytes (plain_base plain)) error
@@ -60,7 +60,7 @@ RefusesInput (inputs.Init plain) (Some base) error = error ≡ views.BaseUrlWith
 
 -- ---- matching
 
--- what a pattern is matched against: the URL of a text, or an init
+-- What a pattern is matched against: the URL of a text, or an init.
 abbrev pub IsMatchInput : StringOrInit → (base : Option (List ℕ)) → UrlPatternMatchInput → Type 0
 IsMatchInput (inputs.String text) base (match_inputs.Url url) = parsed_text base (cow_str_bytes text) ≡ Ok url
 IsMatchInput (inputs.Init plain) None (match_inputs.Init init) = IsInitOf plain init
@@ -71,20 +71,20 @@ pub record AreInputs (input : StringOrInit) (base : Option (List ℕ)) (again : 
   pub same_input : input_view again.0 ≡ input_view input
   pub same_base : option_map text_of again.1 ≡ option_map chars base
 
--- what a pattern is matched against, and the input again
+-- What a pattern is matched against, and the input again.
 abbrev pub IsFound : StringOrInit → (base : Option (List ℕ)) → UrlPatternMatchInput × (StringOrInit × Option (String Global)) → Type 0
 IsFound input base found = IsMatchInput input base found.0 × AreInputs input base found.1
 
--- `url` rejects the text of the input, or the base URL
+-- `url` rejects the text of the input, or the base URL.
 abbrev pub IsNoInputOf : StringOrInit → (base : Option (List ℕ)) → Type 0
 IsNoInputOf (inputs.String text) base = IsRefusedText (cow_str_bytes text) base
 IsNoInputOf (inputs.Init plain) None = IsRefusedByUrl (parsed_base (plain_base plain)) (text_bytes (plain_base plain))
 IsNoInputOf (inputs.Init plain) (Some base) = ⊥
 
--- what a pattern is matched against, with the input again; `None` if a URL is rejected
+-- What a pattern is matched against, with the input again; `None` if a URL is rejected.
 abbrev pub FindsInput : StringOrInit → (base : Option (List ℕ)) → Option (UrlPatternMatchInput × (StringOrInit × Option (String Global))) → Type 0
 FindsInput input base found = MatchOption found (IsNoInputOf input base) (IsFound input base)
 
--- the error is that of a base URL passed with an init
+-- The error is that of a base URL passed with an init.
 abbrev pub RefusesSecondBase : StringOrInit → (base : Option (List ℕ)) → ErrorView → Type 0
 RefusesSecondBase input base error = (error ≡ views.BaseUrlWithInit) × HasInitAndBase input base

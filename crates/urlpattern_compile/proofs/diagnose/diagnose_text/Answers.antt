@@ -33,7 +33,7 @@ returns-in-Err-parse_constructor_string-clause-shows g c =
     protocol_shown g.R.RegExp c.args.pattern.now base c.args.options made.subject made is.text
     (subst (λ (error : Error). RefusesSplit text base (error_view error)) (sym is.error) (c.in-Ok.base, c.in-Ok.ensures.ok, refused)) is.shows
 
--- the init is that of the text
+-- The init is that of the text.
 is_init : (g : given.Over) (c : After-init_diagnosis-found g) → IsInitOfText g.R.RegExp (chars c.args.pattern.now) (option_copied c.args.base_url) c.in-Ok-parse_constructor_string.init
 is_init g c =
     let of = c.in-Ok-parse_constructor_string.ensures in

@@ -3,7 +3,7 @@ use Rattle.std.specs.List.{list_any}
 use Rattle.urlpattern_diagnosis.specs.Faults.{is_bracket}
 use Rattle.urlpattern_diagnosis.proofs.token.open_bracket.Given as goal
 
--- no bracket is at or after the place
+-- No bracket is at or after the place.
 abbrev pub invariant-loop-place : goal.invariant-loop-place
 invariant-loop-place l = record {
   within : l.place ≤ length l.bytes;

@@ -5,7 +5,7 @@ use Rattle.std.specs.Str.{chars}
 use Rattle.urlpattern_syntax.proofs.BodyLemmas.{HasRead}
 use Rattle.urlpattern_diagnosis.proofs.token.refused_in.Given as goal
 
--- the text read so far is an incomplete body with `depth` open groups
+-- The text read so far is an incomplete body with `depth` open groups.
 abbrev pub invariant-loop-first : goal.invariant-loop-first
 invariant-loop-first l = record {
   is_text : shadow (Utf8 l.rest);

@@ -8,7 +8,7 @@ use Rattle.urlpattern_syntax.specs.declared.parser.Part.{Part}
 use Rattle.urlpattern_syntax.specs.Parts.{PartView, part_view, parts_view}
 use Rattle.urlpattern_index.proofs.reading.read_segments.Goals as goal
 
--- the part that is read next
+-- The part that is read next.
 next_part : (parts : List Part) (index : ℕ) (part : Part) → index < length parts → part ≡ get_or parts index part
     → parts_view (drop index parts) ≡ part_view part ∷ parts_view (drop (index + 1) parts)
 next_part parts index part within is = at_drop_more parts_view parts index part within ∙ ap (λ p. part_view p ∷ parts_view (drop (index + 1) parts)) (sym is)

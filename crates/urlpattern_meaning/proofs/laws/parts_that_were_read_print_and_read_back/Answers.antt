@@ -4,7 +4,7 @@ use Rattle.urlpattern_meaning.specs.RoundTrip.{IsNotRefused, PrintsTheSame, Read
 use Rattle.urlpattern_meaning.proofs.ReadsBack.{kept_reads, kept_reads_only, kept_same, kept_unrefused, were_read_printable}
 use Rattle.urlpattern_meaning.proofs.laws.parts_that_were_read_print_and_read_back.Goals as goal
 
--- a property of printable parts is a property of parts that were read
+-- A property of printable parts is a property of parts that were read.
 of_read : (Says : Saying) → OfPrintableParts Says → OfPartsThatWereRead Says
 of_read Says of_printable text options first answers parts read =
     of_printable options answers parts (were_read_printable text options (listed first) parts read)

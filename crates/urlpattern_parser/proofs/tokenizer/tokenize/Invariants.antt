@@ -7,7 +7,7 @@ use Rattle.urlpattern_syntax.specs.Tokens.{is_ignored, token_view}
 use Rattle.urlpattern_syntax.proofs.TokenLemmas.{IsCutUnder}
 use Rattle.urlpattern_parser.proofs.tokenizer.tokenize.Given as goal
 
--- the text is cut into the tokens so far and the rest, where a token begins
+-- The text is cut into the tokens so far and the rest, where a token begins.
 abbrev pub invariant-loop-policy : goal.invariant-loop-policy
 invariant-loop-policy l = record {
   is_text : shadow (Utf8 l.rest);

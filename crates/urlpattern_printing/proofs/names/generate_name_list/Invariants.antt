@@ -5,7 +5,7 @@ use Rattle.urlpattern_syntax.specs.RegexpText.{group_names}
 use Rattle.urlpattern_syntax.specs.Text.{text_of}
 use Rattle.urlpattern_printing.proofs.names.generate_name_list.Given as goal
 
--- the names so far, and room for all of them
+-- The names so far, and room for all of them.
 abbrev pub invariant-loop-part : goal.invariant-loop-part
 invariant-loop-part l =
     (map (λ name. text_of name) l.names.items ≡ group_names (map part_view (take l.part-index l.part_list)))

@@ -2,7 +2,7 @@ use Rattle.urlpattern_pattern.specs.Patterns.{pattern_view}
 use Rattle.urlpattern_printing.proofs.OutcomeLemmas.{if_ok-map}
 use Rattle.urlpattern_quirks.proofs.parsing.parse_pattern.Goals as goal
 
--- the plain value of the compiled pattern
+-- The plain value of the compiled pattern.
 pub returns-clause-parsed : goal.returns-clause-parsed
 returns-clause-parsed g c =
     if_ok-map _ _ c.plain_pattern.result

@@ -32,6 +32,6 @@ empty_spec 𝓤 𝓛 𝓜 𝓡 wired =
     enter ! 𝓣.C 𝓣.Λ code.function [] Post $ alloc_all ! (λ l. pass_all ! refl tt $
     sets ! (agg ! (and_then ! (lit ! tt) (no_more !))) refl (slot_good null_ptr) $
     nothing ! $ slot_in ! null_ptr None $ use0 𝓛 (raw (fact 𝓤 (None ≡ None))) (fact_i 𝓤 (None ≡ None) (emp 𝓤) refl) $
-    -- [the fact; the slot; the tokens; nothing; ..]
+    -- [the fact; the slot; the tokens; nothing; ..].
     returns ! (look_at ! 0 refl) $ free_all ! refl $ keep ! (2 ∷ 3 ∷ 1 ∷ 0 ∷ []) $
     by ! (leaves 𝓛 ended hs c z (single (ptr_val null_ptr)) (record { at = null_ptr; held = None }) tt tt)))

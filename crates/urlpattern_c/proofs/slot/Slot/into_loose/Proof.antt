@@ -48,7 +48,7 @@ into_loose_spec 𝓤 𝓛 𝓜 𝓡 wired =
     rewrite ! 0 (λ (held : Option Kept). ‵ (leads_to d.at held)) k.1 refl $
     in_a_block ! d.at (λ p. box_owns (ghosts.dealloc_token heap) R p k.0) (fst∗ 𝓤 (never 𝓤) (sem 𝓛 (ghosts.dealloc_token heap (bare (lone R.mir)) null_ptr))) (λ b o e.
     move ! (1 ∷ []) $ fsplit ! $ handle_tells al ! a z.0.4.1.0 (λ h ea fits.
-    -- [the handle; nothing; what the slot owned; the tokens]
+    -- [the handle; nothing; what the slot owned; the tokens].
     let v : Val = single (vptr b o) in let us : z.0.4.0 ≡ v ∷ [] = subst (λ (p : Ptr). z.0.4.0 ≡ single (ptr_val p) ∷ []) e at in
     suffices ! (Run (v ∷ h ∷ [])) (subst (λ (ws : List Val). ent 𝓤 (Run (v ∷ h ∷ [])) (Run ws)) (sym (λ i. us i ++ (ea i ++ []))) (id⊢ 𝓤 (Run (v ∷ h ∷ [])))) $
     enter ! 𝓣.C 𝓣.Λ fn (v ∷ h ∷ []) Post $ alloc_all ! (λ l. pass_all ! refl ((tt, (tt, tt)), (fits, tt)) $
@@ -57,6 +57,6 @@ into_loose_spec 𝓤 𝓛 𝓜 𝓡 wired =
     sets ! (agg ! (and_then ! (get ! refl) (and_then ! (get ! refl) (no_more !)))) refl (loose_good R Z LZ ghosts b o h fits) $
     move ! (2 ∷ 0 ∷ []) $ loose_in R Z LZ ghosts ! b o h a k.0 $
     use0 𝓛 (raw (fact 𝓤 (d.held ≡ Some k.0))) (fact_i 𝓤 (d.held ≡ Some k.0) (emp 𝓤) k.1) $ nothing ! $ nothing ! $ fjoin ! $ nothing ! $ fjoin ! $
-    -- [nothing of the parameters; the fact; the box's; nothing; the tokens; ..]
+    -- [nothing of the parameters; the fact; the box's; nothing; the tokens; ..].
     returns ! (look_at ! 0 refl) $ free_all ! refl $ keep ! (4 ∷ 0 ∷ 2 ∷ 1 ∷ []) $
     by ! (leaves 𝓛 ended hs c z (both (vptr b o) h) (record { at = block_ptr b o; alloc = a; value = k.0 }) (_, (_, tt)) (tt, (tt, tt)))))))))

@@ -4,6 +4,6 @@ use Rattle.urlpattern_compile.specs.CompilerSteps.{manner_by}
 use Rattle.urlpattern_compile.proofs.DiagnosisLemmas.{IsCompiledBy}
 use Rattle.urlpattern_compile.proofs.compile.Compiler.first_refused_of.Given as goal
 
--- the components before this one are compiled
+-- The components before this one are compiled.
 abbrev pub invariant-loop-name : goal.invariant-loop-name
 invariant-loop-name g l = AllByRecursion (IsCompiledBy g.R.RegExp (manner_by l.self l.hierarchical)) (take l.name-index l.names)

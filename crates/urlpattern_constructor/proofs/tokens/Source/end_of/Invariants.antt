@@ -3,7 +3,7 @@ use Rattle.urlpattern_constructor.specs.Splitting.{tokens_of}
 use Rattle.urlpattern_constructor.proofs.SeenLemmas.{IsOnTheWay}
 use Rattle.urlpattern_constructor.proofs.tokens.Source.end_of.Given as goal
 
--- the section has not ended yet, and each token so far was looked at once
+-- The section has not ended yet, and each token so far was looked at once.
 abbrev pub invariant-loop-section : goal.invariant-loop-section
 invariant-loop-section l = record {
   within : l.position.index < length l.self.tokens.now;

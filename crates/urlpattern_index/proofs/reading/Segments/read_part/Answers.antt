@@ -9,7 +9,7 @@ use Rattle.urlpattern_syntax.specs.Parts.{PartView, part_view}
 use Rattle.urlpattern_syntax.specs.Text.{lacks}
 use Rattle.urlpattern_index.proofs.reading.Segments.read_part.Goals as goal
 
--- a text that fits a group without a modifier begins with the group's prefix
+-- A text that fits a group without a modifier begins with the group's prefix.
 prefixed : (kind : PartType) (delimiter : Option ℕ) (part : PartView) (text : List ℕ) → kind ≢ PartType.FixedText
     → FitsOnce kind delimiter part text → (more : List ℕ) × (text ≡ part.prefix ++ more)
 prefixed PartType.FixedText delimiter part text other fits = absurd (other refl)
@@ -23,7 +23,7 @@ once : (delimiter : Option ℕ) (part : PartView) (text : List ℕ) → part.mod
     → FitsPart delimiter part text → FitsOnce part.kind delimiter part text
 once delimiter part text none fits = subst (λ modifier. FitsBy modifier delimiter part text) none fits
 
--- the prefix is read
+-- The prefix is read.
 module _ (segments : Segments) (path : List ℕ) (delimiter : Option ℕ) (part : PartView) (text rest prefix : List ℕ)
     (none : part.modifier ≡ PartModifier.None) (is_prefix : prefix ≡ part.prefix)
     (fits : FitsPart delimiter part text) (is : IsReadTo segments path (text ++ rest)) where
@@ -33,7 +33,7 @@ module _ (segments : Segments) (path : List ℕ) (delimiter : Option ℕ) (part 
       let whole : text ≡ prefix ++ more = cut ∙ ap (λ p. p ++ more) (sym is_prefix) in
       (more ++ rest, subst (IsReadTo segments path) (ap (λ t. t ++ rest) whole ∙ append_assoc prefix more rest) is)
 
-  -- after the prefix, a run without a slash and the suffix are left
+  -- After the prefix, a run without a slash and the suffix are left.
   before_run : part.kind ≡ PartType.SegmentWildcard → delimiter ≡ Some 47 → (suffix : List ℕ) → suffix ≡ part.suffix
       → (run : List ℕ) × IsTrue (lacks 47 run) × IsReadTo segments path (prefix ++ (run ++ (suffix ++ rest)))
   before_run segment slash suffix is_suffix =

@@ -4,7 +4,7 @@ use Rattle.urlpattern_parser.specs.PartLists.{KnowsItsNames, parser_encoding, pa
 use Rattle.urlpattern_parser.proofs.TextReadingLemmas.{HasReadUpTo}
 use Rattle.urlpattern_parser.proofs.parser.PatternParser.part_list.Given as goal
 
--- the tokens before those that are left are read
+-- The tokens before those that are left are read.
 abbrev pub invariant-loop-next : goal.invariant-loop-next
 invariant-loop-next g l = record {
   whole : reader_text l.reader ≡ reader_text l.fn.reader;

@@ -5,7 +5,7 @@ use Rattle.std.specs.Str.{chars}
 use Rattle.urlpattern_syntax.proofs.BodyLemmas.{HasRead}
 use Rattle.urlpattern_parser.proofs.tokenizer.lexemes.regexp_body.Given as goal
 
--- the text before `rest` is the beginning of a body, in which `depth` inner brackets are open
+-- The text before `rest` is the beginning of a body, in which `depth` inner brackets are open.
 abbrev pub invariant-loop-first : goal.invariant-loop-first
 invariant-loop-first l = record {
   is_text : shadow (Utf8 l.rest);

@@ -5,7 +5,7 @@ use Rattle.std.specs.Str.{chars}
 use Rattle.urlpattern_syntax.specs.Tokens.{SkipsBy}
 use Rattle.urlpattern_parser.proofs.tokenizer.lexemes.skip.Given as goal
 
--- the text before `rest` is skipped
+-- The text before `rest` is skipped.
 abbrev pub invariant-loop-first : goal.invariant-loop-first
 invariant-loop-first g l = record {
   is_text : shadow (Utf8 l.rest);

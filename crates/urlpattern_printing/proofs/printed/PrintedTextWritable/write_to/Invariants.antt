@@ -5,7 +5,7 @@ use Rattle.urlpattern_syntax.specs.Options.{options_view}
 use Rattle.urlpattern_syntax.specs.Parts.{part_view}
 use Rattle.urlpattern_printing.proofs.printed.PrintedTextWritable.write_to.Given as goal
 
--- the text written so far and the text of the parts that are left are the whole text
+-- The text written so far and the text of the parts that are left are the whole text.
 abbrev pub invariant-loop-part : goal.invariant-loop-part
 invariant-loop-part g l =
     (front : List ℕ) × g.W.Writer.Writes l.fn.writer front l.writer

@@ -5,7 +5,7 @@ use Rattle.urlpattern_syntax.specs.Text.{text_of}
 use Rattle.urlpattern_syntax.specs.Tokens.{TokenView}
 use Rattle.urlpattern_parser.proofs.parser.pieces.Reader.texts.Given as goal
 
--- the tokens that are consumed are texts
+-- The tokens that are consumed are texts.
 abbrev pub invariant-loop-self : goal.invariant-loop-self
 invariant-loop-self l = Takes l.fn.self l.self (λ tokens rest. (front : List TokenView) × (tokens ≡ front ++ rest) × AreTexts front (text_of l.text))
 

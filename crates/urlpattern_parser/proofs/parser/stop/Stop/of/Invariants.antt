@@ -4,7 +4,7 @@ use Rattle.urlpattern_parser.specs.Readers.{Stands, reader_left, reader_text}
 use Rattle.urlpattern_parser.proofs.StopLemmas.{ReachesBy}
 use Rattle.urlpattern_parser.proofs.parser.stop.Stop.of.Given as goal
 
--- the tokens before those that are left are pieces
+-- The tokens before those that are left are pieces.
 abbrev pub invariant-loop-next : goal.invariant-loop-next
 invariant-loop-next l = record {
   whole : reader_text l.reader ≡ chars l.fn.input;

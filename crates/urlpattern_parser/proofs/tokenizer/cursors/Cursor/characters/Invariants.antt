@@ -5,7 +5,7 @@ use Rattle.std.specs.Str.{chars}
 use Rattle.urlpattern_parser.proofs.CharacterLemmas.{LeavesLast}
 use Rattle.urlpattern_parser.proofs.tokenizer.cursors.Cursor.characters.Given as goal
 
--- the last character that stands for itself is left, and the text after it
+-- The last character that stands for itself is left, and the text after it.
 abbrev pub invariant-loop-first : goal.invariant-loop-first
 invariant-loop-first l = record {
   last_is_text : shadow (Utf8 l.last);

@@ -4,8 +4,8 @@ use Rattle.urlpattern_syntax.specs.Cursors.{AreTokensAfter, IsPlace}
 use Rattle.urlpattern_syntax.specs.Tokens.{TokenView}
 use Rattle.urlpattern_parser.proofs.tokenizer.cursors.Cursor.read_to_end.Given as goal
 
--- the tokens that were read, and those after the current place, are the tokens after the first
--- place
+-- The tokens that were read, and those after the current place, are the tokens after the first
+-- place.
 abbrev pub invariant-loop-token : goal.invariant-loop-token
 invariant-loop-token l = record {
   whole : l.cursor.input.now ≡ l.self.input.now;
