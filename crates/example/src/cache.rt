@@ -10,8 +10,8 @@ use url::Url;
 use urlpattern::regexp::RegExp;
 use urlpattern::{Error, UrlPatternList, UrlPatternMatchInput};
 
-/// The number of seconds for which the page of a URL is kept: the age of the first pattern of the
-/// list that matches the URL. `None`: no pattern matches.
+/// Returns for how many seconds the page of a URL is kept: the age of the first pattern that
+/// matches the URL. `ages` has one for each pattern. `None`: no pattern matches.
 pub fn max_age<R: RegExp>(
     alloc: Global,
     patterns: &UrlPatternList<R>,

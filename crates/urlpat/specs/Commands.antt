@@ -16,14 +16,15 @@ abbrev pub AskForRules : (words : List (List ℕ)) → Type 0
 AskForRules words =
     (rest : List (List ℕ)) × (AreWordsAfter (codes "covers") words rest ⊎ AreWordsAfter (codes "unreachable") words rest ⊎ AreWordsAfter (codes "route") words rest)
 
--- The output of a command that compares patterns or reads a table.
+-- A command that compares patterns or reads a table ends with the status, and its output turns
+-- `old` into `new`. `Has` says which file has which table.
 abbrev pub DoesRules : Flags → (Has : (name table : List ℕ) → Type 0) → (words : List (List ℕ)) → (status : ℕ) → (input old new : Option (List ℕ)) → Type 0
 DoesRules flags Has words status input old new =
     ((rest : List (List ℕ)) × AreWordsAfter (codes "covers") words rest × TellsWhether rest status old new)
     ⊎ ((rest : List (List ℕ)) × AreWordsAfter (codes "unreachable") words rest × Lists Has rest status old new)
     ⊎ ((rest : List (List ℕ)) × AreWordsAfter (codes "route") words rest × RoutesLines flags Has rest status input old new)
 
--- The output of any command.
+-- A command of any kind ends with the status, and its output turns `old` into `new`.
 abbrev pub DoesAny : Flags → (Has : (name table : List ℕ) → Type 0) → (words : List (List ℕ)) → (status : ℕ) → (input old new : Option (List ℕ)) → Type 0
 DoesAny flags Has words status input old new = DoesRules flags Has words status input old new ⊎ Does flags words status input old new
 
@@ -36,7 +37,7 @@ RunsAny flags Has words status input old new = status ≢ FAILED → DoesAny fla
 abbrev pub MayReport : Flags → (words : List (List ℕ)) → Type 0
 MayReport flags words = HasNote flags words ⊎ AskToFilter words ⊎ AskForRules words
 
--- The arguments have no output, and `IsSo` holds; or they have one, or their command is `filter`,
--- compares patterns or reads a table.
+-- What is known of a failed run: the arguments have no output, and `IsSo` holds; or they have one,
+-- which may be printed in part; or their command is `filter`, compares patterns or reads a table.
 abbrev pub FailsAny : Flags → (words : List (List ℕ)) → (IsSo : Type 0) → Type 0
 FailsAny flags words IsSo = FailsWhere flags words IsSo ⊎ AreAnswered flags words ⊎ AskToFilter words ⊎ AskForRules words

@@ -166,7 +166,8 @@ fn answer(alloc: Global, words: &[String], flags: Flags) -> Result<Printed, Fail
     }
 }
 
-/// The output for a pattern and the arguments after it.
+/// The output for the arguments of the short form, `urlpat PATTERN URL`. `words` is what follows
+/// the pattern.
 fn short_answer(
     alloc: Global,
     pattern: &str,

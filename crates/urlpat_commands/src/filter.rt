@@ -1,4 +1,5 @@
-//! The command `filter`: prints the lines of a reader whose URLs match a pattern.
+//! The command `filter`: prints the lines of a reader whose URLs match a pattern. Here a pattern
+//! matches one line; the crate `urlpat_lines` reads, selects and counts them.
 
 ghost use Rattle.std.specs.Io.KnownBytes.{Appends};
 ghost use Rattle.std.specs.Prelude.{◌≡◌, ◌⊎◌, option_copied, IfNone, IfSome, OnOk};

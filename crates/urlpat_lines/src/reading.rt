@@ -31,8 +31,8 @@ pub fn read_line<In: BufRead>(input: &mut In, line: &mut Vec<u8>) -> io::Result<
     Err(io::ErrorKind::Other.into())
 }
 
-/// Appends the bytes that a reader has buffered to a line, through the next line end. Returns
-/// whether the line ends there, or the input does.
+/// Appends to a line what a reader has in its buffer, through the first line end. Returns whether
+/// the line is complete, by its end or by that of the input. An interrupted read appends nothing.
 fn append_some<In: BufRead>(input: &mut In, line: &mut Vec<u8>) -> io::Result<bool>
     ensures { IfOk result (Gets (In.remaining input.old) (In.remaining input.new) line.old.items line.new.items) }
 {

@@ -38,7 +38,7 @@ IsFirstMatchFrom answer patterns texts from None = AreRefusedBetween answer patt
 abbrev pub IsFirstCapturedFrom : {E : Type 0} → (answer : E → List ℕ → Option Captures) → List (PatternView E) → Texts → (from : ℕ) → Option (ℕ × UrlPatternCaptures) → Type 0
 IsFirstCapturedFrom answer patterns texts from found = IsFirstMatchFrom answer patterns texts from (first_captures_view found)
 
--- A pattern whose index is at least `from` calls an engine, and no pattern between matches.
+-- A pattern at `from` or later calls an engine, and none of those from `from` on before it matches.
 abbrev pub AsksBeforeMatchFrom : {E : Type 0} → (answer : E → List ℕ → Option Captures) → List (PatternView E) → Texts → (from : ℕ) → Type 0
 AsksBeforeMatchFrom {E} answer patterns texts from =
     (index : ℕ) × (pattern : PatternView E) × (from ≤ index) × (slice_get patterns index ≡ Some pattern)

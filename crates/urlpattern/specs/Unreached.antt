@@ -11,11 +11,12 @@ use Rattle.urlpattern_compare.specs.declared.pattern.PatternParts.{PatternParts}
 abbrev pub HaveAllParts : {E : Type 0} → List (UrlPattern E) → List PatternParts → Type 0
 HaveAllParts patterns parts = map (λ pattern. pattern.parts) patterns ≡ map Some parts
 
--- Each pattern has parts, by which the patterns that an earlier one is known to cover are found.
+-- Each pattern has parts, by which `found` lists the patterns that an earlier one is known to
+-- cover.
 abbrev pub AreUnreached : {E : Type 0} → List (UrlPattern E) → List Shadowed → Type 0
 AreUnreached patterns found = (parts : List PatternParts) × HaveAllParts patterns parts × AreUnreachable parts found
 
--- A pattern has no parts, or memory ran out.
+-- NoParts: a pattern has no parts. OutOfMemory: memory may always run out.
 abbrev pub LacksParts : {E : Type 0} → List (UrlPattern E) → CompareError → Type 0
 LacksParts patterns NoParts = Contains (map (λ pattern. pattern.parts) patterns) None
 LacksParts patterns OutOfMemory = Unit {0}

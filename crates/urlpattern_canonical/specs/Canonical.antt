@@ -23,7 +23,7 @@ use Rattle.urlpattern_syntax.specs.Text.{begins_with, chars, is_among, option_te
 
 -- ---- results of `url`, for the bytes of a value that is not empty
 
--- The URL on which values are set.
+-- The URL on which a value is set to make it canonical.
 abbrev pub dummy_url : Parsed Parts
 dummy_url = parse_url None (codes "http://dummy.test")
 

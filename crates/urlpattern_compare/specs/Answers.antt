@@ -40,8 +40,8 @@ IsReason options parts other_options others reasons.CustomExpression = ¬ (AreGe
 IsReason options parts other_options others reasons.IgnoredCase = (options.ignore_case ≡ true) ⊎ (other_options.ignore_case ≡ true)
 IsReason options parts other_options others reasons.TooMany = IsTooMuch options parts other_options others
 
--- Whether the parts mean each text without line feed that the asked parts mean. `NotCovered` has a
--- text that only the asked parts mean.
+-- The result of a comparison is right. Covered: the parts mean each text without line feed that the
+-- asked parts mean. NotCovered: only the asked parts mean this text. Unknown: the reason holds.
 abbrev pub IsCovering : OptionsView → List PartView → (asked_options : OptionsView) → (asked : List PartView) → Covering → Type 0
 IsCovering options parts asked_options asked coverings.Covered =
     (text : List ℕ) → IsTrue (all_scalars text) → IsTrue (lacks line_feed text) → MeansText asked_options asked text → MeansText options parts text
@@ -49,7 +49,8 @@ IsCovering options parts asked_options asked (coverings.NotCovered text) =
     MeansText asked_options asked text.items × (¬ MeansText options parts text.items) × IsTrue (lacks line_feed text.items)
 IsCovering options parts asked_options asked (coverings.Unknown reason) = IsReason asked_options asked options parts reason
 
--- Whether both lists of parts mean a text without line feed.
+-- The result of a comparison is right. Apart: no text without line feed is meant by both lists of
+-- parts. Common: both mean this text. Unknown: the reason holds.
 abbrev pub IsOverlap : OptionsView → List PartView → OptionsView → List PartView → Overlap → Type 0
 IsOverlap options parts other_options others overlaps.Apart =
     (text : List ℕ) → IsTrue (all_scalars text) → IsTrue (lacks line_feed text) → MeansText options parts text → ¬ MeansText other_options others text

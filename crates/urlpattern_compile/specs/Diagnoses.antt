@@ -1,5 +1,5 @@
 -- What the diagnosis of a rejected pattern shows: the error, and where a text is at fault. Texts
--- are their bytes.
+-- are given as bytes.
 use Rattle.std.specs.Prelude.{◌≡◌, ◌⊎◌, ℕ, Bool, IfNone, IfOk, IfSome, List, [], Option, None, Result, Some, Ok, unwrap_or, string_bytes}
 use Rattle.std.specs.Str.{chars}
 use Rattle.urlpattern_canonical.specs.Canonical.{Reports}
@@ -27,6 +27,7 @@ use Rattle.urlpattern_syntax.specs.Errors.{ErrorView, error_view}
 
 -- ---- the rejected component
 
+-- The error of a refusal.
 abbrev pub error_of : Refusal → ErrorView
 error_of refusal = error_view refusal.error
 
@@ -35,7 +36,7 @@ abbrev pub RefusesComponent : {E : Type 0} → Engine E → (manner : ComponentN
 RefusesComponent engine manner hierarchical refusal =
     (refusal.hierarchical ≡ hierarchical) × IsComponentRefused engine (manner refusal.component) (error_of refusal)
 
--- The values are rejected with the error of the refusal, that of its component.
+-- The values are rejected with the error of the refusal, and so is its component.
 abbrev pub IsRefusalOf : {E : Type 0} → Engine E → UrlPatternOptions → Values → Refusal → Type 0
 IsRefusalOf engine asked values refusal =
     RefusesValues engine asked values (error_of refusal)
@@ -77,7 +78,7 @@ IfRefused result Is = IfOk result (λ found. IfSome found Is)
 abbrev pub HasErrorOf : (Refuses : ErrorView → Type 0) → Diagnosis → Type 0
 HasErrorOf Refuses diagnosis = Refuses (error_view diagnosis.error)
 
--- A fault within a pattern, a part of which `url` or an engine rejects.
+-- `url` or an engine rejects a part of the pattern, and the fault is within the pattern.
 abbrev pub IsPartOfRefused : (pattern : List ℕ) → Error → Fault → Type 0
 IsPartOfRefused pattern (errors.Url reason) fault = IsFaultIn pattern fault
 IsPartOfRefused pattern (errors.RegExp reason) fault = IsFaultIn pattern fault
@@ -121,14 +122,14 @@ abbrev pub ShowsInit : {E : Type 0} → Engine E → UrlPatternInit → UrlPatte
 ShowsInit engine init asked diagnosis =
     (values : Values) × (pattern_values init ≡ Ok values) × ShowsRefusal engine asked values diagnosis.subject diagnosis
 
--- The diagnosis shows the colon after a text that is parsed as the protocol and is none.
+-- The diagnosis shows the colon after a text that is parsed as the protocol but is not one.
 abbrev pub ShowsColon : (text : List ℕ) → Diagnosis → Type 0
 ShowsColon text diagnosis =
     (before : List ℕ) × HasProtocol text (λ protocol. protocol ≡ chars before)
     × IsColonFault (string_bytes diagnosis.text) before diagnosis.fault
 
 -- What a diagnosis with this subject shows of a constructor string that is rejected when it is
--- split: the pattern of its protocol, the colon after that, or all.
+-- split: the pattern of its protocol, the colon after that, or the whole text.
 abbrev pub ShowsProtocol : (text : List ℕ) → Subject → Diagnosis → Type 0
 ShowsProtocol text (subjects.Component component) diagnosis =
     (component ≡ Protocol) × (pattern : List ℕ) × HasProtocol text (λ protocol. protocol ≡ chars pattern) × ShowsFault Protocol pattern [] diagnosis
@@ -141,7 +142,7 @@ IsOf None diagnosis = Unit {0}
 IsOf (Some bytes) diagnosis = string_bytes diagnosis.text ≡ bytes
 
 -- What a diagnosis with this subject shows: the base URL, if that is rejected; the constructor
--- string, if that is rejected when it is split; or else its init.
+-- string, if that is rejected when it is split; or else the init into which it is split.
 abbrev pub ShowsText : {E : Type 0} → Engine E → (bytes : List ℕ) → (base : Option (List ℕ)) → UrlPatternOptions → Subject → Diagnosis → Type 0
 ShowsText engine bytes base asked subjects.Base diagnosis =
     (string_bytes diagnosis.text ≡ unwrap_or base []) × Reports (parsed_base base) (text_bytes base) (error_view diagnosis.error) × ShowsAll diagnosis

@@ -263,7 +263,8 @@ fn unread_hint(part: &str, place: usize) -> Hint {
     }
 }
 
-/// The earlier part of a fault, or else the part at fault.
+/// The whole expression that an engine rejects: the part at fault, or the earlier part if the fault
+/// is a place in it.
 fn outer(fault: Fault) -> Span {
     fault.earlier.unwrap_or(fault.span)
 }

@@ -41,17 +41,17 @@ automaton_answer nfa text =
     let bytes = encode_utf8_all text in
     option_map (match_captures bytes (nfa.slot_count / 2 - 1)) (match_at_start nfa bytes)
 
--- The default options of the grammar, except that case may be ignored.
+-- The default options of the grammar, with case ignored or not.
 abbrev pub config_for : (ignore_case : Bool) → Config
 config_for ignore_case = record default_config { flags = record default_flags { case_insensitive = ignore_case } }
 
--- The `Regex` was built from the text with the default options, except that case may be ignored.
+-- The `Regex` was built from the text with the default options, and with case ignored or not.
 pub record IsRegexReadAs (ignore_case : Bool) (regexp : List ℕ) (regex : Regex) : Type 0 where
   pub of_text : regex_text regex ≡ regexp
   pub by_case : regex_config regex ≡ config_for ignore_case
   pub is_read : IsReadFromSource regex
 
--- The captures of the first match of the pattern that the grammar reads in the text.
+-- The captures of the first match of `regexp`, as the grammar reads it, in the text.
 abbrev pub read_answer : (ignore_case : Bool) → (regexp : List ℕ) → List ℕ → Option Captures
 read_answer ignore_case regexp text =
     option_and_then (λ (pattern, names). re_answer pattern.value (length names) text) (read (config_for ignore_case) regexp)
@@ -60,8 +60,8 @@ read_answer ignore_case regexp text =
 abbrev pub names_of : List (Option (String Global)) → Names
 names_of names = map (option_map string_bytes) names
 
--- The automaton has the matches of the tree that the grammar reads in the text, all of which begin
--- at the start.
+-- The automaton matches what the expression `source` does as the grammar reads it, which matches
+-- only at the start of a text.
 pub record IsNfaOf (ignore_case : Bool) (source : List ℕ) (nfa : Nfa) : Type 0 where
   pub tree : Hir
   pub names : Names
@@ -73,11 +73,11 @@ pub record IsNfaOf (ignore_case : Bool) (source : List ℕ) (nfa : Nfa) : Type 0
 
 -- ---- the cells of a search
 
--- The position that a cell holds.
+-- The position that a cell holds: one less than the cell, or none if the cell is 0.
 abbrev pub place_of : (cell : ℕ) → Option ℕ
 place_of cell = if cell == 0 then None else Some (cell - 1)
 
--- The captures of the first `count` groups, by their cells.
+-- The captures of the first `count` groups, from group 1 on, each by its two cells: start and end.
 abbrev pub cell_texts : (bytes cells : List ℕ) → (count : ℕ) → Captures
 cell_texts bytes cells count =
     map (λ n. option_and_then (text_cut bytes) (both (place_of (slice_index cells (2 * n - 2))) (place_of (slice_index cells (2 * n - 1)))))

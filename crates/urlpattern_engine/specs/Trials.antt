@@ -23,10 +23,11 @@ IsPlace trial at = at ≤ length trial.bytes.now
 abbrev pub state_in : Trial → ℕ → State
 state_in trial id = state_of trial.nfa.now id
 
+-- `IsReadable`, in the automaton of the trial.
 abbrev pub IsReadableIn : Trial → State → Type 0
 IsReadableIn trial state = IsReadable trial.nfa.now.transitions.items (vec_len trial.nfa.now.states) state
 
--- The state that follows on the byte at this position.
+-- The state to which this one goes on the byte at this position, if any.
 abbrev pub next_in : Trial → State → (at : ℕ) → Option ℕ
 next_in trial state at =
     option_and_then (next_on trial.nfa.now.transitions.items state) (byte_below trial.bytes.now (length trial.bytes.now) at)
@@ -43,13 +44,13 @@ found_in trial cells id at = found_from_trace 0 cells (run_in trial id at)
 abbrev pub IsFound : Option Found → (cells : List ℕ) → (end : Option ℕ) → Type 0
 IsFound found cells end = found_from_span (option_map (λ e. (0, e)) end) cells ≡ found
 
--- A search from the state at this position, with these cells, has the same result.
+-- A search from the state `next` at this position, with these cells, finds `found`.
 pub record GoesOn (trial : Trial) (found : Option Found) (cells : List ℕ) (next place : ℕ) : Type 0 where
   pub is_state : IsState trial next
   pub is_place : IsPlace trial place
   pub same : found_in trial cells next place ≡ found
 
--- A search from the first state, or from the second if the first has no match, has the same result.
+-- A search from the first state, or from the second if the first has no match, finds `found`.
 pub record Chooses (trial : Trial) (found : Option Found) (cells : List ℕ) (first second place : ℕ) : Type 0 where
   pub is_first : IsState trial first
   pub is_second : IsState trial second
@@ -75,10 +76,10 @@ pub record IsInSpan (trial : Trial) (span : Span) (at : ℕ) : Type 0 where
   pub inside : at < length trial.bytes.now
   pub has : HasByte span (slice_index trial.bytes.now at)
 
--- Before a byte outside of the span there is no match from the state.
+-- From the state there is no match at a position whose byte is outside the span.
 abbrev pub NeedsByte : Trial → ℕ → Span → Type 0
 NeedsByte trial id span = (at : ℕ) → at < length trial.bytes.now → ¬ IsInSpan trial span at → run_in trial id at ≡ None
 
--- On each byte of the span the state goes to the other one.
+-- At each byte of the span, the match from the state is that from the other one after the byte.
 abbrev pub GoesRound : Trial → (id other : ℕ) → Span → Type 0
 GoesRound trial id other span = (at : ℕ) → IsInSpan trial span at → run_in trial id at ≡ run_in trial other (at + 1)

@@ -8,13 +8,13 @@ use crate::ahead::Span;
 use crate::trial::{Next, Trial};
 use regex_nfa::StateId;
 
-/// How far a loop is gone on with before there is a choice.
+/// How far a loop runs before there is a choice.
 #[derive(Clone, Copy)]
 struct Passed {
     place: usize,
     /// Whether a match may go on with either state there.
     is_open: bool,
-    /// Whether none goes on with the first state there, as all remaining bytes tell.
+    /// Whether, as all remaining bytes tell, no match goes on with the first state there.
     first_fails: bool,
 }
 
@@ -53,7 +53,8 @@ impl Trial<'_> {
         Next::Choice(first, second, place)
     }
 
-    /// How far a choice is come back to over bytes that the body of a loop reads, and with which its exit cannot go on.
+    /// How far the loop of a choice runs: over the bytes that its body reads, and with which its
+    /// exit cannot begin.
     #[inline(always)]
     fn pass(&self, id: StateId, first: StateId, second: StateId, at: usize) -> Passed
         requires choice { state_in self.now id ≡ states.Split first second }
@@ -70,7 +71,8 @@ impl Trial<'_> {
         }
     }
 
-    /// The same, where the first state may be the body of a loop. If the loop may be left at one place alone, it is left there.
+    /// `pass`, where the first state may be the body of a loop. A loop that a match can leave at
+    /// only one place is left there.
     #[inline(always)]
     fn pass_body(&self, id: StateId, body: StateId, exit: StateId, at: usize) -> Passed
         requires choice { state_in self.now id ≡ states.Split body exit }
@@ -101,7 +103,7 @@ impl Trial<'_> {
         }
     }
 
-    /// The same, where the second state may be the body of a loop, which the first one leaves.
+    /// `pass`, where the second state may be the body of a loop, which the first one leaves.
     #[inline(always)]
     fn pass_exit(&self, id: StateId, exit: StateId, body: StateId, at: usize) -> Passed
         requires choice { state_in self.now id ≡ states.Split exit body }
@@ -125,7 +127,7 @@ impl Trial<'_> {
         }
     }
 
-    /// A place where the next byte is one of those with which a match may go on with the exit of a loop.
+    /// A place before a byte with which the exit of a loop may begin: open, unless the exit fails.
     #[inline(always)]
     fn seen(&self, exit: StateId, place: usize) -> Passed
         requires { IsState self.now exit }
@@ -139,7 +141,8 @@ impl Trial<'_> {
         }
     }
 
-    /// How far a loop goes on whose body reads the bytes `inside`, and whose exit begins with one of `leaving`.
+    /// How far a loop runs: up to the first byte that its body does not read (`inside`), or with
+    /// which its exit may begin (`leaving`).
     #[inline(always)]
     fn loop_end(
         &self,

@@ -1,8 +1,8 @@
 //! Engines for the regular expressions of components.
 //!
 //! [`PatternRegexp`] matches expressions of the form that parts generate by steps, other
-//! expressions that are anchored at the start of a text by an automaton, and the rest by
-//! `regex::Regex`. The results are those of `regex::Regex`.
+//! expressions that are anchored at the start of a text by an automaton, and the rest and long
+//! texts by `regex::Regex`. The results are those of `regex::Regex`.
 //!
 //! [`EcmaRegexp`] holds an expression in ECMAScript's syntax for a browser.
 #![tactic(auto)]

@@ -24,8 +24,10 @@ use urlpattern_syntax::error::{OutOfMemory, RegExpError};
 
 /// An engine that answers what `regex::Regex` answers.
 ///
-/// It matches by itself each expression of texts and groups as patterns have them, and by an automaton every other that matches
-/// only at the start of a text, as those of patterns do. What is left is matched by a `regex::Regex`.
+/// An expression of the form that parts generate is matched by its own steps. Any other that
+/// matches only at the start of a text, as those of patterns do, is matched by an automaton. A
+/// `regex::Regex` matches the rest; it is also made for a single match of a text of 1,024 bytes or
+/// more, and of a custom expression that is only kept.
 ///
 /// A type alias names the engine once:
 ///
@@ -55,14 +57,19 @@ impl Drop for PatternRegexp {
     }
 }
 
-/// An expression, by what it is matched with. `Generated` and `Custom` keep the text alone, and
-/// make the rest for each match.
+/// An expression, by what matches it. `Generated` and `Custom` keep only the text, and make the
+/// rest anew for each match.
 #[derive(Drop)]
 enum Expression {
+    /// The steps as which the expression is read.
     Own(Box<Steps>),
+    /// The text of an expression that is generated from parts without custom ones.
     Generated(GeneratedText),
+    /// The automaton of an expression that matches only at the start of a text.
     Compiled(Box<Automaton>),
+    /// The `regex::Regex` of any other expression.
     Other(Box<Regex>),
+    /// The text of a kept expression, for which a `regex::Regex` is made at each match.
     Custom(String),
 }
 
@@ -163,7 +170,8 @@ fn ignores_case(flags: &str) -> bool
     flags.chars().any(|flag| flag == 'i')
 }
 
-/// An expression that is matched by an automaton, or by a `regex::Regex` if it may match elsewhere than at the start of a text.
+/// Compiles an expression to an automaton, or to a `regex::Regex` if it may match elsewhere than at
+/// the start of a text.
 ///
 /// The error says whether `regex` rejects it or memory ran out.
 fn compiled(alloc: Global, pattern: &str, ignore_case: bool) -> Result<Expression, RegExpError>

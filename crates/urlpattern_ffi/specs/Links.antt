@@ -24,11 +24,11 @@ IsReasonWritten reason old new needed statuses.TooSmall = WritesToBuffer (SaysWh
 IsReasonWritten reason old new needed statuses.OutOfMemory = new ≡ old
 IsReasonWritten reason old new needed status = ⊥
 
--- The text is that of the pattern's URL.
+-- `written` is the URL of the pattern with the groups that `given` cuts out of `text`.
 abbrev pub IsTextOfLink : UrlPattern PatternRegexp → (text : List ℕ) → List Given → (written : List ℕ) → Type 0
 IsTextOfLink pattern text given written = (url : Parts) × IsLinkOf pattern text given url × (written ≡ serialize url)
 
--- The text says why the pattern has no URL.
+-- `written` says why the pattern has no URL with the groups that `given` cuts out of `text`.
 abbrev pub IsTextOfNoLink : UrlPattern PatternRegexp → (text : List ℕ) → List Given → (written : List ℕ) → Type 0
 IsTextOfNoLink pattern text given written = (reason : NoLink) × RefusesLinkOf pattern text given reason × SaysWhy reason written
 

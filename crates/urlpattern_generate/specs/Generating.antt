@@ -28,7 +28,7 @@ FindsOther answer matcher manner parts text =
 abbrev pub TellsFound : {E : Type 0} → Bool → (answer : E → List ℕ → Option Captures) → MatcherView E → WritingManner → List PartView → (text : List ℕ) → Type 0
 TellsFound is answer matcher manner parts text = MatchBool is (FindsAsked answer matcher manner parts text) (FindsOther answer matcher manner parts text)
 
--- The filter, if there is one, is not an ASCII letter.
+-- Whether the filter, if there is one, is a character other than an ASCII letter.
 abbrev pub has_one_case : (filter : Option ℕ) → Bool
 has_one_case None = true
 has_one_case (Some c) = not (is_ascii_alphabetic c)

@@ -169,7 +169,7 @@ fn is_kept_host(value: &[u8]) -> bool
     !dotted
 }
 
-/// Whether a character is a lowercase letter, a hyphen or a dot.
+/// Whether a byte is a lowercase letter, a hyphen or a dot.
 fn is_host_byte(b: u8) -> bool
     ensures { result ≡ is_host_character b }
 {

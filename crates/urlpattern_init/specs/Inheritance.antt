@@ -166,7 +166,8 @@ processed_values mode values base =
 abbrev pub bytes_of : Option (List ℕ) → ℕ
 bytes_of text = byte_len (unwrap_or text [])
 
--- The length in bytes of a component's given text, with what is put before it.
+-- The length in bytes of a component's given text: of a relative pathname, with what is put before
+-- it from the base.
 abbrev pub given_bytes : ProcessType → Values → Option Parts → ComponentName → ℕ
 given_bytes mode values base component = bytes_of (option_map (given_text mode base component) (at values component))
 

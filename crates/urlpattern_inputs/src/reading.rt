@@ -36,7 +36,7 @@ impl<T: Drop> From<AllocFailed<T>> for Unread {
     }
 }
 
-/// The result of a public call.
+/// Returns what a public call returns for what was read: `None` for JSON of another shape.
 pub fn read_or_none<T>(read: Result<T, Unread>) -> Result<Option<T>, Error>
     ensures { result ≡ read_or_none read }
 {
@@ -47,7 +47,7 @@ pub fn read_or_none<T>(read: Result<T, Unread>) -> Result<Option<T>, Error>
     }
 }
 
-/// The member with this name, which must be present.
+/// Returns the member with this name. The error is `Unread::Shape` if it is missing.
 pub fn member<'v>(tree: &'v Value, name: &str) -> Result<&'v Value, Unread>
     ensures { ReturnsRead (λ found. view found.now) result (get name.now (view tree.now)) }
 {
@@ -57,7 +57,7 @@ pub fn member<'v>(tree: &'v Value, name: &str) -> Result<&'v Value, Unread>
     }
 }
 
-/// The text of a member, borrowed.
+/// Returns the text of a member, borrowed.
 pub fn text_of<'v>(tree: &'v Value, name: &str) -> Result<&'v str, Unread>
     ensures { ReturnsRead (λ text. text.now) result (text_read name.now (view tree.now)) }
 {
@@ -67,7 +67,7 @@ pub fn text_of<'v>(tree: &'v Value, name: &str) -> Result<&'v str, Unread>
     }
 }
 
-/// The text of a member, as an owned copy.
+/// Returns a copy of the text of a member.
 pub fn text_field(alloc: Global, tree: &Value, name: &str) -> Result<String, Unread>
     ensures { ReturnsRead string_bytes result (text_read name.now (view tree.now)) }
 {
@@ -75,7 +75,7 @@ pub fn text_field(alloc: Global, tree: &Value, name: &str) -> Result<String, Unr
     Ok(String::from_str(alloc, text)?)
 }
 
-/// The text of an optional member, as an owned copy.
+/// Returns a copy of the text of an optional member. `None`: the member is missing or null.
 pub fn optional_text_field(
     alloc: Global,
     tree: &Value,
@@ -95,7 +95,7 @@ pub fn optional_text_field(
     }
 }
 
-/// The flag of a member.
+/// Returns the Boolean of a member.
 pub fn flag_field(tree: &Value, name: &str) -> Result<bool, Unread>
     ensures { ReturnsRead (λ flag. flag) result (flag_read name.now (view tree.now)) }
 {

@@ -1,5 +1,5 @@
--- The texts that a custom regular expression matches as a whole, as the grammar of the crate
--- `regex` reads it by itself.
+-- Which texts a custom regular expression matches from start to end, if the grammar of the crate
+-- `regex` reads the expression alone.
 use Rattle.std.specs.Prelude.{ℕ, ◌+◌, ◌*◌, Bool, true, false, ◌&&◌, ◌==◌, List, [], ◌∷◌, length, None, IsSomeAnd, encode_utf8_all}
 use Rattle.std.specs.Char.{len_utf8}
 use Rattle.regex_hir.specs.Matches.{Matches}
@@ -30,7 +30,7 @@ abbrev pub is_nothing : List (ℕ × ℕ) → Bool
 is_nothing [] = true
 is_nothing ranges = false
 
--- Whether each step of the pattern matches a character, without byte classes and assertions.
+-- Whether the pattern matches whole characters only: it has no byte classes and no assertions.
 abbrev pub takes_characters : Re → Bool
 takes_characters empty = true
 takes_characters (literal bytes) = is_one_character bytes

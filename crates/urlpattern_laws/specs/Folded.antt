@@ -73,8 +73,8 @@ pub record IgnoresCase {E : Type 0} (manner : Manner) (compiled : ComponentView 
   pub generated : ReadsNoCustom manner
   pub no_engine : HoldsNoEngine compiled.matcher.inner
 
--- A component that ignores case without an engine returns the folded way of its pattern text for
--- each text without line feeds.
+-- For each text without line feeds, a component that ignores case without an engine returns the
+-- captures of the first way, case ignored, of the parts of its pattern text.
 abbrev pub FoldedWaysAreAnswered : {E : Type 0} → Engine E → Type 0
 FoldedWaysAreAnswered {E} engine = (manner : Manner) (compiled : ComponentView E) (text : List ℕ) (result : Option Captures) →
     IsComponentCompiled engine manner compiled → IgnoresCase manner compiled → IsLine text →

@@ -107,8 +107,8 @@ UrlAnswers asked values = (hierarchical : Bool) (component : ComponentName) →
     let manner = manner_of asked values hierarchical component in
     AnswersAsked manner.text manner.options (of_texts (canonical_encoding manner.canonical))
 
--- The engine makes a value of the regular expression of parts in a row of a pattern text, or may
--- reject it.
+-- For any consecutive parts of a component's pattern text, the engine makes a value of their
+-- regular expression, or may reject it.
 abbrev pub EngineAnswers : {E : Type 0} → Engine E → UrlPatternOptions → Values → Type 0
 EngineAnswers {E} engine asked values =
     (hierarchical : Bool) (component : ComponentName) (parts before middle after : List PartView) →

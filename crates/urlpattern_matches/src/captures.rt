@@ -104,7 +104,8 @@ impl<'p, 'u> UrlPatternCaptures<'p, 'u> {
         self.group(component, name).map(|capture| capture.is_some())
     }
 
-    /// Returns what the group of a name captured, if it took part. `None`: there is no such group.
+    /// Returns the capture of the group with this name. `Some(None)`: the group took no part.
+    /// `None`: there is no such group. The last of equal names counts.
     fn group(&self, component: ComponentName, name: &str) -> Option<Option<&'u str>>
         ensures { option_map option_text result ≡ (pattern_captures_view self.now component).group (chars name.now) }
     {

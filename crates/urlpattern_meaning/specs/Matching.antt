@@ -104,7 +104,7 @@ folded ignore_case text = if ignore_case then map to_ascii_lowercase text else t
 abbrev pub folded_character : (ignore_case : Bool) → ℕ → ℕ
 folded_character ignore_case c = if ignore_case then to_ascii_lowercase c else c
 
--- Captures as they are compared where case is ignored.
+-- The captures with ASCII letters in lower case, as they are compared where case is ignored.
 abbrev pub folded_captures : Captures → Captures
 folded_captures captures = map (λ capture. option_map (folded true) capture) captures
 

@@ -119,7 +119,7 @@ pub record IsExecutedByMeaning {E : Type 0} (engine : Engine E) (init : UrlPatte
   pub found_by_text : (firsts : MakesFirstWays engine) (texts : Texts) → input_texts input ≡ Ok texts → ¬ IsLongInput input
       → IsFoundByText (manner_of asked (by_text firsts).values (by_text firsts).hierarchical) texts found
 
--- The pattern returns what the init of this constructor string and base URL says.
+-- `AnswersByItsText`, of the init into which this constructor string and its base URL are split.
 abbrev pub AnswersByTextOf : {E : Type 0} → Engine E → (text : List ℕ) → (base : Option (List ℕ)) → UrlPatternOptions → PatternView E → Type 0
 AnswersByTextOf engine text base asked pattern =
     (init : UrlPatternInit) × IsInitOfText engine text base init × AnswersByItsText engine.answer init asked pattern

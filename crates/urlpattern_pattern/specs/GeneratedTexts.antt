@@ -25,7 +25,8 @@ manner_in parts groups component = manner_for component (kept_options (at parts.
 abbrev pub HasParts : {E : Type 0} → UrlPattern E → (PatternParts → Type 0) → Type 0
 HasParts pattern Holds = MatchOption pattern.parts ⊥ Holds
 
--- The text is that of the component with these groups.
+-- The text is written from the component's parts with these groups and is canonical, and the
+-- component's matcher finds these groups in it.
 abbrev pub GeneratesText : {E : Type 0} → (answer : E → List ℕ → Option Captures) → UrlPattern E → ComponentName → List GivenView → (text : List ℕ) → Type 0
 GeneratesText answer pattern component groups text =
     HasParts pattern (λ parts. HasText answer (eight_view pattern.components component).matcher (manner_in parts groups component) (parts_in parts component) text)

@@ -48,7 +48,7 @@ pub record PlainComponentView : Type 0 where
   pub matcher : PlainMatcherView
   pub group_name_list : List (List ℕ)
 
--- A component, with each text through the view `seen`.
+-- The view of a component, with `seen` as the view of each text.
 abbrev pub component_by : (String Global → List ℕ) → UrlPatternComponent → PlainComponentView
 component_by seen component = record {
   pattern_string = seen component.pattern_string;

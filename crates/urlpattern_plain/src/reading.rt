@@ -11,7 +11,7 @@ use serde_json::Value;
 use std::alloc::Global;
 use urlpattern_inputs::reading::{Unread, member};
 
-/// The character of an optional member.
+/// Reads an optional member, a text of one character. `None`: the member is missing or null.
 pub(crate) fn optional_character_field(tree: &Value, name: &str) -> Result<Option<char>, Unread>
     ensures { ReturnsRead (λ found. found) result (optional_read character_read name.now (view tree.now)) }
 {

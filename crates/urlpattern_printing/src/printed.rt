@@ -246,7 +246,8 @@ fn has_other_prefix(options: &Options, part: &Part) -> bool
     !part.prefix.is_empty() && part.prefix != options.prefix_code_point
 }
 
-/// Whether the part is a name alone that would take the beginning of the next part.
+/// Whether the part, printed as a name alone such as `:id`, would be read together with the start
+/// of the next part: as more of the name, or as its regular expression.
 fn takes_next(part: &Part, next: Option<&Part>) -> bool
     ensures { result ≡ takes_next (part_view part.now) (neighbour next.entry) }
 {

@@ -26,7 +26,7 @@ pub record IsStateOf (ignore_case : Bool) (whole : Whole) (steps : List Step) (t
 abbrev pub IsDeadState : Whole → List Step → (text : List ℕ) → Type 0
 IsDeadState whole steps text = (ignore_case : Bool) × IsStateOf ignore_case whole steps text × (walk ignore_case steps text ≡ None)
 
--- A memoized state of the match has failed.
+-- If the state is memoized, it has failed: the steps do not match the text.
 abbrev pub RemembersDead : Whole → List Step → (text : List ℕ) → (is_remembered : Bool) → Type 0
 RemembersDead whole steps text is_remembered =
     (ignore_case : Bool) → IsStateOf ignore_case whole steps text → IsTrue is_remembered → walk ignore_case steps text ≡ None

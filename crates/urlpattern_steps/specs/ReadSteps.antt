@@ -59,7 +59,8 @@ IsRunStep end false step = step ≡ Segment end
 abbrev pub FindsRun : Step → Option (ℕ × Bool) → Type 0
 FindsRun step found = (end : ℕ) (is_greedy : Bool) → IsRunStep end is_greedy step → IsSomeAnd found (λ run. (run.0 ≡ end) × (run.1 ≡ is_greedy))
 
--- Whether a repeated run may be empty.
+-- `may_be_empty` says whether a repeat of a run may be empty: under `*` it may, and under `+` if
+-- the run itself may, that is, if it is greedy. Other quantifiers do not repeat a run.
 abbrev pub AllowsEmptyRun : (is_greedy : Bool) → Quantifier → (may_be_empty : Bool) → Type 0
 AllowsEmptyRun is_greedy ZeroOrMore may_be_empty = may_be_empty ≡ true
 AllowsEmptyRun is_greedy OneOrMore may_be_empty = may_be_empty ≡ is_greedy

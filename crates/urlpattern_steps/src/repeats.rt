@@ -101,10 +101,11 @@ fn literal_count(literal: &[Step]) -> usize
     count
 }
 
-/// Looks up the rest of the text after a literal, `first` and the characters of the literal steps,
-/// compared by `is_same`. `None`: the text does not begin with the literal, or the entry is `None`.
+/// Returns the entry of a table for the rest of the text after a literal: `first`, then the
+/// characters of the literal steps, compared by `is_same`. `None`: the text does not begin with the
+/// literal, or the entry is `None`.
 ///
-/// `table` has an entry for each shorter suffix of the text, from the shortest.
+/// `table` has an entry for each suffix that is shorter than the text, the empty one first.
 pub fn begun_after(
     table: &[Option<usize>],
     first: char,
@@ -137,8 +138,8 @@ pub fn goes_on(text: &str, end: char, ignore_case: bool, later: Option<usize>) -
     }
 }
 
-/// The end of separated runs if a run begins here, and if a run may end here, from their ends if
-/// the run continues and if it stops.
+/// Returns where separated runs end if a run begins here, and if a run from before may end here.
+/// `onward` is their end if the run continues here, and `stopping` their end if it stops here.
 pub fn ends(
     is_greedy: bool,
     onward: Option<usize>,

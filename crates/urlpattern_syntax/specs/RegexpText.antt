@@ -32,7 +32,7 @@ segment_wildcard_of syntax (Some c) = codes "[^" ++ escaped (escaped_marks synta
 abbrev pub segment_wildcard : OptionsView → List ℕ
 segment_wildcard options = segment_wildcard_of options.syntax options.delimiter
 
--- The regular expression of a full wildcard.
+-- The regular expression of a full wildcard, which is greedy.
 abbrev pub full_wildcard : List ℕ
 full_wildcard = codes ".*"
 

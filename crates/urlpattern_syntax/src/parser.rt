@@ -12,7 +12,7 @@ use serde::{Deserialize, Serialize};
 use std::alloc::Global;
 use std::fmt;
 
-/// The regular expression of a full wildcard.
+/// The regular expression of a full wildcard, which is greedy.
 ///
 /// <https://urlpattern.spec.whatwg.org/#full-wildcard-regexp-value>
 pub const FULL_WILDCARD_REGEXP_VALUE: &str = ".*";

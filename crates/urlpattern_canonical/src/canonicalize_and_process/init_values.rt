@@ -13,7 +13,7 @@ use urlpattern_syntax::Error;
 impl Canonicalizer {
     /// Returns the protocol of an init, without a final colon.
     ///
-    /// Fails with `Error::Url` if `url` rejects a value for a URL.
+    /// Fails with `Error::Url` if the value is for a URL and `url` rejects it.
     pub fn process_protocol(&self, value: &str, kind: &ProcessType) -> Result<String, Error>
         ensures { IsAnswer (processed_protocol kind.now (chars value.now)) (bytes_asked kind.now (length value.now)) result }
     {
@@ -26,7 +26,7 @@ impl Canonicalizer {
 
     /// Returns the user name of an init.
     ///
-    /// Fails with `Error::Url` if `url` rejects a value for a URL.
+    /// Fails with `Error::Url` if the value is for a URL and `url` rejects it.
     pub fn process_username(&self, value: &str, kind: &ProcessType) -> Result<String, Error>
         ensures { IsAnswer (processed_username kind.now (chars value.now)) (bytes_asked kind.now (length value.now)) result }
     {
@@ -38,7 +38,7 @@ impl Canonicalizer {
 
     /// Returns the password of an init.
     ///
-    /// Fails with `Error::Url` if `url` rejects a value for a URL.
+    /// Fails with `Error::Url` if the value is for a URL and `url` rejects it.
     pub fn process_password(&self, value: &str, kind: &ProcessType) -> Result<String, Error>
         ensures { IsAnswer (processed_password kind.now (chars value.now)) (bytes_asked kind.now (length value.now)) result }
     {
@@ -50,7 +50,7 @@ impl Canonicalizer {
 
     /// Returns the hostname of an init.
     ///
-    /// Fails with `Error::Url` if `url` rejects a value for a URL.
+    /// Fails with `Error::Url` if the value is for a URL and `url` rejects it.
     pub fn process_hostname(&self, value: &str, kind: &ProcessType) -> Result<String, Error>
         ensures { IsAnswer (processed_hostname kind.now (chars value.now)) (bytes_asked kind.now (length value.now)) result }
     {
@@ -60,9 +60,10 @@ impl Canonicalizer {
         }
     }
 
-    /// Returns the port of an init, under a protocol.
+    /// Returns the port of an init: for a pattern unchanged, for a URL canonical, and empty if it
+    /// is the default of this protocol.
     ///
-    /// Fails with `Error::Url` if `url` rejects a value for a URL.
+    /// Fails with `Error::Url` if the value is for a URL and `url` rejects it.
     pub fn process_port(
         &self,
         value: &str,
@@ -77,9 +78,10 @@ impl Canonicalizer {
         }
     }
 
-    /// Returns the pathname of an init, under a protocol.
+    /// Returns the pathname of an init: for a pattern unchanged, for a URL the canonical path under
+    /// this protocol.
     ///
-    /// Fails with `Error::Url` if `url` rejects a value for a URL.
+    /// Fails with `Error::Url` if the value is for a URL and `url` rejects it.
     pub fn process_pathname(
         &self,
         value: &str,
@@ -96,7 +98,7 @@ impl Canonicalizer {
 
     /// Returns the search of an init, without an initial question mark.
     ///
-    /// Fails with `Error::Url` if `url` rejects a value for a URL.
+    /// Fails with `Error::Url` if the value is for a URL and `url` rejects it.
     pub fn process_search(&self, value: &str, kind: &ProcessType) -> Result<String, Error>
         ensures { IsAnswer (processed_search kind.now (chars value.now)) (bytes_asked kind.now (length value.now)) result }
     {
@@ -109,7 +111,7 @@ impl Canonicalizer {
 
     /// Returns the hash of an init, without an initial number sign.
     ///
-    /// Fails with `Error::Url` if `url` rejects a value for a URL.
+    /// Fails with `Error::Url` if the value is for a URL and `url` rejects it.
     pub fn process_hash(&self, value: &str, kind: &ProcessType) -> Result<String, Error>
         ensures { IsAnswer (processed_hash kind.now (chars value.now)) (bytes_asked kind.now (length value.now)) result }
     {

@@ -10,7 +10,7 @@ use std::alloc::Global;
 use url::Url;
 use urlpattern_syntax::Error;
 
-/// The URL on which values are set.
+/// The URL on which a value is set to make it canonical.
 const DUMMY_URL: &str = "http://dummy.test";
 
 /// The URL on which opaque paths are set.
@@ -64,7 +64,7 @@ pub(super) fn parse_opaque(alloc: Global) -> Result<Url, Error>
     parse(alloc, OPAQUE_URL, 0)
 }
 
-/// Parses the URL on which values are set.
+/// Parses the URL on which a value is set to make it canonical.
 fn parse_dummy(alloc: Global) -> Result<Url, Error>
     ensures ok { IfOk result (λ url. dummy_url ≡ Ok url) }
     ensures memory { OnlyOutOfMemory result }

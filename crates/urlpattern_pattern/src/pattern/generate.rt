@@ -19,9 +19,9 @@ impl<R: RegExp> UrlPattern<R> {
     /// without name is empty. A fixed text with a modifier occurs as few times as the modifier
     /// permits.
     ///
-    /// The error is that a group is missing, that a group cannot capture its text, that the text of
-    /// the component would be read with other groups or is not canonical, that the pattern was put
-    /// together by hand, or that memory ran out.
+    /// The error is that a group has no text, that a group cannot capture its text, that the groups
+    /// would capture other texts in the result or the result is not canonical, that the pattern was
+    /// put together by hand and so has no parts, or that memory ran out.
     ///
     /// With `pattern` as a function that compiles a constructor string:
     ///

@@ -14,8 +14,8 @@ use std::mem;
 use urlpattern_syntax::error::OutOfMemory;
 
 impl<'t> Attempt<'_, 't> {
-    /// Whether separated runs and the steps after them match the whole text. On a match the
-    /// preferred runs, as one capture, and the captures of the steps are added.
+    /// Whether runs joined by a separator, and the steps after them, match the whole text. On a
+    /// match one capture for all of the preferred runs and the captures of the steps are added.
     #[cycle(following)]
     pub(super) fn follow_segments(
         &mut self,
