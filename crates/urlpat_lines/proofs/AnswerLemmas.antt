@@ -1,5 +1,5 @@
 -- Lemmas on the output for lines.
-use Rattle.std.proofs.Common.{◌≡◌, ℕ, ◌+◌, ◌<◌, ◌≤◌, List, [], ◌∷◌, ◌++◌, Option, None, Some, length, refl, sym, ap, subst, ◌∙◌, arith, append_assoc, append-nil, inl, inr, zero-lt-suc, zero-add, zero, suc, Bool, true, false, IsTrue, ◌↔◌, Result, Ok, Err, IfOk}
+use Rattle.std.proofs.Common.{◌≡◌, ℕ, ◌+◌, ◌<◌, ◌≤◌, List, [], ◌∷◌, ◌++◌, Option, None, Some, length, refl, sym, ap, subst, ◌∙◌, arith, append_assoc, append-nil, inl, inr, zero-lt-suc, zero, suc, Bool, true, false, IsTrue, ◌↔◌, Result, Ok, Err, IfOk}
 use Rattle.std.specs.Str.{IsUtf8}
 use Rattle.bstr.specs.Text.{without_terminator}
 use Rattle.std.specs.Io.KnownBytes.{Appends}
@@ -18,10 +18,6 @@ appends-both (Some x) None c first second p q = absurd p
 appends-both (Some x) (Some y) None first second p q = absurd q
 appends-both (Some x) (Some y) (Some z) first second p q = q ∙ ap (λ l. l ++ second) p ∙ append_assoc x first second
 
-pub appends-nothing : (a : Option (List ℕ)) → Appends a a []
-appends-nothing None = tt
-appends-nothing (Some x) = sym (append-nil x)
-
 -- A line that is not rejected.
 pub not-refused : (line : List ℕ) → length line ≤ LONGEST → IsUtf8 (without_terminator line) → ¬ IsRefusedLine line
 not-refused line short is (inl long) = omega (arith, short, long)
@@ -32,9 +28,6 @@ module _ (Answers : (text line : List ℕ) → Verdict → (written : List ℕ) 
   abbrev pub Completes : (text rest : List ℕ) → (selected : ℕ) → (so_far : List ℕ) → Type 0
   Completes text rest selected so_far =
       (more : ℕ) (written : List ℕ) → AreAnswersTo Answers (lines_of rest) more written → AreAnswersTo Answers (lines_of text) (selected + more) (so_far ++ written)
-
-  pub completes-all : (text : List ℕ) → Completes text text 0 []
-  completes-all text more written are = subst (λ n. AreAnswersTo Answers (lines_of text) n written) (sym (zero-add more)) are
 
   -- The output for the kept part of a line is that for the line.
   pub answers-line : (kept line : List ℕ) (verdict : Verdict) (written : List ℕ) → IsKept kept line → IsAnswerTo Answers kept verdict written → IsAnswerTo Answers line verdict written

@@ -24,10 +24,6 @@ kept-appended old new line part (inr long) (inl grown) =
 kept-appended old new line part (inr long) (inr stays) =
     inr (subst (λ l. LONGEST < length l) (sym stays.1) stays.0, omega (arith, length-append line part, long.1))
 
--- The kept part of an empty line is empty.
-pub kept-empty : (kept : List ℕ) → kept ≡ [] → IsKept kept []
-kept-empty kept none = inl none
-
 -- If the kept part of a line is not empty, bytes were left.
 pub kept-some : (kept bytes : List ℕ) → IsKept kept (take_through 10 bytes) → 0 < length kept → 0 < length bytes
 kept-some kept bytes (inl same) some = take_through_nonempty 10 bytes (subst (λ l. 0 < length l) same some)

@@ -1,5 +1,5 @@
 //! The lines of a reader, as bytes.
-ghost use Rattle.std.specs.Prelude.{◌≡◌, ◌+◌, ◌-◌, ◌<◌, ◌≤◌, ◌↔◌, true, length, take, All, ◌≢◌, IfOk, IfSome, IsTrue, MatchBool, OnOk, Some};
+ghost use Rattle.std.specs.Prelude.{◌≡◌, ◌+◌, ◌-◌, ◌<◌, ◌≤◌, ◌↔◌, length, take, All, ◌≢◌, IfOk, IfSome, IsTrue, MatchBool, OnOk, Some};
 ghost use Rattle.std.specs.Io.BufRead.{drop_through, take_through};
 ghost use Rattle.std.specs.Io.{IsEmptyOrEndsWith, StopsAt};
 ghost use Rattle.bstr.specs.Text.{without_terminator};

@@ -1,23 +1,20 @@
 -- Lemmas on the texts of arguments and on matches.
-use Rattle.std.proofs.Common.{◌≡◌, ℕ, ◌<◌, ◌≤◌, get_or, Bool, false, List, [], ◌∷◌, ◌++◌, map, length, drop, take, ◌+◌, refl, ap, ap₂, ◌∙◌, sym, subst, arith, append_assoc, append-nil}
+use Rattle.std.proofs.Common.{◌≡◌, ℕ, ◌<◌, ◌≤◌, get_or, List, [], ◌∷◌, ◌++◌, map, length, drop, take, ◌+◌, refl, ap, ap₂, ◌∙◌, sym, subst, arith, append_assoc, append-nil}
 use Rattle.std.proofs.lemmas.List.{map-append, take_more}
 use Rattle.std.proofs.lemmas.Str.{encodes-chars, IsUtf8-string_bytes}
 use Rattle.std.specs.Prelude.{MatchOption, Option, None, Some, String, string_bytes, encode_utf8_all}
 use Rattle.std.specs.declared.alloc.Global.{Global}
 use Rattle.urlpat_matching.specs.GroupLines.{AreGroupLines, AreLines, named_results}
 use Rattle.urlpat_matching.specs.MatchTexts.{IsMatchText, IsMatchTextBy, IsUnmatched, IsUnmatchedBy}
-use Rattle.urlpat_matching.specs.PatternWords.{IsPatternOf, default_pattern_options}
+use Rattle.urlpat_matching.specs.PatternWords.{IsPatternOf}
 use Rattle.urlpat_lines.specs.declared.flags.Flags.{Flags}
 use Rattle.urlpattern_components.specs.Eight.{name_text}
 use Rattle.urlpattern_components.specs.declared.eight.ComponentName.{ComponentName}
 use Rattle.urlpattern_components.specs.declared.eight.ComponentName.TheVariants.{Protocol}
 use Rattle.urlpattern_engine.specs.declared.pattern_regexp.PatternRegexp.{PatternRegexp}
-use Rattle.urlpattern_inputs.specs.declared.options.UrlPatternOptions.{UrlPatternOptions}
 use Rattle.urlpattern_matches.specs.ResultViews.{ResultView}
 use Rattle.urlpattern_pattern.specs.Patterns.{PatternView}
 use Rattle.urlpattern_syntax.specs.Text.{text_of}
-use Rattle.urlpattern_syntax.specs.declared.parser.RegexSyntax.{RegexSyntax}
-use Rattle.urlpattern_syntax.specs.declared.parser.RegexSyntax.TheVariants.{Rust}
 
 -- ---- texts
 
@@ -54,15 +51,6 @@ bytes_of_each (string ∷ strings) = ap₂ (λ first rest. first ∷ rest) (byte
 
 pub bytes_of_texts : (strings : List (String Global)) (texts : List (List ℕ)) → map (λ string. text_of string) strings ≡ texts → map (λ string. string_bytes string) strings ≡ map encode_utf8_all texts
 bytes_of_texts strings texts same = bytes_of_each strings ∙ ap (map encode_utf8_all) same
-
--- ---- options
-
-options_with : RegexSyntax → Bool → UrlPatternOptions
-options_with syntax ignores = record { regex_syntax = syntax; ignore_case = ignores }
-
-pub is_default : (options : UrlPatternOptions) → options.regex_syntax ≡ Rust → options.ignore_case ≡ false → options ≡ default_pattern_options
-unfolding options_with
-is_default options syntax ignores = ap₂ options_with syntax ignores
 
 -- ---- words
 

@@ -4,7 +4,7 @@ ghost use Rattle.std.specs.List.{flat_map};
 ghost use Rattle.std.specs.Prelude.{◌≡◌, ◌++◌, IfOk, OnOk};
 ghost use Rattle.serde_json.specs.View.{view};
 ghost use Rattle.urlpat_lines.specs.Filters.{GetsPiece};
-ghost use Rattle.urlpat_rules.specs.Routes.{IsRouteJson, IsRouteRow, IsRowShown, bare_lines, cell_text, route_tree};
+ghost use Rattle.urlpat_rules.specs.Routes.{IsRouteRow, IsRowShown, bare_lines, cell_text, route_tree};
 ghost use Rattle.urlpat_lines.specs.Tables.{entry_view};
 ghost use Rattle.urlpattern.specs.BorrowedMatches.{pattern_captures_view};
 

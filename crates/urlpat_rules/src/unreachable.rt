@@ -1,6 +1,5 @@
-//! The command `unreachable`: the patterns of a table that an earlier one covers.
+//! The command `unreachable`: the patterns of a table that one before them covers.
 
-ghost use Rattle.std.specs.Io.KnownBytes.{Appends};
 ghost use Rattle.std.specs.Prelude.{◌≡◌, ◌≢◌, ◌⊎◌, ◌++◌, length, map, nat_lt, string_bytes, option_copied, IfOk, IfSome, OnOk};
 ghost use Rattle.urlpat_lines.specs.Words.{words_view};
 ghost use Rattle.urlpat_matching.specs.Status.{status_of};

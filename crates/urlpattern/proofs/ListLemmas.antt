@@ -1,8 +1,8 @@
 -- Lemmas on the first pattern of a list that matches.
-use Rattle.std.proofs.Common.{◌≡◌, ◌<◌, ◌≤◌, ℕ, Bor, List, get_or, length, refl, sym, inr, inl, take}
+use Rattle.std.proofs.Common.{◌≡◌, ◌<◌, ◌≤◌, ℕ, Bor, List, get_or, length, refl, sym, inr, take}
 use Rattle.std.proofs.lemmas.List.Elements.{All-weaker}
 use Rattle.std.proofs.lemmas.Option.{slice_get_past, slice_get_read}
-use Rattle.std.specs.Prelude.{All, IfOk, IfSome, MatchOption, Option, Some, None, Result, Ok, Err, option_copied, option_map, slice_get}
+use Rattle.std.specs.Prelude.{IfOk, IfSome, MatchOption, Option, Some, None, Result, Ok, Err, option_copied, option_map, slice_get}
 use Rattle.urlpattern_init.specs.declared.init.UrlPatternMatchInput.{UrlPatternMatchInput}
 use Rattle.urlpattern_components.specs.declared.eight.ComponentName.{ComponentName}
 use Rattle.urlpattern_meaning.specs.PartMeaning.{Captures}
@@ -10,7 +10,7 @@ use Rattle.urlpattern_pattern.proofs.MatchLaws.{refused-unmatched}
 use Rattle.urlpattern.specs.FirstMatch.{IsFirstMatch, IsFirstMatchOf}
 use Rattle.urlpattern_pattern.specs.Match.{HasMatch, HasNoMatch, IsMatchOf, IsRefused}
 use Rattle.urlpattern_matches.specs.ResultViews.{ResultView}
-use Rattle.urlpattern_matches.specs.MatchInput.{IsNoInput, input_texts}
+use Rattle.urlpattern_matches.specs.MatchInput.{input_texts}
 use Rattle.urlpattern_pattern.specs.Patterns.{PatternView}
 use Rattle.urlpattern_syntax.specs.declared.error.Error.{Error}
 use Rattle.urlpattern_components.specs.Eight.{Texts}
@@ -36,9 +36,6 @@ module _ {E : Type 0} (answer : E → List ℕ → Option Captures) (patterns : 
 -- ---- from texts to inputs
 
 module _ {E : Type 0} (answer : E → List ℕ → Option Captures) (patterns : List (PatternView E)) (input : UrlPatternMatchInput) where
-  -- An input without texts has no match.
-  pub none-of_no_input : IsNoInput input → IsFirstMatch answer patterns input None
-  none-of_no_input no_input = λ k d within. inl no_input
 
   -- The first match of the input's texts is that of the input.
   pub first-of_texts : {X : Type 0} (view : X → ComponentName → ResultView) (texts : Texts) (result : Result (Option (ℕ × X)) Error) → input_texts input ≡ Ok texts

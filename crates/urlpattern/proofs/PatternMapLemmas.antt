@@ -1,7 +1,7 @@
 -- Lemmas on keys with values, such as the patterns of a map.
-use Rattle.std.proofs.Common.{◌≡◌, ◌∙◌, ℕ, zero, suc, List, [], ◌∷◌, ◌++◌, length, arith, refl, ap, map, sym}
+use Rattle.std.proofs.Common.{◌≡◌, ◌∙◌, ℕ, zero, suc, List, [], ◌∷◌, ◌++◌, length, arith, refl, ap, map}
 use Rattle.std.specs.List.{remove}
-use Rattle.std.specs.Prelude.{OnErr, Option, None, Some, Result, Ok, Err, option_map, slice_get, zip}
+use Rattle.std.specs.Prelude.{OnErr, None, Some, Result, Ok, Err, option_map, slice_get, zip}
 
 module _ {K T : Type 0} where
   pub length-pairs : (keys : List K) (values : List T) → length values ≡ length keys → length (zip keys values) ≡ length keys

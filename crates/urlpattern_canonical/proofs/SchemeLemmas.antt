@@ -45,7 +45,7 @@ special-chars = among-chars special_schemes ascii-schemes
 pub port-chars : (scheme : List ℕ) → IsUtf8 scheme → default_port (chars scheme) ≡ default_port scheme
 port-chars = port_among-chars special_schemes ascii-schemes
 
-or_false : (a b : Bool) → a ≡ false → b ≡ false → (a || b) ≡ false
+pub or_false : (a b : Bool) → a ≡ false → b ≡ false → (a || b) ≡ false
 or_false a b e f = ap (λ x. x || b) e ∙ f
 
 pub special-none : (scheme : List ℕ) → ¬ (scheme ≡ codes "http") → ¬ (scheme ≡ codes "https") → ¬ (scheme ≡ codes "ws") → ¬ (scheme ≡ codes "wss") → ¬ (scheme ≡ codes "ftp") → ¬ (scheme ≡ codes "file") → is_special scheme ≡ false

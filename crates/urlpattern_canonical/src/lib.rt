@@ -3,6 +3,8 @@
 #![tactic(auto)]
 
 mod base_url;
+mod bracket;
 pub mod canonicalize_and_process;
 
 pub use base_url::{BaseUrl, find_url, parse_base};
+pub use bracket::begins_with_bracket;

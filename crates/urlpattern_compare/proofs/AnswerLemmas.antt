@@ -1,11 +1,11 @@
 -- The result of a comparison, by what a search found.
-use Rattle.std.proofs.Common.{◌≡◌, ◌≢◌, ℕ, Bool, true, false, List, [], ◌∷◌, refl, sym, subst, ap, ◌∙◌, ◌↔◌, inl, inr, Option, Some, None, Result, Ok, Err, IfOk, IfSome}
+use Rattle.std.proofs.Common.{◌≡◌, ◌≢◌, ℕ, Bool, true, false, List, [], ◌∷◌, refl, sym, subst, ap, ◌↔◌, inl, inr, Option, Some, None, Result, Ok, Err, IfOk, IfSome}
 use Rattle.std.specs.declared.alloc.{AllocError.AllocError}
 use Rattle.std.proofs.lemmas.List.Elements.{All-cons, All-head, All-nil, All-tail}
 use Rattle.std.specs.List.{list_any}
 use Rattle.std.specs.Prelude.{◌||◌, not}
 use Rattle.urlpattern_compare.specs.Answers.{IsSought, answer_of, is_custom_part, is_custom_kind}
-use Rattle.urlpattern_compare.specs.Automata.{AcceptsText, IsWhether, IsWithin}
+use Rattle.urlpattern_compare.specs.Automata.{AcceptsText, IsWithin}
 use Rattle.urlpattern_compare.specs.Searching.{IsFoundBy}
 use Rattle.urlpattern_compare.specs.Meaning.{MeansText}
 use Rattle.urlpattern_compare.specs.Making.{made, made_view}

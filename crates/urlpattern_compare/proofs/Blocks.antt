@@ -1,19 +1,17 @@
 -- The texts that the starts of an automaton under construction read.
-use Rattle.std.proofs.Common.{◌≡◌, ◌≢◌, ℕ, zero, suc, ◌+◌, ◌<◌, ◌≤◌, Bool, true, false, List, [], ◌∷◌, ◌++◌, length, refl, sym, subst, ap, ◌∙◌, ◌⊎◌, inl, inr, ◌↔◌, arith, append-nil}
+use Rattle.std.proofs.Common.{◌≡◌, ℕ, ◌+◌, ◌<◌, true, List, [], ◌∷◌, ◌++◌, refl, sym, subst, ◌⊎◌, inl, inr, ◌↔◌, arith}
 use Rattle.std.proofs.lemmas.List.Elements.{Contains-append_cases, Contains-append_left, Contains-append_right}
 use Rattle.std.specs.List.{Contains}
-use Rattle.std.specs.Prelude.{IsTrue, ◌&&◌, if◌then◌else◌}
-use Rattle.urlpattern_compare.specs.Automata.{Leads, LeadsFrom, passes}
+use Rattle.urlpattern_compare.specs.Automata.{Leads, LeadsFrom}
 use Rattle.urlpattern_compare.specs.Cells.{has_one}
-use Rattle.urlpattern_compare.specs.Making.{Made, heads, may_miss, repeats, with_again, with_cell, with_cells, with_copies, with_missing}
+use Rattle.urlpattern_compare.specs.Making.{Made, heads, with_cell, with_cells}
 use Rattle.urlpattern_compare.specs.declared.automaton.Edge.{Edge}
 use Rattle.urlpattern_compare.specs.declared.automaton.Test.{Test}
 use Rattle.urlpattern_compare.specs.declared.cells.Cell.{Cell}
 use Rattle.urlpattern_compare.specs.declared.cells.Cell.TheVariants.{One, Many}
-use Rattle.urlpattern_compare.proofs.CellTexts.{CellThen, CellsThen, OneThen, RunThen, TimesThen, cells_map, cells_mono, cells_mono_below, times_map}
+use Rattle.urlpattern_compare.proofs.CellTexts.{CellThen, CellsThen, OneThen, RunThen, cells_map}
 use Rattle.urlpattern_compare.proofs.MadeStates.{IsPartOf, cell_count, cell_edges, cell_state, edges_to_has, targets, test_of, within_before}
 use Rattle.urlpattern_compare.proofs.StateSets.{contains_cons, contains_head}
-use Rattle.urlpattern_syntax.specs.declared.parser.PartModifier.{PartModifier}
 
 -- ---- well made
 

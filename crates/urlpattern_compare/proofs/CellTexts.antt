@@ -1,16 +1,16 @@
 -- The texts that cells read, followed by other texts.
-use Rattle.std.proofs.Common.{◌≡◌, ◌≢◌, ℕ, zero, suc, ◌+◌, ◌<◌, ◌≤◌, Bool, true, false, List, [], ◌∷◌, ◌++◌, length, refl, sym, subst, ap, ◌∙◌, ◌⊎◌, inl, inr, ◌↔◌, arith, append_assoc, append-nil, ap₂, eqb-true, eq-eqb, map, reverse}
+use Rattle.std.proofs.Common.{◌≡◌, ℕ, zero, suc, ◌+◌, ◌<◌, ◌≤◌, true, List, [], ◌∷◌, ◌++◌, length, refl, sym, subst, ap, ◌∙◌, ◌⊎◌, inl, inr, ◌↔◌, arith, ap₂, eqb-true, eq-eqb, reverse}
 use Rattle.std.proofs.lemmas.List.{reverse-append}
 use Rattle.std.proofs.lemmas.List.Folds.{list_any-append}
-use Rattle.std.specs.List.{list_all, list_any}
+use Rattle.std.specs.List.{list_all}
 use Rattle.std.specs.Prelude.{◌&&◌, ◌||◌, IsTrue}
 use Rattle.urlpattern_compare.specs.Automata.{passes}
 use Rattle.urlpattern_compare.specs.Cells.{has_one, is_one, text_cells}
 use Rattle.urlpattern_compare.specs.declared.automaton.Test.{Test}
-use Rattle.urlpattern_compare.specs.declared.automaton.Test.TheVariants.{Only, AnyBut}
 use Rattle.urlpattern_compare.specs.declared.cells.Cell.{Cell}
 use Rattle.urlpattern_compare.specs.declared.cells.Cell.TheVariants.{One, Many}
 use Rattle.urlpattern_compare.proofs.StateSets.{both}
+use Rattle.urlpattern_compare.proofs.CharacterClasses.{or_true}
 
 abbrev pub Texts : Type 1
 Texts = List ℕ → Type 0
@@ -101,10 +101,6 @@ order_append (cell ∷ cells) others Rest text = (
   cell_map cell (InOrder cells (InOrder others Rest)) (InOrder (cells ++ others) Rest) (λ t. (order_append cells others Rest t).1) text,
 )
 
-pub order_map : (cells : List Cell) (Rest Other : Texts) → ((text : List ℕ) → Rest text → Other text) → (text : List ℕ) → InOrder cells Rest text → InOrder cells Other text
-order_map [] Rest Other more text is = more text is
-order_map (cell ∷ cells) Rest Other more text is = cell_map cell (InOrder cells Rest) (InOrder cells Other) (order_map cells Rest Other more) text is
-
 -- ---- texts
 
 -- The cells of a text read the text.
@@ -166,10 +162,6 @@ in_order (cell ∷ cells) Rest text =
       λ is. cell_map cell (CellsThen (reverse cells) Rest) (InOrder cells Rest) (λ t. (in_order cells Rest t).0) text (both.0 (subst (λ l. CellsThen l Rest text) e is)),
       λ is. subst (λ l. CellsThen l Rest text) (sym e) (both.1 (cell_map cell (InOrder cells Rest) (CellsThen (reverse cells) Rest) (λ t. (in_order cells Rest t).1) text is)),
     )
-
-or_true : (b : Bool) → (b || true) ≡ true
-or_true true = refl
-or_true false = refl
 
 pub one_reversed : (cells : List Cell) → has_one cells ≡ true → has_one (reverse cells) ≡ true
 one_reversed [] one = absurd cc

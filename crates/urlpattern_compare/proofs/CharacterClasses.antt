@@ -1,7 +1,7 @@
 -- Classes of characters that no test tells apart.
-use Rattle.std.proofs.Common.{◌≡◌, ◌≢◌, ℕ, zero, suc, Bool, true, false, List, [], ◌∷◌, ◌++◌, refl, sym, subst, ap, ◌∙◌, ◌⊎◌, inl, inr, arith, eq-eqb, eqb-true, ne_eqb, length, replicate, if◌then◌else◌}
+use Rattle.std.proofs.Common.{◌≡◌, ◌≢◌, ℕ, Bool, true, false, List, [], ◌∷◌, ◌++◌, refl, sym, subst, ap, ◌∙◌, inl, inr, arith, eq-eqb, eqb-true, ne_eqb, length, replicate, if◌then◌else◌}
 use Rattle.std.proofs.lemmas.List.Elements.{All-cons, All-head, All-nil, All-tail, All-weaker, Contains-append_left, Contains-push}
-use Rattle.std.specs.List.{All, Contains, list_any}
+use Rattle.std.specs.List.{All, Contains}
 use Rattle.std.specs.Char.{IsScalar}
 use Rattle.std.specs.Prelude.{◌==◌, ◌||◌, ◌&&◌, not, slice_set}
 use Rattle.urlpattern_compare.specs.Automata.{named, passes}
@@ -27,7 +27,7 @@ pub among_contains : (marks : List ℕ) (c : ℕ) → is_among marks c ≡ true 
 among_contains [] c h = absurd cc
 among_contains (mark ∷ marks) c h = among_cases mark marks c (mark == c) refl (among_contains marks c) h
 
-or_true : (b : Bool) → (b || true) ≡ true
+pub or_true : (b : Bool) → (b || true) ≡ true
 or_true true = refl
 or_true false = refl
 

@@ -1,9 +1,9 @@
 -- The texts that the starts of an automaton read after copies of cells.
-use Rattle.std.proofs.Common.{◌≡◌, ◌≢◌, ℕ, zero, suc, ◌+◌, ◌<◌, ◌≤◌, Bool, true, false, List, [], ◌∷◌, ◌++◌, length, refl, sym, subst, ap, ◌∙◌, ◌⊎◌, inl, inr, ◌↔◌, arith}
+use Rattle.std.proofs.Common.{◌≡◌, ℕ, zero, suc, ◌+◌, ◌≤◌, Bool, true, false, List, [], ◌++◌, length, refl, sym, subst, ap, ◌∙◌, ◌⊎◌, inl, inr, ◌↔◌, arith}
 use Rattle.std.specs.Prelude.{◌&&◌, if◌then◌else◌}
 use Rattle.urlpattern_compare.specs.Automata.{LeadsFrom}
 use Rattle.urlpattern_compare.specs.Cells.{has_one}
-use Rattle.urlpattern_compare.specs.Making.{Made, heads, may_miss, repeats, with_again, with_cells, with_copies, with_missing}
+use Rattle.urlpattern_compare.specs.Making.{Made, heads, repeats, with_again, with_cells, with_copies, with_missing}
 use Rattle.urlpattern_compare.specs.declared.automaton.Edge.{Edge}
 use Rattle.urlpattern_compare.specs.declared.cells.Cell.{Cell}
 use Rattle.urlpattern_compare.proofs.Blocks.{IsMade, cells_made, cells_read, cells_within, from_append, from_none, heads_alone, starts_heads}

@@ -1,7 +1,7 @@
 -- The texts that parts mean do not depend on names.
 use Rattle.std.proofs.Common.{◌≡◌, ℕ, zero, suc, List, [], ◌∷◌, map, ap, refl, subst, sym}
 use Rattle.std.proofs.lemmas.List.Elements.{All-cons, All-head, All-map, All-nil, All-tail}
-use Rattle.std.specs.Prelude.{◌≢◌, Option}
+use Rattle.std.specs.Prelude.{Option}
 use Rattle.urlpattern_meaning.specs.PartMeaning.{AreCaptures, AreGenerated, Captures, IsCapture, IsCopyOf, PartMeans, PartsMean}
 use Rattle.urlpattern_compare.specs.Comparing.{unnamed, unnamed_view}
 use Rattle.urlpattern_syntax.specs.declared.parser.Part.{Part}
@@ -10,6 +10,7 @@ use Rattle.urlpattern_syntax.specs.declared.parser.PartType.TheVariants.{FixedTe
 use Rattle.urlpattern_syntax.specs.Options.{OptionsView}
 use Rattle.urlpattern_syntax.specs.Parts.{PartView, parts_view}
 use Rattle.urlpattern_syntax.specs.Text.{IsRepeated}
+use Rattle.urlpattern_meaning.proofs.PartTrees.{IsNotCustom}
 
 -- The part with another name.
 abbrev pub with_name : (name : List ℕ) → PartView → PartView
@@ -80,9 +81,6 @@ renamed options (part ∷ parts) (other ∷ others) same text captures (first, r
   part_renamed options part other first own (head_same part other parts others same) means,
   renamed options parts others (tail_same part other parts others same) rest later more,
 )
-
-abbrev IsNotCustom : PartView → Type 0
-IsNotCustom part = part.kind ≢ Regexp
 
 pub generated_renamed : (parts others : List PartView) → all_nameless parts ≡ all_nameless others → AreGenerated others → AreGenerated parts
 generated_renamed [] others same are = All-nil IsNotCustom

@@ -2,12 +2,11 @@
 use Rattle.std.proofs.Common.{◌≡◌, ◌∙◌, ℕ, zero, suc, ◌+◌, ◌≤◌, List, [], ◌∷◌, refl, sym, ap, length, map, arith}
 use Rattle.std.proofs.lemmas.Cmp.{nat_cmp_total, nat_list_cmp_total, on_total, then_total}
 use Rattle.std.specs.Cmp.{IsTotalOrder}
-use Rattle.std.specs.Cmp.Lexicographic.{slice_cmp}
 use Rattle.std.specs.Prelude.{◌==◌, false, not}
-use Rattle.std.specs.Ordering.{nat_cmp, on, ordering_index, ordering_reverse, ordering_then, then_cmp}
+use Rattle.std.specs.Ordering.{on, ordering_index, ordering_reverse, ordering_then, then_cmp}
 use Rattle.std.specs.declared.cmp.Ordering.{Ordering}
 use Rattle.std.specs.declared.cmp.Ordering.TheVariants.{Equal, Greater, Less}
-use Rattle.urlpattern_compare.specs.Order.{RankView, cmp_none, first_rank, no_rank, none_cmp, other_ranks, parts_cmp, rank_cmp, rank_of, ranks_cmp}
+use Rattle.urlpattern_compare.specs.Order.{RankView, cmp_none, first_rank, no_rank, other_ranks, parts_cmp, rank_cmp, rank_of, ranks_cmp}
 use Rattle.urlpattern_syntax.specs.declared.parser.Part.{Part}
 
 pub rank_total : IsTotalOrder rank_cmp

@@ -1,14 +1,14 @@
 -- Pairs of a state and a set of states, and the texts that lead to them.
-use Rattle.std.proofs.Common.{◌≡◌, ◌≢◌, ℕ, zero, suc, ◌<◌, Bool, true, false, List, [], ◌∷◌, ◌++◌, length, refl, sym, subst, ap, ◌∙◌, ◌⊎◌, inl, inr, ◌↔◌, arith, ◌+◌, ◌≤◌, append_assoc, append-nil, eq-eqb, take, get_or, take_all, length-append}
+use Rattle.std.proofs.Common.{◌≡◌, ◌≢◌, ℕ, ◌<◌, Bool, true, false, List, [], ◌∷◌, ◌++◌, length, refl, sym, subst, ap, ◌∙◌, ◌⊎◌, inl, inr, ◌↔◌, arith, ◌+◌, ◌≤◌, append_assoc, append-nil, eq-eqb, take, get_or, take_all, length-append}
 use Rattle.std.proofs.lemmas.List.{get_or_append_left, take-append-le, take_more}
 use Rattle.std.proofs.lemmas.Bool.{ne_eqb}
 use Rattle.std.proofs.lemmas.List.Folds.{list_all-append}
 use Rattle.std.proofs.lemmas.List.Elements.{All-contains, All-more, All-weaker, Contains-append_left, Contains-get_or, Contains-push_cases}
 use Rattle.std.specs.List.{All, Contains}
-use Rattle.std.specs.{Char.IsScalar, Str.all_scalars}
+use Rattle.std.specs.{Str.all_scalars}
 use Rattle.std.specs.Prelude.{◌&&◌, ◌==◌, IsTrue, not}
-use Rattle.urlpattern_compare.specs.Automata.{AcceptsText, IsWhether, IsWithin, Leads, LeadsFrom, passes}
-use Rattle.urlpattern_compare.specs.Searching.{AreClasses, AreUnlike, HasManyPairs, IsBy, IsCome, IsExtended, IsFollowed, IsFollowedBy, IsReached, IsSameFor, IsSeen, IsStep, IsStepBy, IsGrownBy, LeadsIn, come_first, come_next, is_in, moved, starts_of}
+use Rattle.urlpattern_compare.specs.Automata.{AcceptsText, IsWhether, IsWithin, Leads, passes}
+use Rattle.urlpattern_compare.specs.Searching.{AreClasses, AreUnlike, IsCome, IsExtended, IsFollowed, IsReached, IsSeen, IsStep, IsStepBy, IsGrownBy, LeadsIn, come_first, come_next, is_in, moved, starts_of}
 use Rattle.urlpattern_compare.specs.declared.automaton.Automaton.{Automaton}
 use Rattle.urlpattern_compare.specs.declared.automaton.Edge.{Edge}
 use Rattle.urlpattern_compare.specs.declared.search.Pair.{Pair}
@@ -218,8 +218,3 @@ unlike_more (first ∷ pairs) new (apart_first, unlike) apart = (
   ],
   unlike_more pairs new unlike (λ (pair, has, state_is, states_are). apart (pair, contains_tail first pair pairs has, state_is, states_are)),
 )
-
--- The number of pairs exceeds the bound.
-pub many_pairs : (one other : Automaton) (pairs : List Pair) → All (IsReached one other) pairs → AreUnlike pairs → 10000 < length pairs → HasManyPairs one other
-many_pairs one other pairs reached unlike many =
-    (pairs, All-weaker (IsReached one other) (λ (pair : Pair). IsCome one other pair.state pair.states.items) (λ pair is. is.come) pairs reached, unlike, many)

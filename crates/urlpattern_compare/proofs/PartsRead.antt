@@ -1,17 +1,17 @@
 -- The automaton of parts accepts the texts that the parts mean.
-use Rattle.std.proofs.Common.{◌≡◌, ◌≢◌, ℕ, zero, suc, ◌+◌, ◌<◌, ◌≤◌, Bool, true, false, List, [], ◌∷◌, ◌++◌, length, refl, sym, subst, ap, ◌∙◌, ◌⊎◌, inl, inr, ◌↔◌, arith, append_assoc, reverse, get_or}
+use Rattle.std.proofs.Common.{◌≡◌, ℕ, ◌+◌, ◌<◌, ◌≤◌, Bool, true, false, List, [], ◌∷◌, ◌++◌, length, refl, sym, subst, ap, ◌∙◌, ◌⊎◌, inl, inr, ◌↔◌, arith, append_assoc, reverse, get_or}
 use Rattle.std.proofs.lemmas.List.Elements.{Contains-append_cases, Contains-get_or}
-use Rattle.std.specs.List.{All, Contains}
+use Rattle.std.specs.List.{Contains}
 use Rattle.std.specs.Prelude.{◌&&◌, if◌then◌else◌}
 use Rattle.urlpattern_compare.specs.Automata.{AcceptsText, IsWithin, Leads, LeadsFrom}
 use Rattle.urlpattern_compare.specs.Cells.{cells_of, has_one}
-use Rattle.urlpattern_compare.specs.Making.{HasManyStates, Made, heads, made, made_view, may_miss, repeats, with_again, with_cell, with_cells, with_copies, with_missing}
+use Rattle.urlpattern_compare.specs.Making.{HasManyStates, Made, heads, made, made_view, may_miss, repeats, with_again, with_cell, with_cells, with_copies}
 use Rattle.urlpattern_compare.specs.declared.automaton.Automaton.{Automaton}
 use Rattle.urlpattern_compare.specs.declared.automaton.Edge.{Edge}
 use Rattle.urlpattern_compare.specs.declared.cells.Cell.{Cell}
 use Rattle.urlpattern_compare.specs.declared.cells.Cell.TheVariants.{One, Many}
 use Rattle.urlpattern_compare.proofs.Blocks.{IsMade, from_one}
-use Rattle.urlpattern_compare.proofs.Copies.{CopiesThen, copies_before, copies_made, copies_read}
+use Rattle.urlpattern_compare.proofs.Copies.{copies_before, copies_made, copies_read}
 use Rattle.urlpattern_compare.proofs.CellTexts.{times_map}
 use Rattle.urlpattern_compare.proofs.MadeStates.{IsPartOf, cell_count, cell_edges, edges_to_has, targets, test_of}
 use Rattle.urlpattern_compare.proofs.PartTexts.{PartsThen, absorbs, parts_then}

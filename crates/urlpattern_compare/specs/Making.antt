@@ -1,5 +1,5 @@
 -- How an automaton is made, from the end of a list of parts to the start.
-use Rattle.std.specs.Prelude.{◌≡◌, ℕ, zero, suc, ◌+◌, ◌<◌, Bool, true, false, ◌&&◌, List, [], ◌∷◌, ◌++◌, map, reverse, if◌then◌else◌}
+use Rattle.std.specs.Prelude.{ℕ, ◌+◌, ◌<◌, Bool, true, false, ◌&&◌, List, [], ◌∷◌, ◌++◌, map, reverse, if◌then◌else◌}
 use Rattle.urlpattern_compare.specs.Cells.{cells_of, has_one}
 use Rattle.urlpattern_compare.specs.declared.automaton.Automaton.{Automaton}
 use Rattle.urlpattern_compare.specs.declared.automaton.Edge.{Edge}

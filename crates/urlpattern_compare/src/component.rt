@@ -1,14 +1,12 @@
 //! Components compared by their parts.
 
 ghost use Rattle.std.specs.Prelude.{◌≡◌, ◌↔◌, [], ◌∷◌, IfNone, IfOk, IfSome, IsTrue, false};
-ghost use Rattle.std.specs.List.{list_any};
-ghost use Rattle.urlpattern_compare.specs.Answers.{is_custom_part};
 ghost use Rattle.urlpattern_compare.specs.Comparing.{AreSame, IsComponentCovering, IsComponentOverlap, IsExample, IsKnown, IsReasonFor, IsSettled, IsUnknownBy, TakesEachLine, anything_part, unnamed, unnamed_view};
 ghost use Rattle.urlpattern_syntax.specs.Options.{default_options, options_view};
 ghost use Rattle.urlpattern_syntax.specs.Parts.{parts_view};
 ghost use Rattle.urlpattern_syntax.specs.Text.{text_of};
 
-use crate::parts::{Covering, Overlap, Reason, covers, overlaps};
+use crate::parts::{Covering, Overlap, Reason, covers, has_custom, overlaps};
 use std::alloc::{AllocError, Global};
 use urlpattern_syntax::ComponentParts;
 use urlpattern_syntax::parser::{Options, Part, PartModifier, PartType};
@@ -223,13 +221,4 @@ fn is_same_text(text: &String, other: &String) -> bool
     ensures { IsTrue result ↔ text_of text.now ≡ text_of other.now }
 {
     text == other
-}
-
-/// Whether a part is a custom regular expression.
-fn has_custom(parts: &[Part]) -> bool
-    ensures { result ≡ list_any is_custom_part parts.now }
-{
-    parts
-        .iter()
-        .any(|part| matches!(part.kind, PartType::Regexp))
 }

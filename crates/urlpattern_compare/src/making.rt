@@ -1,6 +1,6 @@
 //! Makes automata of parts, from the last part to the first.
 
-ghost use Rattle.std.specs.Prelude.{◌≡◌, ◌≤◌, ◌<◌, ◌+◌, ◌++◌, ℕ, [], IfNone, IfOk, OnOk, length};
+ghost use Rattle.std.specs.Prelude.{◌≡◌, ◌≤◌, ◌<◌, ◌+◌, ◌++◌, [], IfNone, IfOk, OnOk, length};
 ghost use Rattle.urlpattern_compare.specs.{Answers.AcceptsMeaning, Answers.IfMade, Automata.IsWithin};
 ghost use Rattle.urlpattern_compare.specs.Making.{HasManyStates, edges_to, heads, made, made_view, may_miss, repeats, with_again, with_cell, with_cells, with_copies};
 ghost use Rattle.urlpattern_meaning.specs.PartMeaning.{AreGenerated};

@@ -1,6 +1,6 @@
 //! The order of parts: the more specific are the greater.
 
-ghost use Rattle.std.specs.Prelude.{◌≡◌, List, [], map};
+ghost use Rattle.std.specs.Prelude.{◌≡◌, map};
 ghost use Rattle.urlpattern_compare.specs.Order.{first_rank, kind_rank, modifier_rank, other_ranks, parts_cmp, rank_cmp, rank_of, rank_view};
 
 use std::cmp::Ordering;

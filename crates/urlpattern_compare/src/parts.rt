@@ -140,7 +140,7 @@ fn answer_of(found: Found) -> Answer
 }
 
 /// Whether a part is a custom regular expression.
-fn has_custom(parts: &[Part]) -> bool
+pub(crate) fn has_custom(parts: &[Part]) -> bool
     ensures { result ≡ list_any is_custom_part parts.now }
 {
     parts.iter().any(|part| is_custom(part))

@@ -1,7 +1,7 @@
 -- A pattern as its components, after the URLPattern Standard, section "URL patterns".
 use Rattle.urlpattern_components.specs.declared.eight.ComponentName.{ComponentName}
 use Rattle.urlpattern_components.specs.declared.eight.Eight.{Eight}
-use Rattle.std.specs.Prelude.{Bool, IfOk, Result}
+use Rattle.std.specs.Prelude.{Bool}
 use Rattle.std.specs.List.{list_any}
 use Rattle.urlpattern_components.specs.Eight.{at, components}
 use Rattle.urlpattern_matcher.specs.declared.component.Component.{Component}
@@ -18,7 +18,3 @@ eight_view components name = component_view (at components name)
 -- Whether any component has a custom regular expression.
 abbrev pub has_regexp_groups : {E : Type 0} → PatternView E → Bool
 has_regexp_groups pattern = list_any (λ component. (pattern component).has_regexp_group) components
-
--- If the result is eight components, `Holds` is true of their pattern.
-abbrev pub IfComponents : {E Fault : Type 0} → Result (Eight (Component E)) Fault → (PatternView E → Type 0) → Type 0
-IfComponents result Holds = IfOk result (λ made. Holds (eight_view made))

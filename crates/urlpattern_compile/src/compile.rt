@@ -17,6 +17,7 @@ ghost use Rattle.urlpattern_syntax.specs.Reading.{encoding_by};
 ghost use Rattle.urlpattern_syntax.specs.Text.{begins_with, text_of};
 
 use std::alloc::Global;
+use urlpattern_canonical::begins_with_bracket;
 use urlpattern_canonical::canonicalize_and_process::{
     Canonicalizer, ProcessType, begins_with_slash, canonicalize_ipv6_hostname, is_special_scheme,
     special_scheme_default_port, without_first,
@@ -124,13 +125,6 @@ fn has_default_port(values: &UrlPatternInit) -> bool
         }
         None => false,
     }
-}
-
-/// Whether the text begins with an opening square bracket.
-fn begins_with_bracket(text: &str) -> bool
-    ensures { result ≡ begins_with (is_mark (codes "[")) (chars text.now) }
-{
-    matches!(text.as_bytes(), [b'[', ..])
 }
 
 /// Whether the pattern of a hostname begins as an IPv6 address does.

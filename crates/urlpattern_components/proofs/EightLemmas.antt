@@ -2,7 +2,7 @@
 use Rattle.std.proofs.Common.{◌≡◌, List, [], ◌∷◌, ◌++◌, lit<, refl, subst, sym}
 use Rattle.std.proofs.lemmas.List.Elements.{All-cons, All-nil}
 use Rattle.std.specs.List.{AllByRecursion}
-use Rattle.std.specs.Prelude.{All, Result, Ok, Err, IfErr, IfOk}
+use Rattle.std.specs.Prelude.{All, Result, Ok, Err, IfErr}
 use Rattle.std.specs.Result.{IsErrAnd}
 use Rattle.urlpattern_components.specs.declared.eight.ComponentName.{ComponentName}
 use Rattle.urlpattern_components.specs.declared.eight.ComponentName.TheVariants.{Protocol, Username, Password, Hostname, Port, Pathname, Search, Hash}
@@ -41,17 +41,3 @@ of_each P all =
 
 pub at-each : {A : Type 0} (value : ComponentName → A) (name : ComponentName) → at (each value) name ≡ value name
 at-each value = by_name (λ name. at (each value) name ≡ value name) refl refl refl refl refl refl refl refl
-
--- A consequence of each value is a consequence of all, where all were made.
-pub all_ok : {A E : Type 0} (result : Result (Eight A) E) (Answers : ComponentName → Result A E → Type 0) (P : ComponentName → A → Type 0)
-    → IfOk result (λ values. (name : ComponentName) → Answers name (Ok (at values name)))
-    → ((name : ComponentName) (value : A) → Answers name (Ok value) → P name value)
-    → IfOk result (λ values. (name : ComponentName) → P name (at values name))
-all_ok (Ok values) Answers P answered follows = λ name. follows name (at values name) (answered name)
-all_ok (Err error) Answers P answered follows = tt
-
--- A consequence of each error is a consequence of the first.
-pub first_err : {A T E : Type 0} (result : Result T E) (Answers : ComponentName → Result A E → Type 0) (Q : E → Type 0)
-    → IfErr result (IsFirstError Answers) → ((name : ComponentName) (error : E) → Answers name (Err error) → Q error) → IfErr result Q
-first_err (Ok value) Answers Q first follows = tt
-first_err (Err error) Answers Q first follows = follows first.2 error first.5

@@ -1,20 +1,18 @@
 -- Lemmas on the text that follows the place of a fault.
-use Rattle.std.proofs.Common.{◌≡◌, ℕ, ◌+◌, ◌-◌, ◌≤◌, List, [], ◌∷◌, ◌++◌, length, drop, true, Option, Some, None, refl, sym, ap, ◌∙◌, subst, arith, append_assoc, length-append}
+use Rattle.std.proofs.Common.{◌≡◌, ℕ, ◌+◌, ◌-◌, ◌≤◌, ◌⊎◌, List, [], ◌∷◌, ◌++◌, length, drop, true, Option, Some, None, refl, sym, ap, ◌∙◌, subst, inl, inr, arith, append_assoc, length-append}
 use Rattle.std.proofs.lemmas.Bool.{and_parts}
-use Rattle.std.proofs.lemmas.List.{append-nil}
 use Rattle.std.proofs.lemmas.Str.{encodes-append, encodes-chars, encodes_same, scalars-chars, IsCharBoundary-at_seam}
-use Rattle.std.specs.Prelude.{MatchOption, codes, encode_utf8_all}
-use Rattle.std.specs.Str.{chars, IsCharBoundary, IsUtf8}
+use Rattle.std.specs.Prelude.{IfNone, IfSome, MatchOption, codes, encode_utf8_all}
+use Rattle.std.specs.{Borrow.Bor, Str.chars, Str.IsCharBoundary, Str.IsUtf8}
 use lib.Utf8.{scalars}
 use Rattle.urlpattern_components.specs.declared.eight.ComponentName.{ComponentName}
-use Rattle.urlpattern_diagnosis.specs.Faults.{HasTokenFault, IsAfterFront, IsAlone, IsBodyFault, IsTokenFault}
+use Rattle.urlpattern_diagnosis.specs.Faults.{HasTokenFault, IsAfterFront, IsAlone, IsBodyFault, IsRefusedFront, IsTokenFault}
 use Rattle.urlpattern_diagnosis.specs.Spans.{IsSpanAt}
 use Rattle.urlpattern_diagnosis.specs.declared.{fault.Fault.Fault, span.Span.Span}
-use Rattle.urlpattern_meaning.proofs.FrontTokens.{fault_at_one, lexed_or_fault, no_fault}
-use Rattle.urlpattern_syntax.specs.Text.{BeginsWith, byte_len, is_among}
+use Rattle.urlpattern_meaning.proofs.FrontTokens.{fault_at_one, no_fault}
+use Rattle.urlpattern_parser.specs.Bodies.{IsRefusedOf}
+use Rattle.urlpattern_syntax.specs.Text.{byte_len}
 use Rattle.urlpattern_syntax.specs.Tokens.{FaultView, IncompleteEscapeCode, InvalidRegex, IsCut, IsFault, IsFaultAt, IsRegexpFront, IsTokenOf, TokenView}
-use Rattle.urlpattern_syntax.specs.declared.tokenizer.TokenType.TheVariants.{Regexp}
-use Rattle.urlpattern_syntax.proofs.BodyLemmas.{HasRead, body_lexed, fault_escape, front_read}
 use Rattle.urlpattern_syntax.proofs.TextLemmas.{byte_len-chars, length-le-byte_len}
 
 -- ---- ends of a text
@@ -111,20 +109,18 @@ body_faulty left rest first reported words is e cut =
 
 -- ---- the body of an expression
 
-module _ (text rest : List ℕ) (depth : ℕ) (h : HasRead text rest depth) (unmarked : ¬ BeginsWith (is_among (codes "?)")) text) where
-  pub after_front : IsAfterFront text rest
-  after_front = (h.read, front_read text rest depth h unmarked, h.cut)
+module _ (text reported : List ℕ) (faulty : IsFaultAt (codes "(" ++ chars text) (InvalidRegex reported)) where
+  -- a body with such a fault does not end in a backslash
+  ends_open : (fault : FaultView) → IsFaultAt (codes "(" ++ chars text) fault → (fault ≡ IncompleteEscapeCode) ⊎ IsRegexpFront (chars text) → IsRegexpFront (chars text)
+  ends_open fault is (inl escape) = let same = fault_at_one (codes "(" ++ chars text) fault (InvalidRegex reported) is faulty in absurd cc
+  ends_open fault is (inr front) = front
 
-  -- The text ends before the body does.
-  pub all_read : rest ≡ [] → IsRegexpFront text
-  all_read e = subst IsRegexpFront (sym (h.cut ∙ ap (λ x. h.read ++ x) e ∙ append-nil h.read)) (front_read text rest depth h unmarked)
+  pub refused_end : (fault : FaultView) (refused : Option (Bor (List ℕ) × ℕ)) → IsFaultAt (codes "(" ++ chars text) fault → IsRefusedOf text fault refused → IfNone refused (IsRegexpFront (chars text))
+  refused_end fault None is refuses = ends_open fault is refuses
+  refused_end fault (Some found) is refuses = tt
 
-  module _ (reported : List ℕ) (faulty : IsFaultAt (codes "(" ++ text) (InvalidRegex reported)) where
-    -- The text does not end in a backslash.
-    pub no_escape : (tail : List ℕ) → rest ≡ codes "\\" ++ tail → tail ≡ [] → ⊥
-    no_escape tail e none = cc (fault_at_one (codes "(" ++ text) IncompleteEscapeCode (InvalidRegex reported) (fault_escape text rest depth h unmarked tail IncompleteEscapeCode e none) faulty)
-
-    -- The body does not end.
-    pub no_end : (after : List ℕ) → depth ≡ 0 → rest ≡ codes ")" ++ after → ⊥
-    no_end after zero_depth e =
-        lexed_or_fault (codes "(" ++ text) Regexp h.read after (InvalidRegex reported) (body_lexed text rest depth h unmarked h.read after zero_depth e h.cut) faulty
+-- what may not be there
+pub refused_part : (text : List ℕ) (fault : FaultView) (refused : Option (Bor (List ℕ) × ℕ)) → IsRefusedOf text fault refused
+    → IfSome refused (λ found. IsAfterFront (chars text) (chars found.0.now)) × IfSome refused (λ found. IsRefusedFront (chars found.0.now) found.1) × IfSome refused (λ found. length found.0.now ≤ length text)
+refused_part text fault None refuses = (tt, tt, tt)
+refused_part text fault (Some found) refuses = refuses

@@ -1,5 +1,5 @@
 -- Where the pattern text of a component is at fault. Texts are their bytes.
-use Rattle.std.specs.Prelude.{◌≡◌, ℕ, ◌+◌, ◌⊎◌, ◌&&◌, ◌==◌, Bool, true, false, List, [], ◌∷◌, length, map, filter, take, drop, min, bytes_eq, IsTrue, Option, Some, None, IsSomeAnd, IfSome, MatchBool, string_bytes, ◌++◌, ◌≤◌, ◌||◌, MatchOption, codes, if◌then◌else◌, nat_eq}
+use Rattle.std.specs.Prelude.{◌≡◌, ℕ, ◌+◌, ◌⊎◌, ◌&&◌, ◌==◌, Bool, true, false, List, [], ◌∷◌, length, map, filter, take, drop, min, bytes_eq, IsTrue, Option, Some, None, IsSomeAnd, IfSome, MatchBool, string_bytes, ◌++◌, ◌||◌, MatchOption, codes, if◌then◌else◌, nat_eq}
 use Rattle.std.specs.List.{list_any, starts_with}
 use Rattle.std.specs.Str.{chars}
 use Rattle.urlpattern_diagnosis.specs.Spans.{IsSpanAt, IsSpanIn, whole_span}
@@ -11,12 +11,13 @@ use Rattle.urlpattern_syntax.specs.declared.error.Error.{Error}
 use Rattle.urlpattern_syntax.specs.declared.error.Error.TheVariants as errors
 use Rattle.urlpattern_syntax.specs.declared.error.ParserError.{ParserError}
 use Rattle.urlpattern_syntax.specs.declared.error.ParserError.TheVariants as parser_errors
+pub use Rattle.urlpattern_parser.specs.Bodies.{IsAfterFront, IsRefusedFront}
 use Rattle.urlpattern_parser.specs.declared.parser.stop.Stop.{Stop}
 use Rattle.urlpattern_syntax.specs.declared.tokenizer.TokenType.TheVariants.{End, EscapedChar, Name, Regexp}
 use Rattle.urlpattern_syntax.specs.Stops.{IsStopOf}
 use Rattle.urlpattern_syntax.specs.declared.tokenizer.{Token.Token, TokenType.TokenType}
-use Rattle.urlpattern_syntax.specs.Text.{BeginsAt, BeginsWith, byte_len, is_among}
-use Rattle.urlpattern_syntax.specs.Tokens.{AreTokens, FaultView, IncompleteEscapeCode, InvalidName, InvalidRegex, IsFault, IsRegexpFront, TokenView, is_question_mark, token_view}
+use Rattle.urlpattern_syntax.specs.Text.{BeginsAt, BeginsWith, is_among}
+use Rattle.urlpattern_syntax.specs.Tokens.{AreTokens, FaultView, IncompleteEscapeCode, InvalidName, InvalidRegex, IsFault, IsRegexpFront, TokenView, token_view}
 
 -- ---- tokens
 
@@ -97,18 +98,6 @@ abbrev pub IsColonFault : (bytes before : List ℕ) → Fault → Type 0
 IsColonFault bytes before fault = IsTrue (list_any is_path_sign before) × IsAlone (IsSpanAt bytes (length before) 1) fault
 
 -- ---- where no token begins
-
--- `left` is the end of `rest`, which follows a `(`, after an incomplete expression.
-abbrev pub IsAfterFront : (rest left : List ℕ) → Type 0
-IsAfterFront rest left = (front : List ℕ) × IsRegexpFront front × (rest ≡ front ++ left)
-
--- A custom expression does not go on with the first `len` bytes of `left`: a character that is not
--- ASCII, with or without a backslash, or a `(` that no `?` follows.
-abbrev pub IsRefusedFront : (left : List ℕ) → (len : ℕ) → Type 0
-IsRefusedFront left len =
-    ((c : ℕ) × (more : List ℕ) × (left ≡ c ∷ more) × (128 ≤ c) × (len ≡ byte_len (c ∷ [])))
-    ⊎ ((c : ℕ) × (more : List ℕ) × (left ≡ codes "\\" ++ c ∷ more) × (128 ≤ c) × (len ≡ 1 + byte_len (c ∷ [])))
-    ⊎ ((more : List ℕ) × (left ≡ codes "(" ++ more) × ¬ BeginsWith is_question_mark more × (len ≡ 1))
 
 -- `rest` follows the `(` at the place, and is no custom expression: it is empty or begins with `?`;
 -- or it does not end, and the `(` is at fault; or else a part of it is at fault, and conflicts with

@@ -1,5 +1,5 @@
 //! Where an engine rejects a custom expression, according to the crate `regex`.
-ghost use Rattle.std.specs.Prelude.{IfOk, IfSome};
+ghost use Rattle.std.specs.Prelude.{IfOk};
 ghost use Rattle.urlpattern_diagnosis.specs.Faults.{IsFaultIn};
 ghost use Rattle.urlpattern_diagnosis.specs.Spans.{IsSpanIn};
 

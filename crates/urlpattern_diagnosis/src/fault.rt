@@ -1,10 +1,9 @@
 //! Where the pattern text of a component is at fault.
-ghost use Rattle.std.specs.Prelude.{◌≡◌, ℕ, false, IfNone, IfOk, IfSome, None, filter, map};
+ghost use Rattle.std.specs.Prelude.{◌≡◌, false, IfNone, IfOk, IfSome, None, filter};
 ghost use Rattle.std.specs.List.{list_any};
 ghost use Rattle.std.specs.Str.{chars};
 ghost use Rattle.urlpattern_diagnosis.specs.Faults.{IsColonFault, IsFaultIn, IsFaultOf, IsParserFault, IsSecondFault, IsSignFault, IsSpanOfToken, IsStopFault, IsUrlFault, IsWholeFault, gives_name, is_path_sign, marks_len, missing_colon, mistyped_colon};
 ghost use Rattle.urlpattern_diagnosis.specs.Spans.{IsSpanIn};
-ghost use Rattle.urlpattern_syntax.specs.Tokens.{AreTokens, token_view};
 
 use crate::span::Span;
 use crate::token::first_fault;

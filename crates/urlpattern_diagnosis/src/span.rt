@@ -1,5 +1,5 @@
 //! Spans of a text.
-ghost use Rattle.std.specs.Prelude.{◌≡◌, length};
+ghost use Rattle.std.specs.Prelude.{◌≡◌};
 ghost use Rattle.urlpattern_diagnosis.specs.Spans.{IsSpanAt, IsSpanIn, whole_span};
 
 /// A part of a text, by the byte indices of its first character and after its last.

@@ -2,7 +2,7 @@
 ghost use Rattle.std.specs.Prelude.{◌≡◌, ◌≤◌, ◌++◌, codes, length, List, ℕ, IfNone, IfOk, IfSome};
 ghost use Rattle.std.specs.Str.{chars};
 ghost use Rattle.urlpattern_diagnosis.specs.Faults.{IsBodyFault, IsFaultIn, IsAfterFront, IsFirstFault, IsNameFault, IsOpenBracket, IsRefusedFront, HasTokenFault, is_end_kind, is_of_hostname};
-ghost use Rattle.urlpattern_syntax.specs.Text.{BeginsAt, BeginsWith, is_among};
+ghost use Rattle.urlpattern_syntax.specs.Text.{BeginsWith, is_among};
 ghost use Rattle.urlpattern_syntax.specs.Tokens.{IsFault, IsFaultAt, InvalidRegex, IsRegexpFront, fault_view};
 
 use crate::fault::{Fault, span_of};
@@ -10,6 +10,7 @@ use crate::span::Span;
 use std::alloc::Global;
 use urlpattern_components::ComponentName;
 use urlpattern_parser::parser::Stop;
+use urlpattern_parser::split_body;
 use urlpattern_syntax::error::{OutOfMemory, TokenizerError};
 use urlpattern_syntax::text::split_first;
 use urlpattern_syntax::tokenizer::TokenType;
@@ -143,32 +144,8 @@ fn refused_in(body: &str) -> Option<(&str, usize)>
     ensures refused { IfSome result (λ found. IsRefusedFront (chars found.0.now) found.1) }
     ensures len { IfSome result (λ found. length found.0.now ≤ length body.now) }
 {
-    let mut rest = body;
-    let mut depth = 0usize;
-    while let Some((first, after)) = split_first(rest) {
-        match first {
-            '\\' => match split_first(after) {
-                Some((escaped, next)) if escaped.is_ascii() => rest = next,
-                Some((escaped, _)) => return Some((rest, 1 + escaped.len_utf8())),
-                None => return None,
-            },
-            '(' => match split_first(after) {
-                Some(('?', next)) => {
-                    rest = next;
-                    depth += 1;
-                }
-                _ => return Some((rest, 1)),
-            },
-            ')' => {
-                if depth == 0 {
-                    return None;
-                }
-                rest = after;
-                depth -= 1;
-            }
-            _ if first.is_ascii() => rest = after,
-            _ => return Some((rest, first.len_utf8())),
-        }
+    match split_body(body) {
+        Ok(_) => None,
+        Err(fault) => fault.refused,
     }
-    None
 }

@@ -11,12 +11,12 @@ use Rattle.urlpattern_engine.proofs.ReadAnswers.{read_by_default, regex_as_read}
 use Rattle.urlpattern_engine.specs.Automatons.{config_for}
 use Rattle.urlpattern_engine.specs.PatternRegexps.{IsExpressionOf, expression_answer, pattern_answer, pattern_engine}
 use Rattle.urlpattern_engine.specs.Readings.{ExpressionsAnswerAlike}
-use Rattle.urlpattern_engine.specs.declared.pattern_regexp.Expression.{Expression}
+use Rattle.urlpattern_engine.specs.declared.strategy.Strategy.{Strategy}
 use Rattle.urlpattern_meaning.proofs.OneMeaning.{is_tree_of}
 use Rattle.urlpattern_meaning.proofs.PartTrees.{tree_of}
 use Rattle.urlpattern_syntax.specs.RegexpText.{regexp_text}
 
-module _ (ignore_case : Bool) (regexp : List ℕ) (one other : Expression) (kept : ignore_case ≡ false) (made : IsExpressionOf ignore_case regexp one) (also : IsExpressionOf ignore_case regexp other)
+module _ (ignore_case : Bool) (regexp : List ℕ) (one other : Strategy) (kept : ignore_case ≡ false) (made : IsExpressionOf ignore_case regexp one) (also : IsExpressionOf ignore_case regexp other)
     (text : List ℕ) (fine : IsTrue (all_scalars text)) where
   expressions_alike : expression_answer ignore_case one text ≡ expression_answer ignore_case other text
   expressions_alike = elim (form_of ignore_case regexp one made) [
@@ -36,9 +36,9 @@ own_expressions options parts value other text (inl kept) made also fine =
     let one : value.ignore_case ≡ false = made.by_flags ∙ agree in
     let two : other.ignore_case ≡ false = also.by_flags ∙ agree in
     let same : other.ignore_case ≡ value.ignore_case = two ∙ sym one in
-    expressions_alike value.ignore_case (regexp_text options parts) value.expression other.expression one made.of_text
-    (subst (λ (b : Bool). IsExpressionOf b (regexp_text options parts) other.expression) same also.of_text) text fine
-    ∙ ap (λ (b : Bool). expression_answer b other.expression text) (sym same)
+    expressions_alike value.ignore_case (regexp_text options parts) value.strategy other.strategy one made.of_text
+    (subst (λ (b : Bool). IsExpressionOf b (regexp_text options parts) other.strategy) same also.of_text) text fine
+    ∙ ap (λ (b : Bool). expression_answer b other.strategy text) (sym same)
 own_expressions options parts value other text (inr generated) made also fine =
     let is = is_tree_of options parts generated in
     values_by_flags options (engine_flags options) parts (tree_of options parts) value generated is made text

@@ -26,8 +26,8 @@ use Rattle.urlpattern_syntax.specs.Options.{OptionsView}
 use Rattle.urlpattern_syntax.specs.Parts.{PartView}
 use Rattle.urlpattern_syntax.specs.RegexpText.{regexp_text}
 use Rattle.urlpattern_syntax.specs.Text.{text_of}
-use Rattle.urlpattern_engine.specs.declared.pattern_regexp.Expression.{Expression}
-use Rattle.urlpattern_engine.specs.declared.pattern_regexp.Expression.TheVariants.{Own, Generated, Compiled, Other, Custom}
+use Rattle.urlpattern_engine.specs.declared.strategy.Strategy.{Strategy}
+use Rattle.urlpattern_engine.specs.declared.strategy.Strategy.TheVariants.{Steps, LazySteps, Automaton, Regex, LazyRegex}
 use Rattle.urlpattern_engine.specs.declared.pattern_regexp.PatternRegexp.{PatternRegexp}
 use Rattle.urlpattern_engine.specs.PatternRegexps.{IsExpressionOf, IsPatternRegexpOf, expression_answer, pattern_answer, pattern_engine}
 use Rattle.urlpattern_engine.specs.Automatons.{config_for, read_answer}
@@ -39,39 +39,39 @@ use Rattle.urlpattern_engine.proofs.ReadAnswers.{first_as_read, read_answer_is, 
 -- ---- the result of a value
 
 -- The result is the first match of a tree of the expression.
-pub record AnswersByTree (ignore_case : Bool) (regexp : List ℕ) (expression : Expression) : Type 0 where
+pub record AnswersByTree (ignore_case : Bool) (regexp : List ℕ) (strategy : Strategy) : Type 0 where
   pub tree : Items
   pub is_tree : IsTreeOf regexp tree
-  pub answers : (text : List ℕ) → expression_answer ignore_case expression text ≡ first_way_by ignore_case tree text
+  pub answers : (text : List ℕ) → expression_answer ignore_case strategy text ≡ first_way_by ignore_case tree text
 
 -- The result is the first match of what the grammar reads in the expression, which is not
 -- generated.
-pub record AnswersAsRead (ignore_case : Bool) (regexp : List ℕ) (expression : Expression) : Type 0 where
+pub record AnswersAsRead (ignore_case : Bool) (regexp : List ℕ) (strategy : Strategy) : Type 0 where
   pub is_custom : ¬ IsGenerated regexp
   pub is_read : IsSome (read (config_for ignore_case) regexp)
-  pub answers : (text : List ℕ) → IsTrue (all_scalars text) → expression_answer ignore_case expression text ≡ read_answer ignore_case regexp text
+  pub answers : (text : List ℕ) → IsTrue (all_scalars text) → expression_answer ignore_case strategy text ≡ read_answer ignore_case regexp text
 
-pub form_of : (ignore_case : Bool) (regexp : List ℕ) (expression : Expression) → IsExpressionOf ignore_case regexp expression
-    → AnswersByTree ignore_case regexp expression ⊎ AnswersAsRead ignore_case regexp expression
-form_of ignore_case regexp (Own own) made = inl (record { tree = made.1.tree; is_tree = made.1.is_tree; answers = made.1.answers ignore_case })
-form_of ignore_case regexp (Generated own) made = inl (record {
+pub form_of : (ignore_case : Bool) (regexp : List ℕ) (strategy : Strategy) → IsExpressionOf ignore_case regexp strategy
+    → AnswersByTree ignore_case regexp strategy ⊎ AnswersAsRead ignore_case regexp strategy
+form_of ignore_case regexp (Steps own) made = inl (record { tree = made.1.tree; is_tree = made.1.is_tree; answers = made.1.answers ignore_case })
+form_of ignore_case regexp (LazySteps own) made = inl (record {
   tree = own.tree.0;
   is_tree = subst (λ t. IsTreeOf t own.tree.0) made own.tree.1;
   answers = λ text. refl;
 })
-form_of ignore_case regexp (Compiled automaton) made =
+form_of ignore_case regexp (Automaton automaton) made =
     let source = string_bytes automaton.value.text in
     inr (record {
       is_custom = made.2;
       is_read = subst (λ t. IsSome (read (config_for ignore_case) t)) made.0 (reads_some (config_for ignore_case) source _ _ made.1.is_read);
       answers = λ text fine. automaton_as_read ignore_case source automaton.value.nfa made.1 text fine ∙ ap (λ t. read_answer ignore_case t text) made.0;
     })
-form_of ignore_case regexp (Other regex) made = inr (record {
+form_of ignore_case regexp (Regex regex) made = inr (record {
   is_custom = made.1;
   is_read = regex_some ignore_case regexp regex.value made.0;
   answers = regex_as_read ignore_case regexp regex.value made.0;
 })
-form_of ignore_case regexp (Custom own) made = inr (record {
+form_of ignore_case regexp (LazyRegex own) made = inr (record {
   is_custom = made.2;
   is_read = made.1;
   answers = λ text fine. ap (λ t. read_answer ignore_case t text) made.0;
@@ -81,40 +81,40 @@ pub text_good : (source : String Global) (regexp : List ℕ) → text_of source 
 text_good source regexp of_text = ap scalars (sym of_text) ∙ scalars-chars (string_bytes source) (IsUtf8-string_bytes source)
 
 -- The expression consists of characters.
-pub expression_good : (ignore_case : Bool) (regexp : List ℕ) (expression : Expression) → IsExpressionOf ignore_case regexp expression → scalars regexp ≡ true
-expression_good ignore_case regexp (Own own) made = text_good own.value.text regexp made.0
-expression_good ignore_case regexp (Generated own) made = text_good own.text regexp made
-expression_good ignore_case regexp (Compiled automaton) made = text_good automaton.value.text regexp made.0
-expression_good ignore_case regexp (Other regex) made = text_good regex.value.pattern.source regexp made.0.of_text
-expression_good ignore_case regexp (Custom own) made = text_good own regexp made.0
+pub expression_good : (ignore_case : Bool) (regexp : List ℕ) (strategy : Strategy) → IsExpressionOf ignore_case regexp strategy → scalars regexp ≡ true
+expression_good ignore_case regexp (Steps own) made = text_good own.value.text regexp made.0
+expression_good ignore_case regexp (LazySteps own) made = text_good own.text regexp made
+expression_good ignore_case regexp (Automaton automaton) made = text_good automaton.value.text regexp made.0
+expression_good ignore_case regexp (Regex regex) made = text_good regex.value.pattern.source regexp made.0.of_text
+expression_good ignore_case regexp (LazyRegex own) made = text_good own regexp made.0
 
-module _ (ignore_case : Bool) (regexp : List ℕ) (expression : Expression) (made : IsExpressionOf ignore_case regexp expression) (text : List ℕ) where
+module _ (ignore_case : Bool) (regexp : List ℕ) (strategy : Strategy) (made : IsExpressionOf ignore_case regexp strategy) (text : List ℕ) where
   -- A value of the regular expression of parts without custom ones returns the first match of its
   -- tree.
-  pub expression_generated : IsGenerated regexp → (tree : Items) → IsTreeOf regexp tree → expression_answer ignore_case expression text ≡ first_way_by ignore_case tree text
-  expression_generated generated tree is = elim (form_of ignore_case regexp expression made) [
+  pub expression_generated : IsGenerated regexp → (tree : Items) → IsTreeOf regexp tree → expression_answer ignore_case strategy text ≡ first_way_by ignore_case tree text
+  expression_generated generated tree is = elim (form_of ignore_case regexp strategy made) [
     | inl own ↦ own.answers text ∙ ap (λ t. first_way_by ignore_case t text) (trees_are_one regexp own.tree tree own.is_tree is)
     | inr read ↦ absurd (read.is_custom generated)
   ]
 
   module _ (kept : ignore_case ≡ false) (fine : IsTrue (all_scalars text)) where
     -- If case is kept, a value returns the first match of what the grammar reads.
-    pub expression_as_read : IsSome (read default_config regexp) → expression_answer ignore_case expression text ≡ read_answer false regexp text
-    expression_as_read some = elim (form_of ignore_case regexp expression made) [
+    pub expression_as_read : IsSome (read default_config regexp) → expression_answer ignore_case strategy text ≡ read_answer false regexp text
+    expression_as_read some = elim (form_of ignore_case regexp strategy made) [
       | inl own ↦
           own.answers text ∙ ap (λ b. first_way_by b own.tree text) kept
-          ∙ first_as_read regexp own.tree own.is_tree (expression_good ignore_case regexp expression made) some text fine
+          ∙ first_as_read regexp own.tree own.is_tree (expression_good ignore_case regexp strategy made) some text fine
       | inr read ↦ read.answers text fine ∙ ap (λ b. read_answer b regexp text) kept
     ]
 
     -- If case is kept, a value returns the first match of a tree of its text.
-    pub expression_first : (tree : Items) → IsTreeOf regexp tree → expression_answer ignore_case expression text ≡ first_way tree text
-    expression_first tree is = elim (form_of ignore_case regexp expression made) [
+    pub expression_first : (tree : Items) → IsTreeOf regexp tree → expression_answer ignore_case strategy text ≡ first_way tree text
+    expression_first tree is = elim (form_of ignore_case regexp strategy made) [
       | inl own ↦
           own.answers text ∙ ap (λ b. first_way_by b own.tree text) kept ∙ ap (λ t. first_way t text) (trees_are_one regexp own.tree tree own.is_tree is)
       | inr custom ↦
           let some = subst (λ (b : Bool). IsSome (read (config_for b) regexp)) kept custom.is_read in
-          expression_as_read some ∙ sym (first_as_read regexp tree is (expression_good ignore_case regexp expression made) some text fine)
+          expression_as_read some ∙ sym (first_as_read regexp tree is (expression_good ignore_case regexp strategy made) some text fine)
     ]
 
 -- ---- values
@@ -122,7 +122,7 @@ module _ (ignore_case : Bool) (regexp : List ℕ) (expression : Expression) (mad
 pub pattern_regexp_first : (regexp flags : List ℕ) (tree : Items) (value : PatternRegexp) (text : List ℕ) → ignores_case flags ≡ false → IsTreeOf regexp tree → IsPatternRegexpOf regexp flags value → IsTrue (all_scalars text)
     → pattern_answer value text ≡ first_way tree text
 unfolding pattern_answer
-pattern_regexp_first regexp flags tree value text keeps is made fine = expression_first value.ignore_case regexp value.expression made.of_text text (made.by_flags ∙ keeps) fine tree is
+pattern_regexp_first regexp flags tree value text keeps is made fine = expression_first value.ignore_case regexp value.strategy made.of_text text (made.by_flags ∙ keeps) fine tree is
 
 -- If case is kept, a value returns the first match of the tree of its text, and follows the text.
 pub answers_first_of : (regexp flags : List ℕ) (value : PatternRegexp) → ignores_case flags ≡ false → IsPatternRegexpOf regexp flags value → AnswersFirst regexp (pattern_answer value)
@@ -134,7 +134,7 @@ values_first regexp flags value keeps made = answers_first_of regexp flags value
 pub values_by_flags : ValuesAnswerByFlags pattern_engine
 unfolding pattern_answer
 values_by_flags options flags parts tree value generated is made = λ text.
-    expression_generated value.ignore_case (regexp_text options parts) value.expression made.of_text text (options, parts, generated, refl) tree is
+    expression_generated value.ignore_case (regexp_text options parts) value.strategy made.of_text text (options, parts, generated, refl) tree is
     ∙ ap (λ b. first_way_by b tree text) made.by_flags
 
 -- If case is kept, a value returns what parts without custom ones mean.
@@ -152,7 +152,7 @@ pub pattern_regexp_same : ValuesAnswerAlike pattern_engine regex_engine KeepsCas
 unfolding pattern_answer
 pattern_regexp_same regexp flags value regex text keeps made also fine =
     let by_case = read_by_default regexp regex also in
-    expression_as_read value.ignore_case regexp value.expression made.of_text text (made.by_flags ∙ keeps) fine (regex_some false regexp regex by_case)
+    expression_as_read value.ignore_case regexp value.strategy made.of_text text (made.by_flags ∙ keeps) fine (regex_some false regexp regex by_case)
     ∙ sym (regex_as_read false regexp regex by_case text fine)
 
 -- ---- what the grammar reads
@@ -165,7 +165,7 @@ pub pattern_values_read : ValuesAnswerAsRead pattern_engine KeepsCase
 unfolding pattern_answer
 pattern_values_read regexp flags value keeps made =
     if_some (read default_config regexp) _ (λ found e text fine.
-    expression_as_read value.ignore_case regexp value.expression made.of_text text (made.by_flags ∙ keeps) fine (ap is_some e)
+    expression_as_read value.ignore_case regexp value.strategy made.of_text text (made.by_flags ∙ keeps) fine (ap is_some e)
     ∙ read_answer_is false regexp found e text)
 
 pub regex_values_read : ValuesAnswerAsRead regex_engine (λ flags. ⊤)

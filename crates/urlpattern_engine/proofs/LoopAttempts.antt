@@ -19,7 +19,7 @@ no_round : (greedy : Bool) (body : Rest → Rest) (k : Rest) (j : ℕ) → trace
 unfolding trace_rounds
 no_round greedy body k j = refl
 
-scalars_after : (before text : List ℕ) → scalars (before ++ text) ≡ true → scalars text ≡ true
+pub scalars_after : (before text : List ℕ) → scalars (before ++ text) ≡ true → scalars text ≡ true
 scalars_after [] text h = h
 scalars_after (c ∷ before) text h = scalars_after before text (and_parts _ _ h).1
 

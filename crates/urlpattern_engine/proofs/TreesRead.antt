@@ -1,5 +1,5 @@
 -- The text of a tree is read as the pattern of the tree, with as many groups.
-use Rattle.std.proofs.Common.{◌≡◌, ℕ, suc, ◌+◌, ◌^◌, replicate, ◌≤◌, max, List, [], ◌∷◌, ◌++◌, map, Some, None, true, false, not, ◌&&◌, ◌==◌, refl, sym, ap, ◌∙◌, arith, codes, chars, encode_utf8, nat_lt, nat_le, lt-ltb, eqb-true, ⊎_elim}
+use Rattle.std.proofs.Common.{◌≡◌, ℕ, suc, ◌+◌, ◌^◌, replicate, ◌≤◌, max, List, [], ◌∷◌, ◌++◌, map, Some, None, true, false, not, ◌&&◌, ◌==◌, refl, sym, ap, ◌∙◌, arith, codes, encode_utf8, nat_lt, nat_le, lt-ltb, eqb-true, ⊎_elim}
 use Rattle.std.proofs.lemmas.Bool.{and_parts, and_right, and_from, cases_Bool}
 use Rattle.std.proofs.lemmas.Bool.Decides.{nat_tests}
 use Rattle.std.proofs.lemmas.List.{map_push}
@@ -12,7 +12,7 @@ use Rattle.regex_hir.specs.Meaning.{cat_all}
 use Rattle.regex_hir.specs.Re.{Re, cat, empty, look, literal, char_in}
 use Rattle.regex_syntax.proofs.SetLemmas.{in_ranges-members}
 use Rattle.regex_syntax.proofs.TreeLaws.{◌then◌, cat_cong, alt_cong, same_refl, same_sym, same_of_eq, cat_all-push, alt-fail, char_in_cong, char_in_single}
-use Rattle.regex_syntax.proofs.Written.{same_group, same_plus, IsReadAs}
+use Rattle.regex_syntax.proofs.Written.{same_group, same_plus}
 use Rattle.regex_syntax.specs.Brackets.{Nested}
 use Rattle.regex_syntax.specs.Grammar.{read}
 use Rattle.regex_syntax.specs.Grammar as grammar
@@ -135,7 +135,3 @@ pub tree_is_read : (tree : Items) → AreItems tree → scalars (items_text tree
 tree_is_read tree h good small =
     read_is tree h small
     ∙ ap (λ names. Some (whole tree, names)) (no_names (whole tree).value (suc (group_count tree)) (max 1 (grammar.group_count (whole tree).value)) ∙ ap (λ n. replicate n None) (whole_count tree good))
-
-pub tree_is_read_as : (tree : Items) → AreItems tree → scalars (items_text tree) ≡ true → suc (group_count tree) ≤ 2 ^ 32 → (bytes : List ℕ)
-    → chars bytes ≡ codes "^" ++ items_text tree ++ codes "$" → IsReadAs default_config bytes (re_of tree)
-tree_is_read_as tree h good small bytes e = rw (e, tree_is_read tree h good small) (same_whole tree good)

@@ -28,19 +28,12 @@ use Rattle.urlpattern_engine.specs.Trials.{Chooses, GoesOn, GoesRound, HasByte, 
 use Rattle.urlpattern_engine.specs.declared.ahead.Span.{Span}
 use Rattle.urlpattern_engine.specs.declared.trial.Trial.{Trial}
 
--- ---- a trace
-
-pub found_first : (a b : Option Trace) (cells : List ℕ) (f : Found) → Some f ≡ found_from_trace 0 cells a → Some f ≡ found_from_trace 0 cells (option_or a b)
-found_first None b cells f e = absurd (none-some f (sym e))
-found_first (Some t) b cells f e = e
+-- ---- of one trace
 
 found_written : (slot i : ℕ) (a : Option Trace) (cells : List ℕ) → found_from_trace 0 (put cells slot i) a ≡ found_from_trace 0 cells (write slot i a)
 unfolding apply
 found_written slot i None cells = refl
 found_written slot i (Some t) cells = refl
-
-pub found_second : (a b : Option Trace) (cells : List ℕ) → None ≡ found_from_trace 0 cells a → found_from_trace 0 cells b ≡ found_from_trace 0 cells (option_or a b)
-found_second a b cells e = ap (λ o. found_from_trace 0 cells (option_or o b)) (sym (none_of_found_from_trace 0 cells a e))
 
 -- ---- a state
 

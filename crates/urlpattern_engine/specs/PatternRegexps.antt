@@ -6,8 +6,8 @@ use Rattle.urlpattern_matcher.specs.Components.{ignores_case}
 use Rattle.urlpattern_matcher.specs.Regexes.{regex_answer, regex_text}
 use Rattle.urlpattern_engine.specs.Automatons.{IsNfaOf, IsRegexReadAs, automaton_answer, config_for, read_answer}
 use Rattle.urlpattern_engine.specs.Refusals.{HasFault}
-use Rattle.urlpattern_engine.specs.declared.pattern_regexp.Expression.{Expression}
-use Rattle.urlpattern_engine.specs.declared.pattern_regexp.Expression.TheVariants.{Own, Generated, Compiled, Other, Custom}
+use Rattle.urlpattern_engine.specs.declared.strategy.Strategy.{Strategy}
+use Rattle.urlpattern_engine.specs.declared.strategy.Strategy.TheVariants.{Steps, LazySteps, Automaton, Regex, LazyRegex}
 use Rattle.urlpattern_engine.specs.declared.pattern_regexp.PatternRegexp.{PatternRegexp}
 use Rattle.urlpattern_meaning.specs.GeneratedTexts.{IsGenerated}
 use Rattle.urlpattern_steps.specs.ReadSteps.{AreStepsOf}
@@ -18,44 +18,44 @@ use Rattle.urlpattern_syntax.specs.declared.parser.RegexSyntax.TheVariants.{Rust
 use Rattle.urlpattern_syntax.specs.Text.{text_of}
 
 -- The text that an expression was made of.
-abbrev pub expression_text : Expression → List ℕ
-expression_text (Own own) = text_of own.value.text
-expression_text (Generated generated) = text_of generated.text
-expression_text (Compiled automaton) = text_of automaton.value.text
-expression_text (Other regex) = regex_text regex.value
-expression_text (Custom text) = text_of text
+abbrev pub expression_text : Strategy → List ℕ
+expression_text (Steps own) = text_of own.value.text
+expression_text (LazySteps generated) = text_of generated.text
+expression_text (Automaton automaton) = text_of automaton.value.text
+expression_text (Regex regex) = regex_text regex.value
+expression_text (LazyRegex text) = text_of text
 
 -- The result of an expression for a text.
-abbrev pub expression_answer : (ignore_case : Bool) → Expression → List ℕ → Option Captures
-expression_answer ignore_case (Own own) text = walk ignore_case own.value.steps.items text
-expression_answer ignore_case (Generated generated) text = first_way_by ignore_case generated.tree.0 text
-expression_answer ignore_case (Compiled automaton) text = automaton_answer automaton.value.nfa text
-expression_answer ignore_case (Other regex) text = regex_answer regex.value text
-expression_answer ignore_case (Custom regexp) text = read_answer ignore_case (text_of regexp) text
+abbrev pub expression_answer : (ignore_case : Bool) → Strategy → List ℕ → Option Captures
+expression_answer ignore_case (Steps own) text = walk ignore_case own.value.steps.items text
+expression_answer ignore_case (LazySteps generated) text = first_way_by ignore_case generated.tree.0 text
+expression_answer ignore_case (Automaton automaton) text = automaton_answer automaton.value.nfa text
+expression_answer ignore_case (Regex regex) text = regex_answer regex.value text
+expression_answer ignore_case (LazyRegex regexp) text = read_answer ignore_case (text_of regexp) text
 
 -- The expression was made of the text: steps of the text; or the text alone, if it is generated
 -- from parts without custom ones; or otherwise an automaton, a `Regex`, or the text alone, in which
 -- the grammar reads a pattern.
-abbrev pub IsExpressionOf : (ignore_case : Bool) → (regexp : List ℕ) → Expression → Type 0
-IsExpressionOf ignore_case regexp (Own own) = (text_of own.value.text ≡ regexp) × AreStepsOf regexp own.value.steps.items
-IsExpressionOf ignore_case regexp (Generated generated) = text_of generated.text ≡ regexp
-IsExpressionOf ignore_case regexp (Compiled automaton) =
+abbrev pub IsExpressionOf : (ignore_case : Bool) → (regexp : List ℕ) → Strategy → Type 0
+IsExpressionOf ignore_case regexp (Steps own) = (text_of own.value.text ≡ regexp) × AreStepsOf regexp own.value.steps.items
+IsExpressionOf ignore_case regexp (LazySteps generated) = text_of generated.text ≡ regexp
+IsExpressionOf ignore_case regexp (Automaton automaton) =
     (text_of automaton.value.text ≡ regexp) × IsNfaOf ignore_case (string_bytes automaton.value.text) automaton.value.nfa × ¬ IsGenerated regexp
-IsExpressionOf ignore_case regexp (Other regex) = IsRegexReadAs ignore_case regexp regex.value × ¬ IsGenerated regexp
-IsExpressionOf ignore_case regexp (Custom text) = (text_of text ≡ regexp) × IsSome (read (config_for ignore_case) regexp) × ¬ IsGenerated regexp
+IsExpressionOf ignore_case regexp (Regex regex) = IsRegexReadAs ignore_case regexp regex.value × ¬ IsGenerated regexp
+IsExpressionOf ignore_case regexp (LazyRegex text) = (text_of text ≡ regexp) × IsSome (read (config_for ignore_case) regexp) × ¬ IsGenerated regexp
 
 -- The text that a value was made of.
 abbrev pub pattern_regexp_text : PatternRegexp → List ℕ
-pattern_regexp_text value = expression_text value.expression
+pattern_regexp_text value = expression_text value.strategy
 
 -- The result of a value for a text.
 unfoldable pub pattern_answer : PatternRegexp → List ℕ → Option Captures
-pattern_answer value text = expression_answer value.ignore_case value.expression text
+pattern_answer value text = expression_answer value.ignore_case value.strategy text
 
 -- The value was made of the text and the flags.
 pub record IsPatternRegexpOf (regexp flags : List ℕ) (value : PatternRegexp) : Type 0 where
   pub by_flags : value.ignore_case ≡ ignores_case flags
-  pub of_text : IsExpressionOf value.ignore_case regexp value.expression
+  pub of_text : IsExpressionOf value.ignore_case regexp value.strategy
 
 -- The ghosts of the engine, which ignores case if the flags have an `i`, and rejects no generated
 -- text, and others only for a fault.

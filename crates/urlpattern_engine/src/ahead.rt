@@ -1,10 +1,9 @@
 //! Lookahead: what the next byte decides about a state.
 
-ghost use Rattle.std.specs.Prelude.{◌≡◌, ◌⊎◌, ◌+◌, ◌<◌, ◌≤◌, ◌↔◌, ℕ, Some, None, length, slice_range, IfSome, IsTrue};
+ghost use Rattle.std.specs.Prelude.{◌≡◌, ◌<◌, ◌≤◌, ◌↔◌, ℕ, Some, None, length, slice_range, IfSome, IsTrue};
 ghost use Rattle.regex_hir.specs.Looks as looks;
 ghost use Rattle.regex_nfa.specs.States.{IsSparseRange, target_in};
-ghost use Rattle.regex_nfa.specs.declared.state.State.TheVariants as states;
-ghost use Rattle.urlpattern_engine.specs.Trials.{GoesRound, HasByte, IsInSpan, IsPlace, IsReadableIn, IsState, NeedsByte, next_in, run_in, state_in};
+ghost use Rattle.urlpattern_engine.specs.Trials.{GoesRound, HasByte, IsInSpan, IsReadableIn, IsState, NeedsByte, next_in, run_in};
 
 use crate::trial::Trial;
 use regex_hir::Look;

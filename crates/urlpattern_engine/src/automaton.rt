@@ -15,7 +15,8 @@ ghost use Rattle.urlpattern_syntax.specs.declared.error.RegExpError.TheVariants.
 ghost use Rattle.urlpattern_syntax.specs.Text.{option_text};
 
 use crate::large::is_large;
-use crate::trial::{FEW, GivenUp, Trial};
+use crate::strategy::AutomatonSearch;
+use crate::trial::{GivenUp, Trial};
 use regex::{Regex, RegexBuilder};
 use regex_compile::compile;
 use regex_extract::is_anchored_start;
@@ -30,10 +31,6 @@ use urlpattern_syntax::error::{OutOfMemory, RegExpError};
 /// The greatest size in bytes of the tables of an automaton, which is also the limit of
 /// `regex::Regex::new`.
 pub(crate) const SIZE_LIMIT: usize = 10 << 20;
-
-/// The length in bytes from which a text is matched by a `regex::Regex` that is made for the one
-/// match, which then takes less time than a search state by state.
-const LONG: usize = 1 << 10;
 
 /// An expression that matches only at the start of a text, as the automaton that `regex` would
 /// compile.
@@ -84,14 +81,11 @@ impl Automaton {
     ) -> Result<Option<Vec<Option<&'t str>>>, OutOfMemory>
         ensures { IfOk result (λ found. captures_view found ≡ automaton_answer self.now.nfa (chars text.now)) }
     {
-        if text.len() >= LONG {
-            return match_once(alloc, &self.text, self.ignore_case, text);
-        }
         let count = self.nfa.slot_count as usize - 2;
-        if count <= FEW {
-            self.matches_few(alloc, text, count)
-        } else {
-            self.matches_each(alloc, text, count)
+        match AutomatonSearch::of(text, count) {
+            AutomatonSearch::Unmarked => self.matches_few(alloc, text, count),
+            AutomatonSearch::Marked => self.matches_each(alloc, text, count),
+            AutomatonSearch::Compiled => match_once(alloc, &self.text, self.ignore_case, text),
         }
     }
 

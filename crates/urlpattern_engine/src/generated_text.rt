@@ -10,8 +10,8 @@ ghost use Rattle.urlpattern_meaning.specs.Ways.{first_way_by};
 ghost use Rattle.urlpattern_syntax.specs.Text.{text_of};
 
 use crate::steps::match_steps;
+use crate::strategy::StepSearch;
 use std::alloc::Global;
-use urlpattern_steps::choices::strategy_of;
 use urlpattern_steps::reading::read_steps;
 use urlpattern_syntax::error::OutOfMemory;
 
@@ -44,6 +44,6 @@ impl GeneratedText {
             captures_view found ≡ first_way_by ignore_case self.now.tree.0 (chars text.now)) }
     {
         let steps = read_steps(alloc, &self.text)?.unwrap();
-        match_steps(alloc, &steps, ignore_case, strategy_of(&steps), text)
+        match_steps(alloc, &steps, ignore_case, StepSearch::of(&steps), text)
     }
 }

@@ -1,6 +1,6 @@
 //! Bounds the size of an expression.
 
-ghost use Rattle.std.specs.Prelude.{◌≡◌, ◌≤◌, true, codes, map, sum};
+ghost use Rattle.std.specs.Prelude.{◌≡◌, ◌≤◌, true, map, sum};
 ghost use Rattle.std.specs.Str.{chars};
 ghost use Rattle.urlpattern_engine.specs.Refusals.{IsLarge, copies_in, number_from, room_of};
 

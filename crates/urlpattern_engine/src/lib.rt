@@ -17,6 +17,7 @@ pub mod laws;
 mod pattern_regexp;
 pub mod regex_laws;
 mod steps;
+mod strategy;
 mod trial;
 
 pub use ecma_regexp::EcmaRegexp;

@@ -1,24 +1,13 @@
 //! The engine `PatternRegexp`.
 
-ghost use Rattle.std.specs.Prelude.{◌≡◌, Err, IfOk, IsSome};
+ghost use Rattle.std.specs.Prelude.{◌≡◌};
 ghost use Rattle.std.specs.Str.{chars};
-ghost use Rattle.regex_syntax.specs.Grammar.{read};
-ghost use Rattle.urlpattern_meaning.specs.GeneratedTexts.{IsGenerated};
 ghost use Rattle.urlpattern_matcher.specs.Components.{ignores_case};
-ghost use Rattle.urlpattern_engine.specs.Automatons.{config_for};
-ghost use Rattle.urlpattern_engine.specs.PatternRegexps.{IsExpressionOf, pattern_engine};
-ghost use Rattle.urlpattern_engine.specs.Refusals.{HasFault};
-ghost use Rattle.urlpattern_syntax.specs.declared.error.RegExpError.TheVariants.{Pattern};
-ghost use Rattle.urlpattern_syntax.specs.Text.{text_of};
+ghost use Rattle.urlpattern_engine.specs.PatternRegexps.{pattern_engine};
 
-use crate::automaton::{Automaton, match_once, read_expression, regex_of};
-use crate::generated_text::GeneratedText;
-use crate::large::is_large;
-use crate::steps::Steps;
-use regex::Regex;
-use std::alloc::{AllocError, Global};
+use crate::strategy::Strategy;
+use std::alloc::Global;
 use urlpattern_matcher::regexp::RegExp;
-use urlpattern_steps::reading::read_steps;
 use urlpattern_syntax::RegexSyntax;
 use urlpattern_syntax::error::{OutOfMemory, RegExpError};
 
@@ -40,7 +29,7 @@ use urlpattern_syntax::error::{OutOfMemory, RegExpError};
 /// }
 /// ```
 pub struct PatternRegexp {
-    expression: Expression,
+    strategy: Strategy,
     /// Whether the case of letters is ignored.
     ignore_case: bool,
 }
@@ -51,26 +40,10 @@ impl Drop for PatternRegexp {
     #[inline(always)]
     fn drop(self) {
         let Self {
-            expression: _expression,
+            strategy: _strategy,
             ignore_case: _,
         } = self;
     }
-}
-
-/// An expression, by what matches it. `Generated` and `Custom` keep only the text, and make the
-/// rest anew for each match.
-#[derive(Drop)]
-enum Expression {
-    /// The steps as which the expression is read.
-    Own(Box<Steps>),
-    /// The text of an expression that is generated from parts without custom ones.
-    Generated(GeneratedText),
-    /// The automaton of an expression that matches only at the start of a text.
-    Compiled(Box<Automaton>),
-    /// The `regex::Regex` of any other expression.
-    Other(Box<Regex>),
-    /// The text of a kept expression, for which a `regex::Regex` is made at each match.
-    Custom(String),
 }
 
 /// Case is ignored if the flags have an `i`; other flags, and `force_eval`, have no effect. An
@@ -102,15 +75,9 @@ impl RegExp for PatternRegexp {
         _force_eval: bool,
     ) -> Result<PatternRegexp, RegExpError> {
         let ignore_case = ignores_case(flags);
-        let expression = match read_steps(alloc, pattern)? {
-            Some(steps) => {
-                let own = Steps::new(String::from_str(alloc, pattern)?, steps);
-                Expression::Own(boxed(alloc, own)?)
-            }
-            None => compiled(alloc, pattern, ignore_case)?,
-        };
+        let strategy = Strategy::to_match(alloc, pattern, ignore_case)?;
         Ok(PatternRegexp {
-            expression,
+            strategy,
             ignore_case,
         })
     }
@@ -123,13 +90,9 @@ impl RegExp for PatternRegexp {
         is_generated: bool,
     ) -> Result<PatternRegexp, RegExpError> {
         let ignore_case = ignores_case(flags);
-        let expression = if is_generated {
-            Expression::Generated(GeneratedText::new(pattern))
-        } else {
-            kept(alloc, pattern, ignore_case)?
-        };
+        let strategy = Strategy::to_keep(alloc, pattern, ignore_case, is_generated)?;
         Ok(PatternRegexp {
-            expression,
+            strategy,
             ignore_case,
         })
     }
@@ -139,23 +102,11 @@ impl RegExp for PatternRegexp {
         alloc: Global,
         text: &'a str,
     ) -> Result<Option<Vec<Option<&'a str>>>, OutOfMemory> {
-        match &self.expression {
-            Expression::Own(own) => own.matches(alloc, self.ignore_case, text),
-            Expression::Generated(generated) => generated.matches(alloc, self.ignore_case, text),
-            Expression::Compiled(automaton) => automaton.matches(alloc, text),
-            Expression::Other(regex) => RegExp::matches(&**regex, alloc, text),
-            Expression::Custom(pattern) => match_once(alloc, pattern, self.ignore_case, text),
-        }
+        self.strategy.matches(alloc, self.ignore_case, text)
     }
 
     fn pattern_string(&self) -> &str {
-        match &self.expression {
-            Expression::Own(own) => own.text.as_str(),
-            Expression::Generated(generated) => generated.text.as_str(),
-            Expression::Compiled(automaton) => automaton.text.as_str(),
-            Expression::Other(regex) => RegExp::pattern_string(&**regex),
-            Expression::Custom(pattern) => pattern.as_str(),
-        }
+        self.strategy.pattern_string()
     }
 
     fn agrees_with_parts() -> bool {
@@ -168,64 +119,4 @@ fn ignores_case(flags: &str) -> bool
     ensures { result ≡ ignores_case (chars flags.now) }
 {
     flags.chars().any(|flag| flag == 'i')
-}
-
-/// Compiles an expression to an automaton, or to a `regex::Regex` if it may match elsewhere than at
-/// the start of a text.
-///
-/// The error says whether `regex` rejects it or memory ran out.
-fn compiled(alloc: Global, pattern: &str, ignore_case: bool) -> Result<Expression, RegExpError>
-    ensures refused { result ≡ Err Pattern → HasFault ignore_case (chars pattern.now) }
-    ensures made { IfOk result (λ made. ¬ IsGenerated (chars pattern.now) → IsExpressionOf ignore_case (chars pattern.now) made) }
-{
-    match Automaton::new(alloc, pattern, ignore_case)? {
-        Some(automaton) => Ok(Expression::Compiled(boxed(alloc, automaton)?)),
-        None => {
-            let regex = regex_of(alloc, pattern, ignore_case)?;
-            Ok(Expression::Other(boxed(alloc, regex)?))
-        }
-    }
-}
-
-/// An expression that is kept and may have custom parts: if the engine accepts it, its text alone,
-/// or its steps if it has some.
-///
-/// The error says whether `regex` rejects it or memory ran out.
-fn kept(alloc: Global, pattern: String, ignore_case: bool) -> Result<Expression, RegExpError>
-    ensures made { IfOk result (IsExpressionOf ignore_case (text_of pattern)) }
-    ensures refused { result ≡ Err Pattern → (¬ IsGenerated (text_of pattern))
-        × HasFault ignore_case (text_of pattern) }
-{
-    if let Some(steps) = read_steps(alloc, &pattern)? {
-        let own = Steps::new(pattern, steps);
-        return Ok(Expression::Own(boxed(alloc, own)?));
-    }
-    check(alloc, &pattern, ignore_case)?;
-    Ok(Expression::Custom(pattern))
-}
-
-/// Reads an expression, and if it is large also compiles it, to see whether the engine accepts it.
-///
-/// The error says whether `regex` rejects it or memory ran out.
-#[tactic(auto, using(crate::proofs::ReadAnswers::reads_some))]
-fn check(alloc: Global, pattern: &str, ignore_case: bool) -> Result<(), RegExpError>
-    ensures accepted { IfOk result (λ nothing.
-        IsSome (read (config_for ignore_case) (chars pattern.now))) }
-    ensures refused { result ≡ Err Pattern → HasFault ignore_case (chars pattern.now) }
-{
-    read_expression(alloc, pattern, ignore_case)?;
-    if is_large(pattern) {
-        compiled(alloc, pattern, ignore_case)?;
-    }
-    Ok(())
-}
-
-/// Moves a value to the heap.
-fn boxed<T: Drop>(alloc: Global, value: T) -> Result<Box<T>, AllocError>
-    ensures { IfOk result (λ boxed. boxed.value ≡ value) }
-{
-    match Box::new(alloc, value) {
-        Ok(boxed) => Ok(boxed),
-        Err(error) => Err(AllocError::from(error)),
-    }
 }

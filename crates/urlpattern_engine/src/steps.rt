@@ -5,8 +5,8 @@ ghost use Rattle.std.specs.Str.{chars};
 ghost use Rattle.urlpattern_meaning.specs.CaptureTexts.{captures_view};
 ghost use Rattle.urlpattern_steps.specs.Walk.{walk};
 
+use crate::strategy::StepSearch;
 use std::alloc::Global;
-use urlpattern_steps::choices::{Strategy, strategy_of};
 use urlpattern_steps::step::Step;
 use urlpattern_steps::walk::walk;
 use urlpattern_steps::walk_by_table;
@@ -17,7 +17,7 @@ use urlpattern_syntax::error::OutOfMemory;
 pub(crate) struct Steps {
     pub(crate) text: String,
     pub(crate) steps: Vec<Step>,
-    pub(crate) strategy: Strategy,
+    pub(crate) search: StepSearch,
 }
 
 impl Steps {
@@ -29,7 +29,7 @@ impl Steps {
     {
         Steps {
             text,
-            strategy: strategy_of(&steps),
+            search: StepSearch::of(&steps),
             steps,
         }
     }
@@ -45,7 +45,7 @@ impl Steps {
         ensures { IfOk result (λ found.
             captures_view found ≡ walk ignore_case self.now.steps.items (chars text.now)) }
     {
-        match_steps(alloc, &self.steps, ignore_case, self.strategy, text)
+        match_steps(alloc, &self.steps, ignore_case, self.search, text)
     }
 }
 
@@ -55,14 +55,16 @@ pub(crate) fn match_steps<'t>(
     alloc: Global,
     steps: &[Step],
     ignore_case: bool,
-    strategy: Strategy,
+    search: StepSearch,
     text: &'t str,
 ) -> Result<Option<Vec<Option<&'t str>>>, OutOfMemory>
     ensures { IfOk result (λ found.
         captures_view found ≡ walk ignore_case steps.now (chars text.now)) }
 {
-    match strategy {
-        Strategy::ByChoices(remembered) => walk(alloc, steps, ignore_case, remembered, text),
-        Strategy::ByTable => walk_by_table(alloc, steps, ignore_case, text),
+    match search {
+        StepSearch::Table => walk_by_table(alloc, steps, ignore_case, text),
+        StepSearch::Backtracking | StepSearch::MemoizedIfLong | StepSearch::Memoized => {
+            walk(alloc, steps, ignore_case, search.is_memoized(text), text)
+        }
     }
 }

@@ -1,10 +1,10 @@
 -- Lemmas on inits.
-use Rattle.std.proofs.Common.{ℕ, Bool, List, refl, inl, inr}
+use Rattle.std.proofs.Common.{ℕ, Bool, List, refl, inr}
 use Rattle.urlpattern.specs.Errors.{MemoryOr, error_view}
 use Rattle.urlpattern.specs.Patterns.{pattern_view}
 use Rattle.urlpattern_ffi.proofs.CallLemmas.{reported}
 use Rattle.urlpattern_ffi.specs.Calls.{c_options, error_status, IsPushed}
-use Rattle.urlpattern_ffi.specs.Inits.{IsInitAdded, IsInitOfJson, IsNoInit}
+use Rattle.urlpattern_ffi.specs.Inits.{IsInitAdded, IsInitOfJson}
 use Rattle.urlpattern_ffi.specs.Kept.{PatternList}
 use Rattle.urlpattern_ffi.specs.declared.status.Status.{Status}
 use Rattle.urlpattern_ffi.specs.declared.status.Status.TheVariants as statuses
@@ -22,13 +22,6 @@ pub init_added : (old : PatternList) (json : List ℕ) (ignores : Bool) (init : 
 init_added old json ignores init pattern new statuses.Done is compiled keeps pushed = (init, pattern, is, compiled, keeps, pushed)
 init_added old json ignores init pattern new statuses.OutOfMemory is compiled keeps pushed = pushed
 init_added old json ignores init pattern new status is compiled keeps pushed = absurd pushed
-
--- If there is no init, the patterns are unchanged.
-pub no_init : (old : PatternList) (json : List ℕ) (ignores : Bool) (status : Status) → IsNoInit json status → IsInitAdded old json ignores old status
-no_init old json ignores statuses.NotUtf8 none = (none, refl)
-no_init old json ignores statuses.Refused none = (inl none, refl)
-no_init old json ignores statuses.OutOfMemory none = refl
-no_init old json ignores status none = absurd none
 
 pub init_refused : (old : PatternList) (json : List ℕ) (ignores : Bool) (init : UrlPatternInit) (error : Error)
     → IsInitOfJson json init → MemoryOr (RefusesInit pattern_engine init (c_options ignores)) error → IsInitAdded old json ignores old (error_status (error_view error))

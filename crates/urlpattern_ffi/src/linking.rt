@@ -1,5 +1,4 @@
-//! Writes URLs of patterns, given texts for the groups.
-ghost use Rattle.std.specs.Prelude.{◌≡◌, length, string_bytes};
+//! Writes URLs of patterns whose groups are given.
 ghost use Rattle.urlpattern_ffi.specs.Kept.{boxed_patterns};
 ghost use Rattle.urlpattern_ffi.specs.Links.{IsLinkReported, IsReasonWritten, IsUrlLinked};
 

@@ -1,5 +1,5 @@
 //! Matches URLs.
-ghost use Rattle.std.specs.Prelude.{◌≡◌, ◌≢◌, string_bytes, IfErr, IfOk};
+ghost use Rattle.std.specs.Prelude.{◌≢◌, string_bytes, IfErr, IfOk};
 ghost use Rattle.urlpattern.specs.Patterns.{pattern_view};
 ghost use Rattle.urlpattern_ffi.specs.Calls.{IsFirstReported, IsTested, IsUrlTested};
 ghost use Rattle.urlpattern_ffi.specs.Kept.{boxed_patterns};

@@ -1,7 +1,6 @@
 //! Texts that are written to memory that C owns.
-ghost use Rattle.std.specs.Prelude.{◌≡◌, length, slice_get};
+ghost use Rattle.std.specs.Prelude.{◌≡◌, length};
 ghost use Rattle.std.specs.Str.{chars};
-ghost use Rattle.urlpattern.specs.Eight.{components};
 ghost use Rattle.urlpattern.specs.Patterns.{pattern_view};
 ghost use Rattle.urlpattern_ffi.specs.Kept.{boxed_patterns};
 ghost use Rattle.urlpattern_ffi.specs.Texts.{group_name_at, IsComponentWritten, IsGroupNameWritten, IsWritten};
@@ -11,6 +10,7 @@ use crate::kept::{Kept, pattern_at};
 use crate::status::Status;
 use urlpattern::regexp::PatternRegexp;
 use urlpattern::{ComponentName, UrlPattern};
+use urlpattern_ffi_links::component_of;
 
 /// Writes a text to the start of a buffer, if it fits, and its length in bytes to `needed`.
 pub(crate) fn write(text: &str, buffer: &mut [u8], needed: &mut usize) -> Status
@@ -77,11 +77,4 @@ fn group_name(kept: &Option<Box<Kept>>, index: usize, component: u32, group: usi
     let name = component_of(component)?;
     let group = pattern.get(name).group_name_list.get(group)?;
     Some(group.as_str())
-}
-
-/// The component with a number, in the order of the standard.
-fn component_of(number: u32) -> Option<ComponentName>
-    ensures { result ≡ slice_get components number }
-{
-    ComponentName::all().get(number as usize).copied()
 }

@@ -66,7 +66,7 @@ fn group_of<'t>(text: &'t [u8], given: &Given) -> Option<GivenGroup<'t>>
 }
 
 /// The component with a number, in the order of the standard.
-fn component_of(number: u32) -> Option<ComponentName>
+pub fn component_of(number: u32) -> Option<ComponentName>
     ensures { result ≡ slice_get components number }
 {
     ComponentName::all().get(number as usize).copied()

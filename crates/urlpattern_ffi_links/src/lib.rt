@@ -4,5 +4,5 @@
 mod given;
 mod linking;
 
-pub use given::Given;
+pub use given::{Given, component_of};
 pub use linking::{Unlinked, link};

@@ -1,10 +1,9 @@
 -- The captures that are requested of the groups of parts, part by part.
-use Rattle.std.proofs.Common.{◌≡◌, ◌⊎◌, ◌∙◌, ℕ, Bool, true, false, List, [], ◌∷◌, ◌++◌, append-nil, append_assoc, ap, inl, inr, refl, sym, subst, Option, Some, None}
+use Rattle.std.proofs.Common.{◌≡◌, ◌∙◌, ℕ, Bool, true, false, List, [], ◌∷◌, ◌++◌, append-nil, append_assoc, ap, refl, sym, subst, Option}
 use Rattle.std.specs.Prelude.{◌&&◌}
 use Rattle.urlpattern_generate.specs.Asked.{capture_by_modifier, capture_not_given, empty_if, is_nameless}
-use Rattle.urlpattern_generate.specs.Links.{OfEachGroup, OfFirst, captures_after, fewest_copies, text_of_group, text_of_part, text_of_parts}
+use Rattle.urlpattern_generate.specs.Links.{OfEachGroup, OfFirst, captures_after, text_of_group, text_of_part, text_of_parts}
 use Rattle.urlpattern_meaning.specs.PartMeaning.{Captures, capture_of_none}
-use Rattle.urlpattern_syntax.specs.declared.parser.PartModifier.{PartModifier}
 use Rattle.urlpattern_syntax.specs.declared.parser.PartModifier.TheVariants as modifiers
 use Rattle.urlpattern_syntax.specs.declared.parser.PartType.{PartType}
 use Rattle.urlpattern_syntax.specs.declared.parser.PartType.TheVariants.{FixedText, FullWildcard, Regexp, SegmentWildcard}
@@ -84,12 +83,6 @@ group_text FullWildcard part capture group = refl
 pub text_alone : (part : PartView) (capture : Option (List ℕ)) → ¬ (part.kind ≡ FixedText) → text_of_parts (part ∷ []) (capture ∷ []) ≡ text_of_group part capture
 text_alone part capture group = append-nil _ ∙ group_text part.kind part capture group
 
-pub fixed_alone : (Is : PartView → Option (List ℕ) → Type 0) (kind : PartType) (part : PartView) → kind ≡ FixedText → OfFirst Is kind part [] × (captures_after kind [] ≡ [])
-fixed_alone Is kind part e = subst (λ k. OfFirst Is k part [] × (captures_after k [] ≡ [])) (sym e) (tt, refl)
-
-pub fixed_text_alone : (part : PartView) → part.kind ≡ FixedText → text_of_parts (part ∷ []) [] ≡ fewest_copies part.modifier part.value
-fixed_text_alone part e = append-nil _ ∙ ap (λ kind. text_of_part kind part []) e
-
 -- ---- groups without a value
 
 pub zero_or_more : (part : PartView) (bare : Bool) → part.modifier ≡ modifiers.ZeroOrMore → bare ≡ (is_empty part.prefix && is_empty part.suffix) → empty_if bare ≡ capture_not_given part
@@ -100,34 +93,6 @@ zero_or_more part bare e f =
     by_bare : (is : Bool) → empty_if is ≡ capture_of_none modifiers.ZeroOrMore is
     by_bare true = refl
     by_bare false = refl
-
-none_or_more : (modifier : PartModifier) (part : PartView) → (modifier ≡ modifiers.None) ⊎ (modifier ≡ modifiers.OneOrMore) → empty_if (is_nameless part.kind part.name) ≡ capture_by_modifier modifier part
-none_or_more modifier part (inl e) = sym (ap (λ m. capture_by_modifier m part) e)
-none_or_more modifier part (inr e) = sym (ap (λ m. capture_by_modifier m part) e)
-
-pub other_modifier : (part : PartView) → (part.modifier ≡ modifiers.None) ⊎ (part.modifier ≡ modifiers.OneOrMore) → empty_if (is_nameless part.kind part.name) ≡ capture_not_given part
-other_modifier part e = none_or_more part.modifier part e
-
--- A capture of a group without a value is empty.
-pub empty_by : (is : Bool) (text : List ℕ) → empty_if is ≡ Some text → text ≡ []
-empty_by true text e = cc
-empty_by false text e = cc
-
-no_copies_empty : (modifier : PartModifier) (bare : Bool) (text : List ℕ) → capture_of_none modifier bare ≡ Some text → text ≡ []
-no_copies_empty modifiers.ZeroOrMore true text e = cc
-no_copies_empty modifiers.ZeroOrMore false text e = cc
-no_copies_empty modifiers.None bare text e = cc
-no_copies_empty modifiers.Optional bare text e = cc
-no_copies_empty modifiers.OneOrMore bare text e = cc
-
-not_given_by : (modifier : PartModifier) (part : PartView) (text : List ℕ) → capture_by_modifier modifier part ≡ Some text → text ≡ []
-not_given_by modifiers.Optional part text e = cc
-not_given_by modifiers.ZeroOrMore part text e = no_copies_empty part.modifier (is_empty part.prefix && is_empty part.suffix) text e
-not_given_by modifiers.None part text e = empty_by (is_nameless part.kind part.name) text e
-not_given_by modifiers.OneOrMore part text e = empty_by (is_nameless part.kind part.name) text e
-
-pub not_given_empty : (part : PartView) (text : List ℕ) → capture_not_given part ≡ Some text → text ≡ []
-not_given_empty part text e = not_given_by part.modifier part text e
 
 -- ---- unnamed wildcards
 

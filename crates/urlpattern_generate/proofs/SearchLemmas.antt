@@ -1,17 +1,17 @@
 -- The search for the copies in a capture: the text is split where the character occurs that no
 -- copy's text has.
 use Rattle.std.proofs.lemmas.Bool.{false≢true}
-use Rattle.std.proofs.lemmas.Bool.Decides.{nat_tests}
-use Rattle.std.proofs.Common.{◌≡◌, ◌↔◌, ℕ, zero, suc, Bool, true, false, List, [], ◌∷◌, ◌++◌, append_assoc, arith, refl, sym, ap, ◌∙◌, subst, IsTrue}
+use Rattle.std.proofs.Common.{◌≡◌, ◌↔◌, ℕ, zero, suc, Bool, true, false, List, [], ◌∷◌, ◌++◌, append_assoc, refl, sym, ap, ◌∙◌, subst, IsTrue}
 use Rattle.std.proofs.lemmas.List.{append_cancel_left, append_cancel_right}
 use Rattle.std.proofs.lemmas.List.Folds.{list_all-append}
 use Rattle.std.specs.Prelude.{◌&&◌, ◌==◌, not}
 use Rattle.std.specs.Str.{chars}
 use Rattle.urlpattern_generate.specs.CopySearch.{AreSomeWith, IsCutAtFirst, IsTextWithout}
 use Rattle.urlpattern_generate.specs.Links.{AreTextsWith}
-use Rattle.urlpattern_meaning.proofs.MatchingLaws.{and_left, and_right}
+use Rattle.urlpattern_meaning.proofs.MatchingLaws.{and_left, and_right, lacks_left, lacks_right}
 use Rattle.urlpattern_meaning.specs.Matching.{MayBeEmpty}
 use Rattle.urlpattern_syntax.specs.Text.{lacks}
+use Rattle.urlpattern_matcher.proofs.MatcherTexts.{eqb-self}
 
 -- ---- texts that lack a character
 
@@ -22,18 +22,9 @@ both false b h k = h
 lacks_both : (c : ℕ) (text more : List ℕ) → IsTrue (lacks c text) → IsTrue (lacks c more) → IsTrue (lacks c (text ++ more))
 lacks_both c text more h k = list_all-append (λ other. not (other == c)) text more ∙ both (lacks c text) (lacks c more) h k
 
-lacks_left : (c : ℕ) (text more : List ℕ) → IsTrue (lacks c (text ++ more)) → IsTrue (lacks c text)
-lacks_left c text more h = and_left (lacks c text) (lacks c more) (sym (list_all-append (λ other. not (other == c)) text more) ∙ h)
-
-lacks_right : (c : ℕ) (text more : List ℕ) → IsTrue (lacks c (text ++ more)) → IsTrue (lacks c more)
-lacks_right c text more h = and_right (lacks c text) (lacks c more) (sym (list_all-append (λ other. not (other == c)) text more) ∙ h)
-
-eqb_self : (c : ℕ) → (c == c) ≡ true
-eqb_self c = grind (arith, nat_tests)
-
 -- A text with this first character does not lack the character.
 stands_first : (c : ℕ) (text : List ℕ) → ¬ IsTrue (lacks c (c ∷ text))
-stands_first c text h = false≢true (sym (ap not (eqb_self c)) ∙ and_left (not (c == c)) (lacks c text) h)
+stands_first c text h = false≢true (sym (ap not (eqb-self c)) ∙ and_left (not (c == c)) (lacks c text) h)
 
 stands_in : (c : ℕ) (front text : List ℕ) → ¬ IsTrue (lacks c (front ++ c ∷ text))
 stands_in c front text h = stands_first c text (lacks_right c front (c ∷ text) h)

@@ -1,8 +1,7 @@
 -- Tests of characters by a set.
-use Rattle.std.proofs.Common.{◌≡◌, ◌∙◌, ◌<◌, ℕ, Bool, true, false, not, ◌&&◌, ◌||◌, ap, refl, sym}
+use Rattle.std.proofs.Common.{◌≡◌, ◌∙◌, ◌<◌, ℕ, Bool, true, false, not, ap, refl, sym}
 use Rattle.std.proofs.lemmas.Bool.{false≢true}
-use Rattle.std.specs.Char.{is_ascii}
-use Rattle.percent_encoding.specs.AsciiSet.{contains, should_percent_encode}
+use Rattle.percent_encoding.specs.AsciiSet.{should_percent_encode}
 use Rattle.percent_encoding.specs.declared.ascii_set.AsciiSet.{AsciiSet}
 use Rattle.url.proofs.InputLemmas.{Passes}
 use Rattle.url.proofs.SetLemmas.{kept_from_passes, outside_pass, passes_from_kept, passing_outside}
@@ -16,12 +15,3 @@ tested_by_set set test outside passing ascii b = by_cases (should_percent_encode
     by_cases false true e f = ap not e ∙ sym f
     by_cases true true e f = absurd (false≢true (sym (kept_from_passes test set passing b (ascii b f) f) ∙ e))
     by_cases false false e f = absurd (false≢true (sym f ∙ passes_from_kept set test outside b e))
-
--- The ASCII characters outside of the set are those that pass a test, by two tests.
-pub ascii_outside : (set : AsciiSet) (test : ℕ → Bool) → outside_pass set test ≡ true → passing_outside test set ≡ true → ((b : ℕ) → Passes test b → b < 128) → (b : ℕ) → (is_ascii b && not (contains set b)) ≡ test b
-unfolding should_percent_encode
-ascii_outside set test outside passing ascii b = both (is_ascii b) (contains set b) ∙ tested_by_set set test outside passing ascii b
-  where
-    both : (a c : Bool) → (a && not c) ≡ not (not a || c)
-    both true c = refl
-    both false c = refl

@@ -22,7 +22,7 @@ use Rattle.url.specs.Scheme.{default_port, scheme_type}
 use Rattle.url.specs.Setters as setters
 use Rattle.url.specs.declared.host.Host.TheVariants.{Domain}
 use Rattle.url.specs.declared.scheme.SchemeType.TheVariants.{SpecialNotFile}
-use Rattle.url.specs.declared.sets.TheConstants.{FRAGMENT, SPECIAL_QUERY, USERINFO}
+use Rattle.url.specs.declared.sets.TheConstants.{FRAGMENT, SPECIAL_QUERY}
 use Rattle.urlpattern_canonical.proofs.CanonicalLemmas.{after-ok, pathname_of-slash}
 use Rattle.urlpattern_canonical.specs.Canonical.{after, canonical, dummy_url, path_of, pathname_of}
 
@@ -72,20 +72,6 @@ dummy = record {
 pub dummy_is : dummy_url ≡ Ok dummy
 unfolding url_on_literals
 dummy_is = refl
-
--- ---- user name and password
-
-pub username_kept : (value : List ℕ) → All (IsKept USERINFO) value → after dummy_url (λ url. setters.set_username url value) (λ url. url.username) ≡ Ok value
-unfolding scheme_type default_port
-username_kept value kept =
-    after-ok dummy_url (λ url. setters.set_username url value) (λ url. url.username) dummy (record dummy { username = percent_encode USERINFO value }) dummy_is refl
-    ∙ ap (λ text. Ok text) (percent_encode_unchanged USERINFO value kept)
-
-pub password_kept : (value : List ℕ) → All (IsKept USERINFO) value → after dummy_url (λ url. setters.set_password url (Some value)) (λ url. url.password) ≡ Ok value
-unfolding scheme_type default_port
-password_kept value kept =
-    after-ok dummy_url (λ url. setters.set_password url (Some value)) (λ url. url.password) dummy (record dummy { password = percent_encode USERINFO value }) dummy_is refl
-    ∙ ap (λ text. Ok text) (percent_encode_unchanged USERINFO value kept)
 
 -- ---- the pathname
 

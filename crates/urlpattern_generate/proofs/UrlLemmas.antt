@@ -72,7 +72,7 @@ texts_had url texts all =
 pub path_at_fault : (url : Parts) (texts : Eight (Bor (List ℕ))) → runs_on (texts_seen texts) ≡ true → ¬ HasText url texts Pathname → IsAtFault url (texts_seen texts) Pathname
 path_at_fault url texts runs other = ([], components, ap compared runs, All-nil (HasText url texts), other)
 
-cut_at : (i : ℕ) → i < length components → components ≡ take i components ++ get_or components i Protocol ∷ drop (i + 1) components
+pub cut_at : (i : ℕ) → i < length components → components ≡ take i components ++ get_or components i Protocol ∷ drop (i + 1) components
 cut_at i within =
     sym (take-append-drop i components) ∙ ap (λ rest. take i components ++ rest) (drop-cons components i Protocol within ∙ ap (λ n. get_or components i Protocol ∷ drop n components) (sym (add-one i)))
 

@@ -1,16 +1,16 @@
 -- The text of parts, part by part.
-use Rattle.std.proofs.Common.{◌≡◌, ◌+◌, ◌∙◌, ◌≤◌, ◌<◌, ℕ, true, List, [], ◌∷◌, ◌++◌, add-one, ap, append-nil, drop, get_or, inr, length, refl, sym, subst, take, take_all, Option, Some, None, Result, Ok, Err, Bool}
+use Rattle.std.proofs.Common.{◌≡◌, ◌+◌, ◌∙◌, ◌<◌, ℕ, true, List, [], ◌∷◌, ◌++◌, add-one, ap, append-nil, drop, get_or, inr, length, refl, sym, subst, take, Option, Some, None, Result, Ok, Err, Bool}
 use Rattle.std.proofs.Math.Seq.{drop-cons}
 use Rattle.std.proofs.lemmas.List.{map-append, take-append-drop, take_more}
 use Rattle.std.specs.Prelude.{◌&&◌, ◌↔◌, IfOk, IfSome, IsTrue}
 use Rattle.std.specs.{Borrow.Bor, Str.chars}
 use Rattle.urlpattern_components.specs.declared.eight.ComponentName.{ComponentName}
-use Rattle.urlpattern_generate.proofs.AskedLemmas.{each_alone, each_joined, fixed_alone, fixed_text_alone, text_alone, texts_joined}
+use Rattle.urlpattern_generate.proofs.AskedLemmas.{each_alone, each_joined, text_alone, texts_joined}
 use Rattle.urlpattern_generate.specs.Asked.{IsAsked, IsAskedBy}
 use Rattle.urlpattern_generate.specs.Manners.{WritingManner}
 use Rattle.urlpattern_generate.specs.Writing.{CannotWrite, IsWritten, RefusesPart}
 use Rattle.urlpattern_generate.specs.declared.error.GenerateError.{GenerateError}
-use Rattle.urlpattern_generate.specs.Links.{IsCopyText, MayCapture, fewest_copies, text_of_group, text_of_parts}
+use Rattle.urlpattern_generate.specs.Links.{IsCopyText, MayCapture, text_of_group, text_of_parts}
 use Rattle.urlpattern_meaning.specs.PartMeaning.{Allows}
 use Rattle.urlpattern_syntax.specs.declared.parser.Part.{Part}
 use Rattle.urlpattern_syntax.specs.declared.parser.PartModifier.TheVariants as modifiers
@@ -30,14 +30,6 @@ written_joined manner parts others text more written also = record {
   are_asked = each_joined (IsAsked manner) parts others written.captures also.captures written.are_asked also.are_asked;
   may_capture = each_joined (MayCapture manner.options) parts others written.captures also.captures written.may_capture also.may_capture;
   is_text = ap (λ own. own ++ more) written.is_text ∙ ap (λ other. text_of_parts parts written.captures ++ other) also.is_text ∙ sym (texts_joined (IsAsked manner) parts others written.captures also.captures written.are_asked);
-}
-
-pub fixed_written : (manner : WritingManner) (part : PartView) → part.kind ≡ FixedText → IsWritten manner (part ∷ []) (fewest_copies part.modifier part.value)
-fixed_written manner part e = record {
-  captures = [];
-  are_asked = fixed_alone (IsAsked manner) part.kind part e;
-  may_capture = fixed_alone (MayCapture manner.options) part.kind part e;
-  is_text = sym (fixed_text_alone part e);
 }
 
 pub group_written : (manner : WritingManner) (part : PartView) (capture : Option (List ℕ)) → ¬ (part.kind ≡ FixedText) → IsAsked manner part capture → MayCapture manner.options part capture →
@@ -67,10 +59,6 @@ pub written_more : (manner : WritingManner) (list : List Part) (i : ℕ) (part :
 written_more manner list i part text more now within is written also e =
     subst (IsWritten manner (parts_view (take (i + 1) list))) (sym e)
     (subst (λ parts. IsWritten manner parts (text ++ more)) (sym (parts_more list i part within is)) (written_joined manner (parts_view (take i list)) (part_view part ∷ []) text more written also))
-
--- The text of all parts.
-pub all_written : (manner : WritingManner) (list : List Part) (i : ℕ) (text : List ℕ) → length list ≤ i → IsWritten manner (parts_view (take i list)) text → IsWritten manner (parts_view list) text
-all_written manner list i text past written = subst (λ parts. IsWritten manner (parts_view parts) text) (take_all i list past) written
 
 -- A part cannot be written, after those before it were.
 pub refused_there : (component : ComponentName) (manner : WritingManner) (list : List Part) (i : ℕ) (part : Part) (text : List ℕ) (error : GenerateError) → i < length list → part ≡ get_or list i part →

@@ -1,5 +1,5 @@
 -- The captures that are requested of the groups of parts.
-use Rattle.std.specs.Prelude.{◌≡◌, ◌&&◌, ℕ, Bool, false, List, [], ◌∷◌, Option, Some, None, Ok, length, if◌then◌else◌}
+use Rattle.std.specs.Prelude.{◌≡◌, ℕ, Bool, false, List, [], Option, Some, None, Ok, length, if◌then◌else◌}
 use Rattle.std.specs.{Char.is_ascii_digit, Str.chars}
 use Rattle.url.specs.Parser.{Parsed}
 use Rattle.urlpattern_canonical.specs.Canonical.{IsRefusedByUrl}
@@ -7,7 +7,7 @@ use Rattle.urlpattern_generate.specs.Manners.{WritingManner}
 use Rattle.urlpattern_generate.specs.Links.{OfEachGroup}
 use Rattle.urlpattern_meaning.specs.PartMeaning.{Captures, capture_of_no_copies}
 use Rattle.urlpattern_syntax.specs.declared.parser.{PartModifier.PartModifier, PartType.PartType}
-use Rattle.urlpattern_syntax.specs.{Parts.PartView, RegexpText.is_empty, Text.begins_with}
+use Rattle.urlpattern_syntax.specs.{Parts.PartView, Text.begins_with}
 
 -- The group is an unnamed wildcard, which is named by a number.
 abbrev pub is_nameless : PartType → (name : List ℕ) → Bool

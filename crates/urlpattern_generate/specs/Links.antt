@@ -49,10 +49,6 @@ OfFirst Is PartType.FixedText part captures = Unit {0}
 OfFirst Is kind part [] = ⊥
 OfFirst Is kind part (capture ∷ captures) = Is part capture
 
--- The part may have the first capture, if the part is a group.
-abbrev pub MayCaptureFirst : OptionsView → PartView → Captures → Type 0
-MayCaptureFirst options part captures = OfFirst (MayCapture options) part.kind part captures
-
 -- `Is` holds of each group of the parts and its capture, and there are no other captures.
 abbrev pub OfEachGroup : (Is : PartView → Option (List ℕ) → Type 0) → List PartView → Captures → Type 0
 OfEachGroup Is [] captures = captures ≡ []
@@ -80,10 +76,6 @@ abbrev pub text_of_part : PartType → PartView → Captures → List ℕ
 text_of_part PartType.FixedText part captures = fewest_copies part.modifier part.value
 text_of_part kind part [] = []
 text_of_part kind part (capture ∷ captures) = text_of_group part capture
-
--- The text of a part, with the first capture if it is a group.
-abbrev pub text_of_first : PartView → Captures → List ℕ
-text_of_first part captures = text_of_part part.kind part captures
 
 -- The text of parts whose groups have these captures.
 abbrev pub text_of_parts : List PartView → Captures → List ℕ

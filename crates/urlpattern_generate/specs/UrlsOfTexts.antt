@@ -1,5 +1,5 @@
 -- The URL with eight given texts, and why there is none.
-use Rattle.std.specs.Prelude.{◌≡◌, ◌≢◌, ◌==◌, ◌&&◌, ◌++◌, All, ℕ, Bool, true, false, not, List, ◌∷◌, encode_utf8_all, length, None, Ok, String}
+use Rattle.std.specs.Prelude.{◌≡◌, ◌≢◌, ◌==◌, ◌&&◌, ◌++◌, All, ℕ, Bool, true, false, not, List, ◌∷◌, encode_utf8_all, length, None, Ok}
 use Rattle.std.specs.{Borrow.Bor, Cow.cow_str_bytes, Str.IsUtf8, Str.chars}
 use Rattle.std.specs.declared.borrow.CowStr.{CowStr}
 use Rattle.std.specs.declared.alloc.Global.{Global}
@@ -15,14 +15,10 @@ use Rattle.urlpattern_components.specs.Eight.{Texts, at, components, each}
 use Rattle.urlpattern_syntax.specs.Errors.{ErrorView as views}
 use Rattle.urlpattern_generate.specs.Writing.{cow_text}
 use Rattle.urlpattern_syntax.specs.RegexpText.{is_empty}
-use Rattle.urlpattern_syntax.specs.Text.{begins_with, text_of}
+use Rattle.urlpattern_syntax.specs.Text.{begins_with}
 use Rattle.urlpattern_generate.specs.UrlLines.{url_line}
 use Rattle.urlpattern_generate.specs.declared.no_link.NoLink.{NoLink}
 use Rattle.urlpattern_generate.specs.declared.no_link.NoLink.TheVariants.{OtherText, OutOfMemory, Url}
-
--- The characters of the texts.
-abbrev pub string_texts : Eight (String Global) → Texts
-string_texts texts = each (λ name. text_of (at texts name))
 
 -- The characters of texts that are borrowed or owned.
 abbrev pub cow_texts : Eight (CowStr Global) → Texts

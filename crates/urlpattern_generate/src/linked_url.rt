@@ -11,6 +11,7 @@ ghost use Rattle.urlpattern_syntax.specs.RegexpText.{is_empty};
 ghost use Rattle.urlpattern_syntax.specs.Text.{begins_with};
 ghost use Rattle.urlpattern_generate.specs.UrlsOfTexts.{AreSeenAs, IsAtFault, IsReadOfTexts, IsSeenAs, RefusesLine, RefusesTexts, cow_texts, runs_on, texts_seen};
 
+use crate::groups::is_same_text;
 use crate::no_link::NoLink;
 use crate::url_line::url_line;
 use std::alloc::Global;
@@ -120,12 +121,4 @@ fn has_text(url: &Url, texts: &Eight<&str>, name: ComponentName) -> bool
     ensures { IsTrue result ↔ (url_text name url.now ≡ at (texts_seen texts.now) name) }
 {
     is_same_text(url_text(url, name), texts.get(name))
-}
-
-/// Whether two texts are equal.
-#[inline(always)]
-fn is_same_text(text: &str, other: &str) -> bool
-    ensures { IsTrue result ↔ (chars text.now ≡ chars other.now) }
-{
-    text == other
 }

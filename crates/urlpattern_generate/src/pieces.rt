@@ -5,9 +5,10 @@ ghost use Rattle.std.specs.Str.{chars};
 ghost use Rattle.urlpattern_generate.specs.CopySearch.{Allowed, AreSomeWith, IsCutAtFirst};
 ghost use Rattle.urlpattern_generate.specs.Links.{CopiesMayCapture, IsOfCopies, IsOfNoCopies, MayCapture};
 ghost use Rattle.urlpattern_meaning.specs.Matching.{MayBeEmpty};
-ghost use Rattle.urlpattern_syntax.specs.{Options.options_view, Parts.part_view, RegexpText.is_empty, Text.lacks, Text.text_of};
+ghost use Rattle.urlpattern_syntax.specs.{Options.options_view, Parts.part_view, RegexpText.is_empty, Text.lacks};
 
 use std::alloc::{AllocError, Global};
+use urlpattern_printing::is_bare;
 use urlpattern_syntax::parser::{Options, Part, PartModifier, PartType};
 
 /// Whether a group may be omitted, and then captures nothing.
@@ -41,13 +42,6 @@ fn is_of_no_copies(part: &Part, text: &str) -> bool
         PartModifier::ZeroOrMore => is_bare(part) && text.is_empty(),
         PartModifier::None | PartModifier::Optional | PartModifier::OneOrMore => false,
     }
-}
-
-/// Whether a part has neither prefix nor suffix.
-pub fn is_bare(part: &Part) -> bool
-    ensures { result ≡ (is_empty (text_of part.now.prefix) && is_empty (text_of part.now.suffix)) }
-{
-    part.prefix.is_empty() && part.suffix.is_empty()
 }
 
 /// Whether one or more copies of a group may capture a text.

@@ -1,6 +1,6 @@
 //! Writes the text of a component.
 
-ghost use Rattle.std.specs.Prelude.{◌≡◌, ◌==◌, codes, slice_index, IfOk, IsTrue, Ok, length};
+ghost use Rattle.std.specs.Prelude.{◌≡◌, IfOk, IsTrue, Ok, length};
 ghost use Rattle.std.specs.Str.{chars};
 ghost use Rattle.urlpattern_canonical.specs.Canonical.{IsAnswer};
 ghost use Rattle.urlpattern_generate.specs.Generating.{TellsCanonical};
@@ -8,11 +8,12 @@ ghost use Rattle.urlpattern_generate.specs.Manners.{begins_ipv6, is_ipv6_host, i
 ghost use Rattle.urlpattern_generate.specs.Writing.{manner_of_writer};
 ghost use Rattle.urlpattern_syntax.specs.ComponentParts.{kept_parts};
 ghost use Rattle.urlpattern_syntax.specs.Parts.{parts_view};
-ghost use Rattle.urlpattern_syntax.specs.Text.{begins_with, lacks, line_feed};
+ghost use Rattle.urlpattern_syntax.specs.Text.{lacks, line_feed};
 
 use crate::groups::{GivenGroup, is_same_text};
 use crate::kept::keeps;
 use std::alloc::{AllocError, Global};
+use urlpattern_canonical::begins_with_bracket;
 use urlpattern_canonical::canonicalize_and_process::{Canonicalizer, canonicalize_ipv6_hostname};
 use urlpattern_components::ComponentName;
 use urlpattern_syntax::Error;
@@ -120,11 +121,4 @@ fn begins_ipv6(parts: &[Part]) -> bool
         Some(part) => begins_with_bracket(&part.prefix),
         None => false,
     }
-}
-
-/// Whether a text begins with `[`.
-fn begins_with_bracket(text: &str) -> bool
-    ensures { result ≡ begins_with (λ c. c == slice_index (codes "[") 0) (chars text.now) }
-{
-    matches!(text.as_bytes(), [b'[', ..])
 }

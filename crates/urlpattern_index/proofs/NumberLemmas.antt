@@ -196,10 +196,6 @@ module _ (form : FormView) (hashes : Hashes) (fits : Fits form hashes) (from key
       (λ n h. (h.0, subst (λ i. Contains (numbers_of key 0 keys) i) (zero-add n) (numbers-found key 0 keys n (listed-found n h.2))))
       least (subst (λ l. IsFirstFrom from l least) is first)
 
-  -- No number is listed under the key.
-  pub none_by : numbers_of key 0 keys ≡ [] → IsLeast IsFound None
-  none_by none = least_by [] None (sym none) (λ n h. (let lt : h.1.0 < 0 = h.1.1 in omega arith))
-
 -- The least number that the forms or a further form finds.
 pub least_by_forms : (forms : List FormView) (form : FormView) (keys : List ℕ) (hashes : Hashes) (from : ℕ) (a b : Option ℕ)
     → IsLeast (λ number. (from ≤ number) × FindsBy forms keys hashes number) a

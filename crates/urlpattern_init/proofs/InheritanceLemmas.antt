@@ -24,15 +24,13 @@ use Rattle.urlpattern_canonical.specs.declared.canonicalize_and_process.ProcessT
 use Rattle.urlpattern_canonical.specs.declared.canonicalize_and_process.ProcessType.TheVariants.{Pattern, Url}
 use Rattle.urlpattern_syntax.specs.declared.error.Error.TheVariants as errors
 use Rattle.urlpattern_syntax.specs.Errors.{ErrorView, error_view, ErrorView as views, MemoryOr}
+use Rattle.urlpattern_canonical.proofs.SchemeLemmas.{or_false}
 
 -- ---- the path up to its last slash
 
 none-up_to : (path : List ℕ) → list_any is_slash path ≡ false → up_to_last_slash path ≡ []
 none-up_to [] none = refl
 none-up_to (c ∷ path) none = ap (λ test. if test then c ∷ up_to_last_slash path else []) none
-
-or_false : (a b : Bool) → a ≡ false → b ≡ false → (a || b) ≡ false
-or_false a b e f = ap (λ x. x || b) e ∙ f
 
 or_true : (a b : Bool) → b ≡ true → (a || b) ≡ true
 or_true true b e = refl

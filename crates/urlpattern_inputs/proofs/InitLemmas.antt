@@ -1,33 +1,16 @@
 -- Lemmas on reading inits and inputs.
-use Rattle.std.proofs.Common.{◌≡◌, ℕ, true, is_some, codes, List, Option, None, Some, refl, option_map}
+use Rattle.std.proofs.Common.{◌≡◌, true, is_some, codes, Option, None, Some, refl}
 use Rattle.std.proofs.lemmas.Bool.{false≢true}
-use Rattle.serde_json.specs.Data.{Data, null, boolean, number, string, array, object, Members}
+use Rattle.serde_json.specs.Data.{Data, Members}
 use Rattle.serde_json.specs.Find.{as_object, as_str}
-use Rattle.urlpattern_inputs.specs.InputJson.{init_read, input_read}
-use Rattle.urlpattern_inputs.specs.InputValues.{InitView, of_init, of_text}
+use Rattle.urlpattern_inputs.specs.InputJson.{init_read}
+use Rattle.urlpattern_inputs.specs.InputValues.{InitView}
 use Rattle.urlpattern_inputs.specs.ReadResults.{IsUnread}
 use Rattle.urlpattern_inputs.specs.Trees.{optional_read, read_each}
 use Rattle.urlpattern_inputs.specs.declared.reading.Unread.{Unread}
 use Rattle.urlpattern_inputs.specs.declared.reading.Unread.TheVariants.{OutOfMemory, Shape}
 use Rattle.urlpattern_inputs.proofs.EachLemmas.{nothing}
 use Rattle.urlpattern_components.specs.Eight.{name_text}
-
--- A tree that is no string is read as an init or not at all.
-pub input_read-init : (tree : Data) → as_str tree ≡ None → input_read tree ≡ option_map of_init (init_read tree)
-input_read-init null e = refl
-input_read-init (boolean b) e = refl
-input_read-init (number n) e = refl
-input_read-init (string s) e = absurd cc
-input_read-init (array ds) e = refl
-input_read-init (object ms) e = refl
-
-pub input_read-text : (tree : Data) (bytes : List ℕ) → as_str tree ≡ Some bytes → input_read tree ≡ Some (of_text bytes)
-input_read-text null bytes e = absurd cc
-input_read-text (boolean b) bytes e = absurd cc
-input_read-text (number n) bytes e = absurd cc
-input_read-text (string s) bytes e = cc
-input_read-text (array ds) bytes e = absurd cc
-input_read-text (object ms) bytes e = absurd cc
 
 -- ---- inits
 

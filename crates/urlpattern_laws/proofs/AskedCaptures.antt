@@ -1,6 +1,6 @@
 -- The captures that groups are to have are unique. Captures of a match that are given for the
 -- groups are the captures to have.
-use Rattle.std.proofs.Common.{◌≡◌, ℕ, Bool, true, false, List, [], ◌∷◌, ap, arith, inl, inr, refl, sym, subst, ◌∙◌, Option, Some, None, map}
+use Rattle.std.proofs.Common.{◌≡◌, ℕ, List, [], ◌∷◌, ap, arith, inl, inr, refl, sym, subst, ◌∙◌, Option, Some, None, map}
 use Rattle.std.proofs.lemmas.List.Elements.{All-head, All-tail}
 use Rattle.std.specs.Prelude.{filter, not, if◌then◌else◌}
 use Rattle.url.specs.Parser.{Parsed}
@@ -16,6 +16,7 @@ use Rattle.urlpattern_syntax.specs.declared.parser.PartType.TheVariants.{FixedTe
 use Rattle.urlpattern_syntax.specs.Options.{OptionsView}
 use Rattle.urlpattern_syntax.specs.Parts.{PartView}
 use Rattle.urlpattern_syntax.specs.RegexpText.{group_names, is_fixed_text}
+use Rattle.urlpattern_pattern.proofs.GivenCaptures.{names_first}
 
 -- ---- captures are unique
 
@@ -98,11 +99,6 @@ first_again manner options FullWildcard part names (capture ∷ captures) e may 
   given = tail_of (manner.given part.name) capture (map manner.given names) captures e;
   canonical = All-tail (IsCanonicalCapture manner.canonical) capture captures are;
 }
-
--- The names of a part, if it is a group, and of the parts after it.
-names_first : (group : Bool) (part : PartView) (parts : List PartView) → map (λ (p : PartView). p.name) (if group then part ∷ parts else parts) ≡ (if group then part.name ∷ map (λ (p : PartView). p.name) parts else map (λ (p : PartView). p.name) parts)
-names_first true part parts = refl
-names_first false part parts = refl
 
 -- Captures that groups may have are those that they are to have, if they are given for the groups.
 pub given_again : (manner : WritingManner) (options : OptionsView) (parts : List PartView) (found : Captures) → map manner.given (group_names parts) ≡ found →

@@ -117,15 +117,6 @@ module _ (tail : Text) where
       let same : other ≡ (found.0, closed tail found.1) = ap₂ (λ a t. (a, t)) h.holds.0 h.holds.1.0 in
       rw same (k found.0 found.1 h.holds.1.1)
 
-  -- Steps in sequence, where the result of the first is known.
-  pub alike_found : {A B : Type 0} (o q : Option (A × Text)) (f g : A × Text → Option (B × Text)) → ReadAlike o q
-      → ((a : A) (t : Text) → o ≡ Some (a, t) → Calm t → ReadAlike (f (a, t)) (g (a, closed tail t))) → ReadAlike (o >>= f) (q >>= g)
-  alike_found None q f g h k = alike_none _
-  alike_found (Some found) None f g h k = alike_missing _
-  alike_found (Some found) (Some other) f g h k =
-      let same : other ≡ (found.0, closed tail found.1) = ap₂ (λ a t. (a, t)) h.holds.0 h.holds.1.0 in
-      rw same (k found.0 found.1 refl h.holds.1.1)
-
   -- A value that consumes no text.
   pub alike_value : {A B : Type 0} (o : Option A) (f g : A → Option (B × Text)) → ((a : A) → ReadAlike (f a) (g a)) → ReadAlike (o >>= f) (o >>= g)
   alike_value None f g h = alike_none _

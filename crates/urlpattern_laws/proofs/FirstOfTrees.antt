@@ -3,14 +3,14 @@ use Rattle.std.proofs.Common.{◌≡◌, ◌≢◌, ℕ, suc, List, [], ◌∷�
 use Rattle.std.proofs.Math.Path.{fun_ext}
 use Rattle.std.proofs.lemmas.List.Elements.{All-head, All-tail}
 use Rattle.std.specs.Prelude.{All}
-use Rattle.urlpattern_laws.proofs.PeeledWays.{continued_idle, continued_twice, exactly_put}
+use Rattle.urlpattern_laws.proofs.PeeledWays.{continued_idle, exactly_put}
 use Rattle.urlpattern_laws.specs.LawsOfWays.{FirstWaysAreOfTrees}
 use Rattle.urlpattern_laws.specs.PartWays.{affixed_ways, bare_ways, between_ways, captured_whole, copies_ways, exactly, fixed_ways, followed_by, part_ways_by, parts_first_way, parts_ways, piece_ways, several_ways}
 use Rattle.urlpattern_meaning.proofs.DialectUnique.{trees_are_one}
 use Rattle.urlpattern_meaning.proofs.OneMeaning.{is_tree_of}
 use Rattle.urlpattern_meaning.proofs.PartTrees.{IsNotCustom, alone, between, character, copies, fixed_tree, further, group_atom, group_quantifier, part_tree_by, put, segment_atom, tree_of, wildcard_items}
 use Rattle.urlpattern_meaning.proofs.TreeMeaning.{character_same}
-use Rattle.urlpattern_meaning.proofs.WaysJoined.{both_put, both_ways, first_of}
+use Rattle.urlpattern_meaning.proofs.WaysJoined.{both_put, both_ways, continued-twice, first_of}
 use Rattle.urlpattern_meaning.specs.Dialect.{Quantifier, Once, Optional, ZeroOrMore, OneOrMore, LazyOneOrMore, Items, Nothing, Item, Atom, AnyBut, Captured, Dot, Grouped, atom_group_count, group_count}
 use Rattle.urlpattern_meaning.specs.Ways.{Choice, atom_ways, first_way_by, one_that, quantified_ways, ways}
 use Rattle.urlpattern_syntax.specs.Options.{OptionsView}
@@ -25,7 +25,7 @@ use Rattle.urlpattern_syntax.specs.declared.parser.PartType.TheVariants.{FixedTe
 -- ---- items
 
 followed_assoc : (first next last : Choice) → followed_by first (followed_by next last) ≡ followed_by (followed_by first next) last
-followed_assoc first next last = fun_ext (λ text. continued_twice next last (first text))
+followed_assoc first next last = fun_ext (λ text. continued-twice next last (first text))
 
 alone_ways : (atom : Atom) (quantifier : Quantifier) → ways (alone atom quantifier) ≡ quantified_ways quantifier (atom_group_count atom) (atom_ways atom)
 alone_ways atom quantifier = fun_ext (λ text. continued_idle (quantified_ways quantifier (atom_group_count atom) (atom_ways atom) text))

@@ -6,13 +6,14 @@ use Rattle.std.proofs.lemmas.Bool.Decides.{nat_tests}
 use Rattle.std.proofs.lemmas.List.{drop-map, drop_at, map-append, take-map, take_at}
 use Rattle.std.proofs.lemmas.Str.Ascii.{lowercase_is}
 use Rattle.std.specs.Char.{to_ascii_lowercase}
-use Rattle.std.specs.Prelude.{◌==◌, not, Option, Some, None, Result, Ok, Err, IsTrue, option_map, option_to_list}
+use Rattle.std.specs.Prelude.{◌==◌, not, Option, Some, None, Result, Ok, Err, IsTrue, option_map}
 use Rattle.std.specs.Str.{all_scalars}
-use Rattle.urlpattern_meaning.specs.Matching.{Accepts, Answers, ArePeeled, BeginsPlain, EndsPlain, InnerView, IsMadeBetween, IsMadeByEngine, IsMadeOf, IsMadeOfOne, IsRemoved, IsSame, Literal, MatcherView, Matches, MayBeEmpty, PassesFilter, RegExp, SingleCapture, end_text, folded, folded_captures, folded_character, single_capture_matcher}
+use Rattle.urlpattern_meaning.specs.Matching.{Accepts, Answers, ArePeeled, InnerView, IsMadeBetween, IsMadeByEngine, IsMadeOf, IsMadeOfOne, IsSame, Literal, MatcherView, Matches, MayBeEmpty, PassesFilter, RegExp, SingleCapture, end_text, folded, folded_captures, folded_character, single_capture_matcher}
 use Rattle.urlpattern_meaning.specs.PartMeaning.{Captures}
 use Rattle.urlpattern_meaning.specs.Ways.{first_way_by}
 use Rattle.urlpattern_meaning.proofs.PartTrees.{tree_of}
 use Rattle.urlpattern_pattern.proofs.MatchersDecide.{cut_in_three}
+use Rattle.urlpattern_laws.proofs.ChangedParts.{peeled_changed}
 use Rattle.urlpattern_laws.specs.Folded.{HoldsNoEngine, folded_options, folded_part, folded_parts}
 use Rattle.urlpattern_syntax.specs.declared.parser.PartModifier.{PartModifier}
 use Rattle.urlpattern_syntax.specs.declared.parser.PartModifier.TheVariants as modifiers
@@ -67,38 +68,13 @@ lower_scalars (c ∷ text) is =
 
 -- ---- parts without their plain ends
 
-list_folded : (part : Option PartView) → folded_parts (option_to_list part) ≡ option_to_list (option_map folded_part part)
-list_folded (Some part) = refl
-list_folded None = refl
-
 pub end_folded : (part : Option PartView) → folded true (end_text part) ≡ end_text (option_map folded_part part)
 end_folded (Some part) = refl
 end_folded None = refl
 
-begins_folded : (parts : List PartView) → BeginsPlain (folded_parts parts) → BeginsPlain parts
-begins_folded [] plain = plain
-begins_folded (part ∷ parts) plain = plain
-
-ends_folded : (parts : List PartView) → EndsPlain (folded_parts parts) → EndsPlain parts
-ends_folded [] plain = plain
-ends_folded (part ∷ []) plain = plain
-ends_folded (part ∷ next ∷ parts) plain = ends_folded (next ∷ parts) plain
-
-removed_folded : (part : Option PartView) (There Folded : Type 0) → (Folded → There) → IsRemoved part There → IsRemoved (option_map folded_part part) Folded
-removed_folded (Some part) There Folded back removed = removed
-removed_folded None There Folded back removed = λ there. removed (back there)
-
 pub peeled_folded : (parts : List PartView) (front : Option PartView) (middle : List PartView) (back : Option PartView) → ArePeeled parts front middle back →
     ArePeeled (folded_parts parts) (option_map folded_part front) (folded_parts middle) (option_map folded_part back)
-peeled_folded parts front middle back peeled = record {
-  cut =
-      ap folded_parts peeled.cut ∙ map-append folded_part (option_to_list front ++ middle) (option_to_list back)
-      ∙ ap (λ (ps : List PartView). ps ++ folded_parts (option_to_list back)) (map-append folded_part (option_to_list front) middle)
-      ∙ ap (λ (ps : List PartView). ps ++ folded_parts middle ++ folded_parts (option_to_list back)) (list_folded front)
-      ∙ ap (λ (ps : List PartView). option_to_list (option_map folded_part front) ++ folded_parts middle ++ ps) (list_folded back);
-  front_removed = removed_folded front (BeginsPlain parts) (BeginsPlain (folded_parts parts)) (begins_folded parts) peeled.front_removed;
-  back_removed = removed_folded back (EndsPlain middle) (EndsPlain (folded_parts middle)) (ends_folded middle) peeled.back_removed;
-}
+peeled_folded parts front middle back peeled = peeled_changed folded_part (λ part. refl) parts front middle back peeled
 
 -- ---- the folded matcher
 

@@ -2,7 +2,7 @@
 use Rattle.std.proofs.Common.{◌≡◌, ℕ, Bool, true, false, List, [], ◌∷◌, ◌&&◌, Option, Some, None, refl, sym, ap, ap₂, ◌∙◌, subst}
 use Rattle.std.specs.Prelude.{option_map}
 use Rattle.urlpattern_meaning.proofs.FoldedTrees.{IsAtomFolding, IsFoldedCharacter, IsFolding}
-use Rattle.urlpattern_meaning.proofs.PartTrees.{affixed_core, alone, bare_core, between, character, copies, fixed_tree, further, group_atom, group_quantifier, part_tree_by, put, quantifier_of, segment_atom, tree_of, wildcard_items}
+use Rattle.urlpattern_meaning.proofs.PartTrees.{affixed_core, alone, bare_core, character, copies, fixed_tree, further, group_atom, group_quantifier, part_tree_by, put, segment_atom, tree_of, wildcard_items}
 use Rattle.urlpattern_meaning.proofs.TreeMeaning.{character_same}
 use Rattle.urlpattern_meaning.specs.Dialect.{Items, Nothing, Grouped}
 use Rattle.urlpattern_meaning.specs.Matching.{folded, folded_character}

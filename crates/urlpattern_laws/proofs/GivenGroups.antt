@@ -1,6 +1,5 @@
 -- The texts given for groups, by their names and captures.
 use Rattle.std.proofs.Common.{◌≡◌, ◌∙◌, ℕ, Bool, true, false, List, [], ◌∷◌, ◌++◌, ◌⊎◌, ap, cond, inl, inr, length, map, refl, reverse, subst, sym, zip, Option, Some, None, bytes_eq, arith}
-use Rattle.std.proofs.Math.Path.{fun_ext}
 use Rattle.std.proofs.lemmas.Bool.{cases_Bool, false≢true}
 use Rattle.std.proofs.lemmas.List.{map-append, reverse-append}
 use Rattle.std.proofs.lemmas.List.Elements.{filter_map-append}
@@ -8,14 +7,14 @@ use Rattle.std.proofs.lemmas.Slice.Eq.{bytes_eq-Decides}
 use Rattle.std.specs.List.{AllByRecursion, IsDistinct, flat_map, list_any}
 use Rattle.std.specs.Map.{keys_of, lookup}
 use Rattle.std.specs.Option.{option_flatten, option_or}
-use Rattle.std.specs.Prelude.{◌&&◌, ◌||◌, option_map}
+use Rattle.std.specs.Prelude.{◌&&◌, ◌||◌}
 use Rattle.urlpattern_components.proofs.EightLemmas.{by_name}
 use Rattle.urlpattern_components.specs.declared.eight.ComponentName.{ComponentName}
 use Rattle.urlpattern_components.specs.declared.eight.ComponentName.TheVariants.{Protocol, Username, Password, Hostname, Port, Pathname, Search, Hash}
 use Rattle.urlpattern_components.specs.Eight.{components, name_text}
 use Rattle.urlpattern_generate.specs.Manners.{GivenView, given_groups, given_view, text_given}
 use Rattle.urlpattern_laws.specs.MatchLinks.{Lent}
-use Rattle.urlpattern_matches.proofs.GroupLemmas.{lookup-append}
+use Rattle.urlpattern_matches.proofs.GroupLemmas.{cond-or, lookup-append}
 use Rattle.urlpattern_matches.specs.BorrowedMatches.{GroupText, lent_group, named_groups, text_captured, texts_captured}
 
 abbrev pub Groups : Type 0
@@ -54,10 +53,6 @@ first_text (group ∷ groups) name = or_later group.1 (bytes_eq group.0 name) (f
 or-none : {X : Type 0} (found : Option X) → option_or found None ≡ found
 or-none None = refl
 or-none (Some x) = refl
-
-cond-or : {X : Type 0} (b : Bool) (x : X) (y z : Option X) → cond b (Some x) (option_or y z) ≡ option_or (cond b (Some x) y) z
-cond-or true x y z = refl
-cond-or false x y z = refl
 
 module _ (component : ComponentName) (name : List ℕ) where
   abbrev given : List GivenView → Option (List ℕ)
@@ -216,11 +211,6 @@ captured_again (name ∷ names) (capture ∷ captures) many distinct =
     ap (λ (later : List (Option (List ℕ))). option_flatten (cond (bytes_eq name name) (Some capture) (lookup (bytes_eq name) (zip names captures))) ∷ later)
     (skip_first name capture (zip names captures) names distinct.0 ∙ captured_again names captures fewer distinct.1)
     ∙ ap (λ (here : Bool). option_flatten (cond here (Some capture) (lookup (bytes_eq name) (zip names captures))) ∷ captures) (bytes_same name)
-
-pub keys_of_zip : (names : List (List ℕ)) (captures : List (Option (List ℕ))) → length captures ≡ length names → keys_of (zip names captures) ≡ names
-keys_of_zip [] captures many = refl
-keys_of_zip (name ∷ names) [] many = absurd (omega (arith, many))
-keys_of_zip (name ∷ names) (capture ∷ captures) many = ap (λ (later : List (List ℕ)). name ∷ later) (keys_of_zip names captures (omega (arith, many)))
 
 -- Names with captures are distinct if the names are.
 pub zip_distinct : (names : List (List ℕ)) (captures : List (Option (List ℕ))) → IsDistinct bytes_eq names → Distinct (zip names captures)

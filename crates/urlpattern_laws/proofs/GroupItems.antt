@@ -10,14 +10,14 @@ use Rattle.urlpattern_laws.proofs.PieceItems.{fixed_items}
 use Rattle.urlpattern_laws.proofs.Senses.{Sense, SameSense, joined, joined_quiet, perhaps, quiet, quiet_same, whole}
 use Rattle.urlpattern_laws.specs.PartWays.{between_ways, copies_ways, exactly, fixed_ways, followed_by, several_ways}
 use Rattle.urlpattern_meaning.specs.Ways.{Choice, quantified_ways}
-use Rattle.urlpattern_meaning.specs.Dialect.{Optional, ZeroOrMore, OneOrMore, quantifier_text}
+use Rattle.urlpattern_meaning.specs.Dialect.{Optional, ZeroOrMore, OneOrMore}
 use Rattle.urlpattern_meaning.specs.PartMeaning.{Allows, Captures}
 use Rattle.urlpattern_meaning.proofs.Copies.{GroupMeans, IsBetween, IsCore, IsFurther, copies_core, core_copies, core_one, repeated_map}
 use Rattle.urlpattern_meaning.proofs.PartTrees.{quantifier_of}
 use Rattle.urlpattern_syntax.specs.Options.{OptionsView}
 use Rattle.urlpattern_syntax.specs.declared.parser.PartModifier.{PartModifier}
 use Rattle.urlpattern_syntax.specs.declared.parser.PartModifier.TheVariants as modifiers
-use Rattle.urlpattern_syntax.specs.RegexpText.{affixed_regexp, bare_regexp, captured, escaped_regexp, fixed_regexp, grouped, modifier_text, repeated_regexp}
+use Rattle.urlpattern_syntax.specs.RegexpText.{affixed_regexp, bare_regexp, captured, escaped_regexp, fixed_regexp, grouped, repeated_regexp}
 use Rattle.urlpattern_syntax.specs.Text.{IsRepeated}
 
 -- ---- modifiers
@@ -52,12 +52,6 @@ counted_same modifiers.Optional Is text good = (
 )
 counted_same modifiers.ZeroOrMore Is text good = (λ (n, are). (n, tt, are), λ (n, any, are). (n, are))
 counted_same modifiers.OneOrMore Is text good = (λ (n, are). (suc n, omega arith, are), λ (n, some, are). some_copies Is n text some are)
-
-modifier_written : (modifier : PartModifier) → quantifier_text (quantifier_of modifier) ≡ modifier_text modifier
-modifier_written modifiers.None = refl
-modifier_written modifiers.Optional = refl
-modifier_written modifiers.ZeroOrMore = refl
-modifier_written modifiers.OneOrMore = refl
 
 -- ---- fixed texts
 

@@ -2,6 +2,7 @@ pub mod MatchExamples
 pub mod OutcomesOne
 pub mod OutcomesExist
 pub mod FoldedTrees
+pub mod ChangedParts
 pub mod FoldedMatchers
 pub mod FoldedWays
 pub mod EcmaMatchers
@@ -37,7 +38,6 @@ pub mod ValuesTaken
 pub mod TakenMeanings
 pub mod MatchersTaken
 pub mod MatchersCapture
-pub mod BeforeText
 pub mod SteadyWays
 pub mod PeeledWays
 pub mod FirstOfTrees

@@ -5,7 +5,6 @@ use Rattle.url.specs.Parser.{Parsed, parse_url}
 use Rattle.url.specs.Parts.{Parts}
 use Rattle.urlpattern_compile.specs.PatternViews.{eight_view}
 use Rattle.urlpattern_components.proofs.EightLemmas.{same_values}
-use Rattle.urlpattern_components.specs.declared.eight.ComponentName.{ComponentName}
 use Rattle.urlpattern_components.specs.Eight.{Texts, at}
 use Rattle.urlpattern_generate.specs.Manners.{GivenView, WritingManner}
 use Rattle.urlpattern_generate.specs.Writing.{IsWritten}
@@ -17,7 +16,7 @@ use Rattle.urlpattern_generate.specs.Links.{text_of_parts}
 use Rattle.urlpattern_meaning.specs.Matching.{Answers, MatcherView}
 use Rattle.urlpattern_meaning.specs.PartMeaning.{Captures}
 use Rattle.urlpattern_pattern.proofs.LinkedLemmas.{answered_once}
-use Rattle.urlpattern_pattern.specs.GeneratedTexts.{HasParts, manner_in, parts_in}
+use Rattle.urlpattern_pattern.specs.GeneratedTexts.{manner_in, parts_in}
 use Rattle.urlpattern_pattern.specs.LinkedUrls.{IsLink, IsLinkOf}
 use Rattle.urlpattern_pattern.specs.UrlPatterns.{UrlPattern}
 use Rattle.urlpattern_compare.specs.declared.pattern.PatternParts.{PatternParts}

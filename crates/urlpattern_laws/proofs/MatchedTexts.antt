@@ -1,22 +1,21 @@
 -- A link of a match has the texts that were matched.
-use Rattle.std.proofs.Common.{◌≡◌, ◌≢◌, ◌∙◌, ℕ, Bool, false, List, [], ◌∷◌, ap, bytes_eq, cond, length, map, refl, subst, sym, true, zip, Option, Some, None}
+use Rattle.std.proofs.Common.{◌≡◌, ◌∙◌, ℕ, Bool, false, List, [], ◌∷◌, ap, bytes_eq, cond, length, map, refl, subst, sym, true, zip, Option, Some}
 use Rattle.std.proofs.Math.Path.{fun_ext}
 use Rattle.std.proofs.lemmas.Map.Made.{AllPairs-from_IsDistinct, IsDistinct-from_AllPairs}
 use Rattle.std.proofs.lemmas.Slice.Eq.{bytes_eq-Decides}
 use Rattle.std.specs.List.{AllByRecursion, IsDistinct}
 use Rattle.std.specs.Map.{keys_of, lookup}
 use Rattle.std.specs.Option.{option_flatten}
-use Rattle.std.specs.Prelude.{AllPairs, String, option_map}
+use Rattle.std.specs.Prelude.{String, option_map}
 use Rattle.std.specs.String.{string_eq}
 use Rattle.std.specs.declared.alloc.Global.{Global}
 use Rattle.urlpattern_matcher.specs.declared.regexp.RegExp.{Ghosts as Engine}
 use Rattle.urlpattern_components.specs.declared.eight.ComponentName.{ComponentName}
 use Rattle.urlpattern_components.specs.Eight.{at}
-use Rattle.urlpattern_generate.specs.Manners.{GivenView, text_given}
-use Rattle.urlpattern_laws.proofs.GivenGroups.{Distinct, Groups, captured_again, first_found, found_reversed, given_first, keys_of_zip, zip_distinct}
+use Rattle.urlpattern_generate.specs.Manners.{text_given}
+use Rattle.urlpattern_laws.proofs.GivenGroups.{Distinct, Groups, captured_again, first_found, found_reversed, given_first, zip_distinct}
 use Rattle.urlpattern_laws.proofs.LinkedTexts.{links_of_captures}
-use Rattle.urlpattern_laws.specs.LinkLaws.{IsWrittenBack}
-use Rattle.urlpattern_laws.specs.MatchLinks.{AreGroupsOfResult, GroupsOfCapturesAreGiven, GroupsOfMatchesDiffer, GroupsOfResultsAreGiven, IsReadBackFrom, LinksOfMatchesAreTheTexts, NamesDiffer}
+use Rattle.urlpattern_laws.specs.MatchLinks.{GroupsOfCapturesAreGiven, GroupsOfMatchesDiffer, GroupsOfResultsAreGiven, LinksOfMatchesAreTheTexts, NamesDiffer}
 use Rattle.urlpattern_matches.proofs.GroupLemmas.{text-eq}
 use Rattle.urlpattern_matches.specs.BorrowedMatches.{groups_view, listed_entries, listed_groups}
 use Rattle.urlpattern_matches.specs.ResultViews.{ResultView, group_of, results_of}
@@ -24,10 +23,9 @@ use Rattle.urlpattern_meaning.proofs.CaptureCount.{captures_counted}
 use Rattle.urlpattern_meaning.proofs.NameLaws.{names_distinct}
 use Rattle.urlpattern_meaning.specs.PartMeaning.{Captures}
 use Rattle.urlpattern_compile.specs.Compiled.{canonical_encoding, manner_of}
-use Rattle.urlpattern_pattern.specs.Match.{IsMatchOf}
 use Rattle.urlpattern_pattern.specs.GeneratedTexts.{manner_in, parts_in}
-use Rattle.urlpattern_pattern.specs.Patterns.{PatternView, pattern_view}
-use Rattle.urlpattern_syntax.specs.{Parts.PartView, RegexpText.group_names, Text.text_of}
+use Rattle.urlpattern_pattern.specs.Patterns.{pattern_view}
+use Rattle.urlpattern_syntax.specs.{RegexpText.group_names, Text.text_of}
 
 -- ---- the texts given for groups
 

@@ -13,7 +13,7 @@ use Rattle.urlpattern_meaning.specs.Matching.{Agrees, Answers, InnerView, IsMatc
 use Rattle.urlpattern_meaning.specs.PartMeaning.{Captures}
 use Rattle.urlpattern_pattern.proofs.MatchersDecide.{answered}
 use Rattle.urlpattern_pattern.specs.{Match.AreMatched, Patterns.PatternView, UrlPatterns.AreMadeOfParts}
-use Rattle.urlpattern_laws.specs.Readings.{ApartMatchNothing, AreItsParts, CommonAreMatched, CoveredAreMatched, CoveredByEngineAreMatched, CoveredByMeaningAreMatched, IsCoveredByMeaning, KnownAreCoveredByMeaning, OwnPartsMean, PartingsAreMatched, SameAreMatched, eight_texts}
+use Rattle.urlpattern_laws.specs.Readings.{ApartMatchNothing, AreItsParts, CommonAreMatched, CoveredAreMatched, CoveredByEngineAreMatched, CoveredByMeaningAreMatched, IsCoveredByMeaning, KnownAreCoveredByMeaning, OwnPartsMean, PartingsAreMatched, SameAreMatched}
 use Rattle.urlpattern_compare.proofs.SameParts.{known_or_not, same_within}
 use Rattle.urlpattern_compare.specs.Comparing.{AreSame, IsComponentCovered, IsKnown, IsMeantBy, TakesNoLine}
 use Rattle.urlpattern_syntax.specs.declared.parts.ComponentParts.{ComponentParts}

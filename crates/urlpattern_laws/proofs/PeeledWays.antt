@@ -3,9 +3,8 @@
 use Rattle.std.proofs.Common.{◌≡◌, ℕ, List, [], ◌∷◌, ◌++◌, map, find, length, Option, Some, None, option_map, Bool, true, false, cond, ◌&&◌, ◌==◌, refl, sym, ap, ap₂, ◌∙◌, subst, append_assoc, append-nil, map-id, eq-eqb, eqb-true, ne_eqb, length-append, inl, inr, arith, true≢false}
 use Rattle.std.proofs.Math.Path.{fun_ext}
 use Rattle.std.proofs.lemmas.Bool.{cond-false, cond-true}
-use Rattle.std.proofs.lemmas.List.{map-append, nil_from_length}
+use Rattle.std.proofs.lemmas.List.{nil_from_length}
 use Rattle.std.proofs.lemmas.Option.{none-some, same_Some}
-use Rattle.std.proofs.lemmas.Simd.{map-map}
 use Rattle.std.specs.Prelude.{IsTrue, option_to_list}
 use Rattle.urlpattern_laws.proofs.Catching.{Caps, Then}
 use Rattle.urlpattern_laws.proofs.Choices.{HasCaptures}
@@ -18,7 +17,7 @@ use Rattle.urlpattern_meaning.proofs.TreeMeaning.{character_same}
 use Rattle.urlpattern_meaning.proofs.WayLists.{Every, every-continued, every-weaker}
 use Rattle.urlpattern_meaning.proofs.WaysComplete.{way_of}
 use Rattle.urlpattern_meaning.proofs.WaysCut.{Cut}
-use Rattle.urlpattern_meaning.proofs.WaysJoined.{first_of, first_seen, seen, seen_of, takes_all}
+use Rattle.urlpattern_meaning.proofs.WaysJoined.{continued-twice, first_of, first_seen, seen, seen_of, takes_all}
 use Rattle.urlpattern_meaning.proofs.WaysSound.{IsSound, AreSound}
 use Rattle.urlpattern_meaning.specs.Dialect.{Nothing}
 use Rattle.urlpattern_meaning.specs.Matching.{ArePeeled, IsRemoved, end_text}
@@ -68,31 +67,6 @@ sound_exactly (c ∷ given) text =
     (sound_followed (one_that (λ other. other == c)) (exactly given) (Given (c ∷ [])) (Given given) (sound_one c) (sound_exactly given) text)
 
 -- ---- lists of ways
-
-continued_both : (next : Choice) (xs ys : List Way) → continued next (xs ++ ys) ≡ continued next xs ++ continued next ys
-continued_both next [] ys = refl
-continued_both next (way ∷ xs) ys =
-    ap (λ l. map (joined_way way) (next way.rest) ++ l) (continued_both next xs ys)
-    ∙ sym (append_assoc (map (joined_way way) (next way.rest)) (continued next xs) (continued next ys))
-
-joined_thrice : (way next more : Way) → joined_way way (joined_way next more) ≡ joined_way (joined_way way next) more
-joined_thrice way next more =
-    ap₂ (λ t c. way_of t c more.rest) (sym (append_assoc way.taken next.taken more.taken)) (sym (append_assoc way.captures next.captures more.captures))
-
-joined_all : (way : Way) (next : Choice) (xs : List Way) → map (joined_way way) (continued next xs) ≡ continued next (map (joined_way way) xs)
-joined_all way next [] = refl
-joined_all way next (other ∷ xs) =
-    map-append (joined_way way) (map (joined_way other) (next other.rest)) (continued next xs)
-    ∙ ap₂ ◌++◌
-    (map-map (joined_way way) (joined_way other) (next other.rest)
-    ∙ ap (λ (f : Way → Way). map f (next other.rest)) (fun_ext (joined_thrice way other)))
-    (joined_all way next xs)
-
-pub continued_twice : (next last : Choice) (xs : List Way) → continued (λ text. continued last (next text)) xs ≡ continued last (continued next xs)
-continued_twice next last [] = refl
-continued_twice next last (way ∷ xs) =
-    ap₂ ◌++◌ (joined_all way last (next way.rest)) (continued_twice next last xs)
-    ∙ sym (continued_both last (map (joined_way way) (next way.rest)) (continued next xs))
 
 -- No choice after a way.
 pub continued_idle : (xs : List Way) → continued (λ text. idle 0 text ∷ []) xs ≡ xs
@@ -192,7 +166,7 @@ module _ (options : OptionsView) where
   append_ways [] others text = idle_continued (parts_ways options others) text
   append_ways (part ∷ parts) others text =
       let front = part_ways_by part.kind options part text in
-      ap (λ (next : Choice). continued next front) (fun_ext (append_ways parts others)) ∙ continued_twice (parts_ways options parts) (parts_ways options others) front
+      ap (λ (next : Choice). continued next front) (fun_ext (append_ways parts others)) ∙ continued-twice (parts_ways options parts) (parts_ways options others) front
 
   plain_ways_by : (kind : PartType) (modifier : PartModifier) (value name prefix suffix text : List ℕ) → IsTrue (is_fixed_text kind && is_unmodified modifier) →
       parts_ways options (part_of kind modifier value name prefix suffix ∷ []) text ≡ exactly value text

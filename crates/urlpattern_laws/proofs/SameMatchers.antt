@@ -1,6 +1,5 @@
 -- Matchers made of parts that are the same except for names.
-use Rattle.std.proofs.Common.{◌≡◌, ◌∙◌, ◌⊎◌, ℕ, Bool, true, false, List, [], ◌∷◌, ◌++◌, ap, ap₂, codes, inl, inr, map, refl, subst, sym, Option, Some, None, Result, Ok, Err}
-use Rattle.std.proofs.lemmas.List.{append-nil, map-append, same_from_push}
+use Rattle.std.proofs.Common.{◌≡◌, ◌∙◌, ◌⊎◌, ℕ, Bool, true, false, List, [], ◌∷◌, ◌++◌, ap, ap₂, codes, inl, inr, refl, subst, sym, Option, Some, None, Result, Ok, Err}
 use Rattle.std.specs.List.{flat_map}
 use Rattle.std.specs.Prelude.{⊤, All, IsTrue, option_map, option_to_list}
 use Rattle.std.specs.Str.{all_scalars}
@@ -8,20 +7,17 @@ use Rattle.urlpattern_matcher.specs.Components.{IsEngineOf, engine_flags}
 use Rattle.urlpattern_matcher.specs.declared.regexp.RegExp.{Ghosts as Engine}
 use Rattle.urlpattern_components.specs.Eight.{at}
 use Rattle.urlpattern_engine.specs.Readings.{ExpressionsAnswerAlike}
-use Rattle.urlpattern_init.specs.UrlTexts.{IsLine}
 use Rattle.urlpattern_meaning.proofs.MatcherMeaning.{all_left, all_right, scalars_middle}
 use Rattle.urlpattern_meaning.proofs.PartTrees.{IsNotCustom}
 use Rattle.urlpattern_meaning.specs.FirstAnswers.{TookText}
-use Rattle.urlpattern_meaning.specs.Matching.{Accepts, ArePeeled, BeginsPlain, EndsPlain, InnerView, IsMadeBetween, IsMadeByEngine, IsMadeOf, IsMadeOfOne, IsMatched, IsRemoved, MatcherView, RegExp, end_text}
+use Rattle.urlpattern_meaning.specs.Matching.{Accepts, ArePeeled, IsMadeBetween, IsMadeByEngine, IsMadeOf, IsMadeOfOne, IsMatched, MatcherView, RegExp, end_text}
 use Rattle.urlpattern_meaning.specs.PartMeaning.{AreGenerated, Captures}
-use Rattle.urlpattern_pattern.specs.Patterns.{PatternView}
 use Rattle.urlpattern_pattern.proofs.MadeAlike.{AreAlike, made_alike}
 use Rattle.urlpattern_pattern.specs.UrlPatterns.{IsMadeOfParts}
+use Rattle.urlpattern_laws.proofs.ChangedParts.{peeled_changed}
 use Rattle.urlpattern_laws.specs.Readings.{MadeAreMatched, MatchesEachLineOf}
 use Rattle.urlpattern_compare.proofs.NamelessParts.{all_nameless, generated_nameless, nameless}
 use Rattle.urlpattern_compare.proofs.SameParts.{same_nameless}
-use Rattle.urlpattern_compare.specs.Comparing.{AreSame}
-use Rattle.urlpattern_syntax.specs.declared.parts.ComponentParts.{ComponentParts}
 use Rattle.urlpattern_syntax.specs.declared.parser.PartModifier.{PartModifier}
 use Rattle.urlpattern_syntax.specs.declared.parser.PartModifier.TheVariants as modifiers
 use Rattle.urlpattern_syntax.specs.declared.parser.PartType.{PartType}
@@ -29,7 +25,7 @@ use Rattle.urlpattern_syntax.specs.declared.parser.PartType.TheVariants.{Segment
 use Rattle.urlpattern_syntax.specs.Errors.{ErrorView}
 use Rattle.urlpattern_syntax.specs.Options.{OptionsView, options_view}
 use Rattle.urlpattern_syntax.specs.Parts.{PartView, parts_view}
-use Rattle.urlpattern_syntax.specs.RegexpText.{is_fixed_text, is_plain, part_regexp, part_regexp_of, regexp_text}
+use Rattle.urlpattern_syntax.specs.RegexpText.{is_fixed_text, part_regexp, part_regexp_of, regexp_text}
 
 -- ---- regular expressions have no names
 
@@ -48,40 +44,11 @@ parts_nameless options (part ∷ parts) = ap₂ ◌++◌ (part_nameless options 
 regexp_nameless : (options : OptionsView) (parts : List PartView) → regexp_text options (all_nameless parts) ≡ regexp_text options parts
 regexp_nameless options parts = ap (λ (text : List ℕ). codes "^" ++ text ++ codes "$") (parts_nameless options parts)
 
--- ---- plain ends have no names
-
-list_nameless : (part : Option PartView) → all_nameless (option_to_list part) ≡ option_to_list (option_map nameless part)
-list_nameless (Some part) = refl
-list_nameless None = refl
+-- ---- plain ends have none
 
 end_nameless : (part : Option PartView) → end_text part ≡ end_text (option_map nameless part)
 end_nameless (Some part) = refl
 end_nameless None = refl
-
-begins_nameless : (parts : List PartView) → BeginsPlain (all_nameless parts) → BeginsPlain parts
-begins_nameless [] plain = plain
-begins_nameless (part ∷ parts) plain = plain
-
-ends_nameless : (parts : List PartView) → EndsPlain (all_nameless parts) → EndsPlain parts
-ends_nameless [] plain = plain
-ends_nameless (part ∷ []) plain = plain
-ends_nameless (part ∷ next ∷ parts) plain = ends_nameless (next ∷ parts) plain
-
-removed_nameless : (part : Option PartView) (There Nameless : Type 0) → (Nameless → There) → IsRemoved part There → IsRemoved (option_map nameless part) Nameless
-removed_nameless (Some part) There Nameless back removed = removed
-removed_nameless None There Nameless back removed = λ there. removed (back there)
-
-peeled_nameless : (parts : List PartView) (front : Option PartView) (middle : List PartView) (back : Option PartView) → ArePeeled parts front middle back →
-    ArePeeled (all_nameless parts) (option_map nameless front) (all_nameless middle) (option_map nameless back)
-peeled_nameless parts front middle back peeled = record {
-  cut =
-      ap all_nameless peeled.cut ∙ map-append nameless (option_to_list front ++ middle) (option_to_list back)
-      ∙ ap (λ (ps : List PartView). ps ++ all_nameless (option_to_list back)) (map-append nameless (option_to_list front) middle)
-      ∙ ap (λ (ps : List PartView). ps ++ all_nameless middle ++ all_nameless (option_to_list back)) (list_nameless front)
-      ∙ ap (λ (ps : List PartView). option_to_list (option_map nameless front) ++ all_nameless middle ++ ps) (list_nameless back);
-  front_removed = removed_nameless front (BeginsPlain parts) (BeginsPlain (all_nameless parts)) (begins_nameless parts) peeled.front_removed;
-  back_removed = removed_nameless back (EndsPlain middle) (EndsPlain (all_nameless middle)) (ends_nameless middle) peeled.back_removed;
-}
 
 -- ---- matchers have no names
 
@@ -108,7 +75,7 @@ module _ {E : Type 0} (IsEngine : List ℕ → Result E ErrorView → Type 0) (o
     front = option_map nameless made.front;
     middle = all_nameless made.middle;
     back = option_map nameless made.back;
-    are_peeled = peeled_nameless parts made.front made.middle made.back made.are_peeled;
+    are_peeled = peeled_changed nameless (λ part. refl) parts made.front made.middle made.back made.are_peeled;
     is_made =
         subst (λ (begin : List ℕ). IsMadeBetween IsEngine options begin (all_nameless made.middle) (end_text (option_map nameless made.back)) matcher) (end_nameless made.front)
         (subst (λ (end : List ℕ). IsMadeBetween IsEngine options (end_text made.front) (all_nameless made.middle) end matcher) (end_nameless made.back)

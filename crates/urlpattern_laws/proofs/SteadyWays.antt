@@ -11,7 +11,7 @@ use Rattle.urlpattern_laws.proofs.Choices.{HasCaptures, Cuts, cuts_captured, cut
 use Rattle.urlpattern_laws.proofs.PartItems.{part_count, parts_count}
 use Rattle.urlpattern_laws.specs.PartWays.{affixed_ways, bare_ways, between_ways, captured_whole, copies_ways, exactly, fixed_ways, followed_by, part_ways_by, parts_ways, pattern_ways, piece_ways, several_ways, ways_of_reading}
 use Rattle.urlpattern_meaning.proofs.WayLists.{every-weaker}
-use Rattle.urlpattern_laws.proofs.BeforeText.{Falls, IsCut, cut-append, cut-continued, cut-idle, cut-map, one-cut, taken-cut}
+use Rattle.urlpattern_meaning.proofs.WaysCut.{Falls, IsCut, cut-append, cut-continued, cut-idle, cut-map, one-cut, taken-cut}
 use Rattle.urlpattern_meaning.proofs.WaysSound.{IsSound}
 use Rattle.urlpattern_meaning.specs.Dialect.{AllowsGroups, Quantifier, Optional, ZeroOrMore, OneOrMore, LazyOneOrMore}
 use Rattle.urlpattern_meaning.specs.Ways.{Choice, capturing, looped, one_that, idle, quantified_ways}

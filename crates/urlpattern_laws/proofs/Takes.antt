@@ -14,6 +14,7 @@ use Rattle.regex_hir.specs.Text.{char_at, is_some_and}
 use Rattle.urlpattern_laws.specs.Expressions.{is_one_character, takes_characters}
 use Rattle.urlpattern_engine.proofs.WayAnswers.{at}
 use Rattle.urlpattern_syntax.specs.Text.{IsRepeated}
+use Rattle.urlpattern_engine.proofs.LoopAttempts.{scalars_after}
 
 abbrev pub Takes : Re → List ℕ → Type 0
 Takes empty text = text ≡ []
@@ -38,10 +39,6 @@ rounds_before R i l j first (one_round _ r) = next_round l j (one_round l first)
 rounds_before R i l j first (next_round k _ rounds r) = next_round k j (rounds_before R i l k first rounds) r
 
 -- ---- characters
-
-scalars_after : (before text : List ℕ) → scalars (before ++ text) ≡ true → scalars text ≡ true
-scalars_after [] text h = h
-scalars_after (c ∷ before) text h = scalars_after before text (and_parts _ _ h).1
 
 pub at_push : (before : List ℕ) (c : ℕ) → at (before ++ c ∷ []) ≡ at before + len_utf8 c
 at_push before c =

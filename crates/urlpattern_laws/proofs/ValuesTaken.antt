@@ -32,7 +32,7 @@ use Rattle.urlpattern_engine.proofs.ReadAnswers.{read_by_default, regex_some}
 use Rattle.urlpattern_engine.specs.Automatons.{config_for}
 use Rattle.urlpattern_engine.specs.PatternRegexps.{IsExpressionOf, pattern_engine}
 use Rattle.urlpattern_engine.specs.Readings.{re_answer}
-use Rattle.urlpattern_engine.specs.declared.pattern_regexp.Expression.{Expression}
+use Rattle.urlpattern_engine.specs.declared.strategy.Strategy.{Strategy}
 use Rattle.urlpattern_engine.specs.declared.pattern_regexp.PatternRegexp.{PatternRegexp}
 use Rattle.urlpattern_meaning.specs.Dialect.{Atom, Items, Nothing, Item, Captured, Grouped, IsTreeOf, atom_group_count, atom_text, group_count, items_text, quantifier_text}
 use Rattle.urlpattern_meaning.specs.PartMeaning.{Captures}
@@ -161,16 +161,16 @@ tree_some regexp tree is good room =
     let few : suc (group_count tree) ≤ 2 ^ 32 = omega (arith, items_few tree, ap length is.0, length-append (items_text tree) (codes "$"), room) in
     ap (λ t. is_some (read default_config t)) is.0 ∙ ap is_some (tree_is_read tree is.1 fine few)
 
-expression_some : (ignore_case : Bool) (regexp : List ℕ) (expression : Expression) → ignore_case ≡ false → IsExpressionOf ignore_case regexp expression → HasNumbers regexp → IsSome (read default_config regexp)
-expression_some ignore_case regexp expression kept made room = elim (form_of ignore_case regexp expression made) [
-  | inl own ↦ tree_some regexp own.tree own.is_tree (expression_good ignore_case regexp expression made) room
+expression_some : (ignore_case : Bool) (regexp : List ℕ) (strategy : Strategy) → ignore_case ≡ false → IsExpressionOf ignore_case regexp strategy → HasNumbers regexp → IsSome (read default_config regexp)
+expression_some ignore_case regexp strategy kept made room = elim (form_of ignore_case regexp strategy made) [
+  | inl own ↦ tree_some regexp own.tree own.is_tree (expression_good ignore_case regexp strategy made) room
   | inr custom ↦ subst (λ (b : Bool). IsSome (read (config_for b) regexp)) kept custom.is_read
 ]
 
 pattern_read : (regexp flags : List ℕ) (value : PatternRegexp) → KeepsCase flags → HasNumbers regexp → pattern_engine.IsMade value regexp flags → IsReadFor regexp (pattern_engine.answer value)
 pattern_read regexp flags value keeps room made =
-    read_for regexp (pattern_engine.answer value) (expression_good value.ignore_case regexp value.expression made.of_text)
-    (expression_some value.ignore_case regexp value.expression (made.by_flags ∙ keeps) made.of_text room) (pattern_values_read regexp flags value keeps made)
+    read_for regexp (pattern_engine.answer value) (expression_good value.ignore_case regexp value.strategy made.of_text)
+    (expression_some value.ignore_case regexp value.strategy (made.by_flags ∙ keeps) made.of_text room) (pattern_values_read regexp flags value keeps made)
 
 pub pattern_values_taken : ValuesAnswerTaken pattern_engine KeepsCase HasNumbers
 pattern_values_taken options flags parts value keeps alone room made =
@@ -182,4 +182,4 @@ pattern_values_first options flags parts value keeps alone silent room made =
 
 pub pattern_values_capture : ValuesCapture pattern_engine KeepsCase HasNumbers
 pattern_values_capture =
-    captured_as_first pattern_engine KeepsCase HasNumbers pattern_values_first (λ value regexp flags made. expression_good value.ignore_case regexp value.expression made.of_text)
+    captured_as_first pattern_engine KeepsCase HasNumbers pattern_values_first (λ value regexp flags made. expression_good value.ignore_case regexp value.strategy made.of_text)

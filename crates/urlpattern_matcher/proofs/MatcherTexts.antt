@@ -113,7 +113,7 @@ same_chars a b u v = (λ e. ap chars e, λ e. sym (encodes-chars a u) ∙ ap enc
 lacks-one : (c d : ℕ) (cs : List ℕ) → IsTrue (lacks c (d ∷ cs)) → IsTrue (lacks c cs)
 lacks-one c d cs h = (and_parts (not (d == c)) (lacks c cs) h).1
 
-eqb-self : (c : ℕ) → (c == c) ≡ true
+pub eqb-self : (c : ℕ) → (c == c) ≡ true
 eqb-self c = grind (arith, nat_tests)
 
 -- A character is among those of a text.

@@ -1,14 +1,10 @@
 -- The plain fixed texts at the ends of parts, and the matcher of the parts between them.
-use Rattle.std.proofs.Common.{◌≡◌, ℕ, Bool, true, false, List, [], ◌∷◌, ◌++◌, length, refl, sym, ap, ◌∙◌, subst, append_assoc, arith}
+use Rattle.std.proofs.Common.{◌≡◌, ℕ, false, List, [], ◌∷◌, ◌++◌, length, refl, sym, ap, ◌∙◌, subst, append_assoc, arith}
 use Rattle.std.proofs.lemmas.Bool.{false≢true}
-use Rattle.std.proofs.lemmas.List.{append-nil, length-append}
-use Rattle.std.specs.Prelude.{IsTrue, ◌≤◌, Option, Some, None, Result, Ok, Err, IfErr, IfOk, option_to_list}
-use Rattle.urlpattern_matcher.specs.Matchers.{PeelsBack, PeelsFront, PeelsTo, capture_of}
-use Rattle.urlpattern_meaning.specs.Matching.{BeginsPlain, EndsPlain, IsRemoved, IsMadeBetween, IsMadeByEngine, IsMadeOf, IsMadeOfOne, MatcherView, end_text, single_capture_matcher}
-use Rattle.urlpattern_syntax.specs.declared.parser.PartModifier.{PartModifier}
-use Rattle.urlpattern_syntax.specs.declared.parser.PartModifier.TheVariants as modifiers
-use Rattle.urlpattern_syntax.specs.declared.parser.PartType.{PartType}
-use Rattle.urlpattern_syntax.specs.declared.parser.PartType.TheVariants.{SegmentWildcard, FullWildcard}
+use Rattle.std.proofs.lemmas.List.{append-nil}
+use Rattle.std.specs.Prelude.{IsTrue, ◌≤◌, Option, Some, None, Result, option_to_list}
+use Rattle.urlpattern_matcher.specs.Matchers.{PeelsBack, PeelsFront, PeelsTo}
+use Rattle.urlpattern_meaning.specs.Matching.{BeginsPlain, EndsPlain, IsRemoved, IsMadeBetween, IsMadeByEngine, IsMadeOf, MatcherView, end_text}
 use Rattle.urlpattern_syntax.specs.Errors.{ErrorView}
 use Rattle.urlpattern_syntax.specs.Options.{OptionsView}
 use Rattle.urlpattern_syntax.specs.Parts.{PartView}
@@ -81,38 +77,6 @@ made-of IsEngine options parts middle prefix suffix matcher (front, back, peeled
       subst (λ x. IsMadeBetween IsEngine options x middle (end_text back) matcher) is_prefix
       (subst (λ x. IsMadeBetween IsEngine options prefix middle x matcher) is_suffix made);
 }
-
--- A part that is no single capture is left to an engine.
-pub one-by_engine : {E : Type 0} (IsEngine : (regexp : List ℕ) → Result E ErrorView → Type 0) (kind : PartType) (modifier : PartModifier) (options : OptionsView) (prefix : List ℕ) (part : PartView) (suffix : List ℕ) (matcher : MatcherView E) →
-    capture_of options kind modifier ≡ None → IsMadeByEngine IsEngine options prefix (part ∷ []) suffix matcher →
-    IsMadeOfOne IsEngine kind modifier options prefix part suffix matcher
-one-by_engine IsEngine FullWildcard modifiers.None options prefix part suffix matcher e made = let never : ⊥ = cc in absurd never
-one-by_engine IsEngine SegmentWildcard modifiers.None options prefix part suffix matcher e made = let never : ⊥ = cc in absurd never
-one-by_engine IsEngine kind modifier options prefix part suffix matcher e made = made
-
--- A part that is a single capture.
-pub one-captured : {E : Type 0} (IsEngine : (regexp : List ℕ) → Result E ErrorView → Type 0) (kind : PartType) (modifier : PartModifier) (options : OptionsView) (prefix : List ℕ) (part : PartView) (suffix : List ℕ) (filter : Option ℕ) (allow_empty : Bool) (matcher : MatcherView E) →
-    capture_of options kind modifier ≡ Some (filter, allow_empty) → matcher ≡ single_capture_matcher options prefix part suffix filter allow_empty →
-    IsMadeOfOne IsEngine kind modifier options prefix part suffix matcher
-one-captured IsEngine FullWildcard modifiers.None options prefix part suffix filter allow_empty matcher e made =
-    let pair : (None, true) ≡ (filter, allow_empty) = cc in
-    let is_filter : None ≡ filter = ap (λ (p : Option ℕ × Bool). p.0) pair in
-    let may : true ≡ allow_empty = ap (λ (p : Option ℕ × Bool). p.1) pair in
-    made ∙ ap (λ f. single_capture_matcher options prefix part suffix f allow_empty) (sym is_filter) ∙ ap (λ b. single_capture_matcher options prefix part suffix None b) (sym may)
-one-captured IsEngine SegmentWildcard modifiers.None options prefix part suffix filter allow_empty matcher e made =
-    let pair : (options.delimiter, false) ≡ (filter, allow_empty) = cc in
-    let is_filter : options.delimiter ≡ filter = ap (λ (p : Option ℕ × Bool). p.0) pair in
-    let may : false ≡ allow_empty = ap (λ (p : Option ℕ × Bool). p.1) pair in
-    made ∙ ap (λ f. single_capture_matcher options prefix part suffix f allow_empty) (sym is_filter) ∙ ap (λ b. single_capture_matcher options prefix part suffix options.delimiter b) (sym may)
-one-captured IsEngine kind modifier options prefix part suffix filter allow_empty matcher e made = let never : ⊥ = cc in absurd never
-
--- No part was removed if the number of parts is the same.
-pub whole-left : (parts middle : List PartView) (prefix suffix : List ℕ) → PeelsTo parts prefix middle suffix → length middle ≡ length parts → middle ≡ parts
-whole-left parts middle prefix suffix (None, None, peeled, is_prefix, is_suffix) len = sym (peeled.cut ∙ append-nil middle)
-whole-left parts middle prefix suffix (Some part, None, peeled, is_prefix, is_suffix) len =
-    absurd (omega (arith, len, ap length peeled.cut, length-append (part ∷ middle) []))
-whole-left parts middle prefix suffix (front, Some part, peeled, is_prefix, is_suffix) len =
-    absurd (omega (arith, len, ap length peeled.cut, length-append (option_to_list front ++ middle) (part ∷ []), length-append (option_to_list front) middle))
 
 -- Two parts or more are left to an engine.
 pub many-by_engine : {E : Type 0} (IsEngine : (regexp : List ℕ) → Result E ErrorView → Type 0) (options : OptionsView) (prefix : List ℕ) (middle : List PartView) (suffix : List ℕ) (matcher : MatcherView E) →

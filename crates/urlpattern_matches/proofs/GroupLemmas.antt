@@ -69,7 +69,7 @@ group_in-put old new key capture put name =
 
 -- ---- names with captures
 
-cond-or : {X : Type 0} (b : Bool) (x : X) (y z : Option X) → cond b (Some x) (option_or y z) ≡ option_or (cond b (Some x) y) z
+pub cond-or : {X : Type 0} (b : Bool) (x : X) (y z : Option X) → cond b (Some x) (option_or y z) ≡ option_or (cond b (Some x) y) z
 cond-or true x y z = refl
 cond-or false x y z = refl
 

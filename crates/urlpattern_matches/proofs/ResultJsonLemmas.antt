@@ -36,10 +36,6 @@ moved : {D : Type 0} (here : Bool) (first : D) (later old new total : Option D) 
 moved true first later old new total apart is was = rw (apart refl, is) was
 moved false first later old new total apart is was = rw is was
 
-or-none : {D : Type 0} (there : Option D) → option_or there None ≡ there
-or-none None = refl
-or-none (Some x) = refl
-
 map_cond : {X D : Type 0} (show : X → D) (here : Bool) (first : X) (later : Option X) → option_map show (cond here (Some first) later) ≡ cond here (Some (show first)) (option_map show later)
 map_cond show true first later = refl
 map_cond show false first later = refl

@@ -7,7 +7,7 @@ ghost use Rattle.urlpattern_matches.specs.GroupTexts.{IsCapturedOf, captures_of,
 ghost use Rattle.urlpattern_matches.specs.ResultViews.{captured_text, component_result_view, group_of, took_part, IsSameResult};
 ghost use Rattle.urlpattern_syntax.specs.Text.{option_text};
 ghost use Rattle.urlpattern_syntax.specs.Errors.{OnlyOutOfMemory};
-ghost use Rattle.urlpattern_components.specs.Eight.{at, components};
+ghost use Rattle.urlpattern_components.specs.Eight.{components};
 
 mod groups;
 

@@ -1,5 +1,5 @@
 -- The first way is a meaning, exists wherever there is a meaning, and follows the text of the tree.
-use Rattle.std.proofs.Common.{◌≡◌, ◌↔◌, ℕ, List, Option, [], ◌∷◌, ◌++◌, length, Some, None, option_map, Bool, true, false, cond, ◌==◌, find, refl, sym, ap, ◌∙◌, subst, append-nil, inl, inr, eqb-true}
+use Rattle.std.proofs.Common.{◌≡◌, ◌↔◌, ℕ, List, Option, [], ◌∷◌, ◌++◌, length, Some, None, option_map, Bool, true, false, cond, find, refl, sym, ap, ◌∙◌, subst, append-nil, inl, inr, eqb-true}
 use Rattle.std.specs.List.{Contains}
 use Rattle.std.specs.Prelude.{MatchOption}
 use Rattle.std.proofs.lemmas.List.{nil_from_length}
@@ -11,9 +11,7 @@ use Rattle.urlpattern_meaning.proofs.DialectUnique.{only_tree}
 use Rattle.urlpattern_meaning.proofs.WayLists.{Every, Has, contains-has, every-has, has-contains}
 use Rattle.urlpattern_meaning.proofs.WaysSound.{IsSound, ways-sound, means-count}
 use Rattle.urlpattern_meaning.proofs.WaysComplete.{way_of, ways-complete}
-
-abbrev takes_all : Way → Bool
-takes_all way = length way.rest == 0
+use Rattle.urlpattern_meaning.proofs.WaysJoined.{takes_all}
 
 found : (text : List ℕ) (Is : List ℕ → Captures → Type 0) (all : List Way) (captures : Captures) → Every (IsSound text Is) all
     → option_map (λ way. way.captures) (find takes_all all) ≡ Some captures → Is text captures

@@ -5,9 +5,7 @@ use Rattle.std.proofs.lemmas.List.{length-map, map-append}
 use Rattle.std.specs.Char.{to_ascii_lowercase}
 use Rattle.urlpattern_meaning.specs.Dialect.{Quantifier, Once, Optional, ZeroOrMore, OneOrMore, LazyOneOrMore, Items, Nothing, Item, Atom, Literal, Dot, AnyBut, Captured, Grouped, Character, Plain, Escaped, character_of, atom_group_count, group_count}
 use Rattle.urlpattern_meaning.specs.Matching.{folded, folded_captures, folded_character, is_same_character}
-use Rattle.urlpattern_meaning.specs.PartMeaning.{Captures}
 use Rattle.urlpattern_meaning.specs.Ways.{Way, Choice, atom_ways, atom_ways_by, capturing, continued, first_way, first_way_by, folded_atom, folded_items, folded_written, idle, is_shorter, joined_way, looped, more_rounds, one_that, ordered, quantified_ways, ways, ways_by}
-use Rattle.urlpattern_syntax.specs.Text.{line_feed}
 
 -- ---- trees
 

@@ -136,11 +136,6 @@ after-all p (c ∷ front) rest h stops =
     let parts = and_parts (p c) (list_all p front) h in
     cond-true (p c) _ _ parts.0 ∙ after-all p front rest parts.1 stops
 
-begins_not : (p : ℕ → Bool) (text : List ℕ) → ¬ BeginsWith p text → begins p text ≡ false
-unfolding begins
-begins_not p [] h = refl
-begins_not p (c ∷ text) h = false_from_ne_true (p c) h
-
 begins-append : (p : ℕ → Bool) (front rest : List ℕ) → ¬ BeginsWith p front → (front ≡ [] → begins p rest ≡ false) → begins p (front ++ rest) ≡ false
 unfolding begins
 begins-append p [] rest h e = e refl

@@ -38,7 +38,6 @@ pub mod JoinedRegexp
 pub mod Peeling
 pub mod OneMeaning
 pub mod MatcherMeaning
-pub mod MatcherShape
 pub mod OneMeaningExamples
 pub mod PrintedTokens
 pub mod PrintedTexts

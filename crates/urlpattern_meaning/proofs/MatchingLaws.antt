@@ -28,10 +28,10 @@ pub and_right : (a b : Bool) → IsTrue (a && b) → IsTrue b
 and_right true b h = h
 and_right false b h = absurd (no h)
 
-lacks_left : (c : ℕ) (text more : List ℕ) → IsTrue (lacks c (text ++ more)) → IsTrue (lacks c text)
+pub lacks_left : (c : ℕ) (text more : List ℕ) → IsTrue (lacks c (text ++ more)) → IsTrue (lacks c text)
 lacks_left c text more h = and_left (lacks c text) (lacks c more) (sym (list_all-append (λ other. not (other == c)) text more) ∙ h)
 
-lacks_right : (c : ℕ) (text more : List ℕ) → IsTrue (lacks c (text ++ more)) → IsTrue (lacks c more)
+pub lacks_right : (c : ℕ) (text more : List ℕ) → IsTrue (lacks c (text ++ more)) → IsTrue (lacks c more)
 lacks_right c text more h = and_right (lacks c text) (lacks c more) (sym (list_all-append (λ other. not (other == c)) text more) ∙ h)
 
 -- The text between two others.

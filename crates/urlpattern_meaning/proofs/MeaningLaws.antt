@@ -1,6 +1,6 @@
 -- Laws of the meaning of parts: plain fixed texts at the ends are removed, neighbouring ones are
 -- one, and copies are one capture.
-use Rattle.std.proofs.Common.{◌≡◌, ℕ, zero, suc, List, [], ◌∷◌, ◌++◌, refl, sym, subst, ap, Bool, true, Some, None, Option, append_assoc, ◌∙◌, ◌↔◌, ◌⊎◌, inl, inr}
+use Rattle.std.proofs.Common.{◌≡◌, ℕ, zero, suc, List, [], ◌∷◌, ◌++◌, refl, sym, subst, ap, Bool, true, Some, None, Option, append_assoc, ◌∙◌, ◌↔◌}
 use Rattle.std.proofs.lemmas.List.{append-nil}
 use Rattle.std.specs.Prelude.{IsTrue, ◌&&◌, if◌then◌else◌, option_to_list}
 use Rattle.urlpattern_syntax.specs.declared.parser.PartModifier.{PartModifier}
@@ -9,10 +9,10 @@ use Rattle.urlpattern_syntax.specs.declared.parser.PartType.{PartType}
 use Rattle.urlpattern_syntax.specs.declared.parser.PartType.TheVariants.{FixedText, SegmentWildcard, FullWildcard}
 use Rattle.urlpattern_meaning.specs.Matching.{ArePeeled, IsRemoved, end_text}
 use Rattle.urlpattern_syntax.specs.Options.{OptionsView}
-use Rattle.urlpattern_meaning.specs.PartMeaning.{Allows, AreCaptures, AreCopies, Captures, IsCapture, IsCopyOf, PartMeans, PartsMean, capture_of_none}
+use Rattle.urlpattern_meaning.specs.PartMeaning.{Allows, AreCaptures, AreCopies, Captures, IsCapture, IsCopyOf, PartMeans, PartsMean}
 use Rattle.urlpattern_syntax.specs.Parts.{PartView}
 use Rattle.urlpattern_meaning.specs.Printing.{joined, joined_with}
-use Rattle.urlpattern_syntax.specs.RegexpText.{IsWildcard, is_empty, is_fixed_text, is_plain, is_unmodified}
+use Rattle.urlpattern_syntax.specs.RegexpText.{IsWildcard, is_fixed_text, is_plain, is_unmodified}
 use Rattle.urlpattern_syntax.specs.Text.{IsRepeated}
 use Rattle.urlpattern_meaning.proofs.MeaningExamples.{part_alone}
 use Rattle.urlpattern_syntax.proofs.TokenExamples.{no}
@@ -228,26 +228,3 @@ copies_captured options part n text h allowed copies =
         are_captures = (captures_by part.kind part (suc n) text _ h).1 (Some inner.0, (inner.0, inner.1, refl), refl);
       },
     )
-
--- No copies are captured by None, or by the empty text for "zero or more" with neither prefix nor
--- suffix.
-pub nothing_captured : (options : OptionsView) (part : PartView) → IsWildcard part.kind → Allows part.modifier 0 →
-    PartMeans options part [] (capture_of_none part.modifier (is_empty part.prefix && is_empty part.suffix) ∷ [])
-nothing_captured options part h allowed = record {
-  count = 0;
-  allowed = allowed;
-  are_copies = refl;
-  are_captures = (captures_by part.kind part 0 [] _ h).1 (_, refl, refl);
-}
-
--- A wildcard captures nothing else.
-pub captures_only : (options : OptionsView) (part : PartView) (text : List ℕ) (captures : Captures) → IsWildcard part.kind → PartMeans options part text captures →
-    ((text ≡ []) × (captures ≡ capture_of_none part.modifier (is_empty part.prefix && is_empty part.suffix) ∷ []))
-    ⊎ ((inner : List ℕ) × (text ≡ part.prefix ++ inner ++ part.suffix) × (captures ≡ Some inner ∷ []))
-captures_only options part text captures h means = go means.count means.are_copies ((captures_by part.kind part means.count text captures h).0 means.are_captures)
-  where
-    go : (n : ℕ) → AreCopies options part n text → (capture : Option (List ℕ)) × IsCapture part n text capture × (captures ≡ capture ∷ []) →
-        ((text ≡ []) × (captures ≡ capture_of_none part.modifier (is_empty part.prefix && is_empty part.suffix) ∷ []))
-        ⊎ ((inner : List ℕ) × (text ≡ part.prefix ++ inner ++ part.suffix) × (captures ≡ Some inner ∷ []))
-    go zero copies (capture, e, f) = inl (copies, f ∙ ap (λ c. c ∷ []) e)
-    go (suc n) copies (capture, (inner, e, g), f) = inr (inner, e, f ∙ ap (λ c. c ∷ []) g)

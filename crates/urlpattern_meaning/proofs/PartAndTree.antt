@@ -59,12 +59,6 @@ takes_means modifier marks prefix piece suffix IsPiece stands text captures = (
       (core, [], e, f, (core_means modifier marks prefix piece suffix IsPiece stands core []).1 ((n, allowed, is), refl)),
 )
 
-core_groups : (modifier : PartModifier) (marks prefix : List ℕ) (piece : Items) (suffix : List ℕ) → group_count piece ≡ 0 → group_count (affixed_core modifier marks prefix piece suffix) ≡ 0
-core_groups modifiers.None marks prefix piece suffix e = e
-core_groups modifiers.Optional marks prefix piece suffix e = e
-core_groups modifiers.ZeroOrMore marks prefix piece suffix e = copies_groups marks prefix piece suffix e
-core_groups modifiers.OneOrMore marks prefix piece suffix e = copies_groups marks prefix piece suffix e
-
 between_groups : (marks prefix : List ℕ) (core : Items) (suffix : List ℕ) → group_count core ≡ 0 → group_count (between marks prefix core suffix) ≡ 1
 between_groups marks prefix core suffix e = put_groups marks prefix _ ∙ ap (λ n. suc n + group_count (put marks suffix Nothing)) e ∙ ap (λ n. suc 0 + n) (put_groups marks suffix Nothing)
 

@@ -14,6 +14,7 @@ use Rattle.urlpattern_syntax.specs.Text.{begins_with, is_name_part}
 use Rattle.urlpattern_syntax.proofs.Escaped.{escaped-append}
 use Rattle.urlpattern_meaning.proofs.MeaningLaws.{with_value}
 use Rattle.urlpattern_syntax.proofs.TokenExamples.{no}
+use Rattle.urlpattern_meaning.proofs.MatchingLaws.{and_right}
 
 -- ---- tests of the neighbours of a part
 
@@ -139,14 +140,10 @@ texts_pair : (part next : PartView) (parts : List PartView) (both : Bool) → (I
 texts_pair part next parts true filled more next_filled = ((λ h. append-filled part.value next.value (next_filled refl)), more.1)
 texts_pair part next parts false filled more next_filled = (filled, more)
 
-both_plain : (a b : Bool) → IsTrue (a && b) → IsTrue b
-both_plain true b h = h
-both_plain false b h = absurd (no h)
-
 texts_first : (part : PartView) (parts : List PartView) → (IsTrue (is_fixed_text part.kind) → part.value ≢ []) → HaveTexts parts → HaveTexts (joined_with part parts)
 texts_first part [] filled more = (filled, tt)
 texts_first part (next ∷ parts) filled more =
-    texts_pair part next parts (is_plain part && is_plain next) filled more (λ h. more.0 (plain_fixed next (both_plain (is_plain part) (is_plain next) h)))
+    texts_pair part next parts (is_plain part && is_plain next) filled more (λ h. more.0 (plain_fixed next (and_right (is_plain part) (is_plain next) h)))
 
 pub joined_texts : (parts : List PartView) → HaveTexts parts → HaveTexts (joined parts)
 joined_texts [] filled = tt

@@ -1,5 +1,5 @@
 -- The parts that a text reads as are pattern parts.
-use Rattle.std.proofs.Common.{◌≡◌, ◌≢◌, ℕ, suc, ◌⊎◌, Bool, true, false, not, List, [], ◌∷◌, Option, Some, None, refl, sym, ap, ◌∙◌, subst, inl, inr}
+use Rattle.std.proofs.Common.{◌≡◌, ◌≢◌, ℕ, suc, ◌⊎◌, not, List, [], ◌∷◌, Option, Some, None, refl, sym, ap, ◌∙◌, subst, inl, inr}
 use Rattle.std.specs.Prelude.{IsTrue, bytes_eq, codes, decimal, if◌then◌else◌}
 use Rattle.std.specs.Char.{is_ascii_digit}
 use Rattle.std.proofs.lemmas.Bool.{cond_both, false≢true}
@@ -155,11 +155,6 @@ groups-joined number (Fixed text modifiers.OneOrMore ∷ items) h = groups-joine
 groups-joined number (Capture prefix name match suffix modifier ∷ items) h = (h.0, groups-joined (number_with number name) items h.1)
 
 -- ---- parts
-
--- Two texts are equal or not.
-same_or_other : (xs ys : List ℕ) (b : Bool) → bytes_eq xs ys ≡ b → (xs ≡ ys) ⊎ (xs ≢ ys)
-same_or_other xs ys true e = inl ((bytes_eq-Decides xs ys).0 e)
-same_or_other xs ys false e = inr (λ same. false≢true (sym e ∙ (bytes_eq-Decides xs ys).1 same))
 
 -- The full wildcard is not the segment wildcard.
 full_no_segment : (options : OptionsView) → full_wildcard ≢ segment_wildcard options

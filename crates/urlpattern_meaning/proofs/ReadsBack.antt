@@ -1,17 +1,14 @@
 -- A printed pattern reads as the joined parts and as nothing else.
 use Rattle.std.proofs.Common.{◌≡◌, ℕ, ◌<◌, arith, List, [], ◌∷◌, refl, sym, ap, ◌∙◌, subst, inl, inr}
-use Rattle.std.specs.Prelude.{AllPairs, Contains, Result, Ok, Err, String, encode_utf8_all, ◌↔◌}
+use Rattle.std.specs.Prelude.{AllPairs, Contains, Result, Ok, Err, ◌↔◌}
 use Rattle.std.proofs.lemmas.Bool.{both_ways}
 use Rattle.urlpattern_syntax.proofs.ReadingLemmas.{item_names, names-AreParts}
 use Rattle.urlpattern_syntax.proofs.TokenExamples.{literals}
-use Rattle.std.specs.declared.alloc.Global.{Global}
-use Rattle.urlpattern_syntax.specs.declared.error.Error.{Error}
 use Rattle.urlpattern_syntax.specs.Errors.{ErrorView}
-use Rattle.urlpattern_syntax.specs.Text.{text_of}
 use Rattle.urlpattern_syntax.specs.Options.{OptionsView}
 use Rattle.urlpattern_syntax.specs.Parts.{PartView}
 use Rattle.urlpattern_syntax.specs.Pieces.{Ending as endings}
-use Rattle.urlpattern_syntax.specs.Reading.{AreParts, Encoding, FirstFails, Item, Reads, Refuses, demands, encoding_of, items_of}
+use Rattle.urlpattern_syntax.specs.Reading.{AreParts, Encoding, FirstFails, Item, Reads, Refuses, demands, items_of}
 use Rattle.urlpattern_syntax.specs.RegexpText.{group_names}
 use Rattle.urlpattern_syntax.specs.Tokens.{end_of}
 use Rattle.urlpattern_meaning.specs.Printing.{HaveTexts, Keeps, KeepsTexts, encoded_texts, joined, printed}
@@ -167,12 +164,6 @@ module _ (options : OptionsView) (encoding : Encoding) (parts : List PartView) (
   -- texts of the joined parts.
   pub answered_refused : (error : ErrorView) → Refuses (printed options parts) options encoding error → (text : List ℕ) × Contains (encoded_texts (joined parts)) text × encoding text (Err error)
   answered_refused = refused_back options encoding (Contains (encoded_texts (joined parts))) parts printable (each_contained (encoded_texts (joined parts)))
-
--- Results of a callback are results of its encoding.
-pub returned_kept : (returns : List ℕ → Result (String Global) Error → Type 0) (parts : List PartView) →
-    ((text : List ℕ) (string : String Global) → Contains (encoded_texts (joined parts)) text → returns (encode_utf8_all text) (Ok string) → text_of string ≡ text) → KeepsAnswered (encoding_of returns) parts
-returned_kept returns parts kept text other asked (Ok string, returned, same) = (let e : other ≡ text_of string = cc same in e) ∙ kept text string asked returned
-returned_kept returns parts kept text other asked (Err error, returned, same) = absurd (cc same)
 
 -- ---- parts that were read
 

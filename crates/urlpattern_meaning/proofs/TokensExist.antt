@@ -11,7 +11,8 @@ use Rattle.urlpattern_syntax.specs.declared.tokenizer.TokenType.{TokenType}
 use Rattle.urlpattern_syntax.specs.declared.tokenizer.TokenType.TheVariants.{Asterisk, Char, Close, EscapedChar, InvalidChar, Name, Open, OtherModifier, Regexp}
 use Rattle.urlpattern_meaning.specs.Laws.{HasLenientTokens, HasTokensOrFault}
 use Rattle.urlpattern_syntax.specs.Text.{byte_len, BeginsAt, BeginsWith, is_among, is_name_start, is_name_part}
-use Rattle.urlpattern_syntax.specs.Tokens.{FaultView, IncompleteEscapeCode, InvalidName, InvalidRegex, StartsWithQuestionMark, NotAscii, EscapedNotAscii, GroupAtEnd, CapturingGroup, NotClosed, NoBody, reason, IsFaultAt, is_question_mark, EndsThere, IsCut, IsInvalidCharOf, IsLexed, IsTokenOf, Skips, SkipsBy, Spells, TokenView, end_of, is_ignored, marks}
+use Rattle.urlpattern_syntax.specs.Tokens.{FaultView, IncompleteEscapeCode, InvalidName, InvalidRegex, StartsWithQuestionMark, NotAscii, EscapedNotAscii, GroupAtEnd, CapturingGroup, NotClosed, NoBody, reason, IsFaultAt, is_question_mark, EndsThere, IsCut, IsLexed, IsTokenOf, Skips, SkipsBy, Spells, TokenView, end_of, is_ignored, marks}
+use Rattle.urlpattern_meaning.proofs.TokensUnique.{LenientItem}
 
 -- ---- characters that are skipped
 
@@ -242,9 +243,6 @@ tokens_or_fault_exist text = by_end (strict_within (suc (byte_len text)) text te
       | inl e ↦ inl (s.tokens ++ end_of text ∷ [], record { front = s.tokens; cut = subst (IsCut (IsTokenOf text) text s.tokens) e s.cut; all = refl })
       | inr f ↦ inr (f.0, f.1, record { front = s.tokens; left = s.left; cut = s.cut; place = f.3; fault = f.2 })
     ]
-
-abbrev LenientItem : (whole start : List ℕ) → TokenView → List ℕ → Type 0
-LenientItem whole start token rest = IsTokenOf whole start token rest ⊎ IsInvalidCharOf whole start token rest
 
 lenient_within : (n : ℕ) (whole text : List ℕ) → byte_len text ≤ byte_len whole → byte_len text < n → (tokens : List TokenView) × IsCut (LenientItem whole) text tokens []
 lenient_within zero whole text within few = absurd (omega arith)

@@ -7,7 +7,7 @@ use Rattle.urlpattern_syntax.specs.declared.tokenizer.TokenType.{TokenType}
 use Rattle.urlpattern_syntax.specs.declared.tokenizer.TokenType.TheVariants.{Asterisk, Char, Close, End, EscapedChar, InvalidChar, Name, Open, OtherModifier, Regexp}
 use Rattle.urlpattern_meaning.specs.Laws.{Lays, spelling}
 use Rattle.urlpattern_syntax.specs.Text.{byte_len, BeginsAt}
-use Rattle.urlpattern_syntax.specs.Tokens.{AreLenientTokens, AreTokens, IsCut, IsTokenOf, Spells, TokenView, end_of}
+use Rattle.urlpattern_syntax.specs.Tokens.{AreLenientTokens, AreTokens, IsCut, Spells, TokenView, end_of}
 use Rattle.urlpattern_meaning.proofs.TokensUnique.{LenientItem, lenient_strict}
 
 -- ---- places of tokens, and the whole text
@@ -152,23 +152,6 @@ lenient_last_end text tokens front token h e = last_same front h.front token (en
 
 pub last_end : (text : List ℕ) (tokens front : List TokenView) (token : TokenView) → AreTokens text tokens → tokens ≡ front ++ token ∷ [] → token ≡ end_of text
 last_end text tokens front token h = lenient_last_end text tokens front token (lenient_strict text tokens h)
-
--- No strict token is an InvalidChar.
-strict_valid : (whole text : List ℕ) (cut_front front back : List TokenView) (token : TokenView) → IsCut (IsTokenOf whole) text cut_front [] → cut_front ++ end_of whole ∷ [] ≡ front ++ token ∷ back → ¬ (token.kind ≡ InvalidChar)
-strict_valid whole text [] [] back token cut e invalid =
-    let same : end_of whole ≡ token = cc e in
-    let f : End ≡ InvalidChar = ap (λ (t : TokenView). t.kind) same ∙ invalid in
-    cc f
-strict_valid whole text [] (other ∷ front) back token cut e invalid = absurd (no_tail token front back (cc e))
-strict_valid whole text (first ∷ cut_front) [] back token cut e invalid =
-    let same : first ≡ token = cc e in
-    let kind : first.kind ≡ InvalidChar = ap (λ (t : TokenView). t.kind) same ∙ invalid in
-    subst (λ k. Spells k first.value cut.3.lexed.spelling) kind cut.3.lexed.spells
-strict_valid whole text (first ∷ cut_front) (other ∷ front) back token cut e invalid =
-    strict_valid whole cut.1 cut_front front back token cut.4 (cc e) invalid
-
-pub tokens_valid : (text : List ℕ) (tokens front back : List TokenView) (token : TokenView) → AreTokens text tokens → tokens ≡ front ++ token ∷ back → ¬ (token.kind ≡ InvalidChar)
-tokens_valid text tokens front back token h e = strict_valid text text h.front front back token h.cut (sym h.all ∙ e)
 
 -- ---- each token in the text
 

@@ -10,7 +10,7 @@ use Rattle.urlpattern_meaning.proofs.WayLists.{Every, every-weaker, every-cond, 
 use Rattle.urlpattern_meaning.proofs.WaysSound.{IsSound, ways-sound, atom-sound}
 
 -- No way leaves more than the text.
-abbrev Falls : Choice → Type 0
+abbrev pub Falls : Choice → Type 0
 Falls choice = (text : List ℕ) → Every (λ way. length way.rest ≤ length text) (choice text)
 
 rounds-fall : (greedy : Bool) (atom : Choice) → Falls atom → (n : ℕ) → Falls (more_rounds greedy atom n)
@@ -38,13 +38,13 @@ module _ (s : List ℕ) where
       ((length way.rest < length s) × Cut long short)
       ⊎ ((other : Way) × (others : List Way) × (short ≡ other ∷ others) × (way ≡ longer other) × Cut long others)
 
-  cut-append : (xs ys us vs : List Way) → Cut xs us → Cut ys vs → Cut (xs ++ ys) (us ++ vs)
+  pub cut-append : (xs ys us vs : List Way) → Cut xs us → Cut ys vs → Cut (xs ++ ys) (us ++ vs)
   cut-append [] ys us vs e q = rw e q
   cut-append (way ∷ xs) ys us vs (inl (less, p)) q = inl (less, cut-append xs ys us vs p q)
   cut-append (way ∷ xs) ys us vs (inr (other, others, e, f, p)) q =
       inr (other, others ++ vs, ap (λ l. l ++ vs) e, f, cut-append xs ys others vs p q)
 
-  cut-map : (f g : Way → Way) → ((way : Way) → (f way).rest ≡ way.rest) → ((way : Way) → f (longer way) ≡ longer (g way))
+  pub cut-map : (f g : Way → Way) → ((way : Way) → (f way).rest ≡ way.rest) → ((way : Way) → f (longer way) ≡ longer (g way))
       → (xs us : List Way) → Cut xs us → Cut (map f xs) (map g us)
   cut-map f g rests same [] us e = ap (map g) e
   cut-map f g rests same (way ∷ xs) us (inl (less, p)) =
@@ -62,10 +62,10 @@ module _ (s : List ℕ) where
   cut-over f rests (m ∷ ms) xs us every p =
       inl (subst (λ r. length r < length s) (sym (rests m)) every.0, cut-over f rests ms xs us every.1 p)
 
-  abbrev IsCut : Choice → Choice → Type 0
+  abbrev pub IsCut : Choice → Choice → Type 0
   IsCut next short = (inner : List ℕ) → Cut (next (inner ++ s)) (short inner)
 
-  cut-continued : (next short : Choice) → Falls next → IsCut next short → (xs us : List Way) → Cut xs us → Cut (continued next xs) (continued short us)
+  pub cut-continued : (next short : Choice) → Falls next → IsCut next short → (xs us : List Way) → Cut xs us → Cut (continued next xs) (continued short us)
   cut-continued next short falls cut [] us e = ap (continued short) e
   cut-continued next short falls cut (way ∷ xs) us (inl (less, p)) =
       cut-over (joined_way way) (λ more. refl) (next way.rest) (continued next xs) (continued short us)
@@ -83,7 +83,7 @@ module _ (s : List ℕ) where
   cut-ordered true xs ys us vs p q = cut-append xs ys us vs p q
   cut-ordered false xs ys us vs p q = cut-append ys xs vs us q p
 
-  cut-idle : (groups : ℕ) (inner : List ℕ) → Cut (idle groups (inner ++ s) ∷ []) (idle groups inner ∷ [])
+  pub cut-idle : (groups : ℕ) (inner : List ℕ) → Cut (idle groups (inner ++ s) ∷ []) (idle groups inner ∷ [])
   cut-idle groups inner = inr (idle groups inner, [], refl, refl, refl)
 
   -- ---- characters
@@ -92,7 +92,7 @@ module _ (s : List ℕ) where
   one-falls passes [] = tt
   one-falls passes (c ∷ text) = every-cond _ (passes c) _ _ (omega arith, tt) tt
 
-  one-cut : (passes : ℕ → Bool) → IsCut (one_that passes) (one_that passes)
+  pub one-cut : (passes : ℕ → Bool) → IsCut (one_that passes) (one_that passes)
   one-cut passes [] = cut-none (one_that passes s) (one-falls passes s)
   one-cut passes (c ∷ inner) = by (passes c)
     where
@@ -170,7 +170,7 @@ module _ (s : List ℕ) where
 
   -- ---- atoms and items
 
-  taken-cut : (quantifier : Quantifier) (groups : ℕ) (atom : Choice) → Falls atom → IsCut atom atom → IsCut (quantified_ways quantifier groups atom) (quantified_ways quantifier groups atom)
+  pub taken-cut : (quantifier : Quantifier) (groups : ℕ) (atom : Choice) → Falls atom → IsCut atom atom → IsCut (quantified_ways quantifier groups atom) (quantified_ways quantifier groups atom)
   taken-cut Once groups atom falls cut inner = cut inner
   taken-cut Optional groups atom falls cut inner = cut-append (atom (inner ++ s)) _ (atom inner) _ (cut inner) (cut-idle groups inner)
   taken-cut ZeroOrMore groups atom falls cut inner =

@@ -1,6 +1,8 @@
 -- Ways one after another: items after items, and a fixed text before items.
 use Rattle.std.proofs.Common.{◌≡◌, ℕ, List, [], ◌∷◌, ◌++◌, map, length, Option, Some, option_map, find, Bool, true, false, cond, ◌==◌, refl, sym, ap, ap₂, ◌∙◌, append_assoc, append-nil, eq-eqb}
 use Rattle.std.proofs.lemmas.Bool.{cond-true}
+use Rattle.std.proofs.lemmas.List.{map-append, map-id}
+use Rattle.std.proofs.lemmas.Simd.{map-map}
 use Rattle.urlpattern_meaning.specs.Dialect.{Items, Nothing, Item, Literal, Once, character_of, atom_group_count}
 use Rattle.urlpattern_meaning.specs.PartMeaning.{Captures}
 use Rattle.urlpattern_meaning.specs.Ways.{Way, Choice, idle, joined_way, continued, quantified_ways, ways, atom_ways, first_way, first_way_by}
@@ -13,18 +15,6 @@ use Rattle.urlpattern_meaning.proofs.WaysComplete.{way_of}
 map-same : {A B : Type 0} (f g : A → B) (xs : List A) → ((x : A) → f x ≡ g x) → map f xs ≡ map g xs
 map-same f g [] e = refl
 map-same f g (x ∷ xs) e = ap₂ ◌∷◌ (e x) (map-same f g xs e)
-
-map-twice : {A B C : Type 0} (f : B → C) (g : A → B) (xs : List A) → map f (map g xs) ≡ map (λ x. f (g x)) xs
-map-twice f g [] = refl
-map-twice f g (x ∷ xs) = ap (λ l. f (g x) ∷ l) (map-twice f g xs)
-
-map-both : {A B : Type 0} (f : A → B) (xs ys : List A) → map f (xs ++ ys) ≡ map f xs ++ map f ys
-map-both f [] ys = refl
-map-both f (x ∷ xs) ys = ap (λ l. f x ∷ l) (map-both f xs ys)
-
-map-itself : {A : Type 0} (xs : List A) → map (λ x. x) xs ≡ xs
-map-itself [] = refl
-map-itself (x ∷ xs) = ap (λ l. x ∷ l) (map-itself xs)
 
 -- ---- items after items
 
@@ -45,13 +35,13 @@ joined_thrice way next more =
 joined_all : (way : Way) (next : Choice) (xs : List Way) → map (joined_way way) (continued next xs) ≡ continued next (map (joined_way way) xs)
 joined_all way next [] = refl
 joined_all way next (other ∷ xs) =
-    map-both (joined_way way) (map (joined_way other) (next other.rest)) (continued next xs)
+    map-append (joined_way way) (map (joined_way other) (next other.rest)) (continued next xs)
     ∙ ap₂ ◌++◌
-    (map-twice (joined_way way) (joined_way other) (next other.rest)
+    (map-map (joined_way way) (joined_way other) (next other.rest)
     ∙ map-same (λ more. joined_way way (joined_way other more)) (joined_way (joined_way way other)) (next other.rest) (joined_thrice way other))
     (joined_all way next xs)
 
-continued-twice : (next last : Choice) (xs : List Way) → continued (λ text. continued last (next text)) xs ≡ continued last (continued next xs)
+pub continued-twice : (next last : Choice) (xs : List Way) → continued (λ text. continued last (next text)) xs ≡ continued last (continued next xs)
 continued-twice next last [] = refl
 continued-twice next last (way ∷ xs) =
     ap₂ ◌++◌ (joined_all way last (next way.rest)) (continued-twice next last xs)
@@ -64,7 +54,7 @@ both_items (Item atom quantifier items) others = Item atom quantifier (both_item
 
 pub both_ways : (items others : Items) (text : List ℕ) → ways (both_items items others) text ≡ continued (ways others) (ways items text)
 both_ways Nothing others text =
-    sym (append-nil (map (joined_way (idle 0 text)) (ways others text)) ∙ map-itself (ways others text))
+    sym (append-nil (map (joined_way (idle 0 text)) (ways others text)) ∙ map-id (ways others text))
 both_ways (Item atom quantifier items) others text =
     let front = quantified_ways quantifier (atom_group_count atom) (atom_ways atom) text in
     continued-same (ways (both_items items others)) (λ t. continued (ways others) (ways items t)) front (both_ways items others)
@@ -115,7 +105,7 @@ put_ways marks (c ∷ front) items text =
     let here : (c == character_of (character marks c)) ≡ true = eq-eqb c (character_of (character marks c)) (sym (character_same marks c)) in
     ap (λ all. seen (continued (ways (put marks front items)) all)) (cond-true _ (one ∷ []) [] here)
     ∙ ap seen (append-nil (map (joined_way one) (ways (put marks front items) (front ++ text))))
-    ∙ map-twice seen_of (joined_way one) (ways (put marks front items) (front ++ text))
+    ∙ map-map seen_of (joined_way one) (ways (put marks front items) (front ++ text))
     ∙ put_ways marks front items text
 
 pub put_first : (marks front : List ℕ) (items : Items) (text : List ℕ) → first_way (put marks front items) (front ++ text) ≡ first_way items text

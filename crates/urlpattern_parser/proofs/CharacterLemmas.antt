@@ -28,9 +28,6 @@ pub record LeavesLast (text last rest : List ℕ) : Type 0 where
   pub stand : IsTrue (list_all stands_for_itself characters)
   pub one : ((characters ≡ []) × (last ≡ rest)) ⊎ ((c : ℕ) × (last ≡ c ∷ rest) × IsTrue (stands_for_itself c))
 
-pub leaves_all : (text : List ℕ) → LeavesLast text text text
-leaves_all text = record { characters = []; cut = refl; stand = refl; one = inl (refl, refl) }
-
 -- The next character stands for itself too.
 pub leaves_next : (text last rest after : List ℕ) (c : ℕ) → LeavesLast text last rest → rest ≡ c ∷ after → stands_for_itself c ≡ true → LeavesLast text rest after
 leaves_next text last rest after c h e stands = by_one h.one
@@ -140,10 +137,7 @@ character_tokens whole rest (c ∷ characters) next place h =
     one_more whole rest characters next c place h
     (character_tokens whole (characters ++ next) characters next (after_place whole rest characters next c place h) (after_before whole rest characters next c place h))
 
--- ---- the token that begins with a character
-
-same_first : (m c : ℕ) (spelling rest more : List ℕ) → spelling ≡ m ∷ [] → spelling ++ rest ≡ c ∷ more → m ≡ c
-same_first m c spelling rest more e f = cc (sym (ap (λ x. x ++ rest) e) ∙ f)
+-- ---- the token that such a character begins
 
 first_of : (m c : ℕ) (value spelling rest more : List ℕ) → spelling ≡ m ∷ value → spelling ++ rest ≡ c ∷ more → m ≡ c
 first_of m c value spelling rest more e f = cc (sym (ap (λ x. x ++ rest) e) ∙ f)

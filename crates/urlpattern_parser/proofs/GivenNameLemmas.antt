@@ -29,9 +29,6 @@ knows_none given none = record {
 }
 
 module _ (names : List (List ℕ)) (given : GivenNames) (number : ℕ) (knows : KnowsNames names given number) where
-  -- The next number is not among the names.
-  pub number_is_new : number < 2 ^ 64 → ¬ Contains names (decimal number)
-  number_is_new small = knows.numbered number (omega arith) small
 
   -- A number is added to the names.
   pub knows_number : number < 2 ^ 64 → KnowsNames (names ++ decimal number ∷ []) given (number + 1)

@@ -8,3 +8,4 @@ pub mod TextReadingLemmas
 pub mod StopLemmas
 pub mod NameSets
 pub mod GivenNameLemmas
+pub mod RefusedBodies

@@ -1,18 +1,14 @@
 -- Lemmas on tokens that are read one by one: places of a text, and the tokens left there.
-use Rattle.std.proofs.Common.{◌≡◌, ◌≢◌, ℕ, ◌+◌, ◌<◌, ◌≤◌, ◌⊎◌, List, [], ◌∷◌, ◌++◌, length, Ok, Err, refl, sym, ap, ◌∙◌, subst, inl, inr, arith}
-use Rattle.std.specs.Prelude.{Result, OnOk, IfErr, IfOk}
+use Rattle.std.proofs.Common.{◌≡◌, ◌≢◌, ℕ, ◌+◌, ◌<◌, ◌≤◌, ◌⊎◌, List, [], ◌∷◌, ◌++◌, length, refl, sym, ap, ◌∙◌, subst, inl, inr, arith}
 use Rattle.std.specs.Str.{chars, IsUtf8}
-use Rattle.urlpattern_syntax.specs.declared.error.Error.{Error}
-use Rattle.urlpattern_parser.specs.declared.parser.pieces.Next.{Next}
-use Rattle.urlpattern_parser.specs.declared.parser.pieces.Next.TheVariants as nexts
 use Rattle.urlpattern_parser.specs.declared.parser.pieces.Reader.{Reader}
 use Rattle.urlpattern_syntax.specs.declared.tokenizer.TokenType.{TokenType}
 use Rattle.urlpattern_syntax.specs.declared.tokenizer.TokenType.TheVariants.{End}
 use Rattle.urlpattern_syntax.specs.Cursors.{AreTokensAfter, IsPlace, IsTokenAfter, tokens_left}
 use Rattle.urlpattern_syntax.specs.Parsing.{IsModifierSpelled, IsNameSpelled}
-use Rattle.urlpattern_parser.specs.Readers.{HasTokensLeft, IsShorter, Stands, StartsText, Takes, reader_left, reader_text}
+use Rattle.urlpattern_parser.specs.Readers.{HasTokensLeft, Stands, StartsText, Takes, reader_left, reader_text}
 use Rattle.urlpattern_syntax.specs.Text.{BeginsAt, BeginsWith, byte_len}
-use Rattle.urlpattern_syntax.specs.Tokens.{AreTokens, IsCut, IsLexed, IsTokenOf, Skips, Spells, ReportsFault, TokenView, is_ignored, token_view}
+use Rattle.urlpattern_syntax.specs.Tokens.{AreTokens, IsCut, IsLexed, IsTokenOf, Skips, Spells, TokenView, is_ignored, token_view}
 use Rattle.urlpattern_syntax.proofs.NameCharacters.{name_given}
 use Rattle.urlpattern_syntax.proofs.PieceLemmas.{IsTokenList-more, are_token_list_after, spelled_kind, spelled_modifier}
 use Rattle.urlpattern_syntax.proofs.TextLemmas.{byte_len-append, byte_len-chars}
@@ -139,9 +135,6 @@ left_within rest behind next kind u v less le =
 
 -- A token is consumed.
 module _ (old new : Reader) (whole : new.cursor.input.now ≡ old.cursor.input.now) (place : IsPlace (reader_text old) (chars new.cursor.rest.now)) (after : IsTokenAfter (reader_text old) (chars old.cursor.rest.now) (token_view new.token) (chars new.cursor.rest.now)) (len : length new.cursor.rest.now + tokens_left new.token.kind ≤ length old.cursor.rest.now) (stands : Stands old) (other : old.token.kind ≢ End) where
-  same_text : reader_text new ≡ reader_text old
-  same_text = ap chars whole
-
   pub takes_less : reader_left new < reader_left old
   takes_less =
       let one = one_left old.token.kind other in
@@ -205,14 +198,6 @@ takes_weaker a b P Q t weaker = record {
       (x.0, x.1, weaker x.0 rest x.1 g x.2);
 }
 
--- Equal texts have the same faults.
-pub fault_same : {T : Type 0} (a b : List ℕ) (result : Result T Error) → chars a ≡ chars b → IfErr result (ReportsFault (chars a)) → IfErr result (ReportsFault (chars b))
-fault_same a b result e h = subst (λ text. IfErr result (ReportsFault text)) e h
-
-pub ok_weaker : {T : Type 0} (result : Result T Error) (P Q : Type 0) → (P → Q) → OnOk result P → OnOk result Q
-ok_weaker (Ok x) P Q f h = f h
-ok_weaker (Err error) P Q f h = h
-
 -- A reader at the first token of the text.
 pub starts : (text : List ℕ) (reader : Reader) (rest : List ℕ) → reader_text reader ≡ text → IsPlace text (chars reader.cursor.rest.now) → Skips text rest → IsTokenAfter text rest (token_view reader.token) (chars reader.cursor.rest.now) → StartsText text reader
 starts text reader rest whole place skips after = record {
@@ -227,14 +212,3 @@ starts text reader rest whole place skips after = record {
       (subst (λ x. AreTokensAfter x rest tokens) whole
       (given_after reader rest tokens (subst (λ x. IsTokenAfter x rest (token_view reader.token) (chars reader.cursor.rest.now)) (sym whole) after) g));
 }
-
--- Consuming a piece leaves fewer tokens.
-pub shorter_if : (result : Result Next Error) (new old : ℕ) → OnOk result (new < old) → IfOk result (IsShorter new old)
-shorter_if (Err error) new old h = tt
-shorter_if (Ok next) new old h = by_next next
-  where
-    by_next : (next : Next) → IsShorter new old next
-    by_next (nexts.Piece piece) = h
-    by_next (nexts.Characters first more) = h
-    by_next nexts.Stops = tt
-    by_next nexts.LacksClose = tt

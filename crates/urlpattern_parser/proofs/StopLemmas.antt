@@ -3,7 +3,6 @@ use Rattle.std.proofs.Common.{◌≡◌, ℕ, List, [], ◌∷◌, ◌++◌, ref
 use Rattle.std.specs.Prelude.{IsTrue}
 use Rattle.std.specs.List.{list_all}
 use Rattle.std.proofs.lemmas.Bool.{and_parts}
-use Rattle.std.proofs.lemmas.List.{append-nil}
 use Rattle.urlpattern_parser.specs.declared.parser.pieces.Reader.{Reader}
 use Rattle.urlpattern_syntax.specs.Parsing.{BeginsWithPiece, BeginsWithRow, HasEndingAt}
 use Rattle.urlpattern_parser.specs.Readers.{HasTokensLeft, StartsText, Takes}

@@ -1,3 +1,4 @@
+pub mod Bodies
 pub mod CursorTexts
 pub mod GivenNames
 pub mod Lexemes

@@ -1,5 +1,8 @@
 //! Parses the pattern text of one component: cuts it into tokens, and makes parts of the tokens.
 #![tactic(auto)]
 
+mod body;
 pub mod parser;
 pub mod tokenizer;
+
+pub use body::{RefusedBody, split_body};

@@ -6,7 +6,7 @@ use Rattle.std.proofs.lemmas.List.Sums.{AllPass-from_list_all}
 use Rattle.std.proofs.lemmas.Option.{same_Some}
 use Rattle.std.specs.List.{All, Any}
 use Rattle.std.specs.Str.{all_scalars}
-use Rattle.std.specs.Prelude.{◌&&◌, Option, Some, None, Result, Ok, Err, IsTrue, slice_index_or}
+use Rattle.std.specs.Prelude.{◌&&◌, Option, Some, None, Ok, IsTrue, slice_index_or}
 use Rattle.urlpattern_canonical.specs.Canonical.{special_schemes}
 use Rattle.urlpattern_matcher.specs.Components.{ComponentView, IsComponentOf, IsEngineOf, engine_flags, has_regexp, is_custom}
 use Rattle.urlpattern_matcher.specs.FirstWays.{AnswersFirstWays, EachAnswersFirst, Taking}
@@ -34,14 +34,13 @@ use Rattle.urlpattern_pattern.proofs.MatchLaws.{no_input-long, texts-one}
 use Rattle.urlpattern_pattern.proofs.MeaningLemmas.{executed_means, none_custom, read_once}
 use Rattle.urlpattern_pattern.specs.ByText.{AnswersByItsText, AnswersByText, EnginesAnswerFirst, HasMeaning, IsFirstResult, IsFirstWay, IsExecutedByMeaning, IsFoundByText, IsHierarchicalByText, MakesFirstWays}
 use Rattle.urlpattern_compile.specs.Compiled.{AreCompiled, HasHierarchicalPath, IsComponentCompiled, IsPathKind, IsPatternOfInit, Manner, manner_of, pattern_values}
-use Rattle.urlpattern_pattern.specs.UrlPatterns.{UrlPattern}
 use Rattle.urlpattern_init.specs.declared.init.UrlPatternMatchInput.{UrlPatternMatchInput}
 use Rattle.urlpattern_matches.specs.MatchInput.{input_texts}
 use Rattle.urlpattern_pattern.specs.Match.{FindsInTexts, IsLongInput, IsMatchOf, IsRefused}
 use Rattle.urlpattern_matches.specs.ResultViews.{IsResultOf, IsSameResult, ResultView, group_of}
 use Rattle.urlpattern_pattern.specs.ByTextLaws.{AllHaveMeaning, FindingsAreOne, IsSameFinding, TakenPatternsAnswerByText}
 use Rattle.urlpattern_pattern.specs.Meaning.{IsExecuted, ReadsAs}
-use Rattle.urlpattern_pattern.specs.Patterns.{IfPattern, PatternView, pattern_view}
+use Rattle.urlpattern_pattern.specs.Patterns.{PatternView}
 
 -- ---- no custom regular expression
 
@@ -273,10 +272,6 @@ init_by_text engine init asked pattern (values, are_values, compiled) firsts =
 pub taken_by_text : {E : Type 0} (engine : Engine E) (Took : InnerView E → Type 0) → EachAnswersFirst engine (λ options flags. Took) → TakenPatternsAnswerByText engine Took
 taken_by_text engine Took firsts = λ init asked pattern (values, are_values, compiled) took.
     pattern_by_took engine init asked values pattern are_values compiled (λ options flags. Took) firsts took
-
-pub if_pattern-weaker : {E Fault : Type 0} (result : Result (UrlPattern E) Fault) (P Q : PatternView E → Type 0) → ((pattern : PatternView E) → P pattern → Q pattern) → IfPattern result P → IfPattern result Q
-if_pattern-weaker (Ok pattern) P Q weaker is = weaker (pattern_view pattern) is
-if_pattern-weaker (Err error) P Q weaker is = tt
 
 -- What is found in an input.
 pub input_by_text : {E : Type 0} (answer : E → List ℕ → Option Captures) (init : UrlPatternInit) (asked : UrlPatternOptions) (pattern : PatternView E) (by : AnswersByItsText answer init asked pattern)

@@ -1,5 +1,5 @@
 -- The capture of a group that is given a text, by its name.
-use Rattle.std.proofs.Common.{◌≡◌, ◌⊎◌, ◌∙◌, ℕ, Bool, true, false, List, [], ◌∷◌, ◌++◌, All, ap, bytes_eq, cond, inl, inr, map, refl, reverse, sym, subst, zip, Option, Some, None, Ok}
+use Rattle.std.proofs.Common.{◌≡◌, ◌⊎◌, ◌∙◌, ℕ, Bool, true, false, List, [], ◌∷◌, All, ap, bytes_eq, cond, inl, inr, map, refl, reverse, sym, subst, zip, Option, Some, None, Ok}
 use Rattle.std.proofs.lemmas.Bool.{false≢true}
 use Rattle.std.proofs.lemmas.List.{reverse-append}
 use Rattle.std.proofs.lemmas.List.Elements.{All-cons, All-head, All-nil, All-tail}
@@ -7,7 +7,7 @@ use Rattle.std.proofs.lemmas.Slice.Eq.{bytes_eq-Decides}
 use Rattle.std.specs.List.{list_any}
 use Rattle.std.specs.Map.{lookup}
 use Rattle.std.specs.Option.{option_or}
-use Rattle.std.specs.Prelude.{◌||◌, IsTrue, filter, not, if◌then◌else◌}
+use Rattle.std.specs.Prelude.{◌||◌, filter, not, if◌then◌else◌}
 use Rattle.urlpattern_generate.specs.Asked.{AreAsked, IsAsked, IsAskedBy}
 use Rattle.urlpattern_generate.specs.Manners.{WritingManner}
 use Rattle.urlpattern_generate.specs.Links.{OfFirst, captures_after}
@@ -46,7 +46,7 @@ module _ (name : List ℕ) (capture : Option (List ℕ)) where
 
 -- ---- the groups of parts, with what they are to capture
 
-names_first : (group : Bool) (part : PartView) (parts : List PartView) → map (λ (p : PartView). p.name) (if group then part ∷ parts else parts) ≡ (if group then part.name ∷ map (λ (p : PartView). p.name) parts else map (λ (p : PartView). p.name) parts)
+pub names_first : (group : Bool) (part : PartView) (parts : List PartView) → map (λ (p : PartView). p.name) (if group then part ∷ parts else parts) ≡ (if group then part.name ∷ map (λ (p : PartView). p.name) parts else map (λ (p : PartView). p.name) parts)
 names_first true part parts = refl
 names_first false part parts = refl
 

@@ -1,13 +1,12 @@
 -- Patterns that keep their parts.
-use Rattle.std.proofs.Common.{◌≡◌, Bool, Ok, Some, subst, sym}
+use Rattle.std.proofs.Common.{◌≡◌, Some, subst, sym}
 use Rattle.urlpattern_matcher.specs.Components.{IsComponentOf, component_view}
 use Rattle.urlpattern_matcher.specs.declared.component.{Component.Component, ComponentWithParts.ComponentWithParts}
 use Rattle.urlpattern_matcher.specs.declared.regexp.RegExp.{Ghosts as Engine}
 use Rattle.urlpattern_compile.proofs.CompiledLemmas.{kept_compiled}
-use Rattle.urlpattern_compile.specs.Compiled.{AreCompiled, HasEngine, IsComponentCompiled, IsPathKind, IsPatternOfInit, manner_of, pattern_values}
+use Rattle.urlpattern_compile.specs.Compiled.{AreCompiled, HasEngine, IsComponentCompiled, IsPathKind, IsPatternOfInit, manner_of}
 use Rattle.urlpattern_compile.specs.Kept.{AreCompiledKeeping, IsKeptOfInit}
 use Rattle.urlpattern_compile.specs.PatternViews.{eight_view}
-use Rattle.urlpattern_components.specs.declared.eight.ComponentName.{ComponentName}
 use Rattle.urlpattern_components.specs.declared.eight.ComponentName.TheVariants.{Protocol}
 use Rattle.urlpattern_components.specs.declared.eight.Eight.{Eight}
 use Rattle.urlpattern_components.specs.Eight.{Values, at}

@@ -1,45 +1,40 @@
 -- The URL of a pattern, by the texts of its components.
-use Rattle.std.proofs.Common.{◌≡◌, ◌≢◌, ◌+◌, ◌∙◌, ◌<◌, ℕ, add-one, All, Bool, true, false, List, ◌∷◌, ◌++◌, Option, Some, None, Result, Ok, Err, ap, bytes_eq, drop, get_or, inl, inr, length, refl, subst, sym, take}
-use Rattle.std.proofs.Math.Seq.{drop-cons}
+use Rattle.std.proofs.Common.{◌≡◌, ◌≢◌, ◌+◌, ◌∙◌, ◌<◌, ℕ, All, Bool, true, false, List, Option, Some, None, Result, Ok, Err, ap, bytes_eq, drop, get_or, inl, inr, length, refl, subst, sym, take}
 use Rattle.std.proofs.lemmas.Bool.{false≢true}
-use Rattle.std.proofs.lemmas.List.{take-append-drop}
 use Rattle.std.specs.List.{list_any}
-use Rattle.std.specs.Prelude.{IfErr, IfOk, IfSome, IsTrue, MatchOption}
+use Rattle.std.specs.Prelude.{IfErr, IfOk, MatchOption}
 use Rattle.std.specs.declared.alloc.Global.{Global}
 use Rattle.std.specs.declared.borrow.CowStr.{CowStr}
 use Rattle.url.specs.Parts.{Parts}
 use Rattle.urlpattern_matcher.proofs.MatcherAnswers.{matches-accepts}
 use Rattle.urlpattern_matcher.specs.declared.component.Component.{Component}
 use Rattle.urlpattern_matcher.specs.declared.regexp.RegExp.{Ghosts as Engine}
-use Rattle.urlpattern_matcher.specs.Matchers.{matcher_view}
 use Rattle.urlpattern_compile.specs.PatternViews.{PatternView, eight_view}
-use Rattle.urlpattern_components.proofs.EightLemmas.{at-each, of_each}
+use Rattle.urlpattern_components.proofs.EightLemmas.{of_each}
 use Rattle.urlpattern_components.specs.declared.eight.ComponentName.{ComponentName}
 use Rattle.urlpattern_components.specs.declared.eight.ComponentName.TheVariants.{Protocol}
-use Rattle.urlpattern_components.specs.declared.eight.Eight.{Eight}
 use Rattle.urlpattern_components.specs.Eight.{IsFirstError, Texts, at, components}
-use Rattle.urlpattern_generate.specs.Generating.{TellsFound}
-use Rattle.urlpattern_generate.specs.Manners.{GivenView, manner_for, text_given}
+use Rattle.urlpattern_generate.specs.Manners.{GivenView, manner_for}
 use Rattle.urlpattern_generate.specs.Writing.{CannotWrite, IsWritten, cow_text}
 use Rattle.urlpattern_generate.specs.declared.error.GenerateError.{GenerateError}
 use Rattle.urlpattern_generate.specs.declared.error.GenerateError.TheVariants as generating
 use Rattle.urlpattern_init.specs.Inheritance.{texts_of_url}
 use Rattle.urlpattern_init.specs.declared.init.UrlPatternMatchInput.TheVariants as inputs
-use Rattle.urlpattern_matches.specs.ResultViews.{ResultView, group_of}
+use Rattle.urlpattern_matches.specs.ResultViews.{group_of}
 use Rattle.urlpattern_meaning.specs.Matching.{Accepts, Answers, InnerView, Literal, MatcherView, RegExp, SingleCapture}
 use Rattle.urlpattern_meaning.specs.PartMeaning.{Captures}
 use Rattle.urlpattern_pattern.proofs.GivenCaptures.{given_captured}
 use Rattle.urlpattern_pattern.specs.GeneratedTexts.{HasParts, manner_in, parts_in}
 use Rattle.urlpattern_pattern.specs.LinkedUrls.{AnswersParts, AreWritten, IsCapturedBy, IsConfirmed, IsConfirmedBefore, IsLink, IsLinkOf, IsOther, RefusesLink, RefusesLinkOf, ReturnsGiven, TellsConfirmed}
-use Rattle.urlpattern_pattern.specs.Match.{HasMatch, IsMatch}
+use Rattle.urlpattern_pattern.specs.Match.{HasMatch}
 use Rattle.urlpattern_pattern.specs.UrlPatterns.{AreMadeOfParts, UrlPattern}
 use Rattle.urlpattern_compare.specs.declared.pattern.PatternParts.{PatternParts}
 use Rattle.urlpattern_syntax.specs.ComponentParts.{kept_options, kept_parts}
 use Rattle.urlpattern_syntax.specs.declared.parts.ComponentParts.{ComponentParts}
-use Rattle.urlpattern_syntax.specs.RegexpText.{group_names}
-use Rattle.urlpattern_generate.specs.UrlsOfTexts.{IsReadOfTexts, RefusesTexts, cow_texts}
+use Rattle.urlpattern_generate.specs.UrlsOfTexts.{IsReadOfTexts, RefusesTexts}
 use Rattle.urlpattern_generate.specs.declared.no_link.NoLink.{NoLink}
 use Rattle.urlpattern_generate.specs.declared.no_link.NoLink.TheVariants as links
+use Rattle.urlpattern_generate.proofs.UrlLemmas.{cut_at}
 
 -- ---- one result
 
@@ -56,37 +51,9 @@ pub answered_once : {E : Type 0} (answer : E → List ℕ → Option Captures) (
 answered_once answer matcher text captures others (middle, cut, accepts) also =
     accepted_once answer matcher.ignore_case matcher.inner middle captures others accepts ((matches-accepts answer matcher text middle others cut).0 also)
 
--- ---- components by their names
-
-pub cut_at : (i : ℕ) → i < length components → components ≡ take i components ++ get_or components i Protocol ∷ drop (i + 1) components
-cut_at i within =
-    sym (take-append-drop i components) ∙ ap (λ rest. take i components ++ rest) (drop-cons components i Protocol within ∙ ap (λ n. get_or components i Protocol ∷ drop n components) (sym (add-one i)))
-
 -- ---- texts
 
--- Texts of components, borrowed or owned, are written if each of them is.
-pub own_written : (parts : PatternParts) (groups : List GivenView) (texts : Eight (CowStr Global)) → ((name : ComponentName) → IsWritten (manner_in parts groups name) (parts_in parts name) (cow_text (at texts name))) →
-    AreWritten parts groups (cow_texts texts)
-own_written parts groups texts are name = subst (IsWritten (manner_in parts groups name) (parts_in parts name)) (sym (at-each (λ other. cow_text (at texts other)) name)) (are name)
-
-pub text_written : (parts : PatternParts) (groups : List GivenView) (texts : Eight (CowStr Global)) (name : ComponentName) (kept : ComponentParts) (text : List ℕ) → kept ≡ at parts.components name → text ≡ cow_text (at texts name) →
-    AreWritten parts groups (cow_texts texts) → IsWritten (manner_for name (kept_options kept) (kept_parts kept) groups) (kept_parts kept) text
-text_written parts groups texts name kept text e f are =
-    subst (λ (of : ComponentParts). IsWritten (manner_for name (kept_options of) (kept_parts of) groups) (kept_parts of) text) (sym e)
-    (subst (IsWritten (manner_in parts groups name) (parts_in parts name)) (at-each (λ other. cow_text (at texts other)) name ∙ sym f) (are name))
-
 module _ {E : Type 0} (answer : E → List ℕ → Option Captures) where
-  -- What a matcher finds in the text of a component.
-  pub told_confirmed : {Fault : Type 0} (own : Eight (Component E)) (parts : PatternParts) (groups : List GivenView) (texts : Eight (CowStr Global)) (name : ComponentName) (kept : ComponentParts) (component : Component E) (text : List ℕ)
-      (r : Result Bool Fault) → kept ≡ at parts.components name → component ≡ at own name → text ≡ cow_text (at texts name) →
-      IfOk r (λ is. TellsFound is answer (matcher_view component.matcher) (manner_for name (kept_options kept) (kept_parts kept) groups) (kept_parts kept) text) →
-      IfOk r (λ is. TellsConfirmed is answer (eight_view own) parts groups (cow_texts texts) name)
-  told_confirmed own parts groups texts name kept component text (Err fault) e f g told = tt
-  told_confirmed own parts groups texts name kept component text (Ok is) e f g told =
-      subst (λ of. TellsFound is answer (matcher_view (at own name).matcher) (manner_in parts groups name) (parts_in parts name) of) (g ∙ sym (at-each (λ other. cow_text (at texts other)) name))
-      (subst (λ (of : Component E). TellsFound is answer (matcher_view of.matcher) (manner_in parts groups name) (parts_in parts name) text) f
-      (subst (λ (of : ComponentParts). TellsFound is answer (matcher_view component.matcher) (manner_for name (kept_options of) (kept_parts of) groups) (kept_parts of) text) e told))
-
   module _ (pattern : PatternView E) (parts : PatternParts) (groups : List GivenView) (texts : Texts) where
     pub confirmed_if : (is : Bool) (name : ComponentName) → is ≡ true → TellsConfirmed is answer pattern parts groups texts name → IsConfirmed answer pattern parts groups texts name
     confirmed_if true name e told = told
@@ -182,11 +149,6 @@ module _ {E : Type 0} (answer : E → List ℕ → Option Captures) where
           subst (λ (of : Texts). IsReadOfTexts of url) (sym same) read,
           subst (λ (of : Texts). IsConfirmedBefore answer view parts groups of (Some component)) (sym same) before,
         )
-
-  -- A pattern without parts has no link.
-  pub refused_by_hand : (pattern : UrlPattern E) (groups : List GivenView) → pattern.parts ≡ None → RefusesLink answer pattern groups (links.Component generating.NoParts)
-  refused_by_hand pattern groups none =
-      subst (λ (of : Option PatternParts). MatchOption of (links.Component generating.NoParts ≡ links.Component generating.NoParts) (λ own. RefusesLinkOf answer (eight_view pattern.components) own groups (links.Component generating.NoParts))) (sym none) refl
 
 -- The result of writing a component: a text, or why there is none.
 pub part_answered : (parts : PatternParts) (groups : List GivenView) (name : ComponentName) (kept : ComponentParts) (result : Result (CowStr Global) GenerateError) → kept ≡ at parts.components name →

@@ -1,5 +1,5 @@
 -- The components one after the other, in the order of the standard.
-use Rattle.std.proofs.Common.{◌≡◌, ◌<◌, ◌++◌, ℕ, Bor, List, ◌∷◌, ap, drop, get_or, length, lit<, subst, suc, sym, take, ◌∙◌}
+use Rattle.std.proofs.Common.{◌≡◌, ◌<◌, ◌++◌, ℕ, Bor, List, ◌∷◌, ap, drop, get_or, length, subst, suc, sym, take, ◌∙◌}
 use Rattle.std.proofs.Math.Seq.{drop-cons}
 use Rattle.std.proofs.lemmas.List.{take-append-drop}
 use Rattle.std.specs.Prelude.{All, Option}
@@ -13,7 +13,6 @@ use Rattle.urlpattern_matches.specs.GroupTexts.{borrowed_texts}
 use Rattle.urlpattern_pattern.specs.Mismatch.{MatchesBefore}
 use Rattle.urlpattern_pattern.specs.Patterns.{PatternView, components_of, pattern_view}
 use Rattle.urlpattern_pattern.specs.UrlPatterns.{UrlPattern}
-use Rattle.urlpattern_components.proofs.EightLemmas.{by_name}
 use Rattle.urlpattern_components.specs.declared.eight.ComponentName.{ComponentName}
 use Rattle.urlpattern_components.specs.declared.eight.Eight.{Eight}
 use Rattle.urlpattern_components.specs.declared.eight.ComponentName.TheVariants.{Protocol}
@@ -38,9 +37,3 @@ pub of_got : {E : Type 0} (P : MatcherView E → List ℕ → Type 0) (pattern :
 of_got {E} P pattern texts name component text is text_is holds =
     subst (λ (seen : List ℕ). P (pattern_view pattern name).matcher seen) (ap (λ (t : Bor (List ℕ)). chars t.now) text_is ∙ sym (text-at texts name))
     (subst (λ (got : Component E). P (matcher_view got.matcher) (chars text.now)) is holds)
-
--- What holds of each in turn holds of all.
-pub of_each : (P : ComponentName → Type 0) → All P components → (name : ComponentName) → P name
-of_each P all =
-    by_name P (all 0 Protocol (lit< tt)) (all 1 Protocol (lit< tt)) (all 2 Protocol (lit< tt)) (all 3 Protocol (lit< tt)) (all 4 Protocol (lit< tt))
-    (all 5 Protocol (lit< tt)) (all 6 Protocol (lit< tt)) (all 7 Protocol (lit< tt))

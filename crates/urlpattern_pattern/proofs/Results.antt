@@ -8,7 +8,3 @@ if_none P (Some x) p = tt
 pub if_err : {A B : Type 0} (P : Type 0) (result : Result A B) → P → IfErr result (λ _. P)
 if_err P (Ok x) p = tt
 if_err P (Err x) p = p
-
-pub err-leads : {A B : Type 0} (P Q : Type 0) (result : Result A B) → (P → Q) → IfErr result (λ _. P) → IfErr result (λ _. Q)
-err-leads P Q (Ok x) f p = tt
-err-leads P Q (Err x) f p = f p

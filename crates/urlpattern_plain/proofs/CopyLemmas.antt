@@ -1,5 +1,5 @@
 -- Copies of lists of texts.
-use Rattle.std.proofs.Common.{◌≡◌, List, [], ◌∷◌, String, ap, map, refl, string_bytes, ◌∙◌}
+use Rattle.std.proofs.Common.{◌≡◌, List, [], ◌∷◌, String, map, refl, string_bytes}
 use Rattle.std.specs.List.{AllZip}
 use Rattle.std.specs.declared.alloc.Global.{Global}
 

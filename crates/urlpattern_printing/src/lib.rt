@@ -6,6 +6,6 @@ mod names;
 mod printed;
 mod regexp_text;
 
-pub use names::{generate_name_list, generate_regular_expression_and_name_list};
+pub use names::{generate_name_list, generate_regular_expression_and_name_list, is_bare};
 pub use printed::generate_pattern_string;
 pub use regexp_text::generate_regular_expression;

@@ -2,7 +2,7 @@
 //!
 //! <https://urlpattern.spec.whatwg.org/#converting-part-lists-to-pattern-strings>
 
-ghost use Rattle.std.specs.Prelude.{◌≡◌, ◌&&◌, ◌||◌, false, not, IfOk};
+ghost use Rattle.std.specs.Prelude.{◌≡◌, ◌&&◌, ◌||◌, false, IfOk};
 ghost use Rattle.std.specs.Str.{chars};
 ghost use Rattle.urlpattern_printing.specs.Neighbours.{ends_with_prefix, neighbour};
 ghost use Rattle.urlpattern_printing.specs.{NormalForms.ReadsBackIfKept, PartTexts.group_part};

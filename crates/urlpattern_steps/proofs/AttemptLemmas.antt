@@ -133,18 +133,6 @@ module _ (ignore_case : Bool) (old now : Attempt) (steps left : List Step) (text
     whole = leaves.whole;
   }
 
-  -- The outcome of a call on the rest is that of the whole.
-  pub leaves_later : {E : Type 0} (new : Attempt) (result : Result Bool E)
-      → IfOk result (λ is_taken. FollowsOn now new is_taken (walk ignore_case left rest)) → IfOk result (λ is_taken. FollowsOn old new is_taken (walk ignore_case steps text))
-  leaves_later new (Ok is_taken) follows = record {
-    adds = follows.adds ∙ sym leaves.so_far;
-    more = λ e.
-        let added = follows.more e in
-        subst (Extends old.captures.items) (sym added.1) (extends_more old.captures.items now.captures.items added.0 leaves.more);
-    whole = follows.whole ∙ leaves.whole;
-  }
-  leaves_later new (Err error) follows = tt
-
 -- ---- a text that is split
 
 -- The text is split after `front`, and `Holds` is true of the characters that follow.

@@ -1,5 +1,5 @@
 -- Copies of a literal, found from the start and tried from the end.
-use Rattle.std.proofs.Common.{◌≡◌, ℕ, zero, suc, ◌<◌, List, [], ◌∷◌, ◌++◌, length, take, drop, Option, Some, None, Bool, true, false, cond, ◌==◌, refl, sym, ap, ap₂, ◌∙◌, append-nil, append_assoc, length-append, arith, subst}
+use Rattle.std.proofs.Common.{◌≡◌, ℕ, zero, suc, ◌<◌, List, [], ◌∷◌, ◌++◌, length, take, drop, Option, Some, None, Bool, true, false, cond, refl, sym, ap, ap₂, ◌∙◌, append-nil, append_assoc, length-append, arith, subst}
 use Rattle.std.proofs.lemmas.List.{append_cancel_left}
 use Rattle.std.proofs.lemmas.Str.{chars-append}
 use Rattle.std.proofs.Math.Seq.{take-append_seam}

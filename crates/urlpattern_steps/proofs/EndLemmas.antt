@@ -1,6 +1,5 @@
 -- The ends of separated runs, from the end of the text on.
-use Rattle.std.proofs.Common.{◌≡◌, ℕ, ◌<◌, ◌⊎◌, inl, inr, List, [], ◌∷◌, ◌++◌, length, get_or, take, drop, Option, Some, None, option_map, Bool, true, false, cond, ◌==◌, refl, sym, ap, ap₂, ◌∙◌, subst, append_assoc, length-append, arith, eq-eqb, eqb-true}
-use Rattle.std.proofs.lemmas.Bool.{false≢true}
+use Rattle.std.proofs.Common.{◌≡◌, ℕ, ◌<◌, ◌⊎◌, inl, inr, List, [], ◌∷◌, ◌++◌, length, get_or, take, drop, Option, Some, None, option_map, Bool, true, false, cond, refl, sym, ap, ap₂, ◌∙◌, subst, append_assoc, length-append, arith}
 use Rattle.std.proofs.Math.ListN.{get_or-append}
 use Rattle.std.proofs.Math.Seq.{get_or-append_seam, take-append_seam}
 use Rattle.urlpattern_syntax.proofs.StringTexts.{chars-encode}
@@ -8,7 +7,6 @@ use Rattle.std.proofs.lemmas.List.{append_cancel_left}
 use Rattle.std.proofs.lemmas.Str.{chars-append, chars_past_char, IsUtf8-append}
 use Rattle.std.specs.Char.{IsScalar, encode_utf8}
 use Rattle.std.specs.Option.{option_or}
-use Rattle.std.specs.Prelude.{is_some}
 use Rattle.std.specs.Str.{chars, IsUtf8}
 use Rattle.urlpattern_meaning.specs.PartMeaning.{Captures}
 use Rattle.urlpattern_steps.specs.declared.step.Segments.{Segments as Segmented}
@@ -259,18 +257,6 @@ place_ends ignore_case c literal is_greedy end next text front rest left table k
     (placed, cuts.0, cuts.1)
 
 -- ---- one place
-
-pub end_next : (next : Option ℕ) (here : ℕ) (found : Option Captures) → is_some next ≡ true → IsEndHere next here found next
-end_next None here found e = absurd (false≢true e)
-end_next (Some n) here found e = refl
-
-pub end_some : (next : Option ℕ) (here : ℕ) (found : Option Captures) → is_some next ≡ false → ¬ (found ≡ None) → IsEndHere next here found (Some here)
-end_some None here found e some = (refl, some)
-end_some (Some n) here found e some = absurd (false≢true (sym e))
-
-pub end_none : (next : Option ℕ) (here : ℕ) (found : Option Captures) → is_some next ≡ false → found ≡ None → IsEndHere next here found None
-end_none None here found e none = none
-end_none (Some n) here found e none = absurd (false≢true (sym e))
 
 -- The step of separated runs, by its parts.
 pub segments_step : (ignore_case : Bool) (segments : Segmented) (steps literal others : List Step) (text : List ℕ) → literal ≡ take segments.separator.others steps → others ≡ drop segments.separator.others steps

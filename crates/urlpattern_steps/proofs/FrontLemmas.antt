@@ -3,7 +3,7 @@ use Rattle.std.proofs.Common.{◌≡◌, ℕ, Bool, true, false, List, [], ◌�
 use Rattle.std.proofs.lemmas.Bool.{eqb-false}
 use Rattle.std.specs.Prelude.{◌≢◌, ◌⊎◌, IfNone, IfSome, IsTrue}
 use Rattle.std.specs.Str.{chars}
-use Rattle.urlpattern_meaning.specs.Dialect.{AnyBut, AreItems, Atom, Captured, Character, Plain, Escaped, Dot, Grouped, IsAtom, IsCharacter, IsClassCharacter, Item, Items, LazyOneOrMore, Nothing, Once, OneOrMore, Optional, Quantifier, ZeroOrMore, atom_text, character_of, character_text, items_text}
+use Rattle.urlpattern_meaning.specs.Dialect.{AnyBut, AreItems, Atom, Captured, Character, Plain, Escaped, Dot, Grouped, IsAtom, IsCharacter, IsClassCharacter, Item, Items, LazyOneOrMore, Nothing, Once, OneOrMore, Optional, Quantifier, ZeroOrMore, atom_text, character_text, items_text}
 use Rattle.urlpattern_meaning.specs.Dialect as dialect
 use Rattle.urlpattern_meaning.proofs.DialectLeads.{first}
 use Rattle.urlpattern_syntax.specs.RegexpText.{regexp_marks}
@@ -201,13 +201,6 @@ captured_repeated step text rest begins = by (captured_kind step (codes "(" ++ t
     by : ((end : ℕ) × (is_greedy : Bool) × IsRunStep end is_greedy step) ⊎ ((behind : List ℕ) × (codes "(" ++ text ≡ codes "(" ++ behind) × RepeatedRun step behind rest) → RepeatedRun step text rest
     by (inl (end, is_greedy, is)) = absurd (run_plain step (codes "(" ++ text) rest text 40 refl refl (run_begins end is_greedy step (codes "(" ++ text) rest is begins) refl)
     by (inr (behind, e, repeated)) = subst (λ t. RepeatedRun step t rest) (sym (after_same 40 text behind e)) repeated
-
-pub captured_unasked : (step : Step) (text rest behind : List ℕ) → BeginsWithCaptured text step rest → ¬ (text ≡ codes "?" ++ behind)
-captured_unasked step text rest behind begins f = by (captured_kind step text rest begins)
-  where
-    by : ((end : ℕ) × (is_greedy : Bool) × IsRunStep end is_greedy step) ⊎ ((own : List ℕ) × (text ≡ codes "(" ++ own) × RepeatedRun step own rest) → ⊥
-    by (inl (end, is_greedy, is)) = run_plain step text rest behind 63 refl refl (run_begins end is_greedy step text rest is begins) f
-    by (inr (own, e, repeated)) = apart 63 40 behind own refl (sym f ∙ e)
 
 -- ---- quantifiers
 

@@ -3,7 +3,7 @@ use Rattle.std.proofs.Common.{◌≡◌, ℕ, suc, zero, Bool, true, false, List
 use Rattle.std.proofs.Math.Seq.{drop-length}
 use Rattle.std.proofs.lemmas.Bool.{false≢true}
 use Rattle.std.specs.Prelude.{◌⊎◌}
-use Rattle.urlpattern_meaning.specs.Dialect.{AreItems, Atom, Captured, Character, Plain, Escaped, Grouped, IsAtom, IsCharacter, Item, Items, LazyOneOrMore, Nothing, Once, OneOrMore, Optional, Quantifier, ZeroOrMore, AllowsGroups, atom_text, character_of, character_text, items_text, quantifier_text}
+use Rattle.urlpattern_meaning.specs.Dialect.{AreItems, Atom, Captured, Character, Plain, Escaped, Grouped, IsAtom, IsCharacter, Item, Items, LazyOneOrMore, Nothing, Once, OneOrMore, Optional, Quantifier, ZeroOrMore, atom_text, character_of, character_text, items_text, quantifier_text}
 use Rattle.urlpattern_meaning.specs.Dialect as dialect
 use Rattle.urlpattern_meaning.proofs.DialectLeads.{Ends, IsFree, passed, spelled_free}
 use Rattle.urlpattern_meaning.proofs.DialectSpelled.{spelled, items-spelled}

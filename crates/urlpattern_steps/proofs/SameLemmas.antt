@@ -4,11 +4,8 @@ use Rattle.std.specs.Prelude.{IfNone}
 use Rattle.urlpattern_meaning.proofs.Middles.{same-length}
 use Rattle.std.proofs.lemmas.Bool.{false≢true}
 use Rattle.std.specs.Char.{to_ascii_lowercase}
-use Rattle.urlpattern_meaning.specs.Matching.{IsSame, folded_character, is_same_character}
+use Rattle.urlpattern_meaning.specs.Matching.{IsSame, is_same_character}
 use Rattle.urlpattern_steps.specs.Walk.{BeginsAs}
-
-pub same-refl : (ignore_case : Bool) (c : ℕ) → is_same_character ignore_case c c ≡ true
-same-refl ignore_case c = eq-eqb (folded_character ignore_case c) (folded_character ignore_case c) refl
 
 -- ---- whole texts
 
@@ -56,9 +53,6 @@ begins_less ignore_case c characters d text rest (e ∷ front, cut, same) =
 pub begins_none : (ignore_case : Bool) (c : ℕ) (characters rest : List ℕ) → ¬ BeginsAs ignore_case (c ∷ characters) [] rest
 begins_none ignore_case c characters rest ([], cut, same) = no_same ignore_case c characters same
 begins_none ignore_case c characters rest (e ∷ front, cut, same) = let whole : [] ≡ e ∷ (front ++ rest) = cut in cc
-
-pub begins_nothing : (ignore_case : Bool) (text rest : List ℕ) → BeginsAs ignore_case [] text rest → text ≡ rest
-begins_nothing ignore_case text rest (front, cut, same) = cut ∙ ap (λ f. f ++ rest) (none_same ignore_case front same)
 
 -- A single character.
 pub begins_one : (ignore_case : Bool) (c : ℕ) (text rest : List ℕ) → BeginsAs ignore_case (c ∷ []) text rest → (d : ℕ) × (text ≡ d ∷ rest) × (is_same_character ignore_case d c ≡ true)

@@ -1,5 +1,5 @@
 -- Separated runs: their matches and their steps.
-use Rattle.std.proofs.Common.{◌≡◌, ℕ, List, [], ◌∷◌, ◌++◌, map, length, Some, option_map, Bool, ◌==◌, refl, sym, ap, ◌∙◌, subst, arith}
+use Rattle.std.proofs.Common.{◌≡◌, ℕ, List, [], ◌∷◌, ◌++◌, map, length, Some, option_map, Bool, refl, sym, ap, ◌∙◌, subst, arith}
 use Rattle.std.proofs.Math.Seq.{take-append_seam}
 use Rattle.urlpattern_meaning.specs.Dialect.{Captured, Character, Grouped, Item, Items, Literal, Nothing, Once, ZeroOrMore, character_of, group_count}
 use Rattle.urlpattern_meaning.specs.Ways.{one_that, quantified_ways, ways_by}

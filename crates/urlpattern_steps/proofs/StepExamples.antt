@@ -1,5 +1,5 @@
 -- Examples of what steps capture.
-use Rattle.std.proofs.Common.{Bool, ◌≡◌, [], ◌∷◌, Some, None, true, false, codes, refl}
+use Rattle.std.proofs.Common.{◌≡◌, [], ◌∷◌, Some, None, true, false, codes, refl}
 use Rattle.urlpattern_steps.specs.declared.step.Step.TheVariants.{Literal, Segment, Anything, Maybe, Longest, Copies, Segments}
 use Rattle.urlpattern_steps.specs.Walk.{walk}
 

@@ -1,5 +1,5 @@
 -- Optional groups, and steps that match no text with another first character.
-use Rattle.std.proofs.Common.{Bool, ◌≡◌, ℕ, zero, suc, List, [], ◌∷◌, ◌++◌, drop, replicate, Some, None, option_map, true, false, cond, ◌==◌, refl, ap, ◌∙◌}
+use Rattle.std.proofs.Common.{Bool, ◌≡◌, ℕ, zero, suc, List, [], ◌∷◌, ◌++◌, drop, replicate, Some, None, option_map, true, false, cond, refl, ap, ◌∙◌}
 use Rattle.std.specs.Option.{option_or}
 use Rattle.urlpattern_steps.specs.declared.step.Group.{Group}
 use Rattle.urlpattern_steps.specs.declared.step.Step.{Step}

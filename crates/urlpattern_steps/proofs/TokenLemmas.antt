@@ -2,22 +2,17 @@
 use Rattle.std.proofs.Common.{◌≡◌, ℕ, List, [], ◌∷◌, ◌++◌, Option, Some, None, Bool, true, false, refl, sym, ap, ◌∙◌, append-nil, append_assoc, codes, ◌==◌, ne_eqb}
 use Rattle.std.proofs.lemmas.Bool.{false≢true}
 use Rattle.std.specs.Prelude.{◌≢◌, IfSome, is_some}
-use Rattle.urlpattern_meaning.specs.Dialect.{AnyBut, AreItems, AllowsGroups, Atom, Captured, Character, Plain, Escaped, Dot, Grouped, IsAtom, IsCharacter, IsClassCharacter, IsTreeOf, Item, Items, LazyOneOrMore, Nothing, Once, OneOrMore, Optional, Quantifier, ZeroOrMore, atom_group_count, group_count, atom_text, character_of, character_text, items_text, quantifier_text}
+use Rattle.urlpattern_meaning.specs.Dialect.{AnyBut, AllowsGroups, Captured, Character, Plain, Escaped, Dot, Grouped, IsCharacter, IsClassCharacter, Item, Items, LazyOneOrMore, Nothing, Once, OneOrMore, Optional, Quantifier, ZeroOrMore, group_count, character_text, items_text}
 use Rattle.urlpattern_meaning.specs.Dialect as dialect
 use Rattle.urlpattern_syntax.specs.RegexpText.{captured}
 use Rattle.urlpattern_steps.specs.declared.tokens.Times.{Times}
-use Rattle.urlpattern_steps.specs.declared.tokens.Token.TheVariants.{Close, FirstSegment, MaybeStep}
+use Rattle.urlpattern_steps.specs.declared.tokens.Token.TheVariants.{FirstSegment, MaybeStep}
 use Rattle.urlpattern_steps.specs.declared.step.Step.{Step}
 use Rattle.urlpattern_steps.specs.declared.step.Step.TheVariants.{Literal, Segment, Anything, Maybe, Longest, Copies, Segments}
 use Rattle.urlpattern_steps.specs.ReadSteps.{BeginsWithCaptured, BeginsWithCharacter, BeginsWithRegexpToken, IsRunOf, IsStepOf, AllowsEmptyRun, SpellsStep, quantifier_of, times_text}
 use Rattle.urlpattern_steps.specs.Walk.{capture_count}
 use Rattle.urlpattern_syntax.specs.Text.{line_feed}
 use Rattle.urlpattern_steps.proofs.LongestLemmas.{run_uncaptured}
-
--- A fact about the value of an option follows from another.
-pub if_some : {A : Type 0} (P Q : A → Type 0) (o : Option A) → ((x : A) → P x → Q x) → IfSome o P → IfSome o Q
-if_some P Q None f p = p
-if_some P Q (Some x) f p = f x p
 
 pub if_both : {A : Type 0} (P Q R : A → Type 0) (o : Option A) → ((x : A) → P x → Q x → R x) → IfSome o P → IfSome o Q → IfSome o R
 if_both P Q R None f p q = p
@@ -116,9 +111,6 @@ pub captured-maybe : (text bracket behind rest : List ℕ) (step : Step) → Beg
 captured-maybe text bracket behind rest step begins e f =
     let once = captured-spells text bracket behind step begins e in
     (once.0 ++ codes "?", (once.0, captures_one step begins.0 begins.2, once.1, refl), once.2 ∙ ap (λ t. once.0 ++ t) f ∙ sym (append_assoc once.0 (codes "?") rest))
-
-pub close-spells : (text behind rest : List ℕ) (times : Times) → text ≡ codes ")" ++ behind → behind ≡ times_text times ++ rest → BeginsWithRegexpToken text (Close times) rest
-close-spells text behind rest times e f = (codes ")" ++ times_text times, refl, e ∙ ap (λ t. codes ")" ++ t) f ∙ sym (append_assoc (codes ")") (times_text times) rest))
 
 pub literal-spells : (text rest : List ℕ) (c : ℕ) → BeginsWithCharacter IsCharacter text c rest → (front : List ℕ) × SpellsStep (Literal c) front × (text ≡ front ++ rest)
 literal-spells text rest c (character, is, same, e) = (character_text character, (dialect.Literal character, is, (character, same, refl), refl), e)

@@ -1,5 +1,5 @@
 -- Matches that are tried in turn: the result of the first that has one.
-use Rattle.std.proofs.Common.{◌≡◌, ℕ, zero, suc, ◌≤◌, List, [], ◌∷◌, ◌++◌, map, length, Option, Some, None, option_map, Bool, true, false, cond, ◌==◌, not, refl, sym, ap, ap₂, ◌∙◌, append_assoc, arith, lt-ltb}
+use Rattle.std.proofs.Common.{◌≡◌, ℕ, zero, suc, ◌≤◌, List, [], ◌∷◌, ◌++◌, map, length, Option, Some, None, option_map, Bool, true, false, cond, not, refl, sym, ap, ap₂, ◌∙◌, append_assoc, arith, lt-ltb}
 use Rattle.std.specs.Option.{option_or}
 use Rattle.urlpattern_steps.proofs.OptionLemmas.{option_or-None}
 use Rattle.urlpattern_meaning.specs.PartMeaning.{Captures}

@@ -3,7 +3,7 @@ use Rattle.std.proofs.Common.{◌≡◌, ℕ, ◌+◌, List, [], ◌∷◌, ◌+
 use Rattle.std.proofs.lemmas.Bool.{cond-false}
 use Rattle.std.specs.Option.{option_or}
 use Rattle.urlpattern_steps.proofs.OptionLemmas.{option_or-None}
-use Rattle.urlpattern_meaning.specs.Dialect.{character_of, Character, Once, Optional, ZeroOrMore, LazyOneOrMore, Items, Nothing, Item, Atom, Dot, AnyBut, Captured, Grouped, atom_group_count, group_count}
+use Rattle.urlpattern_meaning.specs.Dialect.{character_of, Character, Once, Optional, LazyOneOrMore, Items, Nothing, Item, Atom, Dot, AnyBut, Captured, Grouped, atom_group_count, group_count}
 use Rattle.urlpattern_meaning.specs.Dialect as dialect
 use Rattle.urlpattern_meaning.specs.Ways.{Way, idle, continued, one_that, looped, capturing, ways_by, atom_ways_by, first_way_by}
 use Rattle.urlpattern_syntax.specs.Text.{line_feed}

@@ -1,5 +1,5 @@
 -- What a match adds to the captures.
-use Rattle.std.specs.Prelude.{◌≡◌, Bool, false, List, [], ◌∷◌, ◌++◌, ℕ, ◌==◌, length, map, Option, Some, None, Result, option_map, if◌then◌else◌, IfOk, IfSome}
+use Rattle.std.specs.Prelude.{◌≡◌, Bool, false, List, [], ◌∷◌, ◌++◌, ℕ, length, map, Option, Some, None, Result, option_map, if◌then◌else◌, IfOk, IfSome}
 use Rattle.std.specs.Borrow.{Bor}
 use Rattle.std.specs.Global.{Global}
 use Rattle.std.specs.declared.vec.Vec.{Vec}
@@ -13,7 +13,6 @@ use Rattle.urlpattern_steps.specs.Table.{HaveRow, following, given}
 use Rattle.urlpattern_steps.specs.declared.walk.Attempt.{Attempt}
 use Rattle.urlpattern_steps.specs.Walk.{Continuation, captured_front, literal_text, segmented, single_run, walk}
 use Rattle.urlpattern_syntax.specs.Text.{option_text}
-use Rattle.urlpattern_meaning.specs.Matching.{is_same_character}
 
 -- The length in bytes of a prefix for which the continuation has the captures found. None: none are
 -- found.

@@ -1,5 +1,5 @@
 -- What the steps of an expression capture in a text.
-use Rattle.std.specs.Prelude.{◌≡◌, ℕ, zero, suc, Bool, false, ◌==◌, length, List, [], ◌∷◌, ◌++◌, get_or, replicate, take, Option, Some, None, option_map, if◌then◌else◌}
+use Rattle.std.specs.Prelude.{◌≡◌, ℕ, zero, suc, Bool, false, length, List, [], ◌∷◌, ◌++◌, get_or, replicate, take, Option, Some, None, option_map, if◌then◌else◌}
 use Rattle.std.specs.Option.{option_or}
 use Rattle.std.specs.Str.{IsUtf8, chars}
 use Rattle.urlpattern_steps.specs.declared.step.Step.{Step}

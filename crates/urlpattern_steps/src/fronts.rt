@@ -6,7 +6,7 @@ ghost use Rattle.urlpattern_steps.specs.Walk.{literals};
 ghost use Rattle.urlpattern_steps.specs.Table.{begun_of, run_end, following, has, later_of, own_count, stretch_of, whole_of, is_capture, IsEntryAfter, IsRow, IsSingle};
 ghost use Rattle.urlpattern_steps.specs.Taken.{IsEndOfFront};
 
-use crate::repeats::{begun_after, first_steps, goes_on, pass};
+use crate::repeats::{begun_after, ends, first_steps, goes_on, pass};
 use crate::step::{Step, Stretch};
 use crate::texts::{after_front, without_last};
 use std::alloc::Global;
@@ -180,7 +180,6 @@ fn ends_of(step: Step, next: Option<usize>, here: Option<usize>, onward: Option<
     ensures whole { result.whole ≡ whole_of step next here onward }
 {
     let stopping = next.or(here);
-    let longest = onward.or(stopping);
     let (begun, later, whole) = match step {
         Step::Literal(_) => (here, None, next),
         Step::Segment(_) => (None, here.or(onward), onward),
@@ -189,8 +188,10 @@ fn ends_of(step: Step, next: Option<usize>, here: Option<usize>, onward: Option<
         Step::Longest(_) => (None, onward.or(here), onward),
         Step::Copies(copies) if copies.may_be_missing => (stopping, None, stopping),
         Step::Copies(_) => (stopping, None, next),
-        Step::Segments(segments) if segments.is_greedy => (longest, longest, longest),
-        Step::Segments(_) => (onward, stopping.or(onward), onward),
+        Step::Segments(segments) => {
+            let (whole, later) = ends(segments.is_greedy, onward, stopping);
+            (whole, later, whole)
+        }
         Step::Maybe(_) => (None, None, None),
     };
     Ends {

@@ -6,7 +6,6 @@
 #![tactic(auto)]
 
 mod by_table;
-pub mod choices;
 mod failed;
 mod fronts;
 pub mod reading;

@@ -11,7 +11,6 @@ mod copies;
 mod runs;
 mod segments;
 
-use crate::choices::Remembered;
 use crate::failed::Failed;
 use crate::repeats::pass;
 use crate::runs::has_one_end;
@@ -34,18 +33,18 @@ type Taken = Result<bool, OutOfMemory>;
 
 /// Returns the captures of the steps, if they match the whole text. `None`: no match.
 ///
-/// With memoization, no choice is tried twice in a failed state.
+/// If the match is memoized, no choice is tried twice in one state.
 #[inline]
 pub fn walk<'t>(
     alloc: Global,
     steps: &[Step],
     ignore_case: bool,
-    remembered: Remembered,
+    is_memoized: bool,
     text: &'t str,
 ) -> Result<Option<Vec<Option<&'t str>>>, OutOfMemory>
     ensures { IfOk result (λ found. captures_view found ≡ walk ignore_case steps.now (chars text.now)) }
 {
-    let failed = Failed::new(alloc, steps, ignore_case, text, remembered.is_for(text))?;
+    let failed = Failed::new(alloc, steps, ignore_case, text, is_memoized)?;
     let mut attempt = Attempt {
         captures: Vec::new(alloc),
         failed,

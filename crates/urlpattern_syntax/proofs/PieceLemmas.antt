@@ -12,7 +12,7 @@ use Rattle.urlpattern_syntax.specs.declared.tokenizer.TokenType.TheVariants.{Ast
 use Rattle.urlpattern_syntax.specs.Cursors.{AreTokensAfter}
 use Rattle.urlpattern_syntax.proofs.TokenWords.{joined_values, BeginsWithToken}
 use Rattle.urlpattern_syntax.specs.Parsing.{BeginsWithClose, BeginsWithPiece, BeginsWithTexts, HasEndingAt, BeginsWithPlaceholder, BeginsWithModifier, IsTokenList, IsModifierSpelled}
-use Rattle.urlpattern_syntax.specs.Pieces.{AreTexts, IsBraced, IsFilled, IsOpenGroup, IsPrefixOf, TakesPrefix, is_text, BeginsWithKind, IsModifier, TakesModifier, TakesRegexp, Matched, Placeholder, is_modifier, is_placeholder, is_regexp, is_stop, Ending as endings, Matched as matched, Piece as pieces}
+use Rattle.urlpattern_syntax.specs.Pieces.{AreTexts, IsBraced, IsFilled, IsOpenGroup, IsPrefixOf, TakesPrefix, is_text, BeginsWithKind, IsModifier, TakesModifier, TakesRegexp, Matched, Placeholder, is_modifier, is_placeholder, is_regexp, Ending as endings, Matched as matched, Piece as pieces}
 use Rattle.urlpattern_syntax.specs.Tokens.{AreTokens, IsCut, IsTokenOf, Spells, TokenView, end_of}
 
 -- ---- token lists
@@ -284,10 +284,6 @@ no_modifier OtherModifier h g = absurd (h refl)
 no_modifier Asterisk h g = absurd (g refl)
 no_modifier other h g = refl
 
-pub not_regexp : (kind : TokenType) → kind ≢ Regexp → is_regexp kind ≡ false
-not_regexp Regexp h = absurd (h refl)
-not_regexp other h = refl
-
 -- A placeholder that is neither a name nor a custom regular expression is an asterisk.
 pub asterisk_left : (kind : TokenType) → IsTrue (is_placeholder kind) → kind ≢ Name → kind ≢ Regexp → kind ≡ Asterisk
 asterisk_left Asterisk h f g = refl
@@ -300,20 +296,3 @@ asterisk_left EscapedChar h f g = absurd (false≢true h)
 asterisk_left OtherModifier h f g = absurd (false≢true h)
 asterisk_left End h f g = absurd (false≢true h)
 asterisk_left InvalidChar h f g = absurd (false≢true h)
-
--- The kinds that begin no piece.
-pub stop_left : (kind : TokenType) → kind ≢ Open → kind ≢ Name → kind ≢ Regexp → kind ≢ Asterisk → kind ≢ Char → kind ≢ EscapedChar → IsTrue (is_stop kind)
-stop_left Open a b c d e f = absurd (a refl)
-stop_left Name a b c d e f = absurd (b refl)
-stop_left Regexp a b c d e f = absurd (c refl)
-stop_left Asterisk a b c d e f = absurd (d refl)
-stop_left Char a b c d e f = absurd (e refl)
-stop_left EscapedChar a b c d e f = absurd (f refl)
-stop_left Close a b c d e f = refl
-stop_left OtherModifier a b c d e f = refl
-stop_left End a b c d e f = refl
-stop_left InvalidChar a b c d e f = refl
-
--- A token whose kind passes a test is not End, if End does not pass.
-pub tested_not_end : (test : TokenType → Bool) (kind : TokenType) → test End ≡ false → IsTrue (test kind) → kind ≢ End
-tested_not_end test kind f h e = false≢true (sym f ∙ subst (λ k. test k ≡ true) e h)

@@ -1,25 +1,22 @@
 -- Lemmas on reading: items and their demands, parts, and the parts read so far.
-use Rattle.std.proofs.Common.{◌≡◌, ◌≢◌, ℕ, Bool, true, false, not, Option, Some, None, List, [], ◌∷◌, ◌++◌, map, refl, sym, ap, ◌∙◌, subst, inl, inr, append_assoc, arith, ◌+◌, ◌<◌, length, take, drop, get_or}
-use Rattle.std.specs.Prelude.{Result, Ok, Err, bytes_eq, filter, if◌then◌else◌, Contains, IfErr, IfOk, String}
+use Rattle.std.proofs.Common.{◌≡◌, ◌≢◌, ℕ, Bool, true, false, not, Option, Some, None, List, [], ◌∷◌, ◌++◌, map, refl, sym, ap, ◌∙◌, subst, inl, inr, append_assoc, arith, ◌+◌}
+use Rattle.std.specs.Prelude.{Result, Ok, Err, bytes_eq, filter, if◌then◌else◌, IfErr, IfOk, String}
 use Rattle.std.specs.Str.{IsUtf8, chars}
 use Rattle.std.proofs.lemmas.Str.{encodes-chars}
 use Rattle.urlpattern_syntax.specs.declared.error.Error.{Error}
 use Rattle.std.specs.declared.alloc.Global.{Global}
 use Rattle.urlpattern_syntax.specs.Text.{text_of}
-use Rattle.std.proofs.lemmas.List.{append-nil, map-append, take-append-drop, take_more}
-use Rattle.std.proofs.lemmas.List.Elements.{Contains-append_left}
-use Rattle.urlpattern_syntax.specs.declared.parser.Part.{Part}
+use Rattle.std.proofs.lemmas.List.{append-nil}
 use Rattle.std.proofs.lemmas.Bool.{cond_both, false≢true, false_from_ne_true}
 use Rattle.std.proofs.lemmas.Slice.Eq.{bytes_eq-Decides}
 use Rattle.urlpattern_syntax.specs.declared.parser.PartModifier.{PartModifier}
 use Rattle.urlpattern_syntax.specs.declared.parser.PartModifier.TheVariants as modifiers
-use Rattle.urlpattern_syntax.specs.declared.parser.PartType.{PartType}
-use Rattle.urlpattern_syntax.specs.declared.parser.PartType.TheVariants.{FixedText, SegmentWildcard, FullWildcard, Regexp}
+use Rattle.urlpattern_syntax.specs.declared.parser.PartType.TheVariants.{SegmentWildcard, FullWildcard, Regexp}
 use Rattle.urlpattern_syntax.specs.declared.tokenizer.TokenType.TheVariants.{Close, End}
 use Rattle.urlpattern_syntax.specs.Errors.{ErrorView, error_view}
 use Rattle.urlpattern_syntax.specs.Options.{OptionsView}
 use Rattle.urlpattern_syntax.specs.Parsing.{AddsParts, PartListView, MemoryOr, item_demands, pending_items}
-use Rattle.urlpattern_syntax.specs.Parts.{PartView, fixed_text, part_view}
+use Rattle.urlpattern_syntax.specs.Parts.{PartView, fixed_text}
 use Rattle.urlpattern_syntax.specs.Pieces.{Ending, Ending as endings}
 use Rattle.urlpattern_syntax.specs.Reading.{AreMet, AreParts, Capture, Demand, Encode, Encoding, Expect, FirstFails, Fixed, Item, NewName, capture_part, compared, demands_after, encode_fixed, encoding_of, item, joined_items, kind_of, with_text}
 use Rattle.urlpattern_syntax.specs.declared.parser.RegexSyntax.{RegexSyntax}
@@ -189,32 +186,6 @@ group_names-append (x ∷ xs) ys = by_kind (is_fixed_text x.kind) (group_names-a
     by_kind true h = h
     by_kind false h = ap (λ z. x.name ∷ z) h
 
-pub names_more : (parts : List Part) (i : ℕ) (part : Part) → i < length parts → part ≡ get_or parts i part → group_names (map part_view (take (i + 1) parts)) ≡ group_names (map part_view (take i parts)) ++ group_names (part_view part ∷ [])
-names_more parts i part h e =
-    ap (λ x. group_names (map part_view x)) (take_more parts i part h)
-    ∙ ap group_names (map-append part_view (take i parts) (get_or parts i part ∷ []))
-    ∙ group_names-append (map part_view (take i parts)) (part_view (get_or parts i part) ∷ [])
-    ∙ ap (λ p. group_names (map part_view (take i parts)) ++ group_names (part_view p ∷ [])) (sym e)
-
-fixed_only : (kind : PartType) → kind ≢ FixedText → is_fixed_text kind ≡ false
-fixed_only FixedText h = absurd (h refl)
-fixed_only Regexp h = refl
-fixed_only SegmentWildcard h = refl
-fixed_only FullWildcard h = refl
-
-pub names_of_group : (part : PartView) → part.kind ≢ FixedText → group_names (part ∷ []) ≡ part.name ∷ []
-names_of_group part h = ap (λ b. map (λ (p : PartView). p.name) (if not b then part ∷ [] else [])) (fixed_only part.kind h)
-
-pub names_of_fixed : (part : PartView) → part.kind ≡ FixedText → group_names (part ∷ []) ≡ []
-names_of_fixed part h = ap (λ kind. map (λ (p : PartView). p.name) (if not (is_fixed_text kind) then part ∷ [] else [])) h
-
--- The names of the first parts are among the names of all.
-pub Contains-first : (parts : List Part) (i : ℕ) (name : List ℕ) → Contains (group_names (map part_view (take i parts))) name → Contains (group_names (map part_view parts)) name
-Contains-first parts i name h =
-    subst (λ x. Contains (group_names (map part_view x)) name) (take-append-drop i parts)
-    (subst (λ x. Contains x name) (sym (ap group_names (map-append part_view (take i parts) (drop i parts)) ∙ group_names-append (map part_view (take i parts)) (map part_view (drop i parts))))
-    (Contains-append_left (group_names (map part_view (take i parts))) (group_names (map part_view (drop i parts))) name h))
-
 -- ---- the kind of a part
 
 pub kind_segment : (options : OptionsView) (regexp : List ℕ) → regexp ≡ segment_wildcard options → kind_of options regexp ≡ SegmentWildcard
@@ -308,12 +279,6 @@ module _ (options : OptionsView) (encoding : Encoding) (old mid : PartListView) 
   pub fails_item : (item : Item) (error : ErrorView) → FirstFails encoding (item_demands (group_names mid.parts) (item ∷ [])) error → FirstFails encoding (item_demands (group_names old.parts) (items ++ item ∷ [])) error
   fails_item item error h =
       subst (λ demands. FirstFails encoding demands error) (sym (split_demands item)) (FirstFails-behind encoding error _ _ a.are_met h)
-
--- An error of items is an error of the items with one after them.
-pub fails_longer : (encoding : Encoding) (earlier : List (List ℕ)) (items : List Item) (item : Item) (error : Error) → MemoryOr (FirstFails encoding (item_demands earlier items)) error → MemoryOr (FirstFails encoding (item_demands earlier (items ++ item ∷ []))) error
-fails_longer encoding earlier items item error (inl h) = inl h
-fails_longer encoding earlier items item error (inr h) =
-    inr (subst (λ demands. FirstFails encoding demands (error_view error)) (sym (item_demands-append earlier items (item ∷ []))) (FirstFails-before encoding (error_view error) _ _ h))
 
 -- ---- fixed texts with a modifier
 

@@ -1,18 +1,16 @@
 -- Lemmas on tokens: skipped characters, the rest of a body, and joined cuts.
-use Rattle.std.proofs.Common.{◌≡◌, ℕ, ◌<◌, ◌⊎◌, Bool, true, false, List, [], ◌∷◌, ◌++◌, length, Err, refl, sym, ap, ◌∙◌, subst, inl, inr, arith, append_assoc}
+use Rattle.std.proofs.Common.{◌≡◌, ℕ, ◌<◌, ◌⊎◌, Bool, true, false, List, [], ◌∷◌, ◌++◌, length, refl, sym, ap, ◌∙◌, subst, inl, inr, arith, append_assoc}
 use Rattle.std.specs.Prelude.{codes, IsTrue}
 use Rattle.std.proofs.lemmas.Bool.{both_ways, and_from}
 use Rattle.std.proofs.lemmas.List.Folds.{list_all-append}
 use Rattle.std.proofs.lemmas.List.{append_cancel_right}
-use Rattle.urlpattern_syntax.specs.declared.error.Error.TheVariants as errors
-use Rattle.urlpattern_syntax.specs.declared.error.TokenizerError.{TokenizerError}
 use Rattle.urlpattern_syntax.specs.declared.tokenizer.TokenizePolicy.{TokenizePolicy}
 use Rattle.urlpattern_syntax.specs.declared.tokenizer.TokenizePolicy.TheVariants as policies
 use Rattle.urlpattern_syntax.specs.declared.tokenizer.TokenType.{TokenType}
 use Rattle.urlpattern_syntax.specs.declared.tokenizer.TokenType.TheVariants.{Asterisk, Char, Close, End, EscapedChar, InvalidChar, Name, Open, OtherModifier, Regexp}
 use Rattle.urlpattern_syntax.specs.Text.{byte_len, BeginsAt, BeginsWith, is_among, is_name_start, is_name_part}
 use Rattle.urlpattern_syntax.proofs.TextLemmas.{byte_len-append, length-le-byte_len}
-use Rattle.urlpattern_syntax.specs.Tokens.{TokenView, end_of, AreTokensUnder, IsCut, IsInvalidChar, IsInvalidCharOf, IsTokenOf, Skips, SkipsBy, IsLexed, Spells, EndsThere, IsName, IsFaultAt, InvalidName, ReportsFaultUnder, marks, is_ignored}
+use Rattle.urlpattern_syntax.specs.Tokens.{TokenView, end_of, AreTokensUnder, IsCut, IsInvalidChar, IsInvalidCharOf, IsTokenOf, Skips, SkipsBy, IsLexed, Spells, EndsThere, IsName, IsFaultAt, InvalidName, marks, is_ignored}
 
 -- ---- skipped characters
 
@@ -32,16 +30,6 @@ SkipsBy-joined p text rest left s t = (
   s.1 ∙ ap (λ x. s.0 ++ x) t.1 ∙ sym (append_assoc s.0 t.0 left),
   list_all-append p s.0 t.0 ∙ and_from _ _ s.2 t.2,
 )
-
--- An empty text begins with no character.
-pub BeginsWith-empty : (p : ℕ → Bool) (text : List ℕ) → text ≡ [] → ¬ BeginsWith p text
-BeginsWith-empty p text e h = false≢true (subst (BeginsWith p) e h)
-  where
-    false≢true : IsTrue false → ⊥
-    false≢true = both_ways false refl
-
-pub BeginsWith-other : (p : ℕ → Bool) (text rest : List ℕ) (c : ℕ) → text ≡ c ∷ rest → p c ≡ false → ¬ BeginsWith p text
-BeginsWith-other p text rest c e f h = both_ways (p c) f (subst (BeginsWith p) e h)
 
 -- ---- tokens at the start of a text
 
@@ -173,7 +161,3 @@ IsCutUnder-more policy text tokens left value rest next kind index cut lexed pla
 pub AreTokensUnder-cut : (policy : TokenizePolicy) (text : List ℕ) (tokens front : List TokenView) → IsCutUnder policy text front [] → tokens ≡ front ++ end_of text ∷ [] → AreTokensUnder policy text tokens
 AreTokensUnder-cut policies.Strict text tokens front cut all = record { front = front; cut = cut; all = all }
 AreTokensUnder-cut policies.Lenient text tokens front cut all = record { front = front; cut = cut; all = all }
-
-pub ReportsFaultUnder-memory : (policy : TokenizePolicy) (text : List ℕ) → ReportsFaultUnder policy text errors.OutOfMemory
-ReportsFaultUnder-memory policies.Strict text = tt
-ReportsFaultUnder-memory policies.Lenient text = refl

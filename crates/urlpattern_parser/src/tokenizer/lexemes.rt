@@ -1,13 +1,14 @@
 //! Reads one token at the beginning of a text, and skips the characters between tokens.
 //!
 //! <https://urlpattern.spec.whatwg.org/#tokenize>
-ghost use Rattle.std.specs.Prelude.{◌≡◌, ◌<◌, ◌≤◌, ◌∷◌, ◌++◌, ℕ, Bool, [], length, codes, IfOk, IfErr};
+ghost use Rattle.std.specs.Prelude.{◌≡◌, ◌≤◌, ◌++◌, ℕ, Bool, [], length, codes};
 ghost use Rattle.std.specs.Str.{chars};
 ghost use Rattle.urlpattern_syntax.specs.Text.{BeginsWith, is_among, is_name_part};
-ghost use Rattle.urlpattern_syntax.specs.Tokens.{FaultView, IsFaultAt, IsInvalidChar, LacksEscaped, LacksQuestionMark, Skips, SkipsBy, fault_view, is_ignored};
+ghost use Rattle.urlpattern_syntax.specs.Tokens.{FaultView, IsFaultAt, IsInvalidChar, Skips, SkipsBy, is_ignored};
 ghost use Rattle.urlpattern_parser.specs.Lexemes.{Lexes, LexesUnder};
 
 use super::{TokenType, TokenizePolicy, is_name_part, is_name_start};
+use crate::body::split_body;
 use urlpattern_syntax::error::{RegexFault, TokenizerError};
 use urlpattern_syntax::text::{before, split_first};
 
@@ -123,58 +124,13 @@ fn regexp_body(text: &str) -> Result<Lexeme<'_>, TokenizerError>
     requires { ¬ BeginsWith (is_among (codes "?)")) (chars text.now) }
     ensures { Lexes (codes "(" ++ chars text.now) result }
 {
-    let mut rest = text;
-    let mut depth = 0usize;
-    while let Some((first, after)) = split_first(rest) {
-        match first {
-            '\\' => rest = escaped_ascii(after)?,
-            '(' => {
-                rest = nested_group(after)?;
-                depth += 1;
-            }
-            ')' => {
-                if depth == 0 {
-                    let value = before(text, rest);
-                    return Ok(Lexeme {
-                        kind: TokenType::Regexp,
-                        value,
-                        rest: after,
-                    });
-                }
-                rest = after;
-                depth -= 1;
-            }
-            _ if first.is_ascii() => rest = after,
-            _ => return Err(TokenizerError::InvalidRegex(RegexFault::BadCharacter)),
-        }
-    }
-    Err(TokenizerError::InvalidRegex(RegexFault::MissingClose))
-}
-
-/// Returns the text after the character that a backslash escapes in the body of a regular
-/// expression.
-fn escaped_ascii(text: &str) -> Result<&str, TokenizerError>
-    ensures cut { IfOk result (λ rest. (c : ℕ) × (chars text.now ≡ c ∷ chars rest.now) × (c < 128)) }
-    ensures len { IfOk result (λ rest. length rest.now < length text.now) }
-    ensures fault { IfErr result (λ fault. LacksEscaped (chars text.now) (fault_view fault)) }
-{
-    match split_first(text) {
-        None => Err(TokenizerError::IncompleteEscapeCode),
-        Some((escaped, rest)) if escaped.is_ascii() => Ok(rest),
-        Some(_) => Err(TokenizerError::InvalidRegex(RegexFault::BadEscape)),
-    }
-}
-
-/// Returns the text after the `?` that follows an inner bracket of a regular expression.
-fn nested_group(text: &str) -> Result<&str, TokenizerError>
-    ensures cut { IfOk result (λ rest. chars text.now ≡ codes "?" ++ chars rest.now) }
-    ensures len { IfOk result (λ rest. length rest.now < length text.now) }
-    ensures fault { IfErr result (λ fault. LacksQuestionMark (chars text.now) (fault_view fault)) }
-{
-    match split_first(text) {
-        None => Err(TokenizerError::InvalidRegex(RegexFault::NestedGroupNotClosed)),
-        Some(('?', rest)) => Ok(rest),
-        Some(_) => Err(TokenizerError::InvalidRegex(RegexFault::NestedGroupCaptures)),
+    match split_body(text) {
+        Ok((value, rest)) => Ok(Lexeme {
+            kind: TokenType::Regexp,
+            value,
+            rest,
+        }),
+        Err(refused) => Err(refused.error),
     }
 }
 

@@ -1,4 +1,4 @@
-use Rattle.std.proofs.Common.{List, ap, arith, drop, length, length-drop, refl, slice_range, take_all, ◌∙◌}
+use Rattle.std.proofs.Common.{ap, arith, drop, length, length-drop, refl, slice_range, take_all, ◌∙◌}
 use Rattle.urlpat_matching.proofs.MatchLemmas.{two_words_and_more}
 use Rattle.urlpat_matching.specs.PatternWords.{base_of}
 use Rattle.urlpat_explain.proofs.LinkLemmas.{has_none, writes}

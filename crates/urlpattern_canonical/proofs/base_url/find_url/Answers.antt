@@ -1,6 +1,5 @@
-use Rattle.std.proofs.Common.{max}
 use Rattle.std.specs.Prelude.{option_copied}
-use Rattle.urlpattern_canonical.specs.BaseUrls.{FindsUrlUnder, kept_base, parsed_base, text_bytes}
+use Rattle.urlpattern_canonical.specs.BaseUrls.{kept_base}
 use Rattle.urlpattern_canonical.proofs.BaseUrlLemmas.{found_under, refused_base}
 use Rattle.urlpattern_canonical.proofs.base_url.find_url.Goals as goal
 

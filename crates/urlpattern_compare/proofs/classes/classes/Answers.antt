@@ -1,6 +1,6 @@
 use Rattle.std.proofs.Common.{◌≡◌, ◌∙◌, List, [], ◌∷◌, ◌++◌, ℕ, sym, subst, ap, false, true}
 use Rattle.std.specs.Char.{IsScalar}
-use Rattle.std.specs.List.{All, Contains}
+use Rattle.std.specs.List.{Contains}
 use Rattle.std.proofs.lemmas.List.Elements.{All-weaker}
 use Rattle.urlpattern_compare.specs.Automata.{named}
 use Rattle.urlpattern_compare.specs.Searching.{AreClasses, with_named}

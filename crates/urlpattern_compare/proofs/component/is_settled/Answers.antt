@@ -1,4 +1,4 @@
-use Rattle.std.proofs.Common.{◌≡◌, subst, sym, ◌∙◌}
+use Rattle.std.proofs.Common.{◌≡◌, subst}
 use Rattle.std.specs.List.{list_any}
 use Rattle.urlpattern_compare.specs.Answers.{is_custom_part}
 use Rattle.urlpattern_compare.proofs.SameParts.{settled_by}

@@ -1,4 +1,4 @@
-use Rattle.std.proofs.Common.{◌≤◌, length, subst, sym, take_all}
+use Rattle.std.proofs.Common.{◌≤◌, subst, sym, take_all}
 use Rattle.std.proofs.lemmas.List.{length-map}
 use Rattle.std.specs.List.{All}
 use Rattle.urlpattern_compare.proofs.ListLemmas.{all_more, all_now, now, now_at}

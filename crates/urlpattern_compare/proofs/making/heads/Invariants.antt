@@ -1,4 +1,4 @@
-use Rattle.std.proofs.Common.{◌≡◌, ◌++◌, ◌+◌, [], drop}
+use Rattle.std.proofs.Common.{◌≡◌, ◌+◌, [], drop}
 use Rattle.urlpattern_compare.specs.Making.{heads}
 use Rattle.urlpattern_compare.proofs.making.heads.Given as goal
 

@@ -1,8 +1,8 @@
-use Rattle.std.proofs.Common.{◌≡◌, ◌<◌, ◌++◌, ◌∷◌, ◌∙◌, ◌⊎◌, [], List, ap, arith, inl, inr, length, sym, subst}
+use Rattle.std.proofs.Common.{◌≡◌, ◌++◌, ◌∷◌, [], ap, arith, inl, inr, length}
 use Rattle.std.proofs.lemmas.Grind.{common_steps}
-use Rattle.urlpattern_compare.specs.Making.{Made, made}
+use Rattle.urlpattern_compare.specs.Making.{Made}
 use Rattle.urlpattern_compare.proofs.PartsRead.{many_states}
-use Rattle.urlpattern_syntax.specs.{Options.options_view, Parts.PartView, Parts.part_view, Parts.parts_view}
+use Rattle.urlpattern_syntax.specs.{Options.options_view, Parts.part_view, Parts.parts_view}
 use Rattle.urlpattern_compare.proofs.making.make.Goals as goal
 use Rattle.urlpattern_compare.proofs.making.make.Goals.{then-len-gt-MOST_STATES-via-then-len-gt-MOST_STATES, then-len-gt-MOST_STATES-via-else-len-gt-MOST_STATES+then-automaton-gt-MOST_STATES}
 

@@ -6,7 +6,6 @@ use Rattle.urlpattern_compare.specs.declared.automaton.Automaton.{Automaton}
 use Rattle.urlpattern_compare.proofs.AnswerLemmas.{custom, found_parts, generated}
 use Rattle.urlpattern_compare.proofs.PartsRead.{parts_within}
 use Rattle.urlpattern_compare.proofs.parts.find_meant.Goals as goal
-use Rattle.urlpattern_meaning.specs.PartMeaning.{AreGenerated}
 use Rattle.urlpattern_syntax.specs.{Options.OptionsView, Options.options_view, Parts.PartView, Parts.parts_view}
 
 -- The automaton that was made is that of the parts.

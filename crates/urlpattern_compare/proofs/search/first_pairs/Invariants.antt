@@ -1,4 +1,4 @@
-use Rattle.std.proofs.Common.{◌≡◌, ◌<◌, ℕ, take}
+use Rattle.std.proofs.Common.{ℕ, take}
 use Rattle.std.specs.List.{All, Contains}
 use Rattle.urlpattern_compare.specs.Searching.{AreUnlike, IsReached, IsSeen, starts_of}
 use Rattle.urlpattern_compare.proofs.search.first_pairs.Given as goal

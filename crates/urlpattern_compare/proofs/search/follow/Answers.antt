@@ -1,5 +1,4 @@
-use Rattle.std.proofs.Common.{◌≡◌, ◌≢◌, ◌<◌, ◌∙◌, ◌⊎◌, inl, inr, ℕ, sym, subst, refl, get_or, take}
-use Rattle.std.specs.List.{Contains}
+use Rattle.std.proofs.Common.{◌≢◌, ◌∙◌, inl, inr, subst}
 use Rattle.urlpattern_compare.specs.Searching.{IsFollowedBy, moved}
 use Rattle.urlpattern_compare.proofs.PairLemmas.{contains_all, contains_more, extended_more, seen_more}
 use Rattle.urlpattern_syntax.specs.Text.{line_feed}

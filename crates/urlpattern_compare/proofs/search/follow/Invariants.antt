@@ -1,5 +1,5 @@
-use Rattle.std.proofs.Common.{◌≡◌, ◌<◌, ℕ, take}
-use Rattle.std.specs.List.{All, Contains}
+use Rattle.std.proofs.Common.{take}
+use Rattle.std.specs.List.{All}
 use Rattle.urlpattern_compare.specs.Searching.{AreUnlike, IsExtended, IsFollowed, IsReached}
 use Rattle.urlpattern_compare.proofs.search.follow.Given as goal
 

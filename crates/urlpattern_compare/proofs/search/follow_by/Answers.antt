@@ -1,6 +1,5 @@
-use Rattle.std.proofs.Common.{◌≡◌, ◌<◌, ◌≤◌, ◌∙◌, ◌⊎◌, ap, ap₂, refl, inl, inr, sym, subst, length, get_or}
+use Rattle.std.proofs.Common.{◌≡◌, ◌<◌, ◌≤◌, ◌∙◌, ap₂, refl, inl, inr, subst, length, get_or}
 use Rattle.std.proofs.lemmas.List.Elements.{Contains-get_or}
-use Rattle.std.specs.List.{Contains}
 use Rattle.urlpattern_compare.specs.Searching.{IsBy, IsGrownBy, IsSeen, IsStepBy, moved}
 use Rattle.urlpattern_compare.specs.declared.automaton.Edge.{Edge}
 use Rattle.urlpattern_compare.specs.declared.automaton.Test.TheVariants.{Only}

@@ -1,8 +1,6 @@
-use Rattle.std.proofs.Common.{◌≡◌, ◌<◌, ℕ, take}
+use Rattle.std.proofs.Common.{take}
 use Rattle.std.specs.List.{All, Contains}
-use Rattle.std.specs.Prelude.{IsTrue}
-use Rattle.urlpattern_compare.specs.Automata.{passes}
-use Rattle.urlpattern_compare.specs.Searching.{AreUnlike, IsBy, IsExtended, IsFollowedBy, IsReached, IsSeen, moved}
+use Rattle.urlpattern_compare.specs.Searching.{AreUnlike, IsBy, IsExtended, IsReached, IsSeen, moved}
 use Rattle.urlpattern_compare.specs.declared.automaton.Edge.{Edge}
 use Rattle.urlpattern_compare.proofs.search.follow_by.Given as goal
 

@@ -1,7 +1,5 @@
-use Rattle.std.proofs.Common.{◌≡◌, ◌∙◌, ap, inl, inr, sym, subst, refl, get_or, take_all}
-use Rattle.std.specs.List.{Contains}
+use Rattle.std.proofs.Common.{◌≡◌, ◌∙◌, ap, inl, inr, sym, subst, refl, take_all}
 use Rattle.std.proofs.lemmas.Bool.{false≢true}
-use Rattle.std.proofs.lemmas.List.Elements.{Contains-get_or}
 use Rattle.urlpattern_compare.proofs.PairLemmas.{contains_more}
 use Rattle.urlpattern_compare.specs.Searching.{IsSeen}
 use Rattle.urlpattern_compare.specs.declared.search.Pair.{Pair}

@@ -1,4 +1,4 @@
-use Rattle.std.proofs.Common.{◌≡◌, inl, inr, subst, sym}
+use Rattle.std.proofs.Common.{inl, inr}
 use Rattle.urlpattern_ffi.proofs.CoveringLemmas.{of_both}
 use Rattle.urlpattern_ffi.specs.Coverings.{IsPartedIn, IsUnknownIn}
 use Rattle.urlpattern_ffi.specs.Mismatches.{component_number}

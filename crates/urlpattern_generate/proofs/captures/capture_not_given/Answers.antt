@@ -1,5 +1,5 @@
-use Rattle.std.proofs.Common.{◌∙◌, ap, inl, inr}
-use Rattle.urlpattern_generate.proofs.AskedLemmas.{other_modifier, zero_or_more}
+use Rattle.std.proofs.Common.{◌∙◌}
+use Rattle.urlpattern_generate.proofs.AskedLemmas.{zero_or_more}
 use Rattle.urlpattern_generate.specs.Asked.{empty_if}
 use Rattle.urlpattern_syntax.specs.Parts.{part_view}
 use Rattle.urlpattern_generate.proofs.captures.capture_not_given.Goals as goal

@@ -1,5 +1,4 @@
-use Rattle.std.proofs.Common.{refl}
-use Rattle.urlpattern_matches.proofs.TakenLemmas.{entry-end, entry-more, entry-same}
+use Rattle.urlpattern_matches.proofs.TakenLemmas.{entry-end}
 use Rattle.urlpattern_matches.proofs.result.add_taken.Goals as goal
 
 pub returns : goal.returns

@@ -1,4 +1,4 @@
-use Rattle.std.proofs.Common.{◌∷◌, ◌++◌, [], refl, sym, ap, ◌∙◌, append_assoc, rules}
+use Rattle.std.proofs.Common.{◌∷◌, ◌++◌, sym, ap, ◌∙◌, append_assoc, rules}
 use Rattle.std.specs.Str.{chars}
 use Rattle.urlpattern_steps.specs.Walk.{in_turn}
 use Rattle.urlpattern_steps.proofs.repeats.skip_copies.Goals as goal

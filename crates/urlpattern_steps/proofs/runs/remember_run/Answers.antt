@@ -1,4 +1,4 @@
-use Rattle.std.proofs.Common.{◌≡◌, ◌∷◌, [], None, sym, ap, ◌∙◌, rules, ne_eqb}
+use Rattle.std.proofs.Common.{◌≡◌, ◌∷◌, [], None, sym, ap, ◌∙◌, rules}
 use Rattle.std.specs.Str.{chars}
 use Rattle.urlpattern_steps.specs.declared.step.Step.TheVariants.{Segment}
 use Rattle.urlpattern_steps.specs.Walk.{walk}

@@ -1,5 +1,5 @@
 use Rattle.std.proofs.Common.{◌≡◌, None, subst}
-use Rattle.example.specs.Users.{IsPatternOfUsers, default_asked, users_text}
+use Rattle.example.specs.Users.{default_asked, users_text}
 use Rattle.example.proofs.users.Users.new.Goals as goal
 use Rattle.urlpattern.specs.FromString.{IsPatternOfText}
 use Rattle.urlpattern.specs.KeptParts.{KeepsPartsOfText}

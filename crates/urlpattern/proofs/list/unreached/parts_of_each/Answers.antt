@@ -1,7 +1,6 @@
-use Rattle.std.proofs.Common.{◌∙◌, ap, map, subst, sym, take, take_all}
+use Rattle.std.proofs.Common.{◌∙◌, ap, map, sym, take_all}
 use Rattle.std.specs.Prelude.{option_copied, Some}
 use Rattle.urlpattern.proofs.UnreachedLemmas.{all_now, has_none, parts_more, parts_of}
-use Rattle.urlpattern.specs.Unreached.{HaveAllParts}
 use Rattle.urlpattern.proofs.list.unreached.parts_of_each.Goals as goal
 
 pub loop-pattern-init : goal.loop-pattern-init

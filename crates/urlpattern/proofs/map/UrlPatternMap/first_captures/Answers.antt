@@ -3,13 +3,12 @@ use Rattle.std.proofs.lemmas.Map.Made.{keys_of-zip}
 use Rattle.std.proofs.lemmas.Option.{slice_get_read, slice_get_within}
 use Rattle.std.proofs.lemmas.Slice.Zip.{seconds-zip}
 use Rattle.std.specs.Map.{keys_of, values_of}
-use Rattle.std.specs.Prelude.{All, None, Some, slice_get}
+use Rattle.std.specs.Prelude.{None, Some, slice_get}
 use Rattle.urlpattern_init.specs.Inheritance.{texts_of_url}
 use Rattle.urlpattern_init.specs.declared.init.UrlPatternMatchInput.TheVariants.{Url}
 use Rattle.urlpattern.proofs.PatternMapLemmas.{length-mapped}
 use Rattle.urlpattern_pattern.proofs.Results.{if_err}
 use Rattle.urlpattern_matches.specs.BorrowedMatches.{pattern_captures_view}
-use Rattle.urlpattern_pattern.specs.Match.{HasNoMatch}
 use Rattle.urlpattern_pattern.specs.Patterns.{pattern_view}
 use Rattle.urlpattern_pattern.specs.UrlPatterns.{UrlPattern}
 use Rattle.urlpattern.specs.FirstMatch.{AsksBeforeMatch, HasGroupsInOrder, IsFirstMatch, patterns_view}

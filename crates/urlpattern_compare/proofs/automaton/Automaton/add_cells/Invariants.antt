@@ -1,4 +1,4 @@
-use Rattle.std.proofs.Common.{◌≡◌, ◌++◌, ◌+◌, [], drop}
+use Rattle.std.proofs.Common.{◌≡◌, ◌+◌, drop}
 use Rattle.urlpattern_compare.specs.Making.{made_view, with_cells}
 use Rattle.urlpattern_compare.proofs.automaton.Automaton.add_cells.Given as goal
 

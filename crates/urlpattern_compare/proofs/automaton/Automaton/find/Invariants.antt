@@ -1,4 +1,4 @@
-use Rattle.std.proofs.Common.{◌≡◌, ◌-◌, ◌≤◌, ◌<◌, ℕ, vec_len}
+use Rattle.std.proofs.Common.{◌-◌, ◌≤◌, ℕ}
 use Rattle.std.specs.List.{All, Contains}
 use Rattle.std.specs.Prelude.{length, take}
 use Rattle.urlpattern_compare.specs.Searching.{AreUnlike, IsReached, IsSeen, starts_of}

@@ -7,8 +7,8 @@ use Rattle.urlpattern_engine.specs.Automatons.{read_answer}
 use Rattle.urlpattern_engine.proofs.AutomatonLemmas.{automaton_as_read_once}
 use Rattle.urlpattern_engine.proofs.automaton.Automaton.matches.Goals as goal
 
-pub returns-then-text-ge-LONG : goal.returns-then-text-ge-LONG
-returns-then-text-ge-LONG c =
+pub returns-in-Compiled : goal.returns-in-Compiled
+returns-in-Compiled c =
     let own = c.args.self.now in
     let text = c.args.text.now in
     subst (λ answer. IfOk c.match_once.result (λ found. captures_view found ≡ answer))

@@ -3,7 +3,6 @@ use Rattle.urlpattern_generate.proofs.WritingLemmas.{lent_if}
 use Rattle.urlpattern_generate.specs.Writing.{manner_of_writer}
 use Rattle.urlpattern_syntax.specs.Parts.{part_view}
 use Rattle.urlpattern_syntax.specs.declared.parser.PartModifier.TheVariants as modifiers
-use Rattle.urlpattern_syntax.specs.declared.parser.PartType.TheVariants.{FullWildcard}
 use Rattle.urlpattern_generate.proofs.writer.Writer.lent_part.Goals as goal
 
 pub returns-in-FullWildcard : goal.returns-in-FullWildcard

@@ -1,4 +1,4 @@
-use Rattle.std.proofs.Common.{rules, ap, sym, ◌∙◌, ◌≡◌}
+use Rattle.std.proofs.Common.{rules, sym, ◌∙◌, ◌≡◌}
 use Rattle.std.specs.Str.{chars}
 use Rattle.urlpattern_matcher.specs.Matchers.{inner_view, matcher_view}
 use Rattle.urlpattern_init.proofs.SchemeLemmas.{literal_only}

@@ -1,5 +1,5 @@
 use Rattle.std.proofs.Common.{ap}
-use Rattle.urlpattern_matches.proofs.TakenLemmas.{taken-end, taken-more, taken-same}
+use Rattle.urlpattern_matches.proofs.TakenLemmas.{taken-end}
 use Rattle.urlpattern_matches.specs.BorrowedMatches.{all_groups_left, texts_captured}
 use Rattle.urlpattern_matches.proofs.captures.UrlPatternCaptures.to_groups.Goals as goal
 

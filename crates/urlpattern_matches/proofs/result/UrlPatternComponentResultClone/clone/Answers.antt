@@ -1,5 +1,5 @@
 use Rattle.std.proofs.Common.{rules}
-use Rattle.urlpattern_matches.specs.ResultViews.{IsCopy, IsSameEntry}
+use Rattle.urlpattern_matches.specs.ResultViews.{IsSameEntry}
 use Rattle.urlpattern_matches.proofs.CopyLemmas.{zip-mono}
 use Rattle.urlpattern_matches.proofs.result.UrlPatternComponentResultClone.clone.Goals as goal
 

@@ -1,4 +1,4 @@
-use Rattle.std.proofs.Common.{◌≡◌, ◌∙◌, ◌++◌, ◌≤◌, ap, arith, get_or, length, map, subst, take, take_all}
+use Rattle.std.proofs.Common.{◌≡◌, ◌∙◌, ◌++◌, ◌≤◌, ap, arith, get_or, length, map, subst, take_all}
 use Rattle.std.proofs.lemmas.List.Elements.{All-more}
 use Rattle.std.specs.HashMap.{IsUnique}
 use Rattle.std.specs.List.{All}

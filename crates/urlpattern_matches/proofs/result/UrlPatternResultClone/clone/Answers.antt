@@ -1,6 +1,5 @@
 use Rattle.std.proofs.Common.{rules, subst, sym}
 use Rattle.urlpattern_components.specs.Eight.{at}
-use Rattle.urlpattern_components.specs.declared.eight.ComponentName.{ComponentName}
 use Rattle.urlpattern_components.specs.declared.eight.Eight.{Eight}
 use Rattle.urlpattern_matches.specs.ResultViews.{IsCopy, results_of}
 use Rattle.urlpattern_matches.specs.declared.result.UrlPatternComponentResult.{UrlPatternComponentResult}

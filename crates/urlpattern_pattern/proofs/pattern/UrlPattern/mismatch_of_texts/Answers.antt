@@ -3,7 +3,8 @@ use Rattle.std.proofs.lemmas.Bool.{false≢true}
 use Rattle.std.proofs.lemmas.List.Elements.{All-more}
 use Rattle.std.specs.Prelude.{All, None}
 use Rattle.urlpattern_meaning.specs.Matching.{Answers, AsksEngine, IsMatched, MatcherView}
-use Rattle.urlpattern_pattern.proofs.MismatchLemmas.{matches_before, of_each, of_got}
+use Rattle.urlpattern_components.proofs.EightLemmas.{of_each}
+use Rattle.urlpattern_pattern.proofs.MismatchLemmas.{matches_before, of_got}
 use Rattle.urlpattern_pattern.proofs.Results.{if_err}
 use Rattle.urlpattern_matches.specs.GroupTexts.{borrowed_texts}
 use Rattle.urlpattern_pattern.specs.Patterns.{pattern_view}

@@ -1,18 +1,18 @@
 mod CopyAnswers
 mod RunAnswers
 mod SegmentAnswers
-use Rattle.std.proofs.Common.{◌≡◌, ℕ, ◌∷◌, ◌++◌, [], None, false, length, drop, refl, sym, ap, ◌∙◌, subst, arith, rules}
-use Rattle.std.proofs.lemmas.List.{length-drop, nil_from_length}
+use Rattle.std.proofs.Common.{◌≡◌, ◌∷◌, [], false, length, refl, sym, ap, ◌∙◌, arith, rules}
+use Rattle.std.proofs.lemmas.List.{nil_from_length}
 use Rattle.std.specs.Str.{chars, IsUtf8}
 use Rattle.urlpattern_syntax.proofs.TextLemmas.{chars-empty, chars-some}
 use Rattle.urlpattern_syntax.specs.Text.{line_feed}
 use Rattle.urlpattern_steps.specs.declared.step.Step.{Step}
-use Rattle.urlpattern_steps.specs.declared.step.Step.TheVariants.{Literal, Segment, Anything, Maybe}
+use Rattle.urlpattern_steps.specs.declared.step.Step.TheVariants.{Literal, Segment, Anything}
 use Rattle.urlpattern_steps.specs.Failed.{EndsWith}
-use Rattle.urlpattern_steps.specs.Walk.{Continuation, captured_front, literals, up_to_first, walk, StopAt}
+use Rattle.urlpattern_steps.specs.Walk.{captured_front, up_to_first, walk, StopAt}
 use Rattle.urlpattern_steps.proofs.AttemptLemmas.{call_follows_on, follows_missed, follows_on, leaves_captured, leaves_end, leaves_missed, leaves_passed, maybe_left, untouched-same}
 use Rattle.urlpattern_steps.proofs.FirstLemmas.{passed_shorter, places}
-use Rattle.urlpattern_steps.proofs.FollowLemmas.{plus, literal_other, literal_passed, end_taken}
+use Rattle.urlpattern_steps.proofs.FollowLemmas.{plus, literal_other, literal_passed}
 use Rattle.urlpattern_steps.proofs.SameLemmas.{begins_one}
 use Rattle.urlpattern_steps.proofs.RunLemmas.{both_ends, longest_ends, shortest_ends, shortest_none}
 use Rattle.urlpattern_steps.proofs.StepLemmas.{stop-gives}

@@ -1,4 +1,4 @@
-use Rattle.std.proofs.Common.{◌≡◌, ◌++◌, refl, sym, ap, ◌∙◌, subst}
+use Rattle.std.proofs.Common.{◌++◌, refl, sym, ap, ◌∙◌, subst}
 use Rattle.std.specs.Str.{chars}
 use Rattle.urlpattern_parser.specs.declared.parser.pieces.Next.TheVariants as nexts
 use Rattle.urlpattern_syntax.specs.declared.tokenizer.Token.{Token}

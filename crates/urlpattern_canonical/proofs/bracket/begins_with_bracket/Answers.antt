@@ -1,7 +1,7 @@
 use Rattle.std.proofs.Common.{codes, slice_index, arith}
 use Rattle.std.proofs.lemmas.Grind.{common_steps}
 use Rattle.urlpattern_canonical.proofs.CanonicalLemmas.{begins_with-chars}
-use Rattle.urlpattern_compile.proofs.compile.begins_with_bracket.Goals as goal
+use Rattle.urlpattern_canonical.proofs.bracket.begins_with_bracket.Goals as goal
 
 pub returns-in-91 : goal.returns-in-91
 returns-in-91 c =

@@ -1,0 +1,366 @@
+//! How `PatternRegexp` matches: the strategies, when each is taken, and what it costs.
+//!
+//! An expression has m bytes and a text n. Memory is counted without the captures of a match, one
+//! for each group.
+
+ghost use Rattle.std.specs.Prelude.{◌≡◌, ◌≤◌, Err, IfOk, IsSome};
+ghost use Rattle.std.specs.Str.{chars};
+ghost use Rattle.regex_syntax.specs.Grammar.{read};
+ghost use Rattle.urlpattern_engine.specs.Automatons.{config_for};
+ghost use Rattle.urlpattern_engine.specs.PatternRegexps.{IsExpressionOf, expression_answer, expression_text};
+ghost use Rattle.urlpattern_engine.specs.Refusals.{HasFault};
+ghost use Rattle.urlpattern_engine.specs.declared.strategy.AutomatonSearch.TheVariants.{Unmarked};
+ghost use Rattle.urlpattern_meaning.specs.CaptureTexts.{captures_view};
+ghost use Rattle.urlpattern_meaning.specs.GeneratedTexts.{IsGenerated};
+ghost use Rattle.urlpattern_syntax.specs.declared.error.RegExpError.TheVariants.{Pattern};
+ghost use Rattle.urlpattern_syntax.specs.Text.{text_of};
+
+use crate::automaton::{Automaton, match_once, read_expression, regex_of};
+use crate::generated_text::GeneratedText;
+use crate::large::is_large;
+use crate::steps::Steps;
+use crate::trial::FEW;
+use regex::Regex;
+use std::alloc::{AllocError, Global};
+use urlpattern_matcher::regexp::RegExp;
+use urlpattern_steps::reading::read_steps;
+use urlpattern_steps::step::Step;
+use urlpattern_steps::stops::stop_at;
+use urlpattern_syntax::error::{OutOfMemory, RegExpError};
+
+/// A strategy, with what it keeps of its expression.
+///
+/// [`Strategy::to_match`] and [`Strategy::to_keep`] choose it.
+#[derive(Drop)]
+pub(crate) enum Strategy {
+    /// Matches by steps that are read once.
+    ///
+    /// Taken for each expression that can be read as steps: literals, groups of runs, repeated
+    /// groups and groups that may be missing, which is all that is generated of parts without
+    /// custom ones. Keeps the steps, O(m). A match costs what its [`StepSearch`] costs.
+    Steps(Box<Steps>),
+    /// Matches by steps that are read for each match.
+    ///
+    /// Taken for a generated expression that is kept and hardly ever matches. Keeps its m bytes. A
+    /// match reads the steps, in O(m) time and memory, and costs what their [`StepSearch`] costs.
+    LazySteps(GeneratedText),
+    /// Matches by the automaton that `regex` would compile.
+    ///
+    /// Taken for an expression without steps that matches only at the start of a text. Keeps an
+    /// automaton of up to 10 MiB. A match costs what its [`AutomatonSearch`] costs.
+    Automaton(Box<Automaton>),
+    /// Matches by a `regex::Regex` that is compiled once.
+    ///
+    /// Taken for an expression without steps that may match elsewhere than at the start of a text.
+    /// Keeps what `regex` compiles. A match takes the time and memory of `regex`.
+    Regex(Box<Regex>),
+    /// Matches by a `regex::Regex` that is compiled for each match.
+    ///
+    /// Taken for an expression without steps that is kept and hardly ever matches. Keeps its m
+    /// bytes. A match compiles the expression, and takes the time and memory of `regex`.
+    LazyRegex(String),
+}
+
+/// How steps match a text.
+///
+/// [`StepSearch::of`] chooses it.
+#[derive(Clone, Copy)]
+pub(crate) enum StepSearch {
+    /// Backtracks from the last choice that is left, and forgets where it failed.
+    ///
+    /// Taken where at most one run may end at several places, no run follows it, and at most four
+    /// groups may be missing. Takes O(m · n) time, and up to 16 n bytes for repeated segments.
+    Backtracking,
+    /// Backtracks, and in texts of more than 256 bytes remembers where it failed.
+    ///
+    /// Taken where another run follows the one that may end at several places, and is matched again
+    /// after each end. Takes O(n · (m + n)) time in short texts, and what `Memoized` takes in
+    /// others.
+    MemoizedIfLong,
+    /// Backtracks, and remembers each state, a step and a place, from which it failed.
+    ///
+    /// Taken where two runs may end at several places, or more than four groups may be missing.
+    /// Takes O(m · n) time, and a bit for each state.
+    Memoized,
+    /// Fills a table that says which ends of the text the steps from each one on match.
+    ///
+    /// Taken where a repeated group follows another choice, so that it would be matched anew at
+    /// many places, and where more than 1,000 steps may leave a choice, each of which takes stack.
+    /// Takes O(m · n) time, and a byte for each step and place.
+    Table,
+}
+
+/// How an automaton matches a text.
+///
+/// [`AutomatonSearch::of`] chooses it.
+#[derive(Clone, Copy)]
+pub(crate) enum AutomatonSearch {
+    /// Backtracks over the states, without marks on those that it visited.
+    ///
+    /// Taken for texts of less than 1,024 bytes, with up to four groups. Takes O(n) time and no
+    /// memory: past 16 n + 128 states, or 64 open choices, `Marked` matches the text.
+    Unmarked,
+    /// Visits each state at most once at each place.
+    ///
+    /// Taken for texts of less than 1,024 bytes with more groups, or where `Unmarked` gave up.
+    /// Takes time for each state and place, and a bit; or, if these are too many, one pass over the
+    /// text.
+    Marked,
+    /// Matches by a `regex::Regex` that is compiled for the text.
+    ///
+    /// Taken for texts of 1,024 bytes or more, where a search state by state takes longer. Takes
+    /// the time and memory of `regex`, to compile the expression and to match the text.
+    Compiled,
+}
+
+impl Strategy {
+    /// The strategy of an expression that matches texts.
+    ///
+    /// The error says whether `regex` rejects the expression or memory ran out.
+    pub(crate) fn to_match(
+        alloc: Global,
+        pattern: &str,
+        ignore_case: bool,
+    ) -> Result<Strategy, RegExpError>
+        ensures made { IfOk result (IsExpressionOf ignore_case (chars pattern.now)) }
+        ensures refused { result ≡ Err Pattern → (¬ IsGenerated (chars pattern.now))
+            × HasFault ignore_case (chars pattern.now) }
+    {
+        if let Some(steps) = read_steps(alloc, pattern)? {
+            let steps = Steps::new(String::from_str(alloc, pattern)?, steps);
+            return Ok(Strategy::Steps(boxed(alloc, steps)?));
+        }
+        Ok(compiled(alloc, pattern, ignore_case)?)
+    }
+
+    /// The strategy of an expression that is kept and hardly ever matches. `is_generated` says that
+    /// it is generated of parts, none of them custom.
+    ///
+    /// The error says whether `regex` rejects the expression or memory ran out.
+    pub(crate) fn to_keep(
+        alloc: Global,
+        pattern: String,
+        ignore_case: bool,
+        is_generated: bool,
+    ) -> Result<Strategy, RegExpError>
+        requires { is_generated ≡ true → IsGenerated (text_of pattern) }
+        ensures made { IfOk result (IsExpressionOf ignore_case (text_of pattern)) }
+        ensures refused { result ≡ Err Pattern → (¬ IsGenerated (text_of pattern))
+            × HasFault ignore_case (text_of pattern) }
+    {
+        if is_generated {
+            return Ok(Strategy::LazySteps(GeneratedText::new(pattern)));
+        }
+        if let Some(steps) = read_steps(alloc, &pattern)? {
+            let steps = Steps::new(pattern, steps);
+            return Ok(Strategy::Steps(boxed(alloc, steps)?));
+        }
+        check(alloc, &pattern, ignore_case)?;
+        Ok(Strategy::LazyRegex(pattern))
+    }
+
+    /// What the groups capture of a text. `None`: the expression does not match it.
+    pub(crate) fn matches<'t>(
+        &self,
+        alloc: Global,
+        ignore_case: bool,
+        text: &'t str,
+    ) -> Result<Option<Vec<Option<&'t str>>>, OutOfMemory>
+        ensures { IfOk result (λ found.
+            captures_view found ≡ expression_answer ignore_case self.now (chars text.now)) }
+    {
+        match self {
+            Strategy::Steps(steps) => steps.matches(alloc, ignore_case, text),
+            Strategy::LazySteps(generated) => generated.matches(alloc, ignore_case, text),
+            Strategy::Automaton(automaton) => automaton.matches(alloc, text),
+            Strategy::Regex(regex) => RegExp::matches(&**regex, alloc, text),
+            Strategy::LazyRegex(pattern) => match_once(alloc, pattern, ignore_case, text),
+        }
+    }
+
+    /// The expression.
+    pub(crate) fn pattern_string(&self) -> &str
+        ensures { chars result.now ≡ expression_text self.now }
+    {
+        match self {
+            Strategy::Steps(steps) => steps.text.as_str(),
+            Strategy::LazySteps(generated) => generated.text.as_str(),
+            Strategy::Automaton(automaton) => automaton.text.as_str(),
+            Strategy::Regex(regex) => RegExp::pattern_string(&**regex),
+            Strategy::LazyRegex(pattern) => pattern.as_str(),
+        }
+    }
+}
+
+/// The strategy of an expression without steps that matches texts: an automaton, or a
+/// `regex::Regex` if it may match elsewhere than at the start of a text.
+///
+/// The error says whether `regex` rejects the expression or memory ran out.
+fn compiled(alloc: Global, pattern: &str, ignore_case: bool) -> Result<Strategy, RegExpError>
+    ensures refused { result ≡ Err Pattern → HasFault ignore_case (chars pattern.now) }
+    ensures made { IfOk result (λ made. ¬ IsGenerated (chars pattern.now) → IsExpressionOf ignore_case (chars pattern.now) made) }
+{
+    match Automaton::new(alloc, pattern, ignore_case)? {
+        Some(automaton) => Ok(Strategy::Automaton(boxed(alloc, automaton)?)),
+        None => {
+            let regex = regex_of(alloc, pattern, ignore_case)?;
+            Ok(Strategy::Regex(boxed(alloc, regex)?))
+        }
+    }
+}
+
+/// Reads an expression, and if it is large also compiles it, to see whether the engine accepts it.
+///
+/// The error says whether `regex` rejects it or memory ran out.
+#[tactic(auto, using(crate::proofs::ReadAnswers::reads_some))]
+fn check(alloc: Global, pattern: &str, ignore_case: bool) -> Result<(), RegExpError>
+    ensures accepted { IfOk result (λ nothing.
+        IsSome (read (config_for ignore_case) (chars pattern.now))) }
+    ensures refused { result ≡ Err Pattern → HasFault ignore_case (chars pattern.now) }
+{
+    read_expression(alloc, pattern, ignore_case)?;
+    if is_large(pattern) {
+        compiled(alloc, pattern, ignore_case)?;
+    }
+    Ok(())
+}
+
+/// A value on the heap.
+fn boxed<T: Drop>(alloc: Global, value: T) -> Result<Box<T>, AllocError>
+    ensures { IfOk result (λ boxed. boxed.value ≡ value) }
+{
+    match Box::new(alloc, value) {
+        Ok(boxed) => Ok(boxed),
+        Err(error) => Err(AllocError::from(error)),
+    }
+}
+
+/// How many bytes a short text has at most.
+const SHORT_LENGTH: usize = 256;
+
+/// How many groups may be missing at most where failed states are forgotten.
+const MAYBE_COUNT: usize = 4;
+
+/// How many steps may leave a choice at most where choices are tried. Each may be a call within a
+/// call.
+const CHOICE_COUNT: usize = 1000;
+
+impl StepSearch {
+    /// How these steps match texts.
+    pub(crate) fn of(steps: &[Step]) -> StepSearch {
+        if is_shallow(steps) && begin_with_repeats(steps) {
+            backtracking(steps)
+        } else {
+            StepSearch::Table
+        }
+    }
+
+    /// Whether a match of this text remembers where it failed.
+    pub(crate) fn is_memoized(self, text: &str) -> bool {
+        match self {
+            StepSearch::Memoized => true,
+            StepSearch::MemoizedIfLong => text.len() > SHORT_LENGTH,
+            StepSearch::Backtracking | StepSearch::Table => false,
+        }
+    }
+}
+
+/// How steps match texts by backtracking: with a memory of failed states, unless at most one run
+/// may end at several places and few groups may be missing.
+fn backtracking(steps: &[Step]) -> StepSearch {
+    let mut search = StepSearch::Backtracking;
+    let mut is_chosen = false;
+    let mut maybe_count: usize = 0;
+    let mut rest = steps;
+    while let Some((step, others)) = rest.split_first() {
+        match step {
+            Step::Literal(_) => {}
+            Step::Maybe(_) => maybe_count = maybe_count.saturating_add(1),
+            Step::Segment(_)
+            | Step::Anything
+            | Step::Longest(_)
+            | Step::Copies(_)
+            | Step::Segments(_) => {
+                let has_choice = has_choice(step, others);
+                if is_chosen && has_choice {
+                    return StepSearch::Memoized;
+                }
+                if is_chosen {
+                    search = StepSearch::MemoizedIfLong;
+                }
+                is_chosen |= has_choice;
+            }
+        }
+        rest = others;
+    }
+    if maybe_count > MAYBE_COUNT {
+        StepSearch::Memoized
+    } else {
+        search
+    }
+}
+
+/// Whether a step may match up to several places before the other steps.
+fn has_choice(step: &Step, others: &[Step]) -> bool {
+    match step {
+        Step::Segment(end) => !stop_at(others, *end),
+        Step::Anything => !stop_at(others, '\n'),
+        Step::Longest(_) | Step::Copies(_) | Step::Segments(_) => true,
+        Step::Literal(_) | Step::Maybe(_) => false,
+    }
+}
+
+/// Whether the repeated groups among the steps come before each other choice, so that none of them
+/// begins at many places of a text.
+fn begin_with_repeats(steps: &[Step]) -> bool {
+    let mut is_chosen = false;
+    let mut rest = steps;
+    while let Some((step, others)) = rest.split_first() {
+        let is_repeat = matches!(step, Step::Longest(_) | Step::Copies(_) | Step::Segments(_));
+        if is_repeat && is_chosen {
+            return false;
+        }
+        is_chosen |= has_choice(step, others);
+        rest = others;
+    }
+    true
+}
+
+/// Whether so few of the steps may leave a choice that trying them needs little of the stack.
+fn is_shallow(steps: &[Step]) -> bool {
+    let choices = steps
+        .iter()
+        .filter(|step| !matches!(step, Step::Literal(_)));
+    choices.count() <= CHOICE_COUNT || !leave_choices(steps)
+}
+
+/// Whether some step leaves a choice, or may be missing.
+fn leave_choices(steps: &[Step]) -> bool {
+    let mut rest = steps;
+    while let Some((step, others)) = rest.split_first() {
+        if matches!(step, Step::Maybe(_)) || has_choice(step, others) {
+            return true;
+        }
+        rest = others;
+    }
+    false
+}
+
+/// How many bytes a long text has at least.
+const LONG_LENGTH: usize = 1 << 10;
+
+impl AutomatonSearch {
+    /// How an automaton matches a text, with two cells for each group.
+    pub(crate) fn of(text: &str, cells: usize) -> AutomatonSearch
+        ensures { result ≡ Unmarked → cells ≤ 8 }
+    {
+        if text.len() >= LONG_LENGTH {
+            return AutomatonSearch::Compiled;
+        }
+        if cells <= FEW {
+            AutomatonSearch::Unmarked
+        } else {
+            AutomatonSearch::Marked
+        }
+    }
+}

@@ -1,0 +1,86 @@
+//! Splits a text after the body of a custom regular expression.
+ghost use Rattle.std.specs.Prelude.{◌++◌, codes, IfErr, IfOk};
+ghost use Rattle.std.specs.Str.{chars};
+ghost use Rattle.urlpattern_parser.specs.Bodies.{IsRefusedBody};
+ghost use Rattle.urlpattern_syntax.specs.Text.{BeginsWith, is_among};
+ghost use Rattle.urlpattern_syntax.specs.Tokens.{IsLexed};
+ghost use Rattle.urlpattern_syntax.specs.declared.tokenizer.TokenType.TheVariants.{Regexp};
+
+use urlpattern_syntax::error::{RegexFault, TokenizerError};
+use urlpattern_syntax::text::{before, split_first};
+
+/// Why a text is no body of a custom regular expression.
+#[derive(Drop)]
+pub struct RefusedBody<'a> {
+    /// What is left of the text from where the body may not go on, and how many bytes of that may not
+    /// be there. `None`: the text ends before the body does.
+    pub refused: Option<(&'a str, usize)>,
+    /// The error that is reported.
+    pub error: TokenizerError,
+}
+
+/// The body of a custom regular expression, up to the bracket that closes it, and the text after that
+/// bracket.
+pub fn split_body(text: &str) -> Result<(&str, &str), RefusedBody<'_>>
+    requires { ¬ BeginsWith (is_among (codes "?)")) (chars text.now) }
+    ensures body { IfOk result (λ found. IsLexed (codes "(" ++ chars text.now) Regexp (chars found.0.now) (chars found.1.now)) }
+    ensures refused { IfErr result (IsRefusedBody text.now) }
+{
+    let mut rest = text;
+    let mut depth = 0usize;
+    while let Some((first, after)) = split_first(rest) {
+        match first {
+            '\\' => match split_first(after) {
+                Some((escaped, next)) if escaped.is_ascii() => rest = next,
+                Some((escaped, _)) => {
+                    return Err(RefusedBody {
+                        refused: Some((rest, 1 + escaped.len_utf8())),
+                        error: TokenizerError::InvalidRegex(RegexFault::BadEscape),
+                    });
+                }
+                None => {
+                    return Err(RefusedBody {
+                        refused: None,
+                        error: TokenizerError::IncompleteEscapeCode,
+                    });
+                }
+            },
+            '(' => match split_first(after) {
+                Some(('?', next)) => {
+                    rest = next;
+                    depth += 1;
+                }
+                Some(_) => {
+                    return Err(RefusedBody {
+                        refused: Some((rest, 1)),
+                        error: TokenizerError::InvalidRegex(RegexFault::NestedGroupCaptures),
+                    });
+                }
+                None => {
+                    return Err(RefusedBody {
+                        refused: Some((rest, 1)),
+                        error: TokenizerError::InvalidRegex(RegexFault::NestedGroupNotClosed),
+                    });
+                }
+            },
+            ')' => {
+                if depth == 0 {
+                    return Ok((before(text, rest), after));
+                }
+                rest = after;
+                depth -= 1;
+            }
+            _ if first.is_ascii() => rest = after,
+            _ => {
+                return Err(RefusedBody {
+                    refused: Some((rest, first.len_utf8())),
+                    error: TokenizerError::InvalidRegex(RegexFault::BadCharacter),
+                });
+            }
+        }
+    }
+    Err(RefusedBody {
+        refused: None,
+        error: TokenizerError::InvalidRegex(RegexFault::MissingClose),
+    })
+}
