@@ -1,4 +1,4 @@
-//! One component: its tokens, its options, its canonical values and its matcher.
+//! A component by itself: its tokens, its options, its canonical values and its matcher.
 
 use std::alloc::Global;
 use urlpattern::canonicalize_and_process::Canonicalizer;

@@ -11,7 +11,7 @@ use urlpattern_matcher::regexp::RegExp;
 use urlpattern_syntax::RegexSyntax;
 use urlpattern_syntax::error::{OutOfMemory, RegExpError};
 
-/// An engine that answers what `regex::Regex` answers.
+/// An engine that returns what `regex::Regex` returns.
 ///
 /// An expression of the form that parts generate is matched by its own steps. Any other that
 /// matches only at the start of a text, as those of patterns do, is matched by an automaton. A

@@ -114,7 +114,7 @@ pub(crate) enum AutomatonSearch {
 }
 
 impl Strategy {
-    /// The strategy of an expression that matches texts.
+    /// Chooses the strategy of an expression that matches texts.
     ///
     /// The error says whether `regex` rejects the expression or memory ran out.
     pub(crate) fn to_match(
@@ -133,8 +133,8 @@ impl Strategy {
         Ok(compiled(alloc, pattern, ignore_case)?)
     }
 
-    /// The strategy of an expression that is kept and hardly ever matches. `is_generated` says that
-    /// it is generated of parts, none of them custom.
+    /// Chooses the strategy of an expression that is kept and hardly ever matches. `is_generated`
+    /// says that parts without custom ones generate the expression.
     ///
     /// The error says whether `regex` rejects the expression or memory ran out.
     pub(crate) fn to_keep(
@@ -159,7 +159,7 @@ impl Strategy {
         Ok(Strategy::LazyRegex(pattern))
     }
 
-    /// What the groups capture of a text. `None`: the expression does not match it.
+    /// Returns the captures of the groups, if the expression matches the text. `None`: no match.
     pub(crate) fn matches<'t>(
         &self,
         alloc: Global,
@@ -178,7 +178,7 @@ impl Strategy {
         }
     }
 
-    /// The expression.
+    /// The text of the expression.
     pub(crate) fn pattern_string(&self) -> &str
         ensures { chars result.now ≡ expression_text self.now }
     {
@@ -192,8 +192,8 @@ impl Strategy {
     }
 }
 
-/// The strategy of an expression without steps that matches texts: an automaton, or a
-/// `regex::Regex` if it may match elsewhere than at the start of a text.
+/// Compiles an expression without steps: to an automaton, or to a `regex::Regex` if the expression
+/// may match elsewhere than at the start of a text.
 ///
 /// The error says whether `regex` rejects the expression or memory ran out.
 fn compiled(alloc: Global, pattern: &str, ignore_case: bool) -> Result<Strategy, RegExpError>
@@ -209,7 +209,7 @@ fn compiled(alloc: Global, pattern: &str, ignore_case: bool) -> Result<Strategy,
     }
 }
 
-/// Reads an expression, and if it is large also compiles it, to see whether the engine accepts it.
+/// Parses an expression, and also compiles a large one, to see whether the engine accepts it.
 ///
 /// The error says whether `regex` rejects it or memory ran out.
 #[tactic(auto, using(crate::proofs::ReadAnswers::reads_some))]
@@ -225,7 +225,7 @@ fn check(alloc: Global, pattern: &str, ignore_case: bool) -> Result<(), RegExpEr
     Ok(())
 }
 
-/// A value on the heap.
+/// Moves a value to the heap.
 fn boxed<T: Drop>(alloc: Global, value: T) -> Result<Box<T>, AllocError>
     ensures { IfOk result (λ boxed. boxed.value ≡ value) }
 {
@@ -235,18 +235,18 @@ fn boxed<T: Drop>(alloc: Global, value: T) -> Result<Box<T>, AllocError>
     }
 }
 
-/// How many bytes a short text has at most.
+/// The greatest length in bytes of a short text.
 const SHORT_LENGTH: usize = 256;
 
-/// How many groups may be missing at most where failed states are forgotten.
+/// The greatest number of optional groups for which failed states are not remembered.
 const MAYBE_COUNT: usize = 4;
 
-/// How many steps may leave a choice at most where choices are tried. Each may be a call within a
-/// call.
+/// The greatest number of steps with a choice for which steps are matched by backtracking. Each may
+/// be a nested call.
 const CHOICE_COUNT: usize = 1000;
 
 impl StepSearch {
-    /// How these steps match texts.
+    /// Chooses how these steps match texts.
     pub(crate) fn of(steps: &[Step]) -> StepSearch {
         if is_shallow(steps) && begin_with_repeats(steps) {
             backtracking(steps)
@@ -255,7 +255,7 @@ impl StepSearch {
         }
     }
 
-    /// Whether a match of this text remembers where it failed.
+    /// Whether a match of this text remembers the states that failed.
     pub(crate) fn is_memoized(self, text: &str) -> bool {
         match self {
             StepSearch::Memoized => true,
@@ -346,11 +346,11 @@ fn leave_choices(steps: &[Step]) -> bool {
     false
 }
 
-/// How many bytes a long text has at least.
+/// The least length in bytes of a long text.
 const LONG_LENGTH: usize = 1 << 10;
 
 impl AutomatonSearch {
-    /// How an automaton matches a text, with two cells for each group.
+    /// Chooses how an automaton matches a text. There are two cells for each group.
     pub(crate) fn of(text: &str, cells: usize) -> AutomatonSearch
         ensures { result ≡ Unmarked → cells ≤ 8 }
     {

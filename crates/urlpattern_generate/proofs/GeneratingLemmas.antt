@@ -20,7 +20,6 @@ told_canonical canonical false bytes text e same told = absurd (false≢true e)
 -- ---- what a matcher finds
 
 module _ {E : Type 0} (answer : E → List ℕ → Option Captures) (matcher : MatcherView E) (manner : WritingManner) (parts : List PartView) (text : List ℕ) where
-
   -- A matcher that always finds what was written finds it.
   pub written_found : (IsEngine : (regexp : List ℕ) → Result E ErrorView → Type 0) → IsMadeOf IsEngine manner.options parts matcher → ReadsWritten matcher.ignore_case matcher.inner →
       IsWritten manner parts text → FindsAsked answer matcher manner parts text

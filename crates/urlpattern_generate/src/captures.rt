@@ -7,7 +7,7 @@ ghost use Rattle.urlpattern_generate.specs.Asked.{capture_not_given, empty_if, i
 ghost use Rattle.urlpattern_syntax.specs.Parts.{part_view};
 ghost use Rattle.urlpattern_syntax.specs.Text.{begins_with, option_text, text_of};
 
-use crate::pieces::is_bare;
+use urlpattern_printing::is_bare;
 use urlpattern_syntax::parser::{Part, PartModifier, PartType};
 
 /// The capture of a group without a value.

@@ -13,9 +13,9 @@ use crate::captures::capture_not_given;
 use crate::error::GenerateError;
 use crate::groups::given_text;
 use crate::part_text::{push_fixed, push_group};
-use crate::pieces::is_bare;
 use crate::writer::Writer;
 use std::borrow::CowStr;
+use urlpattern_printing::is_bare;
 use urlpattern_syntax::Error;
 use urlpattern_syntax::parser::{Part, PartModifier, PartType};
 

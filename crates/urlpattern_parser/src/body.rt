@@ -9,18 +9,18 @@ ghost use Rattle.urlpattern_syntax.specs.declared.tokenizer.TokenType.TheVariant
 use urlpattern_syntax::error::{RegexFault, TokenizerError};
 use urlpattern_syntax::text::{before, split_first};
 
-/// Why a text is no body of a custom regular expression.
+/// Why a text does not begin with the body of a custom regular expression.
 #[derive(Drop)]
 pub struct RefusedBody<'a> {
-    /// What is left of the text from where the body may not go on, and how many bytes of that may not
-    /// be there. `None`: the text ends before the body does.
+    /// The rest of the text from the invalid bytes on, and how many bytes are invalid. `None`: the
+    /// text ends before the body does.
     pub refused: Option<(&'a str, usize)>,
     /// The error that is reported.
     pub error: TokenizerError,
 }
 
-/// The body of a custom regular expression, up to the bracket that closes it, and the text after that
-/// bracket.
+/// Splits a text into the body of a custom regular expression, which the next unmatched `)` closes,
+/// and the text after that parenthesis.
 pub fn split_body(text: &str) -> Result<(&str, &str), RefusedBody<'_>>
     requires { ¬ BeginsWith (is_among (codes "?)")) (chars text.now) }
     ensures body { IfOk result (λ found. IsLexed (codes "(" ++ chars text.now) Regexp (chars found.0.now) (chars found.1.now)) }

@@ -70,7 +70,6 @@ pub fn walk_by_table<'t>(
 
 /// Returns the steps to match next: those of an optional group, if they and the steps after them
 /// match the text, and otherwise the steps after the group, whose captures are added as `None`.
-/// The error is that memory ran out.
 fn choose_group<'s>(
     captures: &mut Vec<Option<&str>>,
     rows: &[Vec<bool>],

@@ -252,7 +252,7 @@ impl<R: RegExp> UrlPattern<R> {
         ensures none { IfNone result (IsRefused R.answer (pattern_view self.now) (borrowed_texts texts.now)) }
         ensures asked { IfSome result (AskWithCause (pattern_view self.now) (borrowed_texts texts.now)) }
     {
-        // The path refuses most, so it is the first.
+        // The path rejects most texts, so it is the first.
         Some(Eight {
             pathname: self.pathname.matcher.look(texts.pathname)?,
             hostname: self.hostname.matcher.look(texts.hostname)?,
