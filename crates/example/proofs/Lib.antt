@@ -1,3 +1,3 @@
 pub mod Captured
-pub mod Copies
+pub mod ExampleCopies
 pub mod UserUrls

@@ -23,11 +23,11 @@ use Rattle.urlpattern.specs.ResultViews.{ResultView, group_of}
 use Rattle.urlpattern.specs.MatchInput.{input_texts}
 use Rattle.urlpattern.specs.FromString.{IsPatternOfText}
 use Rattle.urlpattern.specs.LinkedUrls.{IsCapturedBy, ReturnsGiven}
-use Rattle.urlpattern.specs.GeneratedTexts.{manner_in}
+use Rattle.urlpattern.specs.ComponentTexts.{manner_in}
 use Rattle.urlpattern.specs.ComponentParts.{kept_parts}
 use Rattle.urlpattern.specs.PatternParts.{PatternParts}
 use Rattle.urlpattern.specs.Canonical.{canonical_pathname}
-use Rattle.urlpattern.specs.Manners.{GivenView, begins_ipv6, canonical_for, is_slash, text_given}
+use Rattle.urlpattern.specs.Manners.{GivenView, begins_ipv6, canonical_for, is_slash_delimiter, text_given}
 use Rattle.urlpattern.specs.Patterns.{PatternView, pattern_view}
 use Rattle.urlpattern.specs.UrlPatterns.{UrlPattern}
 use Rattle.urlpattern.specs.PatternRegexps.{pattern_answer, pattern_engine}
@@ -183,5 +183,5 @@ linked_user pattern groups text url is valid lines given matched returns =
     × IsCapturedBy pattern_answer (pattern_view pattern) url Pathname (chars (codes "id")) value)) kept.has_parts (returns Pathname (chars (codes "id")) text given has) in
     let own = kept_parts (at kept.parts.components Pathname) in
     let canonical : canonical_pathname text ≡ Ok got.0 =
-    subst (λ (options : OptionsView). canonical_for Pathname (is_slash options.delimiter) (begins_ipv6 own) text ≡ Ok got.0) (users_path pattern is.kept) got.1 in
+    subst (λ (options : OptionsView). canonical_for Pathname (is_slash_delimiter options.delimiter) (begins_ipv6 own) text ≡ Ok got.0) (users_path pattern is.kept) got.1 in
     (got.0, canonical, user_captured (pattern_view pattern) is.compiled url valid lines got.0 matched got.2)

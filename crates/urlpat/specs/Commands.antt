@@ -1,14 +1,14 @@
 -- The output of the program for its arguments. Arguments and texts are bytes.
 use Rattle.std.specs.Prelude.{◌≢◌, ◌⊎◌, ℕ, List, codes, Option, String}
 use Rattle.std.specs.declared.alloc.Global.{Global}
-use Rattle.urlpat_commands.specs.Answers.{AreAnswered, FailsWhere}
+use Rattle.urlpat_commands.specs.CommandAnswers.{AreAnswered, FailsWhere}
 use Rattle.urlpat_lines.specs.Words.{words_view, AreWordsAfter}
 use Rattle.urlpat_commands.specs.FilterLines.{AskToFilter, Does}
-use Rattle.urlpat_commands.specs.Notes.{HasNote}
-use Rattle.urlpat_matching.specs.declared.status.TheConstants.{FAILED}
-use Rattle.urlpat_rules.specs.Coverings.{TellsWhether}
-use Rattle.urlpat_rules.specs.Routes.{RoutesLines}
-use Rattle.urlpat_rules.specs.Unreached.{Lists}
+use Rattle.urlpat_commands.specs.CommandNotes.{HasNote}
+use Rattle.urlpat_matching.specs.declared.exit_status.TheConstants.{FAILED}
+use Rattle.urlpat_rules.specs.PrintedCoverings.{TellsWhether}
+use Rattle.urlpat_rules.specs.TableRoutes.{RoutesLines}
+use Rattle.urlpat_rules.specs.UnreachedLines.{Lists}
 use Rattle.urlpat_lines.specs.declared.flags.Flags.{Flags}
 
 -- The arguments are those of a command that compares patterns or reads a table.

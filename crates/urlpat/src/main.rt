@@ -5,10 +5,10 @@
 
 ghost use Rattle.std.specs.Prelude.{⊤};
 
-mod command;
+mod dispatch;
 mod output;
 
-use command::run;
+use dispatch::run;
 use output::{Output, report_output};
 use std::alloc::AllocError;
 use std::io::{BufRead, BufReader, BufWriter, IsTerminal, Write};

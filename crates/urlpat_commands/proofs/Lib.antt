@@ -1,6 +1,6 @@
 pub mod AnswerExamples
-pub mod AnswerLemmas
-pub mod FirstLemmas
+pub mod CommandAnswerLemmas
+pub mod FirstCommandLemmas
 pub mod ShortLemmas
-pub mod FilterLemmas
-pub mod NoteLemmas
+pub mod FilterCommandLemmas
+pub mod CommandNoteLemmas

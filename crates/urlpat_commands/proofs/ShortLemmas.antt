@@ -2,13 +2,13 @@
 use Rattle.std.proofs.Common.{◌≡◌, ℕ, ◌<◌, ◌≤◌, List, [], ◌∷◌, length, get_or, arith, Option, None, Some, Result, Ok, Err, IfOk, IfSome}
 use Rattle.std.specs.Prelude.{String, string_bytes}
 use Rattle.std.specs.declared.alloc.Global.{Global}
-use Rattle.urlpat_commands.specs.Answers.{AnswersMatch, IsShortAnswer, IsShortFailure}
+use Rattle.urlpat_commands.specs.CommandAnswers.{AnswersMatch, IsShortAnswer, IsShortFailure}
 use Rattle.urlpat_matching.specs.MatchTexts.{IsMatchText, IsUnmatched}
 use Rattle.urlpattern_canonical.specs.BaseUrls.{IsRefusedText}
 use Rattle.urlpat_matching.specs.PatternWords.{RefusesPatternOf, base_of}
 use Rattle.urlpat_lines.specs.Words.{words_view}
-use Rattle.urlpat_commands.specs.Notes.{HasRefusedFirstInput, HasRefusedMatchInput, HasRefusedShortInput}
-use Rattle.urlpat_matching.specs.declared.status.Failure.TheVariants as failures
+use Rattle.urlpat_commands.specs.CommandNotes.{HasRefusedFirstInput, HasRefusedMatchInput, HasRefusedShortInput}
+use Rattle.urlpat_matching.specs.declared.exit_status.Failure.TheVariants as failures
 use Rattle.urlpat_lines.specs.declared.flags.Flags.{Flags}
 use Rattle.urlpattern.specs.Errors.{MemoryOr}
 use Rattle.urlpattern_syntax.specs.declared.error.Error.{Error}

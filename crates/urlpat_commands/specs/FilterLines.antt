@@ -8,12 +8,12 @@ use Rattle.url.specs.Parts.{Parts}
 use Rattle.urlpattern_canonical.specs.BaseUrls.{BaseView, IsUrlUnder, base_view}
 use Rattle.urlpat_matching.specs.PatternWords.{IsPatternOf, base_of}
 use Rattle.urlpat_matching.specs.MatchTexts.{IsUnmatchedUnder}
-use Rattle.urlpat_commands.specs.Answers.{AreAnswered, FailsWhere, Prints}
+use Rattle.urlpat_commands.specs.CommandAnswers.{AreAnswered, FailsWhere, Prints}
 use Rattle.urlpat_matching.specs.GroupLines.{group_bytes}
 use Rattle.urlpat_matching.specs.Groups.{has_group}
 use Rattle.urlpat_matching.specs.MatchJson.{IsMatchJson}
 use Rattle.urlpat_matching.specs.Status.{status_of}
-use Rattle.urlpat_matching.specs.declared.status.TheConstants.{FAILED}
+use Rattle.urlpat_matching.specs.declared.exit_status.TheConstants.{FAILED}
 use Rattle.urlpat_lines.specs.Filters.{FilterAnswers, FiltersText}
 use Rattle.urlpat_lines.specs.declared.answers.Verdict.{Verdict}
 use Rattle.urlpat_lines.specs.Queries.{IsQueryOf}
@@ -53,8 +53,8 @@ pub record IsPieceOf (compiled : PatternView PatternRegexp) (base : BaseView) (t
   pub is_piece : HasPiece result shape piece
 
 -- A component, and the name of a group.
-abbrev pub Group : Type 0
-Group = ComponentName × Bor (List ℕ)
+abbrev pub AskedGroup : Type 0
+AskedGroup = ComponentName × Bor (List ℕ)
 
 -- The pattern has the group of the shape, if there is one.
 abbrev pub HasAskedGroup : PatternView PatternRegexp → Shape → Type 0
@@ -63,7 +63,7 @@ HasAskedGroup compiled (shapes.Group component name) =
 HasAskedGroup compiled shape = Unit {0}
 
 -- The group of the shape, which the pattern lacks.
-abbrev pub IsMissingGroup : PatternView PatternRegexp → Shape → Group → Type 0
+abbrev pub IsMissingGroup : PatternView PatternRegexp → Shape → AskedGroup → Type 0
 IsMissingGroup compiled shape (component, name) =
     (shape ≡ shapes.Group component name) × ¬ HasAskedGroup compiled shape
 

@@ -1,6 +1,6 @@
-pub mod Answers
+pub mod CommandAnswers
 pub mod FilterLines
-pub mod Json
+pub mod FirstJson
 pub mod Kinds
-pub mod Notes
+pub mod CommandNotes
 pub mod Report

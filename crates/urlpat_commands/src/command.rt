@@ -2,19 +2,19 @@
 
 ghost use Rattle.std.specs.Io.KnownBytes.{Appends};
 ghost use Rattle.std.specs.Prelude.{◌≡◌, ◌≢◌, ◌⊎◌, map, string_bytes, IfErr, IfOk, IfSome, OnOk, Ok, None};
-ghost use Rattle.urlpat_commands.specs.Answers.{FailsComponent, FailsWhere, AreAnswered, IsCommandAnswer, IsComponentAnswer, IsComponentFailure, IsComponentText, CopiesBytes, IsFailure, IsPrintedOf, Prints, IsFirstAnswer, IsFirstFailure, IsShortAnswer, IsShortFailure, IsMatchAnswer, IsMatchFailure};
+ghost use Rattle.urlpat_commands.specs.CommandAnswers.{FailsComponent, FailsWhere, AreAnswered, IsCommandAnswer, IsComponentAnswer, IsComponentFailure, IsComponentText, CopiesBytes, IsFailure, IsPrintedOf, Prints, IsFirstAnswer, IsFirstFailure, IsShortAnswer, IsShortFailure, IsMatchAnswer, IsMatchFailure};
 ghost use Rattle.urlpat_lines.specs.Words.{words_view};
 ghost use Rattle.urlpat_commands.specs.Kinds.{IsKind, NamesOptions};
 ghost use Rattle.urlpat_commands.specs.FilterLines.{AskToFilter, FailsOne, RunsOne};
-ghost use Rattle.urlpat_commands.specs.Notes.{ExplainsErrors, HasNote, ReportsFirst, note_bytes};
+ghost use Rattle.urlpat_commands.specs.CommandNotes.{ExplainsErrors, HasNote, ReportsFirst, note_bytes};
 ghost use Rattle.urlpat_matching.specs.Status.{failure_lines};
 ghost use Rattle.urlpat_commands.specs.Report.{component_lines, no_match_text};
 ghost use Rattle.urlpattern.specs.Options.{options_view};
 ghost use Rattle.urlpattern.specs.Errors.{OnlyOutOfMemory};
 
+use crate::command_notes::{diagnosis_note, explains_errors, input_note};
 use crate::filter::filter;
 use crate::first::first_groups;
-use crate::notes::{diagnosis_note, explains_errors, input_note};
 use std::alloc::{AllocError, Global};
 use std::io;
 use std::io::{BufRead, Write};

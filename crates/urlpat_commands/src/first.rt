@@ -1,14 +1,14 @@
 //! The command `first`: the first of several patterns that matches a URL, and its captures.
 
 ghost use Rattle.std.specs.Prelude.{option_copied, string_bytes, IfErr, IfOk};
-ghost use Rattle.urlpat_commands.specs.Answers.{ArePatterns, FindsFirst, FindsFirstBy, RefusesOneOf, ShowsFirst};
+ghost use Rattle.urlpat_commands.specs.CommandAnswers.{ArePatterns, FindsFirst, FindsFirstBy, RefusesOneOf, ShowsFirst};
 ghost use Rattle.urlpat_matching.specs.PatternWords.{base_of};
 ghost use Rattle.urlpat_lines.specs.Words.{words_view};
 ghost use Rattle.urlpattern.specs.BorrowedMatches.{pattern_captures_view};
 ghost use Rattle.urlpattern.specs.Errors.{MemoryOr, OnlyOutOfMemory};
 ghost use Rattle.urlpattern.specs.FirstMatch.{patterns_view};
 
-use crate::json::first_json;
+use crate::first_json::first_json;
 use std::alloc::{AllocError, Global};
 use urlpat_lines::Flags;
 use urlpat_matching::{base_of, compiled, push_match};

@@ -4,10 +4,10 @@
 #![tactic(auto)]
 
 mod command;
+mod command_notes;
 mod filter;
 mod first;
-mod json;
-mod notes;
+mod first_json;
 
 pub use command::run;
-pub use notes::explains_errors;
+pub use command_notes::explains_errors;

@@ -1,8 +1,8 @@
-pub mod JsonLemmas
-pub mod NoteLemmas
-pub mod PlaceLemmas
+pub mod ExplainedJsonLemmas
+pub mod OriginNoteLemmas
+pub mod ComponentPlaceLemmas
 pub mod RowLemmas
-pub mod TreeLemmas
+pub mod ExplanationTreeLemmas
 mod RowExamples
-pub mod GivenLemmas
-pub mod LinkLemmas
+pub mod GivenWordLemmas
+pub mod LinkCommandLemmas

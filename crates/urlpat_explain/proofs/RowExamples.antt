@@ -1,7 +1,7 @@
 -- Worked examples of columns.
 use Rattle.std.proofs.Common.{◌≡◌, [], codes, refl}
 use Rattle.std.specs.Prelude.{None, Some}
-use Rattle.urlpat_explain.specs.Notes.{left_out_name, names_line}
+use Rattle.urlpat_explain.specs.OriginNotes.{left_out_name, names_line}
 use Rattle.urlpat_explain.specs.Rows.{shown}
 use Rattle.urlpattern_components.specs.declared.eight.ComponentName.TheVariants.{Hash}
 

@@ -8,8 +8,8 @@ use Rattle.urlpattern_canonical.specs.BaseUrls.{IsRefusedText, IsUrlOf}
 use Rattle.urlpat_matching.specs.Status.{status_of}
 use Rattle.urlpat_explain.specs.Explained.{ExplainedView}
 use Rattle.urlpat_explain.specs.declared.explaining.{Asked.Asked, Explanation.Explanation}
-use Rattle.urlpat_explain.specs.Json.{IsExplanationJson}
-use Rattle.urlpat_explain.specs.Notes.{AreNotes}
+use Rattle.urlpat_explain.specs.ExplainedJson.{IsExplanationJson}
+use Rattle.urlpat_explain.specs.OriginNotes.{AreNotes}
 use Rattle.urlpat_explain.specs.Rows.{IsMatchTable, pattern_table}
 use Rattle.urlpat_lines.specs.declared.flags.Flags.{Flags}
 use Rattle.urlpattern_compile.specs.Compiled.{pattern_values}

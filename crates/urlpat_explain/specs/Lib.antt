@@ -1,8 +1,8 @@
 pub mod Explained
 pub mod Explanations
-pub mod Json
-pub mod Notes
-pub mod Places
+pub mod ExplainedJson
+pub mod OriginNotes
+pub mod ComponentPlaces
 pub mod Rows
-pub mod Given
+pub mod GivenWords
 pub mod LinkAnswers

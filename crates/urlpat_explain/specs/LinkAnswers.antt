@@ -3,9 +3,9 @@ use Rattle.std.specs.Prelude.{◌≢◌, ◌++◌, ℕ, false, Any, List, ◌∷
 use Rattle.std.specs.Io.KnownBytes.{Appends}
 use Rattle.url.specs.Parts.{Parts, serialize}
 use Rattle.urlpat_matching.specs.PatternWords.{IsPatternOf, KeepsPartsOfWord, base_of}
-use Rattle.urlpat_explain.specs.Given.{AreGiven, Given, WordGivesNothing}
-use Rattle.urlpat_explain.specs.declared.linking.Unlinked.{Unlinked}
-use Rattle.urlpat_explain.specs.declared.linking.Unlinked.TheVariants as unlinked
+use Rattle.urlpat_explain.specs.GivenWords.{AreGiven, Given, WordGivesNothing}
+use Rattle.urlpat_explain.specs.declared.link_command.LinkError.{LinkError}
+use Rattle.urlpat_explain.specs.declared.link_command.LinkError.TheVariants as unlinked
 use Rattle.urlpattern_engine.specs.PatternRegexps.{pattern_answer}
 use Rattle.urlpattern_engine.specs.declared.pattern_regexp.PatternRegexp.{PatternRegexp}
 use Rattle.urlpattern_generate.specs.Manners.{given_groups}
@@ -25,7 +25,7 @@ RefusesLinkBy pattern words error = (groups : List Given) × AreGiven (pattern_v
 
 -- The reason why there is no URL: an argument gives no group, the pattern has no URL, or memory ran
 -- out.
-abbrev pub LacksUrl : UrlPattern PatternRegexp → (words : List (List ℕ)) → Unlinked → Type 0
+abbrev pub LacksUrl : UrlPattern PatternRegexp → (words : List (List ℕ)) → LinkError → Type 0
 LacksUrl pattern words (unlinked.Word word) = Any (WordGivesNothing (pattern_view pattern)) words
 LacksUrl pattern words (unlinked.NoLink error) = (error ≢ no_link.OutOfMemory) × RefusesLinkBy pattern words error
 LacksUrl pattern words unlinked.OutOfMemory = Unit {0}
@@ -46,4 +46,4 @@ WritesLink words old new = OfPattern (λ pattern given. (url : Parts) × IsLinkB
 
 -- The pattern has no URL with these arguments.
 abbrev pub HasNoLink : (words : List (List ℕ)) → Type 0
-HasNoLink words = OfPattern (λ pattern given. (reason : Unlinked) × (reason ≢ unlinked.OutOfMemory) × LacksUrl pattern given reason) words
+HasNoLink words = OfPattern (λ pattern given. (reason : LinkError) × (reason ≢ unlinked.OutOfMemory) × LacksUrl pattern given reason) words

@@ -3,7 +3,7 @@ use Rattle.std.specs.Prelude.{◌≡◌, ◌==◌, ◌-◌, ℕ, List, [], ◌�
 use Rattle.std.specs.List.{flat_map, repeat}
 use Rattle.std.specs.Str.{chars}
 use Rattle.urlpat_matching.specs.GroupLines.{capture_text}
-use Rattle.urlpat_explain.specs.declared.table.TheConstants.{NAME_WIDTH}
+use Rattle.urlpat_explain.specs.declared.columns.TheConstants.{NAME_WIDTH}
 use Rattle.urlpattern_matcher.specs.Components.{ComponentView}
 use Rattle.urlpattern_components.specs.Eight.{Texts, at, components, name_text}
 use Rattle.urlpattern_components.specs.declared.eight.ComponentName.{ComponentName}

@@ -2,8 +2,8 @@
 
 ghost use Rattle.std.specs.Prelude.{◌≡◌, IfSome};
 ghost use Rattle.urlpat_explain.specs.Explained.{explained_view};
-ghost use Rattle.urlpat_explain.specs.Json.{origin};
-ghost use Rattle.urlpat_explain.specs.Places.{IsSpanOf, MayBeAt};
+ghost use Rattle.urlpat_explain.specs.ExplainedJson.{origin};
+ghost use Rattle.urlpat_explain.specs.ComponentPlaces.{IsSpanOf, MayBeAt};
 ghost use Rattle.urlpattern_components.specs.Eight.{at};
 ghost use Rattle.urlpattern_syntax.specs.Text.{option_text};
 

@@ -8,10 +8,10 @@ ghost use Rattle.urlpat_explain.specs.Explanations.{AskToExplain, Explains, IsEx
 ghost use Rattle.urlpat_lines.specs.Words.{words_view};
 ghost use Rattle.urlpattern_pattern.specs.Patterns.{pattern_view};
 
+use crate::columns::{match_table, pattern_table};
 use crate::explained::Explained;
-use crate::json::explanation_json;
-use crate::notes::push_notes;
-use crate::table::{match_table, pattern_table};
+use crate::explained_json::explanation_json;
+use crate::origin_notes::push_notes;
 use std::alloc::Global;
 use std::io::Write;
 use urlpat_lines::Flags;

@@ -1,14 +1,14 @@
 //! The commands `explain` and `link` of the program `urlpat`.
 #![tactic(auto)]
 
+mod columns;
 mod explained;
+mod explained_json;
 mod explaining;
-mod given;
-mod json;
-mod linking;
-mod notes;
-mod reason;
-mod table;
+mod given_words;
+mod link_command;
+mod link_reason;
+mod origin_notes;
 
 pub use explaining::explain;
-pub use linking::link;
+pub use link_command::link;

@@ -3,7 +3,7 @@ use Rattle.std.proofs.Common.{◌≡◌, ℕ, Bool, List, ◌++◌, IfOk, ap, in
 use Rattle.std.specs.Prelude.{Result, Ok, Err}
 use Rattle.std.specs.declared.alloc.AllocError.{AllocError}
 use Rattle.urlpat_lines.specs.Filters.{AnswersUnmatched, FilterAnswers, GetsPiece}
-use Rattle.urlpat_lines.specs.Answers.{AppendsAnswer}
+use Rattle.urlpat_lines.specs.LineAnswers.{AppendsAnswer}
 use Rattle.urlpat_lines.specs.declared.answers.Verdict.{Verdict}
 use Rattle.urlpat_lines.specs.declared.query.Shape.{Shape}
 

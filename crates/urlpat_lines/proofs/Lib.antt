@@ -1,7 +1,7 @@
-pub mod ReadingLemmas
-pub mod AnswerLemmas
+pub mod LineReadingLemmas
+pub mod LineAnswerLemmas
 pub mod FilterLemmas
-pub mod TableLemmas
+pub mod EntryLemmas
 mod TableExamples
 pub mod WordLemmas
 pub mod QueryLemmas

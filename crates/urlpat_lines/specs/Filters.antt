@@ -1,9 +1,9 @@
 -- The output of `filter` for the lines that it reads. Texts are bytes.
 use Rattle.std.specs.Prelude.{◌≡◌, ◌⊎◌, ℕ, Bool, true, false, List, [], ◌++◌, codes, decimal, nat_lt, IfSome, Option}
 use Rattle.std.specs.Io.KnownBytes.{Appends}
-use Rattle.urlpat_lines.specs.declared.filter.Outcome.{Outcome}
-use Rattle.urlpat_lines.specs.declared.filter.Outcome.TheVariants as outcomes
-use Rattle.urlpat_lines.specs.Answers.{AreAnswersTo, lines_of, selected_by}
+use Rattle.urlpat_lines.specs.declared.line_filter.Outcome.{Outcome}
+use Rattle.urlpat_lines.specs.declared.line_filter.Outcome.TheVariants as outcomes
+use Rattle.urlpat_lines.specs.LineAnswers.{AreAnswersTo, lines_of, selected_by}
 use Rattle.urlpat_lines.specs.declared.answers.Verdict.{Verdict}
 use Rattle.urlpat_lines.specs.declared.answers.Verdict.TheVariants as verdicts
 use Rattle.urlpat_lines.specs.declared.query.Query.{Query}

@@ -1,4 +1,4 @@
-pub mod Answers
+pub mod LineAnswers
 pub mod Lines
 pub mod Filters
 pub mod Tables

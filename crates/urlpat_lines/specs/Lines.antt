@@ -2,11 +2,11 @@
 use Rattle.std.specs.Prelude.{◌≡◌, ◌≢◌, ◌⊎◌, ℕ, ◌<◌, Bool, List, ◌++◌, All, length, Option, OnSome, MatchBool}
 use Rattle.std.specs.Io.{StopsAt, IsEmptyOrEndsWith}
 use Rattle.std.specs.Io.KnownBytes.{Consumes, IsAtEnd}
-use Rattle.urlpat_lines.specs.declared.reading.TheConstants.{LONGEST}
+use Rattle.urlpat_lines.specs.declared.lines.TheConstants.{LONGEST}
 
 -- The kept part of a line: all of it, unless it is too long.
-abbrev pub IsKept : (kept line : List ℕ) → Type 0
-IsKept kept line = (kept ≡ line) ⊎ ((LONGEST < length kept) × (LONGEST < length line))
+abbrev pub IsLineKept : (kept line : List ℕ) → Type 0
+IsLineKept kept line = (kept ≡ line) ⊎ ((LONGEST < length kept) × (LONGEST < length line))
 
 -- A part is appended, unless the line is already too long.
 abbrev pub IsAppended : (old new part : List ℕ) → Type 0

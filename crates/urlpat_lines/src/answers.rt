@@ -1,10 +1,10 @@
 //! Processes the lines of a reader by a rule.
 ghost use Rattle.std.specs.Prelude.{◌≡◌, ◌+◌, ◌<◌, ◌^◌, ℕ, List, IfOk, OnOk};
 ghost use Rattle.std.specs.Io.KnownBytes.{Appends};
-ghost use Rattle.urlpat_lines.specs.Answers.{AppendsAnswer, AppendsAnswerTo, WritesInput, selected_by};
+ghost use Rattle.urlpat_lines.specs.LineAnswers.{AppendsAnswer, AppendsAnswerTo, WritesInput, selected_by};
 ghost use Rattle.urlpat_lines.specs.declared.answers.Verdict.{Verdict};
 
-use crate::reading::{LONGEST, read_line, without_end};
+use crate::lines::{LONGEST, read_line, without_end};
 use std::alloc::{AllocError, Global};
 use std::io::{BufRead, Write};
 use std::{io, str};
@@ -46,7 +46,7 @@ pub struct Tally {
 
 /// The reason why processing stopped.
 #[derive(Debug, Drop)]
-pub enum Fault {
+pub enum LinesError {
     /// The reader failed.
     Read(io::Error),
     /// The writer failed.
@@ -55,18 +55,18 @@ pub enum Fault {
     OutOfMemory,
 }
 
-impl From<io::Error> for Fault {
-    fn from(error: io::Error) -> Fault {
+impl From<io::Error> for LinesError {
+    fn from(error: io::Error) -> LinesError {
         match error.kind() {
-            io::ErrorKind::OutOfMemory => Fault::OutOfMemory,
-            _ => Fault::Read(error),
+            io::ErrorKind::OutOfMemory => LinesError::OutOfMemory,
+            _ => LinesError::Read(error),
         }
     }
 }
 
-impl From<AllocError> for Fault {
-    fn from(_error: AllocError) -> Fault {
-        Fault::OutOfMemory
+impl From<AllocError> for LinesError {
+    fn from(_error: AllocError) -> LinesError {
+        LinesError::OutOfMemory
     }
 }
 
@@ -78,7 +78,7 @@ pub fn answer_lines<In: BufRead, Out: Write, Err: Write, R: Rule>(
     input: &mut In,
     out: &mut Out,
     err: &mut Err,
-) -> Result<Tally, Fault>
+) -> Result<Tally, LinesError>
     ensures { IfOk result (WritesInput (R.Answers rule.now) (In.remaining input.old) (Out.contents out.old) (Out.contents out.new)) }
 {
     let mut tally = Tally {
@@ -98,16 +98,16 @@ pub fn answer_lines<In: BufRead, Out: Write, Err: Write, R: Rule>(
         report(verdict, number, &line, err);
         tally = counted(tally, verdict);
     }
-    Err(Fault::Read(io::ErrorKind::Other.into()))
+    Err(LinesError::Read(io::ErrorKind::Other.into()))
 }
 
 /// Writes the output for a line.
-fn write_piece<Out: Write>(out: &mut Out, piece: &[u8]) -> Result<(), Fault>
+fn write_piece<Out: Write>(out: &mut Out, piece: &[u8]) -> Result<(), LinesError>
     ensures { OnOk result (Appends (Out.contents out.old) (Out.contents out.new) piece.now) }
 {
     match out.write_all(piece) {
         Ok(()) => Ok(()),
-        Err(_) => Err(Fault::Write),
+        Err(_) => Err(LinesError::Write),
     }
 }
 

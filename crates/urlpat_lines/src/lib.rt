@@ -4,19 +4,19 @@
 #![tactic(auto)]
 
 mod answers;
-mod filter;
 mod flags;
 mod help;
+mod line_filter;
+mod lines;
 mod query;
-mod reading;
 mod table;
 mod words;
 
-pub use answers::{Fault, Rule, Tally, Verdict, answer_lines};
-pub use filter::{LineMatcher, Outcome, filter_lines, write_answers};
+pub use answers::{LinesError, Rule, Tally, Verdict, answer_lines};
 pub use flags::{Flags, take_flags};
 pub use help::{asks_for_help, help_of};
+pub use line_filter::{LineMatcher, Outcome, filter_lines, write_answers};
+pub use lines::{LONGEST, read_line, without_end};
 pub use query::{Query, Shape, query_of};
-pub use reading::{LONGEST, read_line, without_end};
 pub use table::{Entry, NoTable, entries_of};
 pub use words::words_after;

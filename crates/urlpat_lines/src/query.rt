@@ -101,7 +101,7 @@ fn asked_by_two<'a>(first: &str, second: &'a str) -> Option<(bool, Shape<'a>)>
     match first {
         "--not" => others_counted(second == "--count"),
         "--count" => others_counted(second == "--not"),
-        "--group" => group_of(second),
+        "--group" => asked_group(second),
         _ => None,
     }
 }
@@ -119,7 +119,7 @@ fn others_counted<'a>(both: bool) -> Option<(bool, Shape<'a>)>
 }
 
 /// Parses the name of a component, a dot, and the name of a group.
-fn group_of(word: &str) -> Option<(bool, Shape<'_>)>
+fn asked_group(word: &str) -> Option<(bool, Shape<'_>)>
     ensures asked { IfSome result (NamesGroup word.now) }
     ensures other { IfNone result (AsksNothing (NamesGroup word.now)) }
 {

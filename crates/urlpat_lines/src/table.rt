@@ -54,13 +54,17 @@ pub fn entries_of<'t>(alloc: Global, table: &'t [u8]) -> Result<Vec<Entry<'t>>, 
         let Ok(text) = str::from_utf8(line) else {
             return Err(NoTable::NotUtf8(number));
         };
-        add(&mut entries, number, text)?;
+        push_entry(&mut entries, number, text)?;
     }
     Ok(entries)
 }
 
 /// Appends the entry of a line, if it has one.
-fn add<'t>(entries: &mut Vec<Entry<'t>>, number: u64, line: &'t str) -> Result<(), AllocError>
+fn push_entry<'t>(
+    entries: &mut Vec<Entry<'t>>,
+    number: u64,
+    line: &'t str,
+) -> Result<(), AllocError>
     ensures { OnOk result (entries_view entries.new.items ≡ entries_view entries.old.items ++ line_entries number line.now) }
 {
     if !is_skipped(line) {

@@ -1,5 +1,5 @@
-pub mod MatchExamples
+pub mod MatchTextExamples
 pub mod GroupNames
 pub mod MatchLemmas
-pub mod JsonLemmas
-pub mod NameLemmas
+pub mod MatchJsonLemmas
+pub mod GroupNameLemmas

@@ -1,8 +1,8 @@
 -- The end of a run: its exit status, and what is printed if it has no output.
 use Rattle.std.specs.Prelude.{ℕ, Bool, true, false, List, ◌++◌, codes, Option, Some}
 use Rattle.std.specs.Fmt.{with_newline}
-use Rattle.urlpat_matching.specs.declared.status.Failure.{Failure}
-use Rattle.urlpat_matching.specs.declared.status.Failure.TheVariants as failures
+use Rattle.urlpat_matching.specs.declared.exit_status.Failure.{Failure}
+use Rattle.urlpat_matching.specs.declared.exit_status.Failure.TheVariants as failures
 use Rattle.urlpattern_syntax.specs.Errors.{error_view}
 use Rattle.urlpattern_syntax.specs.ErrorText.{error_text}
 

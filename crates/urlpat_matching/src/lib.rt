@@ -2,14 +2,14 @@
 //! as lines or as JSON, exit statuses, and the reasons why a pattern or an input is rejected.
 #![tactic(auto)]
 
-mod groups;
-mod json;
-mod matching;
+mod exit_status;
+mod group_names;
+mod json_output;
 mod notes;
-mod status;
+mod pattern_matching;
 
-pub use groups::has_group;
-pub use json::{json_line, match_json, match_tree};
-pub use matching::{NO_BASE, base_of, capture_of, compiled, matched_groups, push_match};
+pub use exit_status::{DONE, FAILED, Failure, NO_MATCH, fail, print, report};
+pub use group_names::has_group;
+pub use json_output::{json_line, match_json, match_tree};
 pub use notes::{first_diagnosis, match_diagnosis, note_of, write_refusal};
-pub use status::{DONE, FAILED, Failure, NO_MATCH, fail, print, report};
+pub use pattern_matching::{NO_BASE, base_of, capture_of, compiled, matched_groups, push_match};

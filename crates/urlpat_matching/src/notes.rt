@@ -4,7 +4,7 @@
 ghost use Rattle.std.specs.Prelude.{◌≡◌, option_copied, IfOk, IfSome};
 ghost use Rattle.urlpattern_canonical.specs.BaseUrls.{IsRefusedText};
 
-use crate::status::FAILED;
+use crate::exit_status::FAILED;
 use std::alloc::Global;
 use std::io::Write;
 use url::{ParseError, Url};

@@ -7,15 +7,15 @@ use Rattle.std.specs.Prelude.{All, MatchOption, None, Option, Some, slice_get}
 use Rattle.std.specs.Prelude.{Err, Ok, OnOk, Result, if◌then◌else◌}
 use Rattle.std.specs.Result.{is_ok}
 use Rattle.urlpat_rules.specs.Doubts.{AreDoubts, HasDoubts, IsDoubtAbout, IsDoubtAt, IsParted, TellsDoubts}
-use Rattle.urlpat_rules.specs.Unreached.{ArePartsOfEach}
+use Rattle.urlpat_rules.specs.UnreachedLines.{ArePartsOfEach}
 use Rattle.urlpat_lines.specs.Tables.{EntryView, entries_view, table_entries}
 use Rattle.urlpat_lines.specs.declared.table.Entry.{Entry}
 use Rattle.urlpat_rules.specs.declared.doubts.Doubt.{Doubt}
 use Rattle.urlpattern_components.specs.declared.eight.ComponentName.{ComponentName}
-use Rattle.urlpattern_compare.specs.declared.parts.Reason.{Reason}
+use Rattle.urlpattern_compare.specs.declared.coverage.Reason.{Reason}
 use Rattle.urlpattern_compare.specs.Comparing.{IsNotKnownToCover, IsParting, IsReasonIn}
-use Rattle.urlpattern_compare.specs.declared.pattern.Parting.{Parting}
-use Rattle.urlpattern_compare.specs.declared.pattern.PatternParts.{PatternParts}
+use Rattle.urlpattern_compare.specs.declared.pattern_parts.Parting.{Parting}
+use Rattle.urlpattern_compare.specs.declared.pattern_parts.PatternParts.{PatternParts}
 
 -- A doubt about the asked pattern, which has this index. The patterns before the one in question
 -- are known not to cover it.

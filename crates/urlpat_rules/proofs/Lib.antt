@@ -1,4 +1,4 @@
-pub mod ListLemmas
+pub mod PrintedListLemmas
 pub mod RouteLemmas
 mod RuleExamples
 pub mod DoubtLemmas

@@ -8,12 +8,12 @@ use Rattle.std.specs.Map.{values_of}
 use Rattle.std.specs.Prelude.{IfSome, Option, None, Some}
 use Rattle.serde_json.specs.Data.{Data, no_members, number, put, string, unsigned}
 use Rattle.serde_json.specs.Written.{has_float}
-use Rattle.urlpat_matching.proofs.JsonLemmas.{put-none}
+use Rattle.urlpat_matching.proofs.MatchJsonLemmas.{put-none}
 use Rattle.urlpattern_canonical.specs.BaseUrls.{BaseView, base_view}
 use Rattle.urlpat_matching.specs.PatternWords.{IsPatternOf}
 use Rattle.urlpat_matching.specs.Status.{status_of}
 use Rattle.urlpat_lines.specs.Filters.{FiltersText}
-use Rattle.urlpat_rules.specs.Routes.{AreRoutesOf, IsLineAnswered, Routes, RoutesBy, bare_lines, cell_text, route_tree, row_text}
+use Rattle.urlpat_rules.specs.TableRoutes.{AreRoutesOf, IsLineAnswered, Routes, RoutesBy, bare_lines, cell_text, route_tree, row_text}
 use Rattle.urlpat_lines.specs.Tables.{EntryView, entries_view, entry_view, table_entries}
 use Rattle.urlpat_lines.specs.declared.table.Entry.{Entry}
 use Rattle.urlpat_lines.specs.declared.flags.Flags.{Flags}

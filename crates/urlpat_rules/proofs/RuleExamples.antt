@@ -1,7 +1,7 @@
 -- Worked examples of tables of patterns, as the program reads them.
 use Rattle.std.proofs.Common.{◌≡◌, [], ◌∷◌, Some, None, codes, refl}
 use Rattle.urlpat_rules.specs.TableWords.{NameTable}
-use Rattle.urlpat_rules.specs.Unreached.{number_at}
+use Rattle.urlpat_rules.specs.UnreachedLines.{number_at}
 use Rattle.urlpat_lines.specs.Tables.{entries_from}
 
 -- Lines are numbered from 1 on, including those without a pattern.

@@ -4,15 +4,15 @@ use Rattle.std.specs.Prelude.{◌≡◌, ◌⊎◌, ◌<◌, ℕ, zero, suc, All
 use Rattle.std.specs.List.{flat_map}
 use Rattle.std.specs.Option.{option_to_list}
 use Rattle.urlpat_rules.specs.TableWords.{NameTable}
-use Rattle.urlpat_rules.specs.Unreached.{ArePartsOfEach, number_at}
+use Rattle.urlpat_rules.specs.UnreachedLines.{ArePartsOfEach, number_at}
 use Rattle.urlpat_rules.specs.declared.doubts.Doubt.{Doubt}
 use Rattle.urlpat_lines.specs.Tables.{EntryView, table_entries}
-use Rattle.urlpattern_compare.specs.declared.parts.Reason.{Reason}
-use Rattle.urlpattern_compare.specs.declared.parts.Reason.TheVariants as reasons
+use Rattle.urlpattern_compare.specs.declared.coverage.Reason.{Reason}
+use Rattle.urlpattern_compare.specs.declared.coverage.Reason.TheVariants as reasons
 use Rattle.urlpattern_components.specs.Eight.{name_text}
 use Rattle.urlpattern_compare.specs.Comparing.{CoversAt, IsNotKnownToCover, IsParting, IsReasonIn}
-use Rattle.urlpattern_compare.specs.declared.pattern.Parting.{Parting}
-use Rattle.urlpattern_compare.specs.declared.pattern.PatternParts.{PatternParts}
+use Rattle.urlpattern_compare.specs.declared.pattern_parts.Parting.{Parting}
+use Rattle.urlpattern_compare.specs.declared.pattern_parts.PatternParts.{PatternParts}
 
 -- ---- doubts
 
@@ -21,8 +21,8 @@ abbrev pub IsParted : (asked pattern : PatternParts) → Type 0
 IsParted asked pattern = (parting : Parting) × IsParting pattern asked parting
 
 -- A pattern is known to cover the asked one, or all are known not to.
-abbrev pub IsSettled : List PatternParts → (asked : PatternParts) → Type 0
-IsSettled patterns asked =
+abbrev pub IsDecided : List PatternParts → (asked : PatternParts) → Type 0
+IsDecided patterns asked =
     ((index : ℕ) × CoversAt patterns asked index) ⊎ All (IsParted asked) patterns
 
 -- No pattern is known to cover the asked one. The doubt has the first one for which it is not
@@ -39,7 +39,7 @@ pub record IsInDoubt (patterns : List PatternParts) (asked : PatternParts) (doub
 abbrev pub IsDoubtAbout : (index : ℕ) → List PatternParts → (asked : PatternParts) → Option Doubt
     → Type 0
 IsDoubtAbout index patterns asked found =
-    MatchOption found (IsSettled patterns asked)
+    MatchOption found (IsDecided patterns asked)
     (λ doubt. (doubt.pattern ≡ index) × IsInDoubt patterns asked doubt)
 
 -- The doubt about the pattern at an index, because of the ones before it.

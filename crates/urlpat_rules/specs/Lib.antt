@@ -1,5 +1,5 @@
-pub mod Coverings
+pub mod PrintedCoverings
 pub mod Doubts
-pub mod Routes
+pub mod TableRoutes
 pub mod TableWords
-pub mod Unreached
+pub mod UnreachedLines

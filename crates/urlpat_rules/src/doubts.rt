@@ -5,7 +5,7 @@ ghost use Rattle.std.specs.Option.{option_to_list};
 ghost use Rattle.urlpat_rules.specs.Doubts.{AreDoubts, IsDoubtAbout, TellsDoubts, doubt_line};
 ghost use Rattle.urlpat_lines.specs.Tables.{entries_view};
 
-use crate::reason::reason_text;
+use crate::doubt_reason::reason_text;
 use crate::unreachable::number_at;
 use std::alloc::{AllocError, Global};
 use urlpat_lines::Entry;
@@ -50,13 +50,13 @@ fn doubts(alloc: Global, patterns: &[PatternParts]) -> Result<Vec<Doubt>, AllocE
     let mut found = Vec::new(alloc);
     for index in 0..patterns.len() {
         let doubt = doubt_about(alloc, &patterns[..index], &patterns[index], index)?;
-        add(&mut found, doubt)?;
+        push_some(&mut found, doubt)?;
     }
     Ok(found)
 }
 
 /// Appends a doubt, if there is one.
-fn add(found: &mut Vec<Doubt>, doubt: Option<Doubt>) -> Result<(), AllocError>
+fn push_some(found: &mut Vec<Doubt>, doubt: Option<Doubt>) -> Result<(), AllocError>
     ensures { OnOk result (found.new.items ≡ found.old.items ++ option_to_list doubt) }
 {
     if let Some(doubt) = doubt {

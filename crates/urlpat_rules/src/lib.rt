@@ -1,16 +1,16 @@
 //! The commands of the program `urlpat` that compare patterns or read a table of patterns.
 #![tactic(auto)]
 
-mod covering;
+mod covers_command;
+mod doubt_reason;
 mod doubts;
-mod parts;
-mod reason;
 mod routing;
 mod row;
 mod tables;
+mod text_parts;
 mod unreachable;
 
-pub use covering::covers;
+pub use covers_command::covers;
 pub use routing::route;
 pub use tables::Tables;
 pub use unreachable::list_unreachable;

@@ -2,7 +2,7 @@
 
 ghost use Rattle.std.specs.Prelude.{◌≡◌, ◌⊎◌, option_copied, IfSome};
 ghost use Rattle.urlpattern_canonical.specs.BaseUrls.{kept_base};
-ghost use Rattle.urlpat_rules.specs.Routes.{AreRoutesOf, IsLineAnswered, Replies, RoutesTable, unmatched_text};
+ghost use Rattle.urlpat_rules.specs.TableRoutes.{AreRoutesOf, IsLineAnswered, Replies, RoutesTable, unmatched_text};
 ghost use Rattle.urlpat_lines.specs.Tables.{entries_view};
 
 use crate::row::push_route;

@@ -4,7 +4,7 @@ ghost use Rattle.std.specs.List.{flat_map};
 ghost use Rattle.std.specs.Prelude.{◌≡◌, ◌++◌, IfOk, OnOk};
 ghost use Rattle.serde_json.specs.View.{view};
 ghost use Rattle.urlpat_lines.specs.Filters.{GetsPiece};
-ghost use Rattle.urlpat_rules.specs.Routes.{IsRouteRow, IsRowShown, bare_lines, cell_text, route_tree};
+ghost use Rattle.urlpat_rules.specs.TableRoutes.{IsRouteRow, IsRowShown, bare_lines, cell_text, route_tree};
 ghost use Rattle.urlpat_lines.specs.Tables.{entry_view};
 ghost use Rattle.urlpattern.specs.BorrowedMatches.{pattern_captures_view};
 
@@ -14,7 +14,7 @@ use std::alloc::{AllocError, Global};
 use urlpat_lines::Entry;
 use urlpat_matching::{json_line, match_tree, push_match};
 use urlpattern::UrlPatternCaptures;
-use urlpattern_inputs::writing::put_text;
+use urlpattern_inputs::json_writing::put_text;
 
 /// The usual maximum length of a row's groups in bytes.
 const USUAL: usize = 256;

@@ -4,12 +4,12 @@ ghost use Rattle.std.specs.Prelude.{◌≡◌, ◌≢◌, ◌⊎◌, ◌++◌, l
 ghost use Rattle.urlpat_lines.specs.Words.{words_view};
 ghost use Rattle.urlpat_matching.specs.Status.{status_of};
 ghost use Rattle.urlpat_rules.specs.Doubts.{HasDoubts, LeaveDoubts, TellsDoubts};
-ghost use Rattle.urlpat_rules.specs.Unreached.{ArePartsOfEach, AreUnreached, Lists, ListsOf, number_at, unreached_line};
+ghost use Rattle.urlpat_rules.specs.UnreachedLines.{ArePartsOfEach, AreUnreachedLines, Lists, ListsOf, number_at, unreached_line};
 ghost use Rattle.urlpat_lines.specs.Tables.{entries_view};
 
 use crate::doubts::doubts_text;
-use crate::parts::parts_of_text;
 use crate::tables::{Tables, read_entries, read_table, report_refused, table_words};
+use crate::text_parts::parts_of_text;
 use std::alloc::{AllocError, Global};
 use std::io::Write;
 use urlpat_lines::Entry;
@@ -89,7 +89,7 @@ fn texts_of(
     patterns: &[PatternParts],
 ) -> Result<(String, String), AllocError>
     ensures unreached { IfOk result (λ texts.
-        AreUnreached patterns.now (entries_view entries.now) (string_bytes texts.0)) }
+        AreUnreachedLines patterns.now (entries_view entries.now) (string_bytes texts.0)) }
     ensures doubts { IfOk result (λ texts.
         TellsDoubts patterns.now (entries_view entries.now) (string_bytes texts.1)) }
 {
@@ -141,7 +141,7 @@ fn unreached_text(
     entries: &[Entry<'_>],
     patterns: &[PatternParts],
 ) -> Result<String, AllocError>
-    ensures { IfOk result (λ text. AreUnreached patterns.now (entries_view entries.now) (string_bytes text)) }
+    ensures { IfOk result (λ text. AreUnreachedLines patterns.now (entries_view entries.now) (string_bytes text)) }
 {
     let all = references(alloc, patterns)?;
     let found = unreachable(alloc, &all)?;

@@ -36,7 +36,6 @@ module _ {E : Type 0} (answer : E → List ℕ → Option Captures) (patterns : 
 -- ---- from texts to inputs
 
 module _ {E : Type 0} (answer : E → List ℕ → Option Captures) (patterns : List (PatternView E)) (input : UrlPatternMatchInput) where
-
   -- The first match of the input's texts is that of the input.
   pub first-of_texts : {X : Type 0} (view : X → ComponentName → ResultView) (texts : Texts) (result : Result (Option (ℕ × X)) Error) → input_texts input ≡ Ok texts
       → IfOk result (λ found. IsFirstMatchOf answer patterns texts (option_map (λ first. (first.0, view first.1)) found))

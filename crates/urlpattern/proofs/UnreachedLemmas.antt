@@ -5,7 +5,7 @@ use Rattle.std.proofs.lemmas.List.Elements.{Contains-get_or}
 use Rattle.std.specs.Prelude.{Contains, Option, None, Some}
 use Rattle.urlpattern.specs.Unreached.{HaveAllParts}
 use Rattle.urlpattern_pattern.specs.UrlPatterns.{UrlPattern}
-use Rattle.urlpattern_compare.specs.declared.pattern.PatternParts.{PatternParts}
+use Rattle.urlpattern_compare.specs.declared.pattern_parts.PatternParts.{PatternParts}
 
 -- The parts of a pattern.
 abbrev pub parts_of : {E : Type 0} → UrlPattern E → Option PatternParts

@@ -4,8 +4,8 @@ use Rattle.urlpattern_pattern.specs.UrlPatterns.{UrlPattern}
 use Rattle.urlpattern_pattern.specs.declared.pattern.compare.CompareError.{CompareError}
 use Rattle.urlpattern_pattern.specs.declared.pattern.compare.CompareError.TheVariants.{NoParts, OutOfMemory}
 use Rattle.urlpattern_compare.specs.Comparing.{AreUnreachable}
-use Rattle.urlpattern_compare.specs.declared.list.Shadowed.{Shadowed}
-use Rattle.urlpattern_compare.specs.declared.pattern.PatternParts.{PatternParts}
+use Rattle.urlpattern_compare.specs.declared.shadowed.Shadowed.{Shadowed}
+use Rattle.urlpattern_compare.specs.declared.pattern_parts.PatternParts.{PatternParts}
 
 -- Each pattern has parts: these, in order.
 abbrev pub HaveAllParts : {E : Type 0} → List (UrlPattern E) → List PatternParts → Type 0

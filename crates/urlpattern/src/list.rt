@@ -20,12 +20,12 @@ ghost use Rattle.urlpattern_pattern.specs.UrlPatterns.{UrlPattern};
 ghost use Rattle.urlpattern_syntax.specs.Errors.{OnlyOutOfMemory};
 
 mod finding;
-mod fixed;
 mod matches;
+mod pattern_fixed;
 mod unreached;
 
-use fixed::fixed_of;
 pub use matches::UrlPatternMatches;
+use pattern_fixed::fixed_of;
 use std::alloc::Global;
 use std::marker::Model;
 use std::slice;

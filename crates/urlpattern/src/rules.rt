@@ -4,7 +4,7 @@
 //! A compiled pattern keeps its parts: `UrlPattern::parts` borrows them, `UrlPattern::into_parts`
 //! moves them out. No URL is needed.
 
-pub use urlpattern_compare::laws::parts_are_in_order;
+pub use urlpattern_compare::order_laws::parts_are_in_order;
 pub use urlpattern_compare::{
     Parting, PatternCovering, PatternOverlap, PatternParts, Reason, Shadowed, compare_parts,
     first_covering, unreachable,

@@ -1,6 +1,6 @@
 -- The patterns of a handle.
 use Rattle.urlpattern_c.specs.declared.patterns.Patterns.{Patterns}
-use Rattle.urlpattern_ffi.specs.Kept.{PatternList, kept_patterns}
+use Rattle.urlpattern_ffi.specs.KeptPatterns.{PatternList, kept_patterns}
 
 -- The patterns of a handle, none if it is empty.
 abbrev pub patterns_in : Patterns → PatternList

@@ -3,18 +3,18 @@ ghost use Rattle.std.specs.Prelude.{◌≡◌, None};
 ghost use Rattle.urlpattern_c.specs.Handles.{patterns_in};
 ghost use Rattle.urlpattern_c.specs.Returns.{GivesCaptures, GivesFirst, GivesGroupName, GivesLink};
 ghost use Rattle.urlpattern_ffi.specs.Calls.{IsAdded, IsFirstReported, IsTested, ReturnsStatus};
-ghost use Rattle.urlpattern_ffi.specs.Coverings.{IsCoveringReported};
-ghost use Rattle.urlpattern_ffi.specs.Diagnoses.{IsDiagnosed, IsInitDiagnosed};
+ghost use Rattle.urlpattern_ffi.specs.ReportedCoverings.{IsCoveringReported};
+ghost use Rattle.urlpattern_ffi.specs.ReportedDiagnoses.{IsDiagnosed, IsInitDiagnosed};
 ghost use Rattle.urlpattern_ffi.specs.Inits.{IsInitAdded};
 ghost use Rattle.urlpattern_ffi.specs.Mismatches.{IsCustomReported, IsMismatchReported};
-ghost use Rattle.urlpattern_ffi.specs.Texts.{IsComponentWritten, IsExecReported};
+ghost use Rattle.urlpattern_ffi.specs.TextBuffers.{IsComponentWritten, IsExecReported};
 
 use crate::patterns::Patterns;
 use std::alloc::Global;
 use urlpattern_ffi::{
-    Given, Place, Sizes, Span, add, add_init, captures, covers, diagnose, diagnose_init, execute,
-    first, first_captures, has_regexp_groups, link, mismatch, test, version, write_component,
-    write_group_name,
+    GivenBytes, GroupSpan, Place, Sizes, add, add_init, captures, covers, diagnose, diagnose_init,
+    execute, first, first_captures, has_regexp_groups, link, mismatch, test, version,
+    write_component, write_group_name,
 };
 
 /// Compiles a constructor string, under a base URL unless `base` is empty, and appends the pattern.
@@ -142,7 +142,7 @@ pub extern "C" fn urlpattern_captures(
     url: &[u8],
     base: &[u8],
     buffer: &mut [u8],
-    spans: &mut [Span],
+    spans: &mut [GroupSpan],
     needed: &mut Sizes,
 ) -> u32
     ensures answer { GivesCaptures patterns.old index url.now base.now buffer.old buffer.new spans.old spans.new needed.new result }
@@ -164,7 +164,7 @@ pub extern "C" fn urlpattern_first_captures(
     base: &[u8],
     index: &mut usize,
     buffer: &mut [u8],
-    spans: &mut [Span],
+    spans: &mut [GroupSpan],
     needed: &mut Sizes,
 ) -> u32
     ensures answer { GivesFirst patterns.old url.now base.now index.old index.new buffer.old buffer.new spans.old spans.new needed.new result }
@@ -183,7 +183,7 @@ pub extern "C" fn urlpattern_link(
     patterns: &mut Patterns,
     index: usize,
     text: &[u8],
-    given: &[Given],
+    given: &[GivenBytes],
     buffer: &mut [u8],
     needed: &mut usize,
 ) -> u32

@@ -20,7 +20,7 @@ pub struct Patterns {
 impl Patterns {
     ghost use Rattle.std.specs.Prelude.{None};
     ghost use Rattle.urlpattern_c.specs.Handles.{patterns_in};
-    ghost use Rattle.urlpattern_ffi.specs.Kept.{boxed_patterns};
+    ghost use Rattle.urlpattern_ffi.specs.KeptPatterns.{boxed_patterns};
 
     /// Returns an empty handle.
     fn empty() -> Patterns

@@ -54,11 +54,11 @@ impl BaseUrl {
         ensures ok { IfOk result (IsUrlUnder text.now (kept_base self.now)) }
         ensures err { IfErr result (MemoryOr (Reports (read_under (kept_base self.now) text.now) bytes)) }
     {
-        reported(self.joined(alloc, text), bytes)
+        reported(self.joined_url(alloc, text), bytes)
     }
 
     /// Returns the result of `url` for a text under the base URL.
-    fn joined(&self, alloc: Global, text: &str) -> ParseResult<Url>
+    fn joined_url(&self, alloc: Global, text: &str) -> ParseResult<Url>
         ensures { Gives result (read_under (kept_base self.now) text.now) }
     {
         match &self.url {

@@ -7,10 +7,10 @@ use Rattle.std.specs.Prelude.{◌||◌, not}
 use Rattle.urlpattern_compare.specs.Answers.{IsSought, answer_of, is_custom_part, is_custom_kind}
 use Rattle.urlpattern_compare.specs.Automata.{AcceptsText, IsWithin}
 use Rattle.urlpattern_compare.specs.Searching.{IsFoundBy}
-use Rattle.urlpattern_compare.specs.Meaning.{MeansText}
+use Rattle.urlpattern_compare.specs.MeantTexts.{MeansText}
 use Rattle.urlpattern_compare.specs.Making.{made, made_view}
-use Rattle.urlpattern_compare.specs.declared.automaton.Automaton.{Automaton}
-use Rattle.urlpattern_compare.specs.declared.parts.Answer.{Answer}
+use Rattle.urlpattern_compare.specs.declared.parts_automaton.PartsAutomaton.{PartsAutomaton}
+use Rattle.urlpattern_compare.specs.declared.coverage.Answer.{Answer}
 use Rattle.urlpattern_compare.specs.declared.search.Found.{Found}
 use Rattle.urlpattern_compare.specs.declared.search.Found.TheVariants.{Text, Nothing, TooMany}
 use Rattle.urlpattern_compare.proofs.PairLemmas.{whether_by}
@@ -49,7 +49,7 @@ custom (part ∷ parts) some are = custom_cases part parts (is_custom_part part)
 
 -- ---- results
 
-pub found_answer : (options : OptionsView) (parts : List PartView) (other_options : OptionsView) (others : List PartView) (is_meant : Bool) (one other : Automaton) (found : Found) →
+pub found_answer : (options : OptionsView) (parts : List PartView) (other_options : OptionsView) (others : List PartView) (is_meant : Bool) (one other : PartsAutomaton) (found : Found) →
     AreGenerated parts → AreGenerated others → made_view one ≡ made options parts → made_view other ≡ made other_options others → IsFoundBy one other is_meant found →
     IsSought options parts other_options others is_meant (answer_of found)
 found_answer options parts other_options others is_meant one other (Text text) gen other_gen same other_same is =
@@ -64,20 +64,20 @@ found_answer options parts other_options others is_meant one other TooMany gen o
 
 -- ---- automata
 
-pub made_within : (options : OptionsView) (parts : List PartView) (result : Result (Option Automaton) AllocError) →
+pub made_within : (options : OptionsView) (parts : List PartView) (result : Result (Option PartsAutomaton) AllocError) →
     IfOk result (λ found. IfSome found (λ automaton. made_view automaton ≡ made options parts)) → IfOk result (λ found. IfSome found IsWithin)
 made_within options parts (Err e) is = is
 made_within options parts (Ok None) is = is
 made_within options parts (Ok (Some automaton)) is = parts_within options parts automaton is
 
-pub made_accepts : (options : OptionsView) (parts : List PartView) (result : Result (Option Automaton) AllocError) → AreGenerated parts →
+pub made_accepts : (options : OptionsView) (parts : List PartView) (result : Result (Option PartsAutomaton) AllocError) → AreGenerated parts →
     IfOk result (λ found. IfSome found (λ automaton. made_view automaton ≡ made options parts)) →
     IfOk result (λ found. IfSome found (λ automaton. (text : List ℕ) → AcceptsText automaton text ↔ MeansText options parts text))
 made_accepts options parts (Err e) gen is = is
 made_accepts options parts (Ok None) gen is = is
 made_accepts options parts (Ok (Some automaton)) gen is = parts_accepted options parts automaton gen is
 
-pub found_parts : (options : OptionsView) (parts : List PartView) (other_options : OptionsView) (others : List PartView) (is_meant : Bool) (one other : Automaton) (found : Found) (answer : Answer) →
+pub found_parts : (options : OptionsView) (parts : List PartView) (other_options : OptionsView) (others : List PartView) (is_meant : Bool) (one other : PartsAutomaton) (found : Found) (answer : Answer) →
     answer ≡ answer_of found → AreGenerated parts → AreGenerated others → made_view one ≡ made options parts → made_view other ≡ made other_options others → IsFoundBy one other is_meant found →
     IsSought options parts other_options others is_meant answer
 found_parts options parts other_options others is_meant one other found answer e gen other_gen same other_same is =

@@ -5,8 +5,8 @@ use Rattle.std.specs.List.{Contains}
 use Rattle.urlpattern_compare.specs.Automata.{Leads, LeadsFrom}
 use Rattle.urlpattern_compare.specs.Cells.{has_one}
 use Rattle.urlpattern_compare.specs.Making.{Made, heads, with_cell, with_cells}
-use Rattle.urlpattern_compare.specs.declared.automaton.Edge.{Edge}
-use Rattle.urlpattern_compare.specs.declared.automaton.Test.{Test}
+use Rattle.urlpattern_compare.specs.declared.parts_automaton.Edge.{Edge}
+use Rattle.urlpattern_compare.specs.declared.parts_automaton.Test.{Test}
 use Rattle.urlpattern_compare.specs.declared.cells.Cell.{Cell}
 use Rattle.urlpattern_compare.specs.declared.cells.Cell.TheVariants.{One, Many}
 use Rattle.urlpattern_compare.proofs.CellTexts.{CellThen, CellsThen, OneThen, RunThen, cells_map}

@@ -6,7 +6,7 @@ use Rattle.std.specs.List.{list_all}
 use Rattle.std.specs.Prelude.{◌&&◌, ◌||◌, IsTrue}
 use Rattle.urlpattern_compare.specs.Automata.{passes}
 use Rattle.urlpattern_compare.specs.Cells.{has_one, is_one, text_cells}
-use Rattle.urlpattern_compare.specs.declared.automaton.Test.{Test}
+use Rattle.urlpattern_compare.specs.declared.parts_automaton.Test.{Test}
 use Rattle.urlpattern_compare.specs.declared.cells.Cell.{Cell}
 use Rattle.urlpattern_compare.specs.declared.cells.Cell.TheVariants.{One, Many}
 use Rattle.urlpattern_compare.proofs.StateSets.{both}

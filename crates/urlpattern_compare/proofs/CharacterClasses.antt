@@ -6,9 +6,9 @@ use Rattle.std.specs.Char.{IsScalar}
 use Rattle.std.specs.Prelude.{◌==◌, ◌||◌, ◌&&◌, not, slice_set}
 use Rattle.urlpattern_compare.specs.Automata.{named, passes}
 use Rattle.urlpattern_compare.specs.Searching.{AreClasses, IsSameFor, is_in, moved, with_moves, with_named}
-use Rattle.urlpattern_compare.specs.declared.automaton.Edge.{Edge}
-use Rattle.urlpattern_compare.specs.declared.automaton.Test.{Test}
-use Rattle.urlpattern_compare.specs.declared.automaton.Test.TheVariants.{Only, AnyBut}
+use Rattle.urlpattern_compare.specs.declared.parts_automaton.Edge.{Edge}
+use Rattle.urlpattern_compare.specs.declared.parts_automaton.Test.{Test}
+use Rattle.urlpattern_compare.specs.declared.parts_automaton.Test.TheVariants.{Only, AnyBut}
 use Rattle.urlpattern_syntax.specs.Text.{is_among, line_feed}
 use Rattle.urlpattern_compare.proofs.StateSets.{contains_cons, contains_head, contains_tail}
 

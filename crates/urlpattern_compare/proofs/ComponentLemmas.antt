@@ -2,12 +2,12 @@
 use Rattle.std.proofs.Common.{◌≡◌, ℕ, List, [], ◌∷◌, ◌++◌, inl, inr, refl, sym, subst, append-nil, Some}
 use Rattle.std.specs.Prelude.{IsTrue}
 use Rattle.urlpattern_compare.specs.Answers.{IsCovering, IsOverlap, IsReason, IsTooMuch}
-use Rattle.urlpattern_compare.specs.Meaning.{MeansText}
-use Rattle.urlpattern_compare.specs.declared.parts.Covering.{Covering}
-use Rattle.urlpattern_compare.specs.declared.parts.Covering.TheVariants as coverings
-use Rattle.urlpattern_compare.specs.declared.parts.Overlap.{Overlap}
-use Rattle.urlpattern_compare.specs.declared.parts.Overlap.TheVariants as overlaps
-use Rattle.urlpattern_compare.specs.declared.parts.Reason.TheVariants as reasons
+use Rattle.urlpattern_compare.specs.MeantTexts.{MeansText}
+use Rattle.urlpattern_compare.specs.declared.coverage.Covering.{Covering}
+use Rattle.urlpattern_compare.specs.declared.coverage.Covering.TheVariants as coverings
+use Rattle.urlpattern_compare.specs.declared.coverage.Overlap.{Overlap}
+use Rattle.urlpattern_compare.specs.declared.coverage.Overlap.TheVariants as overlaps
+use Rattle.urlpattern_compare.specs.declared.coverage.Reason.TheVariants as reasons
 use Rattle.urlpattern_compare.specs.Comparing.{AreSame, IsComponentCovering, IsComponentOverlap, IsExample, IsKnown, TakesEachLine, anything_part}
 use Rattle.urlpattern_syntax.specs.declared.parts.ComponentParts.{ComponentParts}
 use Rattle.urlpattern_syntax.specs.{Options.OptionsView, Options.default_options, Options.options_view, Parts.PartView, Parts.parts_view, Text.lacks, Text.line_feed}

@@ -4,13 +4,13 @@ pub mod PairLemmas
 pub mod MadeStates
 pub mod CellTexts
 pub mod Blocks
-pub mod Copies
+pub mod ComparedCopies
 pub mod PartTexts
 pub mod PartsRead
 pub mod AnswerLemmas
 pub mod ComponentLemmas
-pub mod ListLemmas
+pub mod ShadowedLemmas
 pub mod OrderLemmas
-pub mod PatternLemmas
+pub mod PatternPartLemmas
 pub mod NamelessParts
 pub mod SameParts

@@ -5,8 +5,8 @@ use Rattle.std.specs.List.{Contains}
 use Rattle.std.specs.Prelude.{IsTrue}
 use Rattle.urlpattern_compare.specs.Automata.{Leads, LeadsFrom, passes}
 use Rattle.urlpattern_compare.specs.Making.{Made, edges_to, with_cell}
-use Rattle.urlpattern_compare.specs.declared.automaton.Edge.{Edge}
-use Rattle.urlpattern_compare.specs.declared.automaton.Test.{Test}
+use Rattle.urlpattern_compare.specs.declared.parts_automaton.Edge.{Edge}
+use Rattle.urlpattern_compare.specs.declared.parts_automaton.Test.{Test}
 use Rattle.urlpattern_compare.specs.declared.cells.Cell.{Cell}
 use Rattle.urlpattern_compare.specs.declared.cells.Cell.TheVariants.{One, Many}
 use Rattle.urlpattern_compare.proofs.StateSets.{contains_cons, contains_head, contains_tail}

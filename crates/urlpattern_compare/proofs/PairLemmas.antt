@@ -9,8 +9,8 @@ use Rattle.std.specs.{Str.all_scalars}
 use Rattle.std.specs.Prelude.{◌&&◌, ◌==◌, IsTrue, not}
 use Rattle.urlpattern_compare.specs.Automata.{AcceptsText, IsWhether, IsWithin, Leads, passes}
 use Rattle.urlpattern_compare.specs.Searching.{AreClasses, AreUnlike, IsCome, IsExtended, IsFollowed, IsReached, IsSeen, IsStep, IsStepBy, IsGrownBy, LeadsIn, come_first, come_next, is_in, moved, starts_of}
-use Rattle.urlpattern_compare.specs.declared.automaton.Automaton.{Automaton}
-use Rattle.urlpattern_compare.specs.declared.automaton.Edge.{Edge}
+use Rattle.urlpattern_compare.specs.declared.parts_automaton.PartsAutomaton.{PartsAutomaton}
+use Rattle.urlpattern_compare.specs.declared.parts_automaton.Edge.{Edge}
 use Rattle.urlpattern_compare.specs.declared.search.Pair.{Pair}
 use Rattle.urlpattern_syntax.specs.Text.{lacks, line_feed}
 use Rattle.urlpattern_compare.proofs.CharacterClasses.{same_moved}
@@ -23,11 +23,11 @@ lacks_more : (text : List ℕ) (c : ℕ) → c ≢ line_feed → IsTrue (lacks l
 lacks_more text c other plain =
     list_all-append (λ d. not (d == line_feed)) text (c ∷ []) ∙ ap (λ b. b && (not (c == line_feed) && true)) plain ∙ ap (λ b. not b && true) (ne_eqb c line_feed other)
 
-within_width : (other : Automaton) (flags : List Bool) → IsWithin other → length flags ≡ other.states → All (λ edge. edge.to < length flags) other.edges.items
+within_width : (other : PartsAutomaton) (flags : List Bool) → IsWithin other → length flags ≡ other.states → All (λ edge. edge.to < length flags) other.edges.items
 within_width other flags within width = λ k d lt. let h = within.edges k d lt in omega arith
 
 -- A pair is reached by a further character.
-pub step_reached : (one other : Automaton) (pair next : Pair) (c : ℕ) (edge : Edge) → c ≢ line_feed → IsWithin other → IsReached one other pair → Contains one.edges.items edge →
+pub step_reached : (one other : PartsAutomaton) (pair next : Pair) (c : ℕ) (edge : Edge) → c ≢ line_feed → IsWithin other → IsReached one other pair → Contains one.edges.items edge →
     edge.from ≡ pair.state → IsTrue (passes edge.test c) → IsStep edge.to (moved other.edges.items pair.states.items c) (pair.text.items ++ c ∷ []) next → IsReached one other next
 step_reached one other pair next c edge plain within reached has from passed (state_is, states_are, text_is) =
     let edges = other.edges.items in
@@ -47,7 +47,7 @@ step_reached one other pair next c edge plain within reached has from passed (st
     }
 
 -- The pairs before the first character are reached.
-pub start_reached : (one other : Automaton) (pair : Pair) → IsWithin other → Contains one.starts.items pair.state → pair.states.items ≡ starts_of other → pair.text.items ≡ [] → IsReached one other pair
+pub start_reached : (one other : PartsAutomaton) (pair : Pair) → IsWithin other → Contains one.starts.items pair.state → pair.states.items ≡ starts_of other → pair.text.items ≡ [] → IsReached one other pair
 start_reached one other pair within has states_are text_is = record {
   come = subst (λ f. IsCome one other pair.state f) (sym states_are) (come_first has);
   state = λ text leads. subst (λ t. AcceptsText one (t ++ text)) (sym text_is) (pair.state, has, leads);
@@ -60,7 +60,7 @@ start_reached one other pair within has states_are text_is = record {
 }
 
 -- A copy of a pair that is reached is reached.
-pub copy_reached : (one other : Automaton) (pair copy : Pair) → IsReached one other pair → IsStep pair.state pair.states.items pair.text.items copy → IsReached one other copy
+pub copy_reached : (one other : PartsAutomaton) (pair copy : Pair) → IsReached one other pair → IsStep pair.state pair.states.items pair.text.items copy → IsReached one other copy
 copy_reached one other pair copy reached (state_is, states_are, text_is) = record {
   come = subst (λ f. IsCome one other copy.state f) (sym states_are) (subst (λ s. IsCome one other s pair.states.items) (sym state_is) reached.come);
   state = λ text leads. subst (λ t. AcceptsText one (t ++ text)) (sym text_is) (reached.state text (subst (λ s. Leads one.edges.items s text) state_is leads));
@@ -86,7 +86,7 @@ whether_empty edges flags false true e h = absurd cc
 whether_empty edges flags false false e h = λ leads. let k : is_in flags 0 ≡ true = subst (λ s. is_in flags s ≡ true) leads.2 leads.1 in absurd cc
 
 -- The text of a pair whose state is 0.
-pub found_text : (one other : Automaton) (pair : Pair) (b : Bool) → IsReached one other pair → pair.state ≡ 0 → is_in pair.states.items 0 ≡ b →
+pub found_text : (one other : PartsAutomaton) (pair : Pair) (b : Bool) → IsReached one other pair → pair.state ≡ 0 → is_in pair.states.items 0 ≡ b →
     AcceptsText one pair.text.items × IsWhether b (AcceptsText other pair.text.items) × IsTrue (lacks line_feed pair.text.items)
 found_text one other pair b reached last states_is =
     let nothing = append-nil pair.text.items in (
@@ -100,7 +100,7 @@ found_text one other pair b reached last states_is =
     )
 
 -- The pair is no witness, and each pair that it leads to is seen.
-pub record IsDone (one other : Automaton) (classes : List ℕ) (is_accepted : Bool) (pairs : List Pair) (pair : Pair) : Type 0 where
+pub record IsDone (one other : PartsAutomaton) (classes : List ℕ) (is_accepted : Bool) (pairs : List Pair) (pair : Pair) : Type 0 where
   pub other_end : pair.state ≡ 0 → is_in pair.states.items 0 ≡ not is_accepted
   pub followed : IsFollowed one other classes pairs pair
 
@@ -109,7 +109,7 @@ and_first true b h = (refl, h)
 and_first false b h = absurd cc
 
 -- If each pair is done, no text is left out.
-pub nothing_left : (one other : Automaton) (classes : List ℕ) (is_accepted : Bool) (pairs : List Pair) → IsWithin other → AreClasses one.edges.items other.edges.items classes →
+pub nothing_left : (one other : PartsAutomaton) (classes : List ℕ) (is_accepted : Bool) (pairs : List Pair) → IsWithin other → AreClasses one.edges.items other.edges.items classes →
     All (IsReached one other) pairs → All (IsDone one other classes is_accepted pairs) pairs →
     (text : List ℕ) → IsTrue (all_scalars text) → IsTrue (lacks line_feed text) → (pair : Pair) → Contains pairs pair → Leads one.edges.items pair.state text →
     IsWhether (not is_accepted) (LeadsIn other.edges.items pair.states.items text)
@@ -134,7 +134,7 @@ nothing_left one other classes is_accepted pairs within are reached done (c ∷ 
     (subst (λ f. IsWhether (not is_accepted) (LeadsIn edges f text)) states_same rest)
 
 -- If each pair is done, no text is found from the starts.
-pub nothing_found : (one other : Automaton) (classes : List ℕ) (is_accepted : Bool) (pairs : List Pair) → IsWithin other → AreClasses one.edges.items other.edges.items classes →
+pub nothing_found : (one other : PartsAutomaton) (classes : List ℕ) (is_accepted : Bool) (pairs : List Pair) → IsWithin other → AreClasses one.edges.items other.edges.items classes →
     All (IsReached one other) pairs → All (IsDone one other classes is_accepted pairs) pairs →
     ((state : ℕ) → Contains one.starts.items state → IsSeen pairs state (starts_of other)) →
     (text : List ℕ) → IsTrue (all_scalars text) → IsTrue (lacks line_feed text) → AcceptsText one text → IsWhether (not is_accepted) (AcceptsText other text)
@@ -164,7 +164,7 @@ pub extended_more : (old mid new : List Pair) → IsExtended old mid → IsExten
 extended_more old mid new (more, e) (last, f) = (more ++ last, f ∙ ap (λ l. l ++ last) e ∙ append_assoc old more last)
 
 -- Pairs with a further pair that is reached.
-pub grown_reached : (one other : Automaton) (pair : Pair) (c : ℕ) (edge : Edge) (states : List Bool) (old new : List Pair) → c ≢ line_feed → IsWithin other → IsReached one other pair →
+pub grown_reached : (one other : PartsAutomaton) (pair : Pair) (c : ℕ) (edge : Edge) (states : List Bool) (old new : List Pair) → c ≢ line_feed → IsWithin other → IsReached one other pair →
     Contains one.edges.items edge → states ≡ moved other.edges.items pair.states.items c → IsGrownBy (IsStepBy edge pair c states) old new →
     All (IsReached one other) old → All (IsReached one other) new
 grown_reached one other pair c edge states old new plain within reached has e grown all = λ k d lt.
@@ -175,7 +175,7 @@ grown_reached one other pair c edge states old new plain within reached has e gr
     ]
 
 -- A pair that is done stays done.
-pub done_more : (one other : Automaton) (classes : List ℕ) (is_accepted : Bool) (old new : List Pair) (pair : Pair) → IsExtended old new →
+pub done_more : (one other : PartsAutomaton) (classes : List ℕ) (is_accepted : Bool) (old new : List Pair) (pair : Pair) → IsExtended old new →
     IsDone one other classes is_accepted old pair → IsDone one other classes is_accepted new pair
 done_more one other classes is_accepted old new pair extended done = record {
   other_end = done.other_end;
@@ -183,7 +183,7 @@ done_more one other classes is_accepted old new pair extended done = record {
 }
 
 -- A further pair is done.
-pub done_next : (one other : Automaton) (classes : List ℕ) (is_accepted : Bool) (old new : List Pair) (next : ℕ) (pair copy : Pair) → IsExtended old new → next < length old →
+pub done_next : (one other : PartsAutomaton) (classes : List ℕ) (is_accepted : Bool) (old new : List Pair) (next : ℕ) (pair copy : Pair) → IsExtended old new → next < length old →
     pair ≡ get_or old next pair → IsStep pair.state pair.states.items pair.text.items copy →
     (copy.state ≡ 0 → is_in copy.states.items 0 ≡ not is_accepted) → IsFollowed one other classes new copy →
     All (IsDone one other classes is_accepted old) (take next old) → All (IsDone one other classes is_accepted new) (take (next + 1) new)

@@ -5,11 +5,11 @@ use Rattle.std.specs.List.{list_all}
 use Rattle.std.specs.Prelude.{◌&&◌, IsTrue, unwrap_or}
 use Rattle.urlpattern_compare.specs.Automata.{passes}
 use Rattle.urlpattern_compare.specs.Cells.{cells_of, has_one, text_cells, wildcard_cells}
-use Rattle.urlpattern_compare.specs.declared.automaton.Test.TheVariants.{AnyBut}
+use Rattle.urlpattern_compare.specs.declared.parts_automaton.Test.TheVariants.{AnyBut}
 use Rattle.urlpattern_compare.specs.declared.cells.Cell.{Cell}
 use Rattle.urlpattern_compare.specs.declared.cells.Cell.TheVariants.{One, Many}
 use Rattle.urlpattern_compare.proofs.CellTexts.{CellsThen, InOrder, OneThen, RunThen, Texts, TimesThen, in_order, one_after, one_reversed, order_append, pieces_run, run_pieces, text_then, times_none, times_run}
-use Rattle.urlpattern_compare.proofs.Copies.{Absorbs, CopiesThen}
+use Rattle.urlpattern_compare.proofs.ComparedCopies.{Absorbs, CopiesThen}
 use Rattle.urlpattern_compare.proofs.StateSets.{both}
 use Rattle.urlpattern_meaning.specs.PartMeaning.{AreCaptures, AreCopies, AreGenerated, Captures, IsCopyOf, IsWildcardText, PartsMean, capture_of_no_copies}
 use Rattle.urlpattern_meaning.proofs.Copies.{copies_core}

@@ -6,12 +6,12 @@ use Rattle.std.specs.Prelude.{◌&&◌, if◌then◌else◌}
 use Rattle.urlpattern_compare.specs.Automata.{AcceptsText, IsWithin, Leads, LeadsFrom}
 use Rattle.urlpattern_compare.specs.Cells.{cells_of, has_one}
 use Rattle.urlpattern_compare.specs.Making.{HasManyStates, Made, heads, made, made_view, may_miss, repeats, with_again, with_cell, with_cells, with_copies}
-use Rattle.urlpattern_compare.specs.declared.automaton.Automaton.{Automaton}
-use Rattle.urlpattern_compare.specs.declared.automaton.Edge.{Edge}
+use Rattle.urlpattern_compare.specs.declared.parts_automaton.PartsAutomaton.{PartsAutomaton}
+use Rattle.urlpattern_compare.specs.declared.parts_automaton.Edge.{Edge}
 use Rattle.urlpattern_compare.specs.declared.cells.Cell.{Cell}
 use Rattle.urlpattern_compare.specs.declared.cells.Cell.TheVariants.{One, Many}
 use Rattle.urlpattern_compare.proofs.Blocks.{IsMade, from_one}
-use Rattle.urlpattern_compare.proofs.Copies.{copies_before, copies_made, copies_read}
+use Rattle.urlpattern_compare.proofs.ComparedCopies.{copies_before, copies_made, copies_read}
 use Rattle.urlpattern_compare.proofs.CellTexts.{times_map}
 use Rattle.urlpattern_compare.proofs.MadeStates.{IsPartOf, cell_count, cell_edges, edges_to_has, targets, test_of}
 use Rattle.urlpattern_compare.proofs.PartTexts.{PartsThen, absorbs, parts_then}
@@ -50,7 +50,7 @@ parts_read all options (first ∷ parts) part text =
     )
 
 -- The automaton of parts accepts exactly the texts that the parts mean.
-pub parts_accepted : (options : OptionsView) (parts : List PartView) (automaton : Automaton) → AreGenerated parts → made_view automaton ≡ made options parts → (text : List ℕ) →
+pub parts_accepted : (options : OptionsView) (parts : List PartView) (automaton : PartsAutomaton) → AreGenerated parts → made_view automaton ≡ made options parts → (text : List ℕ) →
     AcceptsText automaton text ↔ ((captures : Captures) × PartsMean options parts text captures)
 parts_accepted options parts automaton generated same text =
     let all = (made options parts).edges in
@@ -148,7 +148,7 @@ parts_below options [] = record {
 parts_below options (part ∷ parts) = copies_below (made options parts) part.modifier (reverse (cells_of options part.kind part)) (parts_below options parts)
 
 -- The states that the automaton of parts names are less than its number of states.
-pub parts_within : (options : OptionsView) (parts : List PartView) (automaton : Automaton) → made_view automaton ≡ made options parts → IsWithin automaton
+pub parts_within : (options : OptionsView) (parts : List PartView) (automaton : PartsAutomaton) → made_view automaton ≡ made options parts → IsWithin automaton
 parts_within options parts automaton same =
     let below : IsBelow automaton.states (made_view automaton) = subst (λ (it : Made). IsBelow it.count it) (sym same) (parts_below options parts) in
     record {

@@ -6,8 +6,8 @@ use Rattle.std.specs.List.{All, Contains}
 use Rattle.std.specs.Prelude.{◌&&◌, IsTrue, slice_set}
 use Rattle.urlpattern_compare.specs.Automata.{AcceptsText, IsWithin, Leads, passes}
 use Rattle.urlpattern_compare.specs.Searching.{LeadsIn, is_in, moved, starts_of, with_moves, with_states}
-use Rattle.urlpattern_compare.specs.declared.automaton.Automaton.{Automaton}
-use Rattle.urlpattern_compare.specs.declared.automaton.Edge.{Edge}
+use Rattle.urlpattern_compare.specs.declared.parts_automaton.PartsAutomaton.{PartsAutomaton}
+use Rattle.urlpattern_compare.specs.declared.parts_automaton.Edge.{Edge}
 
 -- ---- elements
 
@@ -165,7 +165,7 @@ pub length_moved : (edges : List Edge) (from : List Bool) (c : ℕ) → length (
 length_moved edges from c = length_moves (replicate (length from) false) from c edges ∙ length-replicate (length from) false
 
 -- A text is accepted if it leads from the set of starts.
-pub leads_starts : (automaton : Automaton) (text : List ℕ) → IsWithin automaton → AcceptsText automaton text ↔ LeadsIn automaton.edges.items (starts_of automaton) text
+pub leads_starts : (automaton : PartsAutomaton) (text : List ℕ) → IsWithin automaton → AcceptsText automaton text ↔ LeadsIn automaton.edges.items (starts_of automaton) text
 leads_starts automaton text within =
     let starts = automaton.starts.items in
     let n = automaton.states in (
@@ -176,5 +176,5 @@ leads_starts automaton text within =
       ],
     )
 
-pub length_starts : (automaton : Automaton) → length (starts_of automaton) ≡ automaton.states
+pub length_starts : (automaton : PartsAutomaton) → length (starts_of automaton) ≡ automaton.states
 length_starts automaton = length_states (replicate automaton.states false) automaton.starts.items ∙ length-replicate automaton.states false

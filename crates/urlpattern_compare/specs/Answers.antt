@@ -3,17 +3,17 @@ use Rattle.std.specs.Prelude.{◌≡◌, ◌↔◌, ℕ, Bool, true, false, not,
 use Rattle.std.specs.Str.{all_scalars}
 use Rattle.urlpattern_compare.specs.Automata.{AcceptsText, IsWhether}
 use Rattle.urlpattern_compare.specs.Making.{HasManyStates, made, made_view}
-use Rattle.urlpattern_compare.specs.Meaning.{MeansText}
+use Rattle.urlpattern_compare.specs.MeantTexts.{MeansText}
 use Rattle.urlpattern_compare.specs.Searching.{HasManyPairs}
-use Rattle.urlpattern_compare.specs.declared.automaton.Automaton.{Automaton}
-use Rattle.urlpattern_compare.specs.declared.parts.Answer.{Answer}
-use Rattle.urlpattern_compare.specs.declared.parts.Answer.TheVariants as answers
-use Rattle.urlpattern_compare.specs.declared.parts.Covering.{Covering}
-use Rattle.urlpattern_compare.specs.declared.parts.Covering.TheVariants as coverings
-use Rattle.urlpattern_compare.specs.declared.parts.Overlap.{Overlap}
-use Rattle.urlpattern_compare.specs.declared.parts.Overlap.TheVariants as overlaps
-use Rattle.urlpattern_compare.specs.declared.parts.Reason.{Reason}
-use Rattle.urlpattern_compare.specs.declared.parts.Reason.TheVariants as reasons
+use Rattle.urlpattern_compare.specs.declared.parts_automaton.PartsAutomaton.{PartsAutomaton}
+use Rattle.urlpattern_compare.specs.declared.coverage.Answer.{Answer}
+use Rattle.urlpattern_compare.specs.declared.coverage.Answer.TheVariants as answers
+use Rattle.urlpattern_compare.specs.declared.coverage.Covering.{Covering}
+use Rattle.urlpattern_compare.specs.declared.coverage.Covering.TheVariants as coverings
+use Rattle.urlpattern_compare.specs.declared.coverage.Overlap.{Overlap}
+use Rattle.urlpattern_compare.specs.declared.coverage.Overlap.TheVariants as overlaps
+use Rattle.urlpattern_compare.specs.declared.coverage.Reason.{Reason}
+use Rattle.urlpattern_compare.specs.declared.coverage.Reason.TheVariants as reasons
 use Rattle.urlpattern_compare.specs.declared.search.Found.{Found}
 use Rattle.urlpattern_compare.specs.declared.search.Found.TheVariants as founds
 use Rattle.urlpattern_meaning.specs.PartMeaning.{AreGenerated}
@@ -26,7 +26,7 @@ use Rattle.urlpattern_syntax.specs.Text.{lacks, line_feed}
 -- A search of the automata of two lists of parts reaches too many pairs.
 abbrev pub IsSearchLong : OptionsView → List PartView → OptionsView → List PartView → Type 0
 IsSearchLong options parts other_options others =
-    (one other : Automaton) × (made_view one ≡ made options parts) × (made_view other ≡ made other_options others) × HasManyPairs one other
+    (one other : PartsAutomaton) × (made_view one ≡ made options parts) × (made_view other ≡ made other_options others) × HasManyPairs one other
 
 -- The work is too much: one of the lists needs too many states, or a search is too long.
 abbrev pub IsTooMuch : OptionsView → List PartView → OptionsView → List PartView → Type 0
@@ -70,11 +70,11 @@ IsOverlapOf options parts other_options others = IsOverlap (options_view options
 -- ---- steps
 
 -- The automaton that was made, unless memory ran out or it would have too many states.
-abbrev pub IfMade : {E : Type 0} → Result (Option Automaton) E → (Automaton → Type 0) → Type 0
+abbrev pub IfMade : {E : Type 0} → Result (Option PartsAutomaton) E → (PartsAutomaton → Type 0) → Type 0
 IfMade result Is = IfOk result (λ found. IfSome found Is)
 
 -- The automaton accepts the texts that the parts mean.
-abbrev pub AcceptsMeaning : OptionsView → List PartView → Automaton → Type 0
+abbrev pub AcceptsMeaning : OptionsView → List PartView → PartsAutomaton → Type 0
 AcceptsMeaning options parts automaton = (text : List ℕ) → AcceptsText automaton text ↔ MeansText options parts text
 
 -- The result of looking for a text without line feed that the parts mean, and that the others mean

@@ -1,9 +1,9 @@
 -- The texts that automata accept.
 use Rattle.std.specs.Prelude.{◌≡◌, ℕ, ◌<◌, Bool, true, false, not, ◌==◌, All, Contains, List, [], ◌∷◌, IsTrue}
-use Rattle.urlpattern_compare.specs.declared.automaton.Automaton.{Automaton}
-use Rattle.urlpattern_compare.specs.declared.automaton.Edge.{Edge}
-use Rattle.urlpattern_compare.specs.declared.automaton.Test.{Test}
-use Rattle.urlpattern_compare.specs.declared.automaton.Test.TheVariants.{Only, AnyBut}
+use Rattle.urlpattern_compare.specs.declared.parts_automaton.PartsAutomaton.{PartsAutomaton}
+use Rattle.urlpattern_compare.specs.declared.parts_automaton.Edge.{Edge}
+use Rattle.urlpattern_compare.specs.declared.parts_automaton.Test.{Test}
+use Rattle.urlpattern_compare.specs.declared.parts_automaton.Test.TheVariants.{Only, AnyBut}
 
 -- Whether the character passes the test.
 abbrev pub passes : Test → ℕ → Bool
@@ -26,11 +26,11 @@ abbrev pub LeadsFrom : List Edge → (states : List ℕ) → (text : List ℕ) �
 LeadsFrom edges states text = (state : ℕ) × Contains states state × Leads edges state text
 
 -- The automaton accepts the text.
-abbrev pub AcceptsText : Automaton → (text : List ℕ) → Type 0
+abbrev pub AcceptsText : PartsAutomaton → (text : List ℕ) → Type 0
 AcceptsText automaton text = LeadsFrom automaton.edges.items automaton.starts.items text
 
 -- The states that the automaton names are less than its number of states.
-pub record IsWithin (automaton : Automaton) : Type 0 where
+pub record IsWithin (automaton : PartsAutomaton) : Type 0 where
   pub edges : All (λ edge. edge.to < automaton.states) automaton.edges.items
   pub starts : All (λ state. state < automaton.states) automaton.starts.items
 

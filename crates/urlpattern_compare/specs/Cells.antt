@@ -1,7 +1,7 @@
 -- Cells: the tests of characters that parts consist of.
 use Rattle.std.specs.Prelude.{ℕ, Bool, true, false, List, [], ◌∷◌, ◌++◌, map, unwrap_or}
 use Rattle.std.specs.List.{list_any}
-use Rattle.urlpattern_compare.specs.declared.automaton.Test.TheVariants.{Only, AnyBut}
+use Rattle.urlpattern_compare.specs.declared.parts_automaton.Test.TheVariants.{Only, AnyBut}
 use Rattle.urlpattern_compare.specs.declared.cells.Cell.{Cell}
 use Rattle.urlpattern_compare.specs.declared.cells.Cell.TheVariants.{One, Many}
 use Rattle.urlpattern_syntax.specs.{Options.OptionsView, Parts.PartView, Text.line_feed}

@@ -4,26 +4,26 @@ use Rattle.std.specs.declared.alloc.Global.{Global}
 use Rattle.std.specs.List.{slice_get}
 use Rattle.std.specs.Str.{all_scalars}
 use Rattle.urlpattern_compare.specs.Answers.{IsReason}
-use Rattle.urlpattern_compare.specs.Meaning.{MeansText}
-use Rattle.urlpattern_compare.specs.declared.parts.Covering.{Covering}
-use Rattle.urlpattern_compare.specs.declared.parts.Covering.TheVariants as coverings
-use Rattle.urlpattern_compare.specs.declared.parts.Overlap.{Overlap}
-use Rattle.urlpattern_compare.specs.declared.parts.Overlap.TheVariants as overlaps
-use Rattle.urlpattern_compare.specs.declared.parts.Reason.{Reason}
-use Rattle.urlpattern_compare.specs.declared.parts.Reason.TheVariants as reasons
+use Rattle.urlpattern_compare.specs.MeantTexts.{MeansText}
+use Rattle.urlpattern_compare.specs.declared.coverage.Covering.{Covering}
+use Rattle.urlpattern_compare.specs.declared.coverage.Covering.TheVariants as coverings
+use Rattle.urlpattern_compare.specs.declared.coverage.Overlap.{Overlap}
+use Rattle.urlpattern_compare.specs.declared.coverage.Overlap.TheVariants as overlaps
+use Rattle.urlpattern_compare.specs.declared.coverage.Reason.{Reason}
+use Rattle.urlpattern_compare.specs.declared.coverage.Reason.TheVariants as reasons
 use Rattle.urlpattern_meaning.specs.PartMeaning.{AreGenerated}
 use Rattle.urlpattern_syntax.specs.declared.parts.ComponentParts.{ComponentParts}
-use Rattle.urlpattern_compare.specs.declared.list.Shadowed.{Shadowed}
-use Rattle.urlpattern_compare.specs.declared.pattern.First.{First}
-use Rattle.urlpattern_compare.specs.declared.pattern.First.TheVariants as firsts
-use Rattle.urlpattern_compare.specs.declared.pattern.Lack.{Lack}
-use Rattle.urlpattern_compare.specs.declared.pattern.Lack.TheVariants as lacking
-use Rattle.urlpattern_compare.specs.declared.pattern.Parting.{Parting}
-use Rattle.urlpattern_compare.specs.declared.pattern.PatternCovering.{PatternCovering}
-use Rattle.urlpattern_compare.specs.declared.pattern.PatternCovering.TheVariants as answers
-use Rattle.urlpattern_compare.specs.declared.pattern.PatternOverlap.{PatternOverlap}
-use Rattle.urlpattern_compare.specs.declared.pattern.PatternOverlap.TheVariants as commons
-use Rattle.urlpattern_compare.specs.declared.pattern.PatternParts.{PatternParts}
+use Rattle.urlpattern_compare.specs.declared.shadowed.Shadowed.{Shadowed}
+use Rattle.urlpattern_compare.specs.declared.pattern_parts.First.{First}
+use Rattle.urlpattern_compare.specs.declared.pattern_parts.First.TheVariants as firsts
+use Rattle.urlpattern_compare.specs.declared.pattern_parts.Lack.{Lack}
+use Rattle.urlpattern_compare.specs.declared.pattern_parts.Lack.TheVariants as lacking
+use Rattle.urlpattern_compare.specs.declared.pattern_parts.Parting.{Parting}
+use Rattle.urlpattern_compare.specs.declared.pattern_parts.PatternCovering.{PatternCovering}
+use Rattle.urlpattern_compare.specs.declared.pattern_parts.PatternCovering.TheVariants as answers
+use Rattle.urlpattern_compare.specs.declared.pattern_parts.PatternOverlap.{PatternOverlap}
+use Rattle.urlpattern_compare.specs.declared.pattern_parts.PatternOverlap.TheVariants as commons
+use Rattle.urlpattern_compare.specs.declared.pattern_parts.PatternParts.{PatternParts}
 use Rattle.urlpattern_components.specs.declared.eight.ComponentName.{ComponentName}
 use Rattle.urlpattern_components.specs.declared.eight.Eight.{Eight}
 use Rattle.urlpattern_components.specs.Eight.{at}

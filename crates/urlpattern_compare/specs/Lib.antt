@@ -2,7 +2,7 @@ pub mod Answers
 pub mod Automata
 pub mod Cells
 pub mod Making
-pub mod Meaning
+pub mod MeantTexts
 pub mod Searching
 pub mod Comparing
 pub mod Order

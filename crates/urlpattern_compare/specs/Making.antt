@@ -1,9 +1,9 @@
 -- How an automaton is made, from the end of a list of parts to the start.
 use Rattle.std.specs.Prelude.{ℕ, ◌+◌, ◌<◌, Bool, true, false, ◌&&◌, List, [], ◌∷◌, ◌++◌, map, reverse, if◌then◌else◌}
 use Rattle.urlpattern_compare.specs.Cells.{cells_of, has_one}
-use Rattle.urlpattern_compare.specs.declared.automaton.Automaton.{Automaton}
-use Rattle.urlpattern_compare.specs.declared.automaton.Edge.{Edge}
-use Rattle.urlpattern_compare.specs.declared.automaton.Test.{Test}
+use Rattle.urlpattern_compare.specs.declared.parts_automaton.PartsAutomaton.{PartsAutomaton}
+use Rattle.urlpattern_compare.specs.declared.parts_automaton.Edge.{Edge}
+use Rattle.urlpattern_compare.specs.declared.parts_automaton.Test.{Test}
 use Rattle.urlpattern_compare.specs.declared.cells.Cell.{Cell}
 use Rattle.urlpattern_compare.specs.declared.cells.Cell.TheVariants.{One, Many}
 use Rattle.urlpattern_compare.specs.declared.making.TheConstants.{MOST_STATES}
@@ -16,7 +16,7 @@ pub record Made : Type 0 where
   pub starts : List ℕ
   pub count : ℕ
 
-abbrev pub made_view : Automaton → Made
+abbrev pub made_view : PartsAutomaton → Made
 made_view automaton = record { edges = automaton.edges.items; starts = automaton.starts.items; count = automaton.states }
 
 -- Edges from a state to others.

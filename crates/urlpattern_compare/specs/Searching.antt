@@ -2,8 +2,8 @@
 use Rattle.std.specs.Prelude.{◌≡◌, ◌≢◌, ℕ, ◌<◌, Bool, true, false, not, ◌&&◌, ◌↔◌, All, Contains, List, [], ◌∷◌, ◌++◌, ◌⊎◌, length, IsTrue, if◌then◌else◌, slice_set, replicate}
 use Rattle.std.specs.{Char.IsScalar, List.slice_index_or, Str.all_scalars}
 use Rattle.urlpattern_compare.specs.Automata.{AcceptsText, IsWhether, Leads, LeadsFrom, named, passes}
-use Rattle.urlpattern_compare.specs.declared.automaton.Automaton.{Automaton}
-use Rattle.urlpattern_compare.specs.declared.automaton.Edge.{Edge}
+use Rattle.urlpattern_compare.specs.declared.parts_automaton.PartsAutomaton.{PartsAutomaton}
+use Rattle.urlpattern_compare.specs.declared.parts_automaton.Edge.{Edge}
 use Rattle.urlpattern_compare.specs.declared.search.Found.{Found}
 use Rattle.urlpattern_compare.specs.declared.search.Found.TheVariants.{Text, Nothing, TooMany}
 use Rattle.urlpattern_compare.specs.declared.search.Pair.{Pair}
@@ -54,19 +54,19 @@ AreClasses edges others classes = (c : ℕ) → IsScalar c →
 -- ---- pairs
 
 -- The set of start states.
-abbrev pub starts_of : Automaton → List Bool
+abbrev pub starts_of : PartsAutomaton → List Bool
 starts_of automaton = with_states (replicate automaton.states false) automaton.starts.items
 
 -- The pairs of a state and a set of states that a search of two automata reaches: before the first
 -- character, or by a further character from a pair that is reached.
-pub data IsCome (one other : Automaton) : (state : ℕ) → (states : List Bool) → Type 0 where
+pub data IsCome (one other : PartsAutomaton) : (state : ℕ) → (states : List Bool) → Type 0 where
   come_first : {state : ℕ} → Contains one.starts.items state → IsCome one other state (starts_of other)
   come_next : {states : List Bool} (edge : Edge) (c : ℕ) → Contains one.edges.items edge → IsTrue (passes edge.test c) → IsCome one other edge.from states →
       IsCome one other edge.to (moved other.edges.items states c)
 
 -- The pair is reached by its text, which has no line feed: the text leads from a start of the first
 -- automaton to the state, and from the starts of the second to exactly the set of states.
-pub record IsReached (one other : Automaton) (pair : Pair) : Type 0 where
+pub record IsReached (one other : PartsAutomaton) (pair : Pair) : Type 0 where
   pub come : IsCome one other pair.state pair.states.items
   pub state : (text : List ℕ) → Leads one.edges.items pair.state text → LeadsFrom one.edges.items one.starts.items (pair.text.items ++ text)
   pub states : (text : List ℕ) → LeadsFrom other.edges.items other.starts.items (pair.text.items ++ text) ↔ LeadsIn other.edges.items pair.states.items text
@@ -82,12 +82,12 @@ abbrev pub IsBy : Edge → Pair → (c : ℕ) → Type 0
 IsBy edge pair c = (edge.from ≡ pair.state) × IsTrue (passes edge.test c)
 
 -- Each pair that the pair leads to by the character is seen.
-abbrev pub IsFollowedBy : (one other : Automaton) → (c : ℕ) → (pairs : List Pair) → Pair → Type 0
+abbrev pub IsFollowedBy : (one other : PartsAutomaton) → (c : ℕ) → (pairs : List Pair) → Pair → Type 0
 IsFollowedBy one other c pairs pair = (edge : Edge) → Contains one.edges.items edge → IsBy edge pair c →
     IsSeen pairs edge.to (moved other.edges.items pair.states.items c)
 
 -- Each pair that the pair leads to by one of these characters, other than a line feed, is seen.
-abbrev pub IsFollowed : (one other : Automaton) → (classes : List ℕ) → (pairs : List Pair) → Pair → Type 0
+abbrev pub IsFollowed : (one other : PartsAutomaton) → (classes : List ℕ) → (pairs : List Pair) → Pair → Type 0
 IsFollowed one other classes pairs pair = (c : ℕ) → Contains classes c → c ≢ line_feed → IsFollowedBy one other c pairs pair
 
 -- The new list begins with the old one.
@@ -114,7 +114,7 @@ AreUnlike [] = Unit {0}
 AreUnlike (pair ∷ pairs) = (¬ IsSeen pairs pair.state pair.states.items) × AreUnlike pairs
 
 -- The search reaches more pairs than are permitted.
-abbrev pub HasManyPairs : (one other : Automaton) → Type 0
+abbrev pub HasManyPairs : (one other : PartsAutomaton) → Type 0
 HasManyPairs one other =
     (pairs : List Pair) × All (λ pair. IsCome one other pair.state pair.states.items) pairs × AreUnlike pairs × (MOST_PAIRS < length pairs)
 
@@ -123,7 +123,7 @@ HasManyPairs one other =
 -- The outcome of a search. A text that is found has no line feed, the first automaton accepts it,
 -- and the second accepts it or not, by `is_accepted`. If nothing is found, no text of characters is
 -- like that. The search is given up only if it reaches too many pairs.
-abbrev pub IsFoundBy : (one other : Automaton) → (is_accepted : Bool) → Found → Type 0
+abbrev pub IsFoundBy : (one other : PartsAutomaton) → (is_accepted : Bool) → Found → Type 0
 IsFoundBy one other is_accepted (Text text) =
     AcceptsText one text.items × IsWhether is_accepted (AcceptsText other text.items) × IsTrue (lacks line_feed text.items)
 IsFoundBy one other is_accepted Nothing = (text : List ℕ) → IsTrue (all_scalars text) → IsTrue (lacks line_feed text) → AcceptsText one text → IsWhether (not is_accepted) (AcceptsText other text)

@@ -5,7 +5,7 @@ ghost use Rattle.std.specs.Str.{chars};
 ghost use Rattle.urlpattern_compare.specs.Cells.{cells_of, has_one, is_one, text_cells, wildcard_cells};
 ghost use Rattle.urlpattern_syntax.specs.{Options.options_view, Parts.part_view};
 
-use crate::automaton::Test;
+use crate::parts_automaton::Test;
 use std::alloc::{AllocError, Global};
 use urlpattern_syntax::parser::{Options, Part, PartType};
 

@@ -5,7 +5,7 @@ ghost use Rattle.std.specs.Char.{IsScalar};
 ghost use Rattle.urlpattern_compare.specs.Searching.{AreClasses, with_named};
 ghost use Rattle.urlpattern_syntax.specs.Text.{is_among, line_feed};
 
-use crate::automaton::Edge;
+use crate::parts_automaton::Edge;
 use std::alloc::{AllocError, Global};
 
 /// Returns a character of each class that the tests of the edges tell apart: the characters that

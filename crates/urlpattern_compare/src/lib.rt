@@ -6,27 +6,27 @@
 //! [`unreachable`] search a list, and [`compare_parts`] orders parts by how specific they are.
 //!
 //! [`covers`] and [`overlaps`] compare the parts of one component. Each list of parts is turned
-//! into an [`Automaton`], and [`Automaton::find`] searches for a text that one of two automata
-//! accepts, and the other accepts or rejects.
+//! into a [`PartsAutomaton`], and [`PartsAutomaton::find`] searches for a text that one of two
+//! automata accepts, and the other accepts or rejects.
 #![tactic(auto)]
 
-mod automaton;
 mod cells;
 mod classes;
-mod component;
-pub mod laws;
-mod list;
+mod component_coverage;
+mod coverage;
 mod making;
 mod order;
-mod parts;
-mod pattern;
+pub mod order_laws;
+mod parts_automaton;
+mod pattern_parts;
 mod search;
+mod shadowed;
 mod states;
 
-pub use automaton::{Automaton, Edge, Test};
-pub use list::{Shadowed, first_covering, unreachable};
+pub use coverage::{Covering, Overlap, Reason, covers, overlaps};
 pub use making::MOST_STATES;
 pub use order::compare_parts;
-pub use parts::{Covering, Overlap, Reason, covers, overlaps};
-pub use pattern::{Parting, PatternCovering, PatternOverlap, PatternParts};
+pub use parts_automaton::{Edge, PartsAutomaton, Test};
+pub use pattern_parts::{Parting, PatternCovering, PatternOverlap, PatternParts};
 pub use search::{Found, MOST_PAIRS};
+pub use shadowed::{Shadowed, first_covering, unreachable};

@@ -6,8 +6,8 @@ ghost use Rattle.urlpattern_compare.specs.Making.{HasManyStates, edges_to, heads
 ghost use Rattle.urlpattern_meaning.specs.PartMeaning.{AreGenerated};
 ghost use Rattle.urlpattern_syntax.specs.{Options.options_view, Parts.parts_view};
 
-use crate::automaton::{Automaton, Edge, Test};
 use crate::cells::{Cell, cells_of, has_one};
+use crate::parts_automaton::{Edge, PartsAutomaton, Test};
 use std::alloc::{AllocError, Global};
 use urlpattern_syntax::parser::{Options, Part, PartModifier};
 
@@ -20,11 +20,11 @@ pub(crate) fn make(
     alloc: Global,
     options: &Options,
     parts: &[Part],
-) -> Result<Option<Automaton>, AllocError>
+) -> Result<Option<PartsAutomaton>, AllocError>
     ensures made { IfMade result (λ automaton. made_view automaton ≡ made (options_view options.now) (parts_view parts.now)) }
     ensures many { IfOk result (λ found. IfNone found (HasManyStates (options_view options.now) (parts_view parts.now))) }
 {
-    let mut automaton = Automaton {
+    let mut automaton = PartsAutomaton {
         edges: Vec::new(alloc),
         starts: vec![in alloc; 0]?,
         states: 1,
@@ -41,7 +41,7 @@ pub(crate) fn make(
     Ok(Some(automaton))
 }
 
-impl Automaton {
+impl PartsAutomaton {
     /// Makes the automaton of parts. `None`: it would have more than [`MOST_STATES`] states; an
     /// automaton with at most twice as many may be made all the same.
     ///

@@ -5,8 +5,8 @@ ghost use Rattle.urlpattern_compare.specs.Automata.{IsWithin};
 ghost use Rattle.urlpattern_compare.specs.Searching.{AreUnlike, IsBy, IsFoundBy, IsExtended, IsFollowed, IsFollowedBy, IsGrownBy, IsReached, IsSeen, IsStep, IsStepBy, starts_of};
 ghost use Rattle.urlpattern_syntax.specs.Text.{line_feed};
 
-use crate::automaton::{Automaton, Edge};
 use crate::classes::classes;
+use crate::parts_automaton::{Edge, PartsAutomaton};
 use crate::states::{is_in, moved, set_of};
 use std::alloc::{AllocError, Global};
 
@@ -32,7 +32,7 @@ pub(crate) struct Pair {
     pub(crate) text: Vec<char>,
 }
 
-impl Automaton {
+impl PartsAutomaton {
     /// Finds a text without line feed that this automaton accepts, and that `other` accepts if
     /// `is_accepted`, and rejects otherwise.
     ///
@@ -41,7 +41,7 @@ impl Automaton {
     pub fn find(
         &self,
         alloc: Global,
-        other: &Automaton,
+        other: &PartsAutomaton,
         is_accepted: bool,
     ) -> Result<Found, AllocError>
         requires one { IsWithin self.now }
@@ -67,7 +67,11 @@ impl Automaton {
 }
 
 /// Returns the pairs before the first character.
-fn first_pairs(alloc: Global, one: &Automaton, other: &Automaton) -> Result<Vec<Pair>, AllocError>
+fn first_pairs(
+    alloc: Global,
+    one: &PartsAutomaton,
+    other: &PartsAutomaton,
+) -> Result<Vec<Pair>, AllocError>
     requires { IsWithin other.now }
     ensures reached { IfOk result (λ pairs. All (IsReached one.now other.now) pairs.items) }
     ensures starts { IfOk result (λ pairs.
@@ -92,8 +96,8 @@ fn first_pairs(alloc: Global, one: &Automaton, other: &Automaton) -> Result<Vec<
 /// Adds the pairs that a pair leads to by one of the characters.
 fn follow(
     alloc: Global,
-    one: &Automaton,
-    other: &Automaton,
+    one: &PartsAutomaton,
+    other: &PartsAutomaton,
     classes: &[char],
     pair: &Pair,
     pairs: &mut Vec<Pair>,
@@ -115,8 +119,8 @@ fn follow(
 /// Adds the pairs that a pair leads to by the character, unless it is a line feed.
 fn follow_by(
     alloc: Global,
-    one: &Automaton,
-    other: &Automaton,
+    one: &PartsAutomaton,
+    other: &PartsAutomaton,
     c: char,
     pair: &Pair,
     pairs: &mut Vec<Pair>,

@@ -3,7 +3,7 @@
 ghost use Rattle.std.specs.Prelude.{◌≡◌, IfOk, false, replicate, slice_set, true};
 ghost use Rattle.urlpattern_compare.specs.Searching.{is_in, moved, with_states};
 
-use crate::automaton::Edge;
+use crate::parts_automaton::Edge;
 use std::alloc::{AllocError, Global};
 
 /// Whether the state is in the set.
@@ -14,7 +14,7 @@ pub(crate) fn is_in(flags: &[bool], state: usize) -> bool
 }
 
 /// Adds a state.
-fn add(flags: &mut [bool], state: usize)
+fn set_state(flags: &mut [bool], state: usize)
     ensures { flags.new ≡ slice_set flags.old state true }
 {
     if state < flags.len() {
@@ -39,7 +39,7 @@ pub(crate) fn set_of(
 {
     let mut flags = none(alloc, states)?;
     for state in starts {
-        add(&mut flags, *state);
+        set_state(&mut flags, *state);
     }
     Ok(flags)
 }
@@ -56,7 +56,7 @@ pub(crate) fn moved(
     let mut flags = none(alloc, from.len())?;
     for edge in edges {
         if is_in(from, edge.from) && edge.test.passes(c) {
-            add(&mut flags, edge.to);
+            set_state(&mut flags, edge.to);
         }
     }
     Ok(flags)

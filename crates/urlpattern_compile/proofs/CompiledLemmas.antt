@@ -10,7 +10,7 @@ use Rattle.std.specs.declared.alloc.Global.{Global}
 use Rattle.std.proofs.lemmas.Str.{IsUtf8-string_bytes}
 use Rattle.urlpattern_meaning.proofs.Encodings.{Weakens, reads_weaker, refuses_weaker}
 use Rattle.urlpattern_compile.specs.Compiled.{AreCompiled, FirstRefused, HasEngine, IsComponentCompiled, IsPathKind, IsComponentRefused, IsRefusedFrom, Manner, RefusesInit, RefusesValues, after_protocol, canonical_encoding, has_default_port, is_ipv6_pattern, is_mark, is_same, manner_of, pattern_values, without_default_port}
-use Rattle.urlpattern_compile.specs.Kept.{AreCompiledKeeping, EachIsKept, IsKept, IsKeptOfInit}
+use Rattle.urlpattern_compile.specs.KeptComponents.{AreCompiledKeeping, EachIsKept, IsKept, IsKeptOfInit}
 use Rattle.urlpattern_compile.specs.PatternViews.{PatternView}
 use Rattle.urlpattern_components.specs.declared.eight.ComponentName.{ComponentName as Names}
 use Rattle.urlpattern_components.specs.declared.eight.ComponentName.TheVariants.{Protocol}

@@ -7,7 +7,7 @@ use Rattle.std.specs.Str.{chars}
 use Rattle.urlpattern_matcher.specs.Components.{ComponentView}
 use Rattle.urlpattern_matcher.specs.declared.regexp.RegExp.{Ghosts as Engine}
 use Rattle.urlpattern_diagnosis.specs.Faults.{IsColonFault, IsFaultOf, IsUrlFault}
-use Rattle.urlpattern_diagnosis.specs.Places.{IsFaultMoved}
+use Rattle.urlpattern_diagnosis.specs.PatternOffsets.{IsFaultMoved}
 use Rattle.urlpattern_diagnosis.specs.declared.diagnosis.Diagnosis.{Diagnosis}
 use Rattle.urlpattern_diagnosis.specs.declared.diagnosis.Subject.{Subject}
 use Rattle.urlpattern_diagnosis.specs.declared.diagnosis.Subject.TheVariants as subjects

@@ -6,7 +6,7 @@ use Rattle.urlpattern_canonical.specs.Canonical.{Reports}
 use Rattle.urlpattern_matcher.specs.Components.{ComponentView}
 use Rattle.urlpattern_matcher.specs.declared.regexp.RegExp.{Ghosts as Engine}
 use Rattle.urlpattern_diagnosis.specs.Faults.{IsColonFault, IsFaultIn, IsFaultOf, IsUrlFault}
-use Rattle.urlpattern_diagnosis.specs.Places.{IsFaultMoved}
+use Rattle.urlpattern_diagnosis.specs.PatternOffsets.{IsFaultMoved}
 use Rattle.urlpattern_diagnosis.specs.declared.diagnosis.{Diagnosis.Diagnosis, Subject.Subject}
 use Rattle.urlpattern_diagnosis.specs.declared.diagnosis.Subject.TheVariants as subjects
 use Rattle.urlpattern_diagnosis.specs.declared.fault.Fault.{Fault}

@@ -2,5 +2,5 @@ pub mod Compiled
 pub mod CompilerSteps
 pub mod Diagnoses
 pub mod FromString
-pub mod Kept
+pub mod KeptComponents
 pub mod PatternViews

@@ -9,7 +9,7 @@ ghost use Rattle.urlpattern_meaning.specs.FirstAnswers.{TookText};
 ghost use Rattle.urlpattern_init.specs.{Inheritance.values_view, SpecialProtocol.IsKnownProtocol};
 ghost use Rattle.urlpattern_compile.specs.Compiled.{FirstRefused, HasEngine, IsComponentRefused, IsPathKind, RefusesInit, RefusesValues, after_protocol, canonical_in_hostname, has_default_port, is_ipv6_pattern, is_mark, is_same, pattern_of, pattern_values, without_default_port};
 ghost use Rattle.urlpattern_compile.specs.CompilerSteps.{IsCompiledWith, IsRefusedWith, compiled_values, manner_by};
-ghost use Rattle.urlpattern_compile.specs.Kept.{AreCompiledKeeping, EachIsKept, IsKept, IsKeptOfInit};
+ghost use Rattle.urlpattern_compile.specs.KeptComponents.{AreCompiledKeeping, EachIsKept, IsKept, IsKeptOfInit};
 ghost use Rattle.urlpattern_components.specs.declared.eight.ComponentName.{ComponentName};
 ghost use Rattle.urlpattern_syntax.specs.Errors.{MemoryOr, OnlyOutOfMemory};
 ghost use Rattle.urlpattern_syntax.specs.Options.{options_view};

@@ -18,7 +18,7 @@ use urlpattern_canonical::canonicalize_and_process::Canonicalizer;
 use urlpattern_canonical::parse_base;
 use urlpattern_components::{ComponentName, Eight};
 use urlpattern_diagnosis::{
-    Diagnosis, Fault, Place, Subject, component_start, fault_of, fault_of_expression,
+    Diagnosis, Fault, PatternOffset, Subject, component_start, fault_of, fault_of_expression,
     fault_of_host, refused_expression, refused_row,
 };
 use urlpattern_init::{UrlPatternInit, protocol_of};
@@ -96,7 +96,7 @@ fn protocol_diagnosis(alloc: Global, error: Error, text: &str) -> Result<Diagnos
             None => {
                 let name = ComponentName::Protocol;
                 let fault = fault_of(alloc, Some(name), protocol, "", &error)?;
-                let place = Place::of_component(text, protocol, name, 0, protocol.len());
+                let place = PatternOffset::of_component(text, protocol, name, 0, protocol.len());
                 let subject = Subject::Component(name);
                 Ok(Diagnosis::of_part(alloc, error, subject, text, protocol, fault, place)?)
             }
@@ -139,7 +139,7 @@ fn init_diagnosis<R: RegExp>(
     let Ok(values) = pattern_values(alloc, init) else {
         return Err(OutOfMemory);
     };
-    let given = Given { string, init };
+    let given = PatternSource { string, init };
     let found = values_diagnosis::<R>(alloc, &values, options, given);
     drop(values);
     found
@@ -150,7 +150,7 @@ fn values_diagnosis<R: RegExp>(
     alloc: Global,
     values: &UrlPatternInit,
     options: &UrlPatternOptions,
-    given: Given<'_>,
+    given: PatternSource<'_>,
 ) -> Result<Option<Diagnosis>, OutOfMemory>
     ensures accepted { IfAccepted result (AcceptsValues R.RegExp options.now (values_view values.now)) }
     ensures refused { IfRefused result (HasErrorOf (RefusesValues R.RegExp options.now (values_view values.now))) }
@@ -181,12 +181,12 @@ fn values_diagnosis<R: RegExp>(
 
 /// A pattern as given: an init, and the constructor string that it was parsed from, if any.
 #[derive(Clone, Copy)]
-struct Given<'a> {
+struct PatternSource<'a> {
     string: Option<&'a str>,
     init: &'a UrlPatternInit,
 }
 
-impl<'a> Given<'a> {
+impl<'a> PatternSource<'a> {
     /// The value of a component, if it is given.
     fn value(&self, component: ComponentName) -> Option<&'a str> {
         self.init.get(component)
@@ -213,7 +213,11 @@ impl<'a> Given<'a> {
 
 impl Compiler<'_> {
     /// Diagnoses values that are rejected with this error.
-    fn diagnosis<R: RegExp>(&self, error: Error, given: Given<'_>) -> Result<Diagnosis, OutOfMemory>
+    fn diagnosis<R: RegExp>(
+        &self,
+        error: Error,
+        given: PatternSource<'_>,
+    ) -> Result<Diagnosis, OutOfMemory>
         requires { RefusesValues R.RegExp self.now.options.now (compiled_values self.now) (error_view error) }
         ensures refused { IfOk result (HasErrorOf (RefusesValues R.RegExp self.now.options.now (compiled_values self.now))) }
         ensures shows { IfOk result (ShowsValues R.RegExp self.now.options.now (compiled_values self.now)) }
@@ -233,7 +237,7 @@ impl Compiler<'_> {
     fn component_diagnosis<R: RegExp>(
         &self,
         refusal: Refusal,
-        given: Given<'_>,
+        given: PatternSource<'_>,
     ) -> Result<Diagnosis, OutOfMemory>
         ensures error { IfOk result (λ diagnosis. diagnosis.error ≡ refusal.error) }
         ensures subject { IfOk result (λ diagnosis. diagnosis.subject ≡ subjects.Component refusal.component) }
@@ -259,7 +263,7 @@ impl Compiler<'_> {
         let value = given.value(component).unwrap_or(pattern);
         let text = given.string.unwrap_or(value);
         let start = given.start(component);
-        let place = Place::of_component(text, pattern, component, start, value.len());
+        let place = PatternOffset::of_component(text, pattern, component, start, value.len());
         let subject = Subject::Component(component);
         Ok(Diagnosis::of_part(self.alloc, error, subject, text, pattern, fault, place)?)
     }

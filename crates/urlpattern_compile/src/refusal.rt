@@ -3,7 +3,7 @@
 ghost use Rattle.std.specs.Prelude.{◌≡◌, ◌≢◌, false, IfNone, IfOk, IfSome};
 ghost use Rattle.urlpattern_compile.specs.CompilerSteps.{compiled_values, manner_by};
 ghost use Rattle.urlpattern_compile.specs.Diagnoses.{AcceptsComponent, IsFirstRefusal, IsRefusalOf, RefusesComponent};
-ghost use Rattle.urlpattern_compile.specs.Kept.{IsKept};
+ghost use Rattle.urlpattern_compile.specs.KeptComponents.{IsKept};
 ghost use Rattle.urlpattern_components.specs.declared.eight.ComponentName.TheVariants as names;
 ghost use Rattle.urlpattern_syntax.specs.Errors.{ErrorView as views, error_view};
 

@@ -1,3 +1,3 @@
 pub mod Faults
-pub mod Places
+pub mod PatternOffsets
 pub mod Spans

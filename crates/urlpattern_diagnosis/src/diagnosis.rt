@@ -3,12 +3,12 @@
 ghost use Rattle.std.specs.Prelude.{◌≡◌, string_bytes, IfOk, IfSome};
 ghost use Rattle.urlpattern_diagnosis.specs.declared.diagnosis.Subject.TheVariants as subjects;
 ghost use Rattle.urlpattern_diagnosis.specs.Faults.{IsFaultIn, IsUrlFault};
-ghost use Rattle.urlpattern_diagnosis.specs.Places.{IsFaultMoved, IsPlaceOf};
+ghost use Rattle.urlpattern_diagnosis.specs.PatternOffsets.{IsFaultMoved, IsPlaceOf};
 
 use crate::colon::path_colon_sentence;
 use crate::fault::Fault;
 use crate::hint::Hint;
-use crate::place::Place;
+use crate::pattern_offset::PatternOffset;
 use crate::reason::{Faulty, reason_of};
 use std::alloc::{AllocError, Global};
 use urlpattern_components::ComponentName;
@@ -91,7 +91,7 @@ impl Diagnosis {
         text: &str,
         part: &str,
         fault: Fault,
-        place: Option<Place>,
+        place: Option<PatternOffset>,
     ) -> Result<Self, AllocError>
         requires place { IfSome place (IsPlaceOf text.now part.now) }
         requires within { IsFaultIn part.now fault }

@@ -15,7 +15,7 @@ pub fn fault_of_expression(alloc: Global, text: &str, body: Span) -> Result<Faul
     requires { IsSpanIn text.now body }
     ensures within { IfOk result (IsFaultIn text.now) }
 {
-    let Some(error) = refusal(alloc, &text[body.start..body.end])? else {
+    let Some(error) = expression_error(alloc, &text[body.start..body.end])? else {
         return Ok(Fault::of_span(body));
     };
     let len = error.span.end.saturating_sub(error.span.start);
@@ -37,7 +37,7 @@ pub(crate) fn message(
     expression: &str,
     hint: Hint,
 ) -> Result<Option<(&'static str, &'static str)>, AllocError> {
-    match refusal(alloc, expression)? {
+    match expression_error(alloc, expression)? {
         Some(error) => {
             let kind = error.kind;
             let advice = advice(kind, expression, error.span.start, hint);
@@ -102,7 +102,7 @@ fn count_advice(kind: ErrorKind, refused: Option<&u8>) -> &'static str {
 }
 
 /// The error with which `regex` rejects an expression. `None`: the expression is accepted.
-fn refusal(alloc: Global, expression: &str) -> Result<Option<Error>, AllocError> {
+fn expression_error(alloc: Global, expression: &str) -> Result<Option<Error>, AllocError> {
     match regex_syntax::parse(alloc, expression, &Config::default()) {
         Ok(parsed) => {
             drop(parsed);

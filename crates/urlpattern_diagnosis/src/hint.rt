@@ -6,7 +6,7 @@ use crate::around::{
 };
 use crate::diagnosis::Subject;
 use crate::fault::Fault;
-use crate::place::Place;
+use crate::pattern_offset::PatternOffset;
 use crate::span::Span;
 use crate::wide::ascii_form_of;
 use urlpattern_components::ComponentName;
@@ -86,7 +86,7 @@ impl Hint {
         text: &str,
         part: &str,
         fault: Fault,
-        place: Option<Place>,
+        place: Option<PatternOffset>,
     ) -> Self {
         let search = search_after(text, part, place);
         match error {
@@ -270,8 +270,8 @@ fn outer(fault: Fault) -> Span {
 }
 
 /// The place of a `?` right after a part of a text, if there is one.
-fn search_after(text: &str, part: &str, place: Option<Place>) -> Option<usize> {
-    let Place { start, lead } = place?;
+fn search_after(text: &str, part: &str, place: Option<PatternOffset>) -> Option<usize> {
+    let PatternOffset { start, lead } = place?;
     let end = start.saturating_add(part.len().saturating_sub(lead));
     match text.as_bytes().get(end) {
         Some(b'?') => Some(end),

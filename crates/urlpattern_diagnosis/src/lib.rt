@@ -3,27 +3,27 @@
 
 mod around;
 mod colon;
+mod component_starts;
 mod diagnosis;
 mod expression;
 mod fault;
 mod hint;
 mod host;
-mod parts;
-mod place;
+mod pattern_offset;
 mod printing;
 mod reason;
+mod refused_parts;
 mod scheme;
 mod sentence;
 mod span;
-mod starts;
 mod token;
 mod wide;
 
+pub use component_starts::component_start;
 pub use diagnosis::{Diagnosis, Subject};
 pub use expression::fault_of_expression;
 pub use fault::{Fault, fault_of};
 pub use host::fault_of_host;
-pub use parts::{refused_expression, refused_row};
-pub use place::Place;
+pub use pattern_offset::PatternOffset;
+pub use refused_parts::{refused_expression, refused_row};
 pub use span::Span;
-pub use starts::component_start;

@@ -10,7 +10,7 @@ use Rattle.urlpattern_engine.proofs.EngineLaws.{expression_as_read, expression_f
 use Rattle.urlpattern_engine.proofs.ReadAnswers.{read_by_default, regex_as_read}
 use Rattle.urlpattern_engine.specs.Automatons.{config_for}
 use Rattle.urlpattern_engine.specs.PatternRegexps.{IsExpressionOf, expression_answer, pattern_answer, pattern_engine}
-use Rattle.urlpattern_engine.specs.Readings.{ExpressionsAnswerAlike}
+use Rattle.urlpattern_engine.specs.GrammarReadings.{ExpressionsAnswerAlike}
 use Rattle.urlpattern_engine.specs.declared.strategy.Strategy.{Strategy}
 use Rattle.urlpattern_meaning.proofs.OneMeaning.{is_tree_of}
 use Rattle.urlpattern_meaning.proofs.PartTrees.{tree_of}

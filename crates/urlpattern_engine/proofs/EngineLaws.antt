@@ -31,7 +31,7 @@ use Rattle.urlpattern_engine.specs.declared.strategy.Strategy.TheVariants.{Steps
 use Rattle.urlpattern_engine.specs.declared.pattern_regexp.PatternRegexp.{PatternRegexp}
 use Rattle.urlpattern_engine.specs.PatternRegexps.{IsExpressionOf, IsPatternRegexpOf, expression_answer, pattern_answer, pattern_engine}
 use Rattle.urlpattern_engine.specs.Automatons.{config_for, read_answer}
-use Rattle.urlpattern_engine.specs.Readings.{ValuesAnswerAsRead}
+use Rattle.urlpattern_engine.specs.GrammarReadings.{ValuesAnswerAsRead}
 use Rattle.urlpattern_meaning.proofs.FirstAnswers.{first_agrees, took_all}
 use Rattle.urlpattern_engine.proofs.AutomatonLemmas.{automaton_as_read}
 use Rattle.urlpattern_engine.proofs.ReadAnswers.{first_as_read, read_answer_is, read_by_default, reads_some, regex_as_read, regex_some}

@@ -2,7 +2,7 @@
 use Rattle.std.proofs.Common.{◌≡◌, ◌≤◌, ℕ, ◌+◌, ◌*◌, Bool, true, false, List, [], ◌∷◌, max, codes, le_trans, mul-le-mul_left, mul-le-mul_right, mul_assoc, sym, subst, ap, ◌∙◌, arith}
 use Rattle.std.specs.Prelude.{if◌then◌else◌}
 use Rattle.std.specs.Char.{digit_value, is_digit}
-use Rattle.urlpattern_engine.specs.Refusals.{copies_in, number_from}
+use Rattle.urlpattern_engine.specs.ExpressionFaults.{copies_in, number_from}
 use Rattle.urlpattern_syntax.specs.Text.{is_among}
 
 -- A conditional of lesser numbers is less.

@@ -30,7 +30,7 @@ use Rattle.urlpattern_meaning.specs.Dialect.{IsTreeOf, Items, group_count, items
 use Rattle.urlpattern_meaning.specs.PartMeaning.{Captures}
 use Rattle.urlpattern_meaning.specs.Ways.{first_way}
 use Rattle.urlpattern_engine.specs.Automatons.{IsRegexReadAs, config_for, read_answer}
-use Rattle.urlpattern_engine.specs.Readings.{re_answer}
+use Rattle.urlpattern_engine.specs.GrammarReadings.{re_answer}
 
 -- The captures of the first match of a tree with these names of groups.
 abbrev pub tree_answer : Hir → Names → List ℕ → Option Captures

@@ -6,7 +6,7 @@ use Rattle.regex_syntax.specs.Verdict.{Refuses}
 use Rattle.regex_syntax.specs.declared.error.ErrorKind.{ErrorKind}
 use Rattle.regex_syntax.specs.declared.error.ErrorKind.TheVariants.{OutOfMemory}
 use Rattle.urlpattern_engine.specs.Automatons.{config_for}
-use Rattle.urlpattern_engine.specs.Refusals.{IsUnreadable}
+use Rattle.urlpattern_engine.specs.ExpressionFaults.{IsUnreadable}
 
 -- An expression is unreadable that the grammar rejects for another reason than memory.
 pub unreadable_of_refused : (ignore_case : Bool) (source : List ℕ) (kind : ErrorKind) → Refuses (config_for ignore_case) source kind → kind ≢ OutOfMemory → IsUnreadable ignore_case (chars source)

@@ -24,8 +24,8 @@ use Rattle.regex_vm.specs.Pike.{IsResting}
 use Rattle.urlpattern_engine.specs.Automatons.{match_at_start}
 use Rattle.regex_vm.proofs.FoundLemmas.{apply_zeros, none_of_found_from_trace}
 use Rattle.regex_vm.proofs.NfaLemmas.{run_reads}
-use Rattle.urlpattern_engine.specs.Trials.{Chooses, GoesOn, GoesRound, HasByte, IsInSpan, IsPlace, IsState, NeedsByte, found_in, next_in, run_in, state_in}
-use Rattle.urlpattern_engine.specs.declared.ahead.Span.{Span}
+use Rattle.urlpattern_engine.specs.Trials.{Chooses, GoesOn, GoesRound, HasByte, IsInSpan, IsTextPlace, IsState, NeedsByte, found_from, next_in, run_in, state_in}
+use Rattle.urlpattern_engine.specs.declared.ahead.ByteBounds.{ByteBounds}
 use Rattle.urlpattern_engine.specs.declared.trial.Trial.{Trial}
 
 -- ---- of one trace
@@ -59,7 +59,7 @@ module _ (trial : Trial) (q i : ℕ) where
     written : run_in trial q i ≡ write slot i (run_in trial next i)
     written = run_at trial.nfa.now trial.bytes.now (length trial.bytes.now) q i (Save slot next) is
 
-    pub found_by_write : (cells : List ℕ) → found_in trial (put cells slot i) next i ≡ found_in trial cells q i
+    pub found_by_write : (cells : List ℕ) → found_from trial (put cells slot i) next i ≡ found_from trial cells q i
     found_by_write cells = found_written slot i (run_in trial next i) cells ∙ ap (found_from_trace 0 cells) (sym written)
 
     pub none_by_write : run_in trial next i ≡ None → run_in trial q i ≡ None
@@ -79,7 +79,7 @@ module _ (trial : Trial) (q i : ℕ) where
 
   -- The end.
 
-  pub found_here : (cells : List ℕ) → state_in trial q ≡ Match → Some (record { start = 0; end = i; groups = cells }) ≡ found_in trial cells q i
+  pub found_here : (cells : List ℕ) → state_in trial q ≡ Match → Some (record { start = 0; end = i; groups = cells }) ≡ found_from trial cells q i
   unfolding apply
   found_here cells is =
       ap (found_from_trace 0 cells) (sym (run_at trial.nfa.now trial.bytes.now (length trial.bytes.now) q i Match is))
@@ -111,27 +111,27 @@ none_by_no_byte trial q i state is resting other next read none tested test =
     none_by_byte trial q i state is resting other next read (none_by_test next none tested test)
 
 -- A match that is preferred from another position is found there.
-pub same_found : (trial : Trial) (cells : List ℕ) (q i r j : ℕ) → run_in trial q i ≡ run_in trial r j → found_in trial cells r j ≡ found_in trial cells q i
+pub same_found : (trial : Trial) (cells : List ℕ) (q i r j : ℕ) → run_in trial q i ≡ run_in trial r j → found_from trial cells r j ≡ found_from trial cells q i
 same_found trial cells q i r j e = ap (found_from_trace 0 cells) (sym e)
 
 -- A choice with the same match at a later position.
 module _ (trial : Trial) (id first second at place : ℕ) (choice : state_in trial id ≡ Split first second) (states : IsState trial first × IsState trial second)
-    (within : IsPlace trial place) (same : run_in trial id at ≡ run_in trial id place) (cells : List ℕ) where
-  pub goes_on_first : run_in trial second place ≡ None → GoesOn trial (found_in trial cells id at) cells first place
+    (within : IsTextPlace trial place) (same : run_in trial id at ≡ run_in trial id place) (cells : List ℕ) where
+  pub goes_on_first : run_in trial second place ≡ None → GoesOn trial (found_from trial cells id at) cells first place
   goes_on_first none = record {
     is_state = states.0;
     is_place = within;
     same = same_found trial cells id at first place (same ∙ run_by_first trial id place first second choice none);
   }
 
-  pub goes_on_second : run_in trial first place ≡ None → GoesOn trial (found_in trial cells id at) cells second place
+  pub goes_on_second : run_in trial first place ≡ None → GoesOn trial (found_from trial cells id at) cells second place
   goes_on_second none = record {
     is_state = states.1;
     is_place = within;
     same = same_found trial cells id at second place (same ∙ run_by_second trial id place first second choice none);
   }
 
-  pub stays_open : Chooses trial (found_in trial cells id at) cells first second place
+  pub stays_open : Chooses trial (found_from trial cells id at) cells first second place
   stays_open = record {
     is_first = states.0;
     is_second = states.1;
@@ -140,7 +140,7 @@ module _ (trial : Trial) (id first second at place : ℕ) (choice : state_in tri
   }
 
 -- Nothing is found without a match.
-pub nothing_found : (trial : Trial) (cells : List ℕ) (q i : ℕ) → run_in trial q i ≡ None → None ≡ found_in trial cells q i
+pub nothing_found : (trial : Trial) (cells : List ℕ) (q i : ℕ) → run_in trial q i ≡ None → None ≡ found_from trial cells q i
 nothing_found trial cells q i none = ap (found_from_trace 0 cells) (sym none)
 
 -- ---- the next byte
@@ -248,7 +248,7 @@ module _ (trial : Trial) (q i : ℕ) where
       (next_inside trial (Sparse from to) i inside ∙ leads)
 
 -- A choice needs a byte of a span that contains the spans of both states.
-pub needs_either : (trial : Trial) (q first second : ℕ) (one other both : Span) → state_in trial q ≡ Split first second
+pub needs_either : (trial : Trial) (q first second : ℕ) (one other both : ByteBounds) → state_in trial q ≡ Split first second
     → NeedsByte trial first one → NeedsByte trial second other
     → ((b : ℕ) → HasByte one b → HasByte both b) → ((b : ℕ) → HasByte other b → HasByte both b) → NeedsByte trial q both
 needs_either trial q first second one other both is by_one by_other of_one of_other at inside outside =
@@ -265,13 +265,13 @@ none_to_end trial q body exit place last is goes same ends none left =
     goes ∙ same ∙ none_of_both trial q last body exit is (subst (λ (i : ℕ). run_in trial body i ≡ None) (sym ends) none) left
 
 -- A state with such a span has no match at the end of all bytes.
-pub ends_with_spans : (trial : Trial) (q from to : ℕ) (found : Option Span) → Sparse from to ≡ state_in trial q
+pub ends_with_spans : (trial : Trial) (q from to : ℕ) (found : Option ByteBounds) → Sparse from to ≡ state_in trial q
     → IfSome found (λ _. run_in trial q (length trial.bytes.now) ≡ None)
 ends_with_spans trial q from to None is = tt
 ends_with_spans trial q from to (Some span) is =
     none_past_end trial q (length trial.bytes.now) (Sparse from to) is tt (sparse_is_no_match trial q 0 from to) (omega arith)
 
-pub run_in_spans : (trial : Trial) (q from to other : ℕ) (found : Option Span) → Sparse from to ≡ state_in trial q
+pub run_in_spans : (trial : Trial) (q from to other : ℕ) (found : Option ByteBounds) → Sparse from to ≡ state_in trial q
     → IfSome found (λ span. (b : ℕ) → span.low ≤ b → b ≤ span.high → target_in (slice_range trial.nfa.now.transitions.items from to) b ≡ Some other)
     → IfSome found (GoesRound trial q other)
 run_in_spans trial q from to other None is leads = tt
@@ -292,7 +292,7 @@ module _ (trial : Trial) where
       ∙ ap (λ (cells : List ℕ). Some cells) (apply_zeros m 8)
       ∙ sym (ap (option_map (λ m. group_cells m 8)) (first_between_here (run nfa trial.bytes.now (length trial.bytes.now) nfa.start) 0 0 t (omega arith) is))
 
-  pub no_cells : None ≡ found_in trial (replicate 8 0) nfa.start 0 → None ≡ option_map (λ m. group_cells m 8) (match_at_start nfa trial.bytes.now)
+  pub no_cells : None ≡ found_from trial (replicate 8 0) nfa.start 0 → None ≡ option_map (λ m. group_cells m 8) (match_at_start nfa trial.bytes.now)
   no_cells e =
       let at = run nfa trial.bytes.now (length trial.bytes.now) nfa.start in
       let none = none_of_found_from_trace 0 (replicate 8 0) (run_in trial nfa.start 0) e in

@@ -18,7 +18,7 @@ use Rattle.regex_syntax.specs.declared.Config.{Config}
 use Rattle.regex_syntax.specs.WellFormed.{IsWellFormed}
 use Rattle.regex_vm.specs.Found.{first_match}
 use Rattle.urlpattern_matcher.specs.Regexes.{regex_text, text_between}
-use Rattle.urlpattern_engine.specs.Readings.{re_answer}
+use Rattle.urlpattern_engine.specs.GrammarReadings.{re_answer}
 use Rattle.urlpattern_meaning.specs.PartMeaning.{Captures}
 
 -- The characters between two byte positions, if these are in order and at character boundaries.

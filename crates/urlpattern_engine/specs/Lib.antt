@@ -1,6 +1,6 @@
-pub mod Readings
+pub mod GrammarReadings
 pub mod Automatons
-pub mod Refusals
+pub mod ExpressionFaults
 pub mod Trials
 pub mod PatternRegexps
 pub mod EcmaRegexps

@@ -5,7 +5,7 @@ use Rattle.urlpattern_matcher.specs.declared.regexp.RegExp.{Ghosts as Engine}
 use Rattle.urlpattern_matcher.specs.Components.{ignores_case}
 use Rattle.urlpattern_matcher.specs.Regexes.{regex_answer, regex_text}
 use Rattle.urlpattern_engine.specs.Automatons.{IsNfaOf, IsRegexReadAs, automaton_answer, config_for, read_answer}
-use Rattle.urlpattern_engine.specs.Refusals.{HasFault}
+use Rattle.urlpattern_engine.specs.ExpressionFaults.{HasFault}
 use Rattle.urlpattern_engine.specs.declared.strategy.Strategy.{Strategy}
 use Rattle.urlpattern_engine.specs.declared.strategy.Strategy.TheVariants.{Steps, LazySteps, Automaton, Regex, LazyRegex}
 use Rattle.urlpattern_engine.specs.declared.pattern_regexp.PatternRegexp.{PatternRegexp}

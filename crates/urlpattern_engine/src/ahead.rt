@@ -14,7 +14,7 @@ const AHEAD: usize = 4;
 
 /// A range of bytes, which is empty if `low` is greater than `high`.
 #[derive(Clone, Copy)]
-pub(crate) struct Span {
+pub(crate) struct ByteBounds {
     low: u8,
     high: u8,
 }
@@ -33,7 +33,7 @@ impl Trial<'_> {
 
     /// Whether there is a byte at a position, and the span contains it.
     #[inline(always)]
-    pub(crate) fn is_byte_of(&self, span: Span, at: usize) -> bool
+    pub(crate) fn is_byte_of(&self, span: ByteBounds, at: usize) -> bool
         ensures { IsTrue result → IsInSpan self.now span at }
     {
         if at < self.bytes.len() {
@@ -60,7 +60,7 @@ impl Trial<'_> {
     /// Returns a span of bytes on which a state goes to the other one. The span contains the byte
     /// at the position, if the state goes to the other one on that byte.
     #[inline(always)]
-    pub(crate) fn loop_bytes(&self, id: StateId, at: usize, other: StateId) -> Option<Span>
+    pub(crate) fn loop_bytes(&self, id: StateId, at: usize, other: StateId) -> Option<ByteBounds>
         requires { IsState self.now id }
         ensures goes { IfSome result (GoesRound self.now id other) }
         ensures ends { IfSome result (λ _. run_in self.now id (length self.now.bytes.now) ≡ None) }
@@ -71,7 +71,7 @@ impl Trial<'_> {
         match self.nfa.state(id) {
             State::ByteRange(t) => {
                 if t.next == other {
-                    Some(Span {
+                    Some(ByteBounds {
                         low: t.start,
                         high: t.end,
                     })
@@ -89,7 +89,7 @@ impl Trial<'_> {
     /// Returns the bytes of the first of the transitions that does not end before a byte, if the
     /// transition leads to the other state.
     #[inline(always)]
-    fn sparse_bytes(&self, from: usize, to: usize, byte: u8, other: StateId) -> Option<Span>
+    fn sparse_bytes(&self, from: usize, to: usize, byte: u8, other: StateId) -> Option<ByteBounds>
         requires { IsSparseRange self.now.nfa.now.transitions.items from to }
         ensures { IfSome result (λ span. (b : ℕ) → span.low ≤ b → b ≤ span.high → target_in (slice_range self.now.nfa.now.transitions.items from to) b ≡ Some other) }
     {
@@ -99,7 +99,7 @@ impl Trial<'_> {
                 if t.next != other {
                     return None;
                 }
-                return Some(Span {
+                return Some(ByteBounds {
                     low: t.start,
                     high: t.end,
                 });
@@ -111,7 +111,7 @@ impl Trial<'_> {
     /// Returns a superset of the bytes with which a match from a state can begin, its first set.
     /// `None`: unknown.
     #[inline(always)]
-    pub(crate) fn first_bytes(&self, id: StateId) -> Option<Span>
+    pub(crate) fn first_bytes(&self, id: StateId) -> Option<ByteBounds>
         requires { IsState self.now id }
         ensures { IfSome result (NeedsByte self.now id) }
     {
@@ -129,20 +129,20 @@ impl Trial<'_> {
     /// Returns a superset of the first set of a state, without looking into a choice. `None`:
     /// unknown.
     #[inline(always)]
-    fn own_bytes(&self, id: StateId) -> Option<Span>
+    fn own_bytes(&self, id: StateId) -> Option<ByteBounds>
         requires { IsState self.now id }
         ensures { IfSome result (NeedsByte self.now id) }
     {
         let seen = self.after_writes(id);
         match self.nfa.state(seen) {
-            State::ByteRange(t) => Some(Span {
+            State::ByteRange(t) => Some(ByteBounds {
                 low: t.start,
                 high: t.end,
             }),
             State::Look {
                 look: Look::End,
                 ..
-            } => Some(Span { low: 1, high: 0 }),
+            } => Some(ByteBounds { low: 1, high: 0 }),
             _ => None,
         }
     }
@@ -229,7 +229,7 @@ impl Trial<'_> {
 
 /// The least span that contains both.
 #[inline(always)]
-fn either(one: Span, other: Span) -> Span
+fn either(one: ByteBounds, other: ByteBounds) -> ByteBounds
     ensures one { (b : ℕ) → HasByte one b → HasByte result b }
     ensures other { (b : ℕ) → HasByte other b → HasByte result b }
 {
@@ -239,13 +239,13 @@ fn either(one: Span, other: Span) -> Span
     if other.high < other.low {
         return one;
     }
-    Span {
+    ByteBounds {
         low: one.low.min(other.low),
         high: one.high.max(other.high),
     }
 }
 
-impl Span {
+impl ByteBounds {
     /// Whether the span contains a byte.
     #[inline(always)]
     pub(crate) fn contains(self, byte: u8) -> bool

@@ -10,7 +10,7 @@ ghost use Rattle.regex_syntax.specs.WellFormed.{IsWellFormed};
 ghost use Rattle.regex_vm.specs.Found.{group_cells};
 ghost use Rattle.urlpattern_meaning.specs.CaptureTexts.{captures_view};
 ghost use Rattle.urlpattern_engine.specs.Automatons.{IsNfaOf, IsRegexReadAs, config_for, automaton_answer, cell_texts, match_at_start, names_of, place_of, read_answer, text_cut};
-ghost use Rattle.urlpattern_engine.specs.Refusals.{HasFault, IsLarge, IsUnreadable};
+ghost use Rattle.urlpattern_engine.specs.ExpressionFaults.{HasFault, IsLarge, IsUnreadable};
 ghost use Rattle.urlpattern_syntax.specs.declared.error.RegExpError.TheVariants.{Pattern};
 ghost use Rattle.urlpattern_syntax.specs.Text.{option_text};
 

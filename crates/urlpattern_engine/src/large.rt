@@ -2,7 +2,7 @@
 
 ghost use Rattle.std.specs.Prelude.{◌≡◌, ◌≤◌, true, map, sum};
 ghost use Rattle.std.specs.Str.{chars};
-ghost use Rattle.urlpattern_engine.specs.Refusals.{IsLarge, copies_in, number_from, room_of};
+ghost use Rattle.urlpattern_engine.specs.ExpressionFaults.{IsLarge, copies_in, number_from, room_of};
 
 use crate::automaton::SIZE_LIMIT;
 use urlpattern_syntax::text::split_first;

@@ -9,13 +9,13 @@
 
 mod ahead;
 mod automaton;
-mod choices;
 mod ecma_regexp;
+pub mod expression_laws;
 mod generated_text;
 mod large;
-pub mod laws;
 mod pattern_regexp;
 pub mod regex_laws;
+mod state_choices;
 mod steps;
 mod strategy;
 mod trial;

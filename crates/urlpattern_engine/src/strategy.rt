@@ -8,7 +8,7 @@ ghost use Rattle.std.specs.Str.{chars};
 ghost use Rattle.regex_syntax.specs.Grammar.{read};
 ghost use Rattle.urlpattern_engine.specs.Automatons.{config_for};
 ghost use Rattle.urlpattern_engine.specs.PatternRegexps.{IsExpressionOf, expression_answer, expression_text};
-ghost use Rattle.urlpattern_engine.specs.Refusals.{HasFault};
+ghost use Rattle.urlpattern_engine.specs.ExpressionFaults.{HasFault};
 ghost use Rattle.urlpattern_engine.specs.declared.strategy.AutomatonSearch.TheVariants.{Unmarked};
 ghost use Rattle.urlpattern_meaning.specs.CaptureTexts.{captures_view};
 ghost use Rattle.urlpattern_meaning.specs.GeneratedTexts.{IsGenerated};

@@ -3,7 +3,7 @@
 ghost use Rattle.std.specs.Prelude.{◌≡◌, ◌^◌, ◌<◌, ◌≤◌, option_map, IfNone, IfOk};
 ghost use Rattle.regex_vm.specs.Found.{group_cells, put};
 ghost use Rattle.urlpattern_engine.specs.Automatons.{match_at_start};
-ghost use Rattle.urlpattern_engine.specs.Trials.{Follows, IsFound, IsPlace, IsState, found_in};
+ghost use Rattle.urlpattern_engine.specs.Trials.{FollowsMove, IsFoundEnd, IsTextPlace, IsState, found_from};
 
 use regex_nfa::{Nfa, State, StateId};
 
@@ -26,7 +26,7 @@ pub(crate) struct GivenUp;
 
 /// The next move of a search from a state at a position.
 #[derive(Clone, Copy)]
-pub(crate) enum Next {
+pub(crate) enum StateMove {
     /// Continue with a state at a position.
     On(StateId, usize),
     /// Continue with a state at a position, after a look at all remaining bytes.
@@ -84,8 +84,8 @@ impl Trial<'_> {
         cells: &mut [usize; FEW],
     ) -> Result<Option<usize>, GivenUp>
         requires state { IsState self.now state }
-        requires place { IsPlace self.now at }
-        ensures found { IfOk result (IsFound (found_in self.now cells.old state at) cells.new) }
+        requires place { IsTextPlace self.now at }
+        ensures found { IfOk result (IsFoundEnd (found_from self.now cells.old state at) cells.new) }
         ensures fewer { budget.new ≤ budget.old }
     {
         let mut id = state;
@@ -93,16 +93,16 @@ impl Trial<'_> {
         'states: while *budget > 0 {
             *budget -= 1;
             match self.step(id, place, cells) {
-                Next::On(next, after) => {
+                StateMove::On(next, after) => {
                     id = next;
                     place = after;
                 }
-                Next::OnByRest(next, after) => {
+                StateMove::OnByRest(next, after) => {
                     *budget = budget.saturating_sub(self.bytes.len() - after);
                     id = next;
                     place = after;
                 }
-                Next::Choice(first, second, after) => {
+                StateMove::Choice(first, second, after) => {
                     *budget = budget.saturating_sub(self.bytes.len() - after);
                     match self.tried(first, after, depth, budget, cells)? {
                         Some(end) => return Ok(Some(end)),
@@ -112,8 +112,8 @@ impl Trial<'_> {
                         }
                     }
                 }
-                Next::Ends(end) => return Ok(Some(end)),
-                Next::Fails => return Ok(None),
+                StateMove::Ends(end) => return Ok(Some(end)),
+                StateMove::Fails => return Ok(None),
             }
         }
         Err(GivenUp)
@@ -134,8 +134,8 @@ impl Trial<'_> {
         cells: &mut [usize; FEW],
     ) -> Result<Option<usize>, GivenUp>
         requires state { IsState self.now state }
-        requires place { IsPlace self.now at }
-        ensures found { IfOk result (IsFound (found_in self.now cells.old state at) cells.new) }
+        requires place { IsTextPlace self.now at }
+        ensures found { IfOk result (IsFoundEnd (found_from self.now cells.old state at) cells.new) }
         ensures kept { IfOk result (λ end. IfNone end (cells.new ≡ cells.old)) }
         ensures fewer { budget.new ≤ budget.old }
     {
@@ -155,29 +155,29 @@ impl Trial<'_> {
     /// Returns the next move from a state at a position. A state that saves a position writes its
     /// cell.
     #[inline(always)]
-    fn step(&self, id: StateId, at: usize, cells: &mut [usize; FEW]) -> Next
+    fn step(&self, id: StateId, at: usize, cells: &mut [usize; FEW]) -> StateMove
         requires state { IsState self.now id }
-        requires place { IsPlace self.now at }
-        ensures { Follows self.now (found_in self.now cells.old id at) cells.new result }
+        requires place { IsTextPlace self.now at }
+        ensures { FollowsMove self.now (found_from self.now cells.old id at) cells.new result }
     {
         let state = self.nfa.state(id);
         match state {
             State::Split { first, second } => self.choice(id, first, second, at),
             State::Save { slot, next } => {
                 write(slot, at, cells);
-                Next::On(next, at)
+                StateMove::On(next, at)
             }
             State::Look { look, next } => {
                 if self.holds(look, at) {
-                    Next::On(next, at)
+                    StateMove::On(next, at)
                 } else {
-                    Next::Fails
+                    StateMove::Fails
                 }
             }
-            State::Match => Next::Ends(at),
+            State::Match => StateMove::Ends(at),
             _ => match self.next(state, at) {
-                Some(next) => Next::On(next, at + 1),
-                None => Next::Fails,
+                Some(next) => StateMove::On(next, at + 1),
+                None => StateMove::Fails,
             },
         }
     }

@@ -8,9 +8,9 @@ use Rattle.urlpattern.specs.Patterns.{pattern_view}
 use Rattle.std.specs.Prelude.{slice_get, Option, Some}
 use Rattle.urlpattern.specs.Eight.{components}
 use Rattle.urlpattern_ffi.specs.Calls.{given_base, c_options, error_status, IsAdded, IsPushed, IsTested, IsUrlTested}
-use Rattle.urlpattern_ffi.specs.Diagnoses.{IsDiagnosed, IsDiagnosisOfInit, IsDiagnosisOfText, IsInitDiagnosed}
+use Rattle.urlpattern_ffi.specs.ReportedDiagnoses.{IsDiagnosed, IsDiagnosisOfInit, IsDiagnosisOfText, IsInitDiagnosed}
 use Rattle.urlpattern_ffi.specs.Mismatches.{IsMismatchReported, IsUrlMismatched}
-use Rattle.urlpattern_ffi.specs.Texts.{group_name_at, IsComponentWritten, IsExecReported, IsGroupNameWritten, IsUrlExecuted, IsWritten}
+use Rattle.urlpattern_ffi.specs.TextBuffers.{group_name_at, IsComponentWritten, IsExecReported, IsGroupNameWritten, IsUrlExecuted, IsWrittenTo}
 use Rattle.urlpattern_ffi.specs.declared.diagnosing.Place.{Place}
 use Rattle.urlpattern_components.specs.declared.eight.ComponentName.{ComponentName}
 use Rattle.urlpattern_ffi.specs.declared.status.Status.{Status}
@@ -78,27 +78,27 @@ executed patterns index pattern url base old new needed status is answer = (patt
 
 pub component_written : (patterns : List (UrlPattern PatternRegexp)) (index component : ℕ) (pattern : UrlPattern PatternRegexp) (name : ComponentName) (text old new : List ℕ) (needed : ℕ) (status : Status)
     → slice_get patterns index ≡ Some pattern → slice_get components component ≡ Some name → chars text ≡ (pattern_view pattern name).pattern_string
-    → needed ≡ length text → IsWritten text old new status → IsComponentWritten patterns index component old new needed status
+    → needed ≡ length text → IsWrittenTo text old new status → IsComponentWritten patterns index component old new needed status
 component_written patterns index component pattern name text old new needed statuses.Done is named same counted written = (text, (pattern, name, is, named, same), counted, written)
 component_written patterns index component pattern name text old new needed statuses.TooSmall is named same counted written = (text, (pattern, name, is, named, same), counted, written)
 component_written patterns index component pattern name text old new needed status is named same counted written = absurd written
 
 pub diagnosed : (text base : List ℕ) (ignores : Bool) (place : Place) (reason old new : List ℕ) (needed : ℕ) (status : Status)
-    → IsDiagnosisOfText text base ignores place reason → needed ≡ length reason → IsWritten reason old new status
+    → IsDiagnosisOfText text base ignores place reason → needed ≡ length reason → IsWrittenTo reason old new status
     → IsDiagnosed text base ignores old new needed place status
 diagnosed text base ignores place reason old new needed statuses.Done is counted written = (reason, is, counted, written)
 diagnosed text base ignores place reason old new needed statuses.TooSmall is counted written = (reason, is, counted, written)
 diagnosed text base ignores place reason old new needed status is counted written = absurd written
 
 pub init_diagnosed : (json : List ℕ) (ignores : Bool) (place : Place) (reason old new : List ℕ) (needed : ℕ) (status : Status)
-    → IsDiagnosisOfInit json ignores place reason → needed ≡ length reason → IsWritten reason old new status
+    → IsDiagnosisOfInit json ignores place reason → needed ≡ length reason → IsWrittenTo reason old new status
     → IsInitDiagnosed json ignores old new needed place status
 init_diagnosed json ignores place reason old new needed statuses.Done is counted written = (reason, is, counted, written)
 init_diagnosed json ignores place reason old new needed statuses.TooSmall is counted written = (reason, is, counted, written)
 init_diagnosed json ignores place reason old new needed status is counted written = absurd written
 
 pub group_named : (patterns : List (UrlPattern PatternRegexp)) (index component group : ℕ) (text old new : List ℕ) (needed : ℕ) (status : Status)
-    → Some (chars text) ≡ group_name_at patterns index component group → needed ≡ length text → IsWritten text old new status
+    → Some (chars text) ≡ group_name_at patterns index component group → needed ≡ length text → IsWrittenTo text old new status
     → IsGroupNameWritten patterns index component group old new needed status
 group_named patterns index component group text old new needed statuses.Done is counted written = (text, is, counted, written)
 group_named patterns index component group text old new needed statuses.TooSmall is counted written = (text, is, counted, written)

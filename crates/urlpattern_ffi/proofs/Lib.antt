@@ -1,5 +1,5 @@
 pub mod CallLemmas
 pub mod CoveringLemmas
-pub mod InitLemmas
-pub mod LinkLemmas
+pub mod ReportedInitLemmas
+pub mod WrittenLinkLemmas
 pub mod SpanLemmas

@@ -6,10 +6,10 @@ use Rattle.std.specs.List.{flat_map}
 use Rattle.std.specs.Prelude.{set, slice_get, Some}
 use Rattle.urlpattern.specs.Patterns.{PatternView, pattern_view}
 use Rattle.urlpattern_components.specs.declared.eight.ComponentName.{ComponentName}
-use Rattle.urlpattern_ffi.specs.Spans.{NumberedGroup, capture_bytes, numbered, numbered_groups, span_at, spans_from, texts_of_groups, AreCapturesReported, AreFirstCaptures, AreFirstGroupsOf, AreGroupsOf, ArePut, AreUrlCaptures, AreWritten, IsPut}
+use Rattle.urlpattern_ffi.specs.GroupSpans.{NumberedGroup, capture_bytes, numbered, numbered_groups, span_at, spans_from, texts_of_groups, AreCapturesReported, AreFirstCaptures, AreFirstGroupsOf, AreGroupsOf, ArePut, AreUrlCaptures, AreSpansWritten, IsPut}
 use Rattle.urlpattern_ffi.specs.declared.spans.Sizes.{Sizes}
-use Rattle.urlpattern_ffi.specs.declared.spans.Span.{Span}
-use Rattle.urlpattern_ffi.specs.Kept.{PatternList}
+use Rattle.urlpattern_ffi.specs.declared.spans.GroupSpan.{GroupSpan}
+use Rattle.urlpattern_ffi.specs.KeptPatterns.{PatternList}
 use Rattle.urlpattern_ffi.specs.declared.status.Status.{Status}
 use Rattle.urlpattern_ffi.specs.declared.status.Status.TheVariants as statuses
 use Rattle.urlpattern_engine.specs.declared.pattern_regexp.PatternRegexp.{PatternRegexp}
@@ -53,7 +53,7 @@ spans-append start (group ∷ xs) ys =
     add_assoc start (length bytes) (length (texts_of_groups xs)) ∙ ap (λ n. start + n) (sym (length-append bytes (texts_of_groups xs))) in
     ap (λ spans. span_at start group ∷ spans) (spans-append next xs ys ∙ ap (λ n. spans_from next xs ++ spans_from n ys) begins)
 
-pub groups_none : (sizes : Sizes) (buffer : List ℕ) (spans : List Span) → ArePut [] sizes sizes buffer buffer spans spans
+pub groups_none : (sizes : Sizes) (buffer : List ℕ) (spans : List GroupSpan) → ArePut [] sizes sizes buffer buffer spans spans
 groups_none sizes buffer spans = record {
   bytes = sym (add-zero sizes.bytes);
   spans = sym (add-zero sizes.spans);
@@ -61,7 +61,7 @@ groups_none sizes buffer spans = record {
   spans_put = put_none sizes.spans spans;
 }
 
-pub groups_more : (xs ys : List NumberedGroup) (a b c : Sizes) (old mid new : List ℕ) (old_spans mid_spans new_spans : List Span) → length mid ≡ length old → length mid_spans ≡ length old_spans
+pub groups_more : (xs ys : List NumberedGroup) (a b c : Sizes) (old mid new : List ℕ) (old_spans mid_spans new_spans : List GroupSpan) → length mid ≡ length old → length mid_spans ≡ length old_spans
     → ArePut xs a b old mid old_spans mid_spans → ArePut ys b c mid new mid_spans new_spans → ArePut (xs ++ ys) a c old new old_spans new_spans
 groups_more xs ys a b c old mid new old_spans mid_spans new_spans same same_spans first second =
     let text = texts_of_groups xs in
@@ -86,21 +86,21 @@ component_more groups names i d within =
 
 -- ---- outcomes
 
-pub url_captured : (pattern : PatternView PatternRegexp) (url base : List ℕ) (groups : List NumberedGroup) (old new : List ℕ) (old_spans new_spans : List Span) (needed : Sizes) (status : Status)
-    → AreGroupsOf pattern url base groups → AreWritten groups old new old_spans new_spans needed status → AreUrlCaptures pattern url base old new old_spans new_spans needed status
+pub url_captured : (pattern : PatternView PatternRegexp) (url base : List ℕ) (groups : List NumberedGroup) (old new : List ℕ) (old_spans new_spans : List GroupSpan) (needed : Sizes) (status : Status)
+    → AreGroupsOf pattern url base groups → AreSpansWritten groups old new old_spans new_spans needed status → AreUrlCaptures pattern url base old new old_spans new_spans needed status
 url_captured pattern url base groups old new old_spans new_spans needed statuses.Done are written = (groups, are, written)
 url_captured pattern url base groups old new old_spans new_spans needed statuses.OutOfMemory are written = tt
 url_captured pattern url base groups old new old_spans new_spans needed statuses.TooSmall are written = (groups, are, written)
 url_captured pattern url base groups old new old_spans new_spans needed status are written = absurd written
 
-pub captured : (patterns : PatternList) (index : ℕ) (pattern : UrlPattern PatternRegexp) (url base old new : List ℕ) (old_spans new_spans : List Span) (needed : Sizes) (status : Status)
+pub captured : (patterns : PatternList) (index : ℕ) (pattern : UrlPattern PatternRegexp) (url base old new : List ℕ) (old_spans new_spans : List GroupSpan) (needed : Sizes) (status : Status)
     → slice_get patterns index ≡ Some pattern → AreUrlCaptures (pattern_view pattern) url base old new old_spans new_spans needed status
     → AreCapturesReported patterns index url base old new old_spans new_spans needed status
 captured patterns index pattern url base old new old_spans new_spans needed statuses.NoPattern is answer = absurd answer.0
 captured patterns index pattern url base old new old_spans new_spans needed status is answer = (pattern, is, answer)
 
-pub first_captured : (patterns : PatternList) (url base : List ℕ) (old_index index : ℕ) (groups : List NumberedGroup) (old new : List ℕ) (old_spans new_spans : List Span) (needed : Sizes) (status : Status)
-    → AreFirstGroupsOf patterns url base index groups → AreWritten groups old new old_spans new_spans needed status
+pub first_captured : (patterns : PatternList) (url base : List ℕ) (old_index index : ℕ) (groups : List NumberedGroup) (old new : List ℕ) (old_spans new_spans : List GroupSpan) (needed : Sizes) (status : Status)
+    → AreFirstGroupsOf patterns url base index groups → AreSpansWritten groups old new old_spans new_spans needed status
     → AreFirstCaptures patterns url base old_index index old new old_spans new_spans needed status
 first_captured patterns url base old_index index groups old new old_spans new_spans needed statuses.Done are written = (groups, are, written)
 first_captured patterns url base old_index index groups old new old_spans new_spans needed statuses.OutOfMemory are written = tt

@@ -5,7 +5,7 @@ use Rattle.serde_json.specs.Read.{read}
 use Rattle.urlpattern.specs.Errors.{ErrorView}
 use Rattle.urlpattern.specs.Patterns.{pattern_view}
 use Rattle.urlpattern_ffi.specs.Calls.{c_options}
-use Rattle.urlpattern_ffi.specs.Kept.{PatternList}
+use Rattle.urlpattern_ffi.specs.KeptPatterns.{PatternList}
 use Rattle.urlpattern_ffi.specs.declared.status.Status.{Status}
 use Rattle.urlpattern_ffi.specs.declared.status.Status.TheVariants as statuses
 use Rattle.urlpattern_compile.specs.Compiled.{IsPatternOfInit, RefusesInit}

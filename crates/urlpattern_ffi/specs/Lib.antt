@@ -1,10 +1,10 @@
 pub mod Calls
-pub mod Coverings
-pub mod Diagnoses
+pub mod ReportedCoverings
+pub mod ReportedDiagnoses
 pub mod Inits
-pub mod Kept
-pub mod Links
+pub mod KeptPatterns
+pub mod WrittenLinks
 pub mod Mismatches
-pub mod Spans
+pub mod GroupSpans
 pub mod Statuses
-pub mod Texts
+pub mod TextBuffers

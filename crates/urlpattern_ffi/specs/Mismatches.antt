@@ -4,7 +4,7 @@ use Rattle.url.specs.Parts.{Parts}
 use Rattle.urlpattern.specs.Eight.{components}
 use Rattle.urlpattern.specs.Patterns.{PatternView, has_regexp_groups, pattern_view}
 use Rattle.urlpattern_ffi.specs.Calls.{IsNoUrl, IsUrlUnderBase}
-use Rattle.urlpattern_ffi.specs.Kept.{PatternList}
+use Rattle.urlpattern_ffi.specs.KeptPatterns.{PatternList}
 use Rattle.urlpattern_ffi.specs.declared.status.Status.{Status}
 use Rattle.urlpattern_ffi.specs.declared.status.Status.TheVariants as statuses
 use Rattle.urlpattern_components.specs.declared.eight.ComponentName.{ComponentName}

@@ -1,7 +1,7 @@
 //! Compiles patterns.
 ghost use Rattle.std.specs.Prelude.{◌≡◌, option_copied, IfErr, IfOk};
 ghost use Rattle.urlpattern_ffi.specs.Calls.{given_base, c_options, error_status, IsAdded, IsCompiledFromText, IsPushed, KeepsItsParts, RefusesToCompile};
-ghost use Rattle.urlpattern_ffi.specs.Kept.{boxed_patterns};
+ghost use Rattle.urlpattern_ffi.specs.KeptPatterns.{boxed_patterns};
 ghost use Rattle.urlpattern.specs.Errors.{error_view, MemoryOr};
 
 use crate::kept::{Kept, take_or_new};
@@ -30,7 +30,7 @@ pub fn add(
     match compiled(alloc, text, given_base(base), ignore_case) {
         Ok(pattern) => push(alloc, kept, pattern),
         Err(error) => {
-            let status = refusal(&error);
+            let status = status_of_error(&error);
             drop(error);
             status
         }
@@ -38,7 +38,7 @@ pub fn add(
 }
 
 /// The status for the error with which a pattern is rejected.
-pub(crate) fn refusal(error: &Error) -> Status
+pub(crate) fn status_of_error(error: &Error) -> Status
     ensures { result ≡ error_status (error_view error.now) }
 {
     match error {

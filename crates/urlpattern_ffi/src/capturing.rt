@@ -1,12 +1,12 @@
 //! Matches URLs, and writes the captures of groups.
 ghost use Rattle.urlpattern.specs.Patterns.{pattern_view};
-ghost use Rattle.urlpattern_ffi.specs.Kept.{boxed_patterns};
-ghost use Rattle.urlpattern_ffi.specs.Spans.{AreCapturesReported, AreFirstCaptures, AreFirstInBox, AreUrlCaptures};
+ghost use Rattle.urlpattern_ffi.specs.KeptPatterns.{boxed_patterns};
+ghost use Rattle.urlpattern_ffi.specs.GroupSpans.{AreCapturesReported, AreFirstCaptures, AreFirstInBox, AreUrlCaptures};
 
 use crate::kept::{Kept, pattern_at};
-use crate::spans::{Sizes, Span, write_groups};
+use crate::spans::{GroupSpan, Sizes, write_groups};
 use crate::status::Status;
-use crate::urls::url_of;
+use crate::url_inputs::url_of;
 use std::alloc::Global;
 use urlpattern::regexp::PatternRegexp;
 use urlpattern::{UrlPattern, UrlPatternList};
@@ -19,7 +19,7 @@ pub fn captures(
     url: &[u8],
     base: &[u8],
     buffer: &mut [u8],
-    spans: &mut [Span],
+    spans: &mut [GroupSpan],
     needed: &mut Sizes,
 ) -> Status
     ensures { AreCapturesReported (boxed_patterns kept.now) index url.now base.now
@@ -38,7 +38,7 @@ fn pattern_captures(
     url: &[u8],
     base: &[u8],
     buffer: &mut [u8],
-    spans: &mut [Span],
+    spans: &mut [GroupSpan],
     needed: &mut Sizes,
 ) -> Status
     ensures { AreUrlCaptures (pattern_view pattern.now) url.now base.now buffer.old buffer.new spans.old spans.new needed.new result }
@@ -63,7 +63,7 @@ pub fn first_captures(
     base: &[u8],
     index: &mut usize,
     buffer: &mut [u8],
-    spans: &mut [Span],
+    spans: &mut [GroupSpan],
     needed: &mut Sizes,
 ) -> Status
     ensures { AreFirstInBox kept.now url.now base.now index.old index.new buffer.old buffer.new spans.old spans.new needed.new result }
@@ -83,7 +83,7 @@ fn list_captures(
     base: &[u8],
     index: &mut usize,
     buffer: &mut [u8],
-    spans: &mut [Span],
+    spans: &mut [GroupSpan],
     needed: &mut Sizes,
 ) -> Status
     ensures { AreFirstCaptures list.now url.now base.now index.old index.new buffer.old buffer.new spans.old spans.new needed.new result }

@@ -1,7 +1,7 @@
 //! Whether a pattern covers another one.
 ghost use Rattle.std.specs.Prelude.{◌≡◌};
-ghost use Rattle.urlpattern_ffi.specs.Coverings.{AreCompared, IsCoveringReported};
-ghost use Rattle.urlpattern_ffi.specs.Kept.{boxed_patterns};
+ghost use Rattle.urlpattern_ffi.specs.ReportedCoverings.{AreCompared, IsCoveringReported};
+ghost use Rattle.urlpattern_ffi.specs.KeptPatterns.{boxed_patterns};
 ghost use Rattle.urlpattern_ffi.specs.Mismatches.{no_component};
 
 use crate::kept::{Kept, pattern_at};

@@ -1,13 +1,13 @@
 //! Diagnoses patterns that are rejected.
 ghost use Rattle.std.specs.Prelude.{◌≡◌, length, string_bytes};
-ghost use Rattle.urlpattern_ffi.specs.Diagnoses.{init_subject_number, place_of_diagnosis, subject_number, IsDiagnosed, IsInitDiagnosed};
-ghost use Rattle.urlpattern_ffi.specs.Texts.{IsWritten};
+ghost use Rattle.urlpattern_ffi.specs.ReportedDiagnoses.{init_subject_number, place_of_diagnosis, subject_number, IsDiagnosed, IsInitDiagnosed};
+ghost use Rattle.urlpattern_ffi.specs.TextBuffers.{IsWrittenTo};
 
 use crate::adding::{given_base, options};
 use crate::inits::init_of;
 use crate::mismatching::component_number;
 use crate::status::Status;
-use crate::texts::write;
+use crate::text_buffers::write;
 use std::alloc::Global;
 use std::str;
 use urlpattern::regexp::PatternRegexp;
@@ -88,7 +88,7 @@ fn write_diagnosis(
     needed: &mut usize,
     place: &mut Place,
 ) -> Status
-    ensures written { IsWritten (string_bytes diagnosis.now.reason) buffer.old buffer.new result }
+    ensures written { IsWrittenTo (string_bytes diagnosis.now.reason) buffer.old buffer.new result }
     ensures needed { needed.new ≡ length (string_bytes diagnosis.now.reason) }
     ensures place { place.new ≡ place_of_diagnosis subject diagnosis.now }
 {

@@ -1,10 +1,10 @@
 //! Compiles inits, which C passes as JSON.
 ghost use Rattle.std.specs.Prelude.{◌≡◌, IfErr, IfOk, Some};
 ghost use Rattle.urlpattern_ffi.specs.Inits.{plain_init_of, IsInitAdded, IsInitOfJson, IsNoInit};
-ghost use Rattle.urlpattern_ffi.specs.Kept.{boxed_patterns};
+ghost use Rattle.urlpattern_ffi.specs.KeptPatterns.{boxed_patterns};
 ghost use Rattle.urlpattern_inputs.specs.InputValues.{init_view};
 
-use crate::adding::{options, push, refusal};
+use crate::adding::{options, push, status_of_error};
 use crate::kept::Kept;
 use crate::status::Status;
 use serde_json::Value;
@@ -15,7 +15,7 @@ use urlpattern::{UrlPattern, UrlPatternInit};
 
 /// Compiles an init, a JSON object with the texts of components and of a base URL, and appends the
 /// pattern.
-#[tactic(auto, using(crate::proofs::InitLemmas::init_added))]
+#[tactic(auto, using(crate::proofs::ReportedInitLemmas::init_added))]
 pub fn add_init(
     alloc: Global,
     kept: &mut Option<Box<Kept>>,
@@ -31,7 +31,7 @@ pub fn add_init(
     match UrlPattern::parse(alloc, init, options(ignore_case)) {
         Ok(pattern) => push(alloc, kept, pattern),
         Err(error) => {
-            let status = refusal(&error);
+            let status = status_of_error(&error);
             drop(error);
             status
         }
@@ -52,7 +52,7 @@ pub(crate) fn init_of(alloc: Global, json: &[u8]) -> Result<UrlPatternInit, Stat
     match process_construct_pattern_input(alloc, StringOrInit::Init(plain), None) {
         Ok(init) => Ok(init),
         Err(error) => {
-            let status = refusal(&error);
+            let status = status_of_error(&error);
             drop(error);
             Err(status)
         }

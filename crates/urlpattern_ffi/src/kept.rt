@@ -1,6 +1,6 @@
 //! The patterns of a handle.
 ghost use Rattle.std.specs.Prelude.{◌≡◌, [], option_copied, slice_get, IfErr, IfOk};
-ghost use Rattle.urlpattern_ffi.specs.Kept.{boxed_patterns};
+ghost use Rattle.urlpattern_ffi.specs.KeptPatterns.{boxed_patterns};
 
 use std::alloc::{AllocError, Global};
 use urlpattern::regexp::PatternRegexp;

@@ -1,14 +1,14 @@
 //! Writes URLs of patterns whose groups are given.
-ghost use Rattle.urlpattern_ffi.specs.Kept.{boxed_patterns};
-ghost use Rattle.urlpattern_ffi.specs.Links.{IsLinkReported, IsReasonWritten, IsUrlLinked};
+ghost use Rattle.urlpattern_ffi.specs.KeptPatterns.{boxed_patterns};
+ghost use Rattle.urlpattern_ffi.specs.WrittenLinks.{IsLinkReported, IsReasonWritten, IsUrlLinked};
 
 use crate::kept::{Kept, pattern_at};
 use crate::status::Status;
-use crate::texts::write;
+use crate::text_buffers::write;
 use std::alloc::Global;
 use urlpattern::regexp::PatternRegexp;
 use urlpattern::{NoLink, UrlPattern};
-use urlpattern_ffi_links::{Given, Unlinked};
+use urlpattern_ffi_links::{GivenBytes, Unlinked};
 
 /// Writes the URL of the pattern at an index, with parts of a text for its groups, or why there is
 /// none.
@@ -17,7 +17,7 @@ pub fn link(
     kept: &Option<Box<Kept>>,
     index: usize,
     text: &[u8],
-    given: &[Given],
+    given: &[GivenBytes],
     buffer: &mut [u8],
     needed: &mut usize,
 ) -> Status
@@ -34,7 +34,7 @@ fn link_pattern(
     alloc: Global,
     pattern: &UrlPattern<PatternRegexp>,
     text: &[u8],
-    given: &[Given],
+    given: &[GivenBytes],
     buffer: &mut [u8],
     needed: &mut usize,
 ) -> Status

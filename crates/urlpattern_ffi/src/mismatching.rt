@@ -2,12 +2,12 @@
 ghost use Rattle.std.specs.Prelude.{◌≡◌, ◌<◌, slice_get, Some};
 ghost use Rattle.urlpattern.specs.Eight.{components};
 ghost use Rattle.urlpattern.specs.Patterns.{pattern_view};
-ghost use Rattle.urlpattern_ffi.specs.Kept.{boxed_patterns};
+ghost use Rattle.urlpattern_ffi.specs.KeptPatterns.{boxed_patterns};
 ghost use Rattle.urlpattern_ffi.specs.Mismatches.{component_number, IsCustomReported, IsMismatchReported, IsUrlMismatched};
 
 use crate::kept::{Kept, pattern_at};
 use crate::status::Status;
-use crate::urls::url_of;
+use crate::url_inputs::url_of;
 use std::alloc::Global;
 use urlpattern::regexp::PatternRegexp;
 use urlpattern::{ComponentName, UrlPattern};

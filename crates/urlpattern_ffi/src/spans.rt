@@ -1,7 +1,7 @@
 //! Spans of captures, in memory that C owns.
 ghost use Rattle.std.specs.Prelude.{◌≡◌, ◌+◌, [], ◌∷◌, length, encode_utf8_all, if◌then◌else◌, is_some, IfSome};
 ghost use Rattle.std.specs.Str.{chars};
-ghost use Rattle.urlpattern_ffi.specs.Spans.{capture_bytes, found_groups, no_sizes, numbered, ArePut, AreWritten, IsGroupPut, IsPut};
+ghost use Rattle.urlpattern_ffi.specs.GroupSpans.{capture_bytes, found_groups, no_sizes, numbered, ArePut, AreSpansWritten, IsGroupPut, IsPut};
 ghost use Rattle.urlpattern_matches.specs.BorrowedMatches.{groups_left};
 ghost use Rattle.urlpattern_syntax.specs.Text.{option_text};
 
@@ -12,7 +12,7 @@ use urlpattern::{ComponentName, UrlPatternCaptures, UrlPatternGroups};
 /// The place of a capture in the text that is written.
 #[repr(C)]
 #[derive(Clone, Copy)]
-pub struct Span {
+pub struct GroupSpan {
     /// The number of the component, in the order of the standard.
     pub component: u32,
     /// 1: the group took part in the match, 0: it did not.
@@ -40,10 +40,10 @@ pub struct Sizes {
 pub(crate) fn write_groups(
     found: &UrlPatternCaptures<'_, '_>,
     buffer: &mut [u8],
-    spans: &mut [Span],
+    spans: &mut [GroupSpan],
     needed: &mut Sizes,
 ) -> Status
-    ensures { AreWritten (found_groups found.now) buffer.old buffer.new spans.old spans.new needed.new result }
+    ensures { AreSpansWritten (found_groups found.now) buffer.old buffer.new spans.old spans.new needed.new result }
 {
     let Some(sizes) = put_all(found, buffer, spans) else {
         return Status::OutOfMemory;
@@ -63,7 +63,7 @@ pub(crate) fn write_groups(
 fn put_all(
     found: &UrlPatternCaptures<'_, '_>,
     buffer: &mut [u8],
-    spans: &mut [Span],
+    spans: &mut [GroupSpan],
 ) -> Option<Sizes>
     ensures { IfSome result (λ to. ArePut (found_groups found.now) no_sizes to buffer.old buffer.new spans.old spans.new) }
 {
@@ -81,7 +81,7 @@ fn put_groups(
     component: ComponentName,
     from: Sizes,
     buffer: &mut [u8],
-    spans: &mut [Span],
+    spans: &mut [GroupSpan],
 ) -> Option<Sizes>
     ensures { IfSome result (λ to. ArePut (numbered component 0 (groups_left groups.entry)) from to
         buffer.old buffer.new spans.old spans.new) }
@@ -101,14 +101,14 @@ fn put_group(
     capture: Option<&str>,
     from: Sizes,
     buffer: &mut [u8],
-    spans: &mut [Span],
+    spans: &mut [GroupSpan],
 ) -> Option<Sizes>
     ensures { IfSome result (λ to. IsGroupPut component group (option_text capture.entry) from to
         buffer.old buffer.new spans.old spans.new) }
 {
     let text = capture_bytes(capture);
     let bytes = put_text(text, from.bytes, buffer)?;
-    let span = Span {
+    let span = GroupSpan {
         component: component_number(component),
         took_part: took_part(capture),
         group,
@@ -135,7 +135,7 @@ fn put_text(text: &[u8], at: usize, buffer: &mut [u8]) -> Option<usize>
 }
 
 /// Writes a span at a place, if it fits. Returns the place after it.
-fn put_span(span: Span, at: usize, spans: &mut [Span]) -> Option<usize>
+fn put_span(span: GroupSpan, at: usize, spans: &mut [GroupSpan]) -> Option<usize>
     ensures end { IfSome result (λ end. end ≡ at + 1) }
     ensures span { IfSome result (λ _. IsPut at (span ∷ []) spans.old spans.new) }
 {

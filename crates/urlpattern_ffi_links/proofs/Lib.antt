@@ -1,1 +1,1 @@
-pub mod GivenLemmas
+pub mod GivenByteLemmas

@@ -1,2 +1,2 @@
-pub mod Given
-pub mod Links
+pub mod GivenBytes
+pub mod GivenLinks

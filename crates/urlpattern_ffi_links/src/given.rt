@@ -2,9 +2,9 @@
 ghost use Rattle.std.specs.Prelude.{◌≡◌, slice_get, IfErr, IfNone, IfOk, IfSome};
 ghost use Rattle.std.specs.List.{AllZip};
 ghost use Rattle.urlpattern_components.specs.Eight.{components};
-ghost use Rattle.urlpattern_ffi_links.specs.Given.{GivesGroup, GivesNothing, IsNoPart, IsPart, RefusesParts};
+ghost use Rattle.urlpattern_ffi_links.specs.GivenBytes.{GivesGroup, GivesNothing, IsNoPart, IsPart, RefusesParts};
 
-use crate::linking::Unlinked;
+use crate::given_link::Unlinked;
 use std::alloc::Global;
 use std::str;
 use urlpattern_components::ComponentName;
@@ -13,7 +13,7 @@ use urlpattern_generate::GivenGroup;
 /// The name of a group and the text for it, as parts of a text, in bytes.
 #[repr(C)]
 #[derive(Clone, Copy)]
-pub struct Given {
+pub struct GivenBytes {
     /// The number of the component, in the order of the standard.
     pub component: u32,
     /// The byte at which the name of the group begins.
@@ -28,11 +28,11 @@ pub struct Given {
 
 /// The groups that parts of a text name, with their texts.
 ///
-/// The error is `Given` if a part gives no group, or `OutOfMemory`.
+/// The error is `GivenBytes` if a part gives no group, or `OutOfMemory`.
 pub(crate) fn groups_of<'t>(
     alloc: Global,
     text: &'t [u8],
-    given: &[Given],
+    given: &[GivenBytes],
 ) -> Result<Vec<GivenGroup<'t>>, Unlinked>
     ensures groups { IfOk result (λ groups. AllZip (GivesGroup text.now) given.now groups.items) }
     ensures refused { IfErr result (RefusesParts text.now given.now) }
@@ -41,7 +41,7 @@ pub(crate) fn groups_of<'t>(
         return Err(Unlinked::OutOfMemory);
     };
     for part in given {
-        match group_of(text, part) {
+        match numbered_group(text, part) {
             Some(group) => {
                 if groups.push(group).is_err() {
                     return Err(Unlinked::OutOfMemory);
@@ -55,7 +55,7 @@ pub(crate) fn groups_of<'t>(
 
 /// The group that a part of a text names, with its text. `None`: no component has the number, or a
 /// part is out of range or not UTF-8.
-fn group_of<'t>(text: &'t [u8], given: &Given) -> Option<GivenGroup<'t>>
+fn numbered_group<'t>(text: &'t [u8], given: &GivenBytes) -> Option<GivenGroup<'t>>
     ensures group { IfSome result (GivesGroup text.now given.now) }
     ensures nothing { IfNone result (GivesNothing text.now given.now) }
 {

@@ -2,7 +2,7 @@
 #![tactic(auto)]
 
 mod given;
-mod linking;
+mod given_link;
 
-pub use given::{Given, component_of};
-pub use linking::{Unlinked, link};
+pub use given::{GivenBytes, component_of};
+pub use given_link::{Unlinked, link};

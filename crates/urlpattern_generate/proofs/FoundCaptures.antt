@@ -8,7 +8,7 @@ use Rattle.std.specs.Borrow.{Bor}
 use Rattle.std.specs.Prelude.{◌↔◌, ◌==◌, IsTrue}
 use Rattle.urlpattern_generate.specs.Asked.{AreAsked, IsAsked}
 use Rattle.urlpattern_generate.specs.Manners.{WritingManner}
-use Rattle.urlpattern_generate.specs.Writing.{LeavesAsked}
+use Rattle.urlpattern_generate.specs.WrittenTexts.{LeavesAsked}
 use Rattle.urlpattern_generate.specs.Links.{OfFirst, captures_after}
 use Rattle.urlpattern_meaning.specs.PartMeaning.{Captures}
 use Rattle.urlpattern_syntax.specs.declared.parser.Part.{Part}

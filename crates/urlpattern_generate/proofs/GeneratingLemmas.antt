@@ -6,7 +6,7 @@ use Rattle.url.specs.Parser.{Parsed}
 use Rattle.urlpattern_generate.proofs.MadeMatchers.{made_finds}
 use Rattle.urlpattern_generate.specs.Generating.{FindsAsked, ReadsWritten, TellsCanonical, TellsFound}
 use Rattle.urlpattern_generate.specs.Manners.{WritingManner}
-use Rattle.urlpattern_generate.specs.Writing.{IsWritten}
+use Rattle.urlpattern_generate.specs.WrittenTexts.{IsWritten}
 use Rattle.urlpattern_meaning.specs.Matching.{Answers, IsMadeOf, MatcherView}
 use Rattle.urlpattern_meaning.specs.PartMeaning.{Captures}
 use Rattle.urlpattern_syntax.specs.Errors.{ErrorView}

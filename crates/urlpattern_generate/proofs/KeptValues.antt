@@ -39,7 +39,7 @@ use Rattle.urlpattern_generate.proofs.SetTexts.{AreVisible, by_bytes, hash_kept,
 use Rattle.urlpattern_generate.specs.Manners.{canonical_for}
 use Rattle.urlpattern_syntax.proofs.TextLemmas.{chars_nothing}
 use Rattle.urlpattern_syntax.specs.Text.{lacks, line_feed}
-use Rattle.urlpattern_generate.specs.Kept.{is_dot_mark, is_host_character, is_kept_character, is_kept_host, is_kept_opaque, is_kept_path, is_kept_value, is_label_character}
+use Rattle.urlpattern_generate.specs.CanonicalValues.{is_dot_mark, is_host_character, is_kept_character, is_kept_host, is_kept_opaque, is_kept_path, is_kept_value, is_label_character}
 
 -- ---- characters that are kept
 

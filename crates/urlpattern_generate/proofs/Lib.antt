@@ -15,6 +15,6 @@ pub mod OpaquePaths
 pub mod PortTexts
 pub mod SetTests
 pub mod SetTexts
-pub mod TextLemmas
+pub mod PartTextLemmas
 pub mod WritingLemmas
 pub mod UrlLemmas

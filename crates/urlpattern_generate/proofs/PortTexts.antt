@@ -27,7 +27,7 @@ use Rattle.urlpattern_canonical.proofs.CanonicalLemmas.{after-ok}
 use Rattle.urlpattern_canonical.specs.Canonical.{canonical_port, dummy_of_scheme, port_of, refused_as}
 use Rattle.urlpattern_generate.proofs.HostTexts.{taken}
 use Rattle.urlpattern_generate.proofs.SetTexts.{AreVisible, by_bytes, is_visible, stripped}
-use Rattle.urlpattern_generate.specs.Kept.{is_kept_port}
+use Rattle.urlpattern_generate.specs.CanonicalValues.{is_kept_port}
 
 -- The scheme under which a port is parsed if the protocol is unknown.
 abbrev scheme : List ℕ

@@ -15,9 +15,9 @@ use Rattle.urlpattern_components.specs.declared.eight.ComponentName.{ComponentNa
 use Rattle.urlpattern_components.specs.declared.eight.ComponentName.TheVariants.{Protocol, Username, Password, Hostname, Port, Pathname, Search, Hash}
 use Rattle.urlpattern_components.specs.declared.eight.Eight.{Eight}
 use Rattle.urlpattern_components.specs.Eight.{at, components}
-use Rattle.urlpattern_generate.specs.Writing.{cow_text}
+use Rattle.urlpattern_generate.specs.WrittenTexts.{cow_text}
 use Rattle.urlpattern_generate.specs.UrlLines.{bytes_of_each, url_line}
-use Rattle.urlpattern_generate.specs.UrlsOfTexts.{AreSeenAs, IsAtFault, IsSeenAs, RefusesLine, RefusesTexts, compared, cow_texts, line_of, runs_on, texts_seen}
+use Rattle.urlpattern_generate.specs.UrlsOfTexts.{AreSeenAs, IsAtFault, IsSeenAs, RefusesLine, RefusesTexts, compared_components, cow_texts, line_of, runs_on, texts_seen}
 use Rattle.urlpattern_generate.specs.declared.no_link.NoLink.{NoLink}
 use Rattle.urlpattern_generate.specs.declared.no_link.NoLink.TheVariants.{Component, OtherText, OutOfMemory, Url}
 
@@ -70,7 +70,7 @@ texts_had url texts all =
 
 -- The pathname is at fault if it runs into the host.
 pub path_at_fault : (url : Parts) (texts : Eight (Bor (List ℕ))) → runs_on (texts_seen texts) ≡ true → ¬ HasText url texts Pathname → IsAtFault url (texts_seen texts) Pathname
-path_at_fault url texts runs other = ([], components, ap compared runs, All-nil (HasText url texts), other)
+path_at_fault url texts runs other = ([], components, ap compared_components runs, All-nil (HasText url texts), other)
 
 pub cut_at : (i : ℕ) → i < length components → components ≡ take i components ++ get_or components i Protocol ∷ drop (i + 1) components
 cut_at i within =
@@ -82,8 +82,8 @@ pub first_at_fault : (url : Parts) (texts : Eight (Bor (List ℕ))) (i : ℕ) (r
 first_at_fault url texts i true e path within all other = (
   Pathname ∷ take i components,
   drop (i + 1) components,
-  ap compared e ∙ ap (λ names. Pathname ∷ names) (cut_at i within),
+  ap compared_components e ∙ ap (λ names. Pathname ∷ names) (cut_at i within),
   All-cons (HasText url texts) Pathname (take i components) (path refl) all,
   other,
 )
-first_at_fault url texts i false e path within all other = (take i components, drop (i + 1) components, ap compared e ∙ cut_at i within, all, other)
+first_at_fault url texts i false e path within all other = (take i components, drop (i + 1) components, ap compared_components e ∙ cut_at i within, all, other)

@@ -8,8 +8,8 @@ use Rattle.urlpattern_components.specs.declared.eight.ComponentName.{ComponentNa
 use Rattle.urlpattern_generate.proofs.AskedLemmas.{each_alone, each_joined, text_alone, texts_joined}
 use Rattle.urlpattern_generate.specs.Asked.{IsAsked, IsAskedBy}
 use Rattle.urlpattern_generate.specs.Manners.{WritingManner}
-use Rattle.urlpattern_generate.specs.Writing.{CannotWrite, IsWritten, RefusesPart}
-use Rattle.urlpattern_generate.specs.declared.error.GenerateError.{GenerateError}
+use Rattle.urlpattern_generate.specs.WrittenTexts.{CannotWrite, IsWritten, RefusesPart}
+use Rattle.urlpattern_generate.specs.declared.generate_error.GenerateError.{GenerateError}
 use Rattle.urlpattern_generate.specs.Links.{IsCopyText, MayCapture, text_of_group, text_of_parts}
 use Rattle.urlpattern_meaning.specs.PartMeaning.{Allows}
 use Rattle.urlpattern_syntax.specs.declared.parser.Part.{Part}

@@ -2,7 +2,7 @@
 use Rattle.std.specs.Prelude.{◌≡◌, ◌<◌, ℕ, Bool, List, ◌∷◌, ◌++◌, length, IsTrue}
 use Rattle.std.specs.Str.{chars}
 use Rattle.urlpattern_generate.specs.Links.{AreTextsWith}
-use Rattle.urlpattern_generate.specs.declared.pieces.CopyTexts.{CopyTexts}
+use Rattle.urlpattern_generate.specs.declared.group_copies.CopyTexts.{CopyTexts}
 use Rattle.urlpattern_meaning.specs.Matching.{MayBeEmpty}
 use Rattle.urlpattern_syntax.specs.Text.{lacks}
 

@@ -1,8 +1,8 @@
 -- The text of a `GenerateError`, as the bytes that are printed.
 use Rattle.std.specs.Prelude.{ℕ, List, ◌++◌, codes, string_bytes}
 use Rattle.urlpattern_components.specs.Eight.{name_text}
-use Rattle.urlpattern_generate.specs.declared.error.GenerateError.{GenerateError}
-use Rattle.urlpattern_generate.specs.declared.error.GenerateError.TheVariants as errors
+use Rattle.urlpattern_generate.specs.declared.generate_error.GenerateError.{GenerateError}
+use Rattle.urlpattern_generate.specs.declared.generate_error.GenerateError.TheVariants as errors
 
 -- The text of an error. A group has the name of its component before its own.
 abbrev pub generate_error_text : GenerateError → List ℕ

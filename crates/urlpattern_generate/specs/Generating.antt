@@ -6,9 +6,9 @@ use Rattle.urlpattern_canonical.specs.Canonical.{long_text}
 use Rattle.urlpattern_components.specs.declared.eight.ComponentName.{ComponentName}
 use Rattle.urlpattern_generate.specs.Asked.{AreAsked}
 use Rattle.urlpattern_generate.specs.Manners.{WritingManner}
-use Rattle.urlpattern_generate.specs.Writing.{CannotWrite, IsWritten}
-use Rattle.urlpattern_generate.specs.declared.error.GenerateError.{GenerateError}
-use Rattle.urlpattern_generate.specs.declared.error.GenerateError.TheVariants.{ReadOtherwise}
+use Rattle.urlpattern_generate.specs.WrittenTexts.{CannotWrite, IsWritten}
+use Rattle.urlpattern_generate.specs.declared.generate_error.GenerateError.{GenerateError}
+use Rattle.urlpattern_generate.specs.declared.generate_error.GenerateError.TheVariants.{ReadOtherwise}
 use Rattle.urlpattern_meaning.specs.Matching.{Answers, InnerView, Literal, MatcherView, RegExp, SingleCapture}
 use Rattle.urlpattern_meaning.specs.PartMeaning.{Captures}
 use Rattle.urlpattern_syntax.specs.Parts.{PartView}
@@ -64,12 +64,12 @@ pub record HasText {E : Type 0} (answer : E → List ℕ → Option Captures) (m
   pub is_canonical : IsCanonical manner.canonical text
 
 -- In the text of the parts the matcher finds other captures, or the text is not canonical.
-abbrev pub IsReadOtherwise : {E : Type 0} → (answer : E → List ℕ → Option Captures) → MatcherView E → WritingManner → List PartView → Type 0
-IsReadOtherwise answer matcher manner parts =
+abbrev pub IsTextReadOtherwise : {E : Type 0} → (answer : E → List ℕ → Option Captures) → MatcherView E → WritingManner → List PartView → Type 0
+IsTextReadOtherwise answer matcher manner parts =
     (bytes : List ℕ) × IsWritten manner parts (chars bytes)
     × (FindsOther answer matcher manner parts (chars bytes) ⊎ IsNotCanonical manner.canonical bytes)
 
 -- The error that says why there is no such text.
 abbrev pub LacksText : {E : Type 0} → (answer : E → List ℕ → Option Captures) → MatcherView E → ComponentName → WritingManner → List PartView → GenerateError → Type 0
-LacksText answer matcher component manner parts (ReadOtherwise of) = (of ≡ component) × IsReadOtherwise answer matcher manner parts
+LacksText answer matcher component manner parts (ReadOtherwise of) = (of ≡ component) × IsTextReadOtherwise answer matcher manner parts
 LacksText answer matcher component manner parts error = CannotWrite component manner parts error

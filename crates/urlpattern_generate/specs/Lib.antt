@@ -5,9 +5,9 @@ pub mod Texts
 pub mod Asked
 pub mod GenerateErrorText
 pub mod Generating
-pub mod Kept
+pub mod CanonicalValues
 pub mod Manners
-pub mod Writing
+pub mod WrittenTexts
 pub mod NoLinkText
 pub mod UrlLines
 pub mod UrlsOfTexts

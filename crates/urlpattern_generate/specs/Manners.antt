@@ -60,9 +60,9 @@ canonical_for Search hierarchical is_ipv6 text = canonical_search text
 canonical_for Hash hierarchical is_ipv6 text = canonical_hash text
 
 -- The delimiter is a slash, as that of a path of segments.
-abbrev pub is_slash : (delimiter : Option ℕ) → Bool
-is_slash None = false
-is_slash (Some c) = c == slash
+abbrev pub is_slash_delimiter : (delimiter : Option ℕ) → Bool
+is_slash_delimiter None = false
+is_slash_delimiter (Some c) = c == slash
 
 -- The text that a part of this kind begins with: a fixed text, or the prefix of a group.
 abbrev pub front_of : PartType → PartView → List ℕ
@@ -83,6 +83,6 @@ is_ipv6_host component parts = false
 abbrev pub manner_for : ComponentName → OptionsView → List PartView → List GivenView → WritingManner
 manner_for component options parts groups = record {
   options = options;
-  canonical = canonical_for component (is_slash options.delimiter) (begins_ipv6 parts);
+  canonical = canonical_for component (is_slash_delimiter options.delimiter) (begins_ipv6 parts);
   given = text_given groups component;
 }

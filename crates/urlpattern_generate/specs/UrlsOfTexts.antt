@@ -13,7 +13,7 @@ use Rattle.urlpattern_components.specs.declared.eight.ComponentName.TheVariants.
 use Rattle.urlpattern_components.specs.declared.eight.Eight.{Eight}
 use Rattle.urlpattern_components.specs.Eight.{Texts, at, components, each}
 use Rattle.urlpattern_syntax.specs.Errors.{ErrorView as views}
-use Rattle.urlpattern_generate.specs.Writing.{cow_text}
+use Rattle.urlpattern_generate.specs.WrittenTexts.{cow_text}
 use Rattle.urlpattern_syntax.specs.RegexpText.{is_empty}
 use Rattle.urlpattern_syntax.specs.Text.{begins_with}
 use Rattle.urlpattern_generate.specs.UrlLines.{url_line}
@@ -54,15 +54,15 @@ abbrev pub runs_on : Texts → Bool
 runs_on texts = not (is_empty texts.hostname) && begins_with (λ c. not (c == slash)) texts.pathname
 
 -- The components in the order of comparison: the pathname is the first if it runs into the host.
-abbrev pub compared : (runs_on : Bool) → List ComponentName
-compared true = Pathname ∷ components
-compared false = components
+abbrev pub compared_components : (runs_on : Bool) → List ComponentName
+compared_components true = Pathname ∷ components
+compared_components false = components
 
 -- The component at fault: the first, in the order of comparison, for which the URL has another
 -- text.
 abbrev pub IsAtFault : Parts → Texts → ComponentName → Type 0
 IsAtFault url texts component =
-    (before after : List ComponentName) × (compared (runs_on texts) ≡ before ++ component ∷ after)
+    (before after : List ComponentName) × (compared_components (runs_on texts) ≡ before ++ component ∷ after)
     × All (λ earlier. url_text earlier url ≡ at texts earlier) before
     × HasOtherText url texts component
 

@@ -6,21 +6,21 @@ ghost use Rattle.urlpattern_matcher.specs.Components.{IsEngineOf, engine_flags};
 ghost use Rattle.urlpattern_matcher.specs.Matchers.{matcher_view};
 ghost use Rattle.urlpattern_generate.specs.Asked.{AreAsked, IsAsked};
 ghost use Rattle.urlpattern_generate.specs.Generating.{ReadsWritten, TellsFound, has_one_case};
-ghost use Rattle.urlpattern_generate.specs.Writing.{IsWritten, LeavesAsked, manner_of_writer};
+ghost use Rattle.urlpattern_generate.specs.WrittenTexts.{IsWritten, LeavesAsked, manner_of_writer};
 ghost use Rattle.urlpattern_meaning.specs.Matching.{IsMadeOf};
 ghost use Rattle.urlpattern_syntax.specs.ComponentParts.{kept_options, kept_parts};
 ghost use Rattle.urlpattern_syntax.specs.Parts.{part_view};
 ghost use Rattle.urlpattern_syntax.specs.Text.{option_text};
 
-use crate::captures::capture_not_given;
-use crate::groups::{given_text, is_same_text};
-use crate::writer::Writer;
+use crate::given_groups::{given_text, is_same_text};
+use crate::missing_captures::capture_not_given;
+use crate::substitution::Substitution;
 use std::alloc::AllocError;
 use urlpattern_matcher::matcher::{InnerMatcher, Matcher};
 use urlpattern_matcher::regexp::RegExp;
 use urlpattern_syntax::parser::{Part, PartType};
 
-impl Writer<'_> {
+impl Substitution<'_> {
     /// Whether a matcher that was made of the parts finds the requested captures in their text. A
     /// matcher that always finds what was written is not run.
     #[inline(always)]

@@ -4,23 +4,23 @@
 //! eight given texts.
 #![tactic(auto)]
 
-mod captures;
-mod component;
+mod canonical_values;
+mod component_text;
 mod confirm;
-mod error;
-mod groups;
-mod kept;
-pub mod laws;
+mod generate_error;
+mod generated_component;
+mod given_groups;
+mod group_copies;
 mod linked_url;
+mod missing_captures;
 mod no_link;
 mod part_text;
-mod pieces;
-mod text;
+mod substitution;
+pub mod text_laws;
 mod url_line;
-mod writer;
 
-pub use component::{confirms, generate_component, written_component};
-pub use error::GenerateError;
-pub use groups::GivenGroup;
+pub use generate_error::GenerateError;
+pub use generated_component::{confirms, generate_component, written_component};
+pub use given_groups::GivenGroup;
 pub use linked_url::url_of_texts;
 pub use no_link::NoLink;

@@ -11,7 +11,7 @@ ghost use Rattle.urlpattern_syntax.specs.RegexpText.{is_empty};
 ghost use Rattle.urlpattern_syntax.specs.Text.{begins_with};
 ghost use Rattle.urlpattern_generate.specs.UrlsOfTexts.{AreSeenAs, IsAtFault, IsReadOfTexts, IsSeenAs, RefusesLine, RefusesTexts, cow_texts, runs_on, texts_seen};
 
-use crate::groups::is_same_text;
+use crate::given_groups::is_same_text;
 use crate::no_link::NoLink;
 use crate::url_line::url_line;
 use std::alloc::Global;

@@ -4,7 +4,7 @@ ghost use Rattle.std.specs.Prelude.{◌≡◌};
 ghost use Rattle.urlpattern_generate.specs.NoLinkText.{no_link_text};
 ghost use Rattle.urlpattern_generate.specs.declared.no_link.NoLink.TheVariants as errors;
 
-use crate::error::GenerateError;
+use crate::generate_error::GenerateError;
 use std::alloc::AllocError;
 use std::{error, fmt};
 use url::ParseError;

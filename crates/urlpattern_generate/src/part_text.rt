@@ -8,7 +8,7 @@ ghost use Rattle.urlpattern_syntax.specs.Options.{options_view};
 ghost use Rattle.urlpattern_syntax.specs.Parts.{part_view};
 ghost use Rattle.urlpattern_syntax.specs.Text.{option_text, text_of};
 
-use crate::pieces::{may_be_missing, may_capture};
+use crate::group_copies::{may_be_missing, may_capture};
 use std::alloc::AllocError;
 use urlpattern_syntax::parser::{Options, Part, PartModifier};
 

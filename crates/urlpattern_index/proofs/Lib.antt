@@ -1,4 +1,4 @@
-pub mod GroupLemmas
+pub mod IndexGroupLemmas
 pub mod KnownLemmas
 pub mod NumberLemmas
-pub mod SegmentLemmas
+pub mod PathSegmentLemmas

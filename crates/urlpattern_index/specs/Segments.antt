@@ -3,42 +3,42 @@ use Rattle.std.specs.Prelude.{◌≡◌, ◌≤◌, ℕ, Bool, true, false, List
 use Rattle.urlpattern_index.specs.FixedTexts.{AddressTexts, FixedTexts, HasTexts}
 use Rattle.urlpattern_index.specs.Keys.{AreEnough, Fits, form_key, form_view, hashes_of, mixed_segments, segment_hashes}
 use Rattle.urlpattern_index.specs.Paths.{FitsPath, PathView}
-use Rattle.urlpattern_index.specs.declared.form.Place.{Place}
-use Rattle.urlpattern_index.specs.declared.reading.Segments.{Segments}
+use Rattle.urlpattern_index.specs.declared.form.FormKey.{FormKey}
+use Rattle.urlpattern_index.specs.declared.path_segments.PathSegments.{PathSegments}
 
 -- `hashes` and `own` result in the same keys.
 abbrev pub CountAlike : (have_texts : List Bool) → (hashes own : List ℕ) → Type 0
 CountAlike have_texts hashes own = (hash : ℕ) → mixed_segments hash have_texts own ≡ mixed_segments hash have_texts hashes
 
 -- Each text that fits the path has the segments that were read, with their fixed texts.
-pub record AreSegmentsOf (path : PathView) (segments : Segments) : Type 0 where
+pub record AreSegmentsOf (path : PathView) (segments : PathSegments) : Type 0 where
   pub few : length segments.have_texts.items ≤ 12
   pub as_many : length segments.hashes.items ≡ length segments.have_texts.items
   pub enough : (text : List ℕ) → FitsPath path text → AreEnough segments.is_whole (length segments.have_texts.items) (length (segment_hashes 0 text))
   pub alike : (text : List ℕ) → FitsPath path text → CountAlike segments.have_texts.items segments.hashes.items (segment_hashes 0 text)
 
 -- Each address that has the fixed texts fits the form, and has the key in it.
-abbrev pub IsPlaceFor : FixedTexts → Place → Type 0
+abbrev pub IsPlaceFor : FixedTexts → FormKey → Type 0
 IsPlaceFor fixed place =
     (address : AddressTexts) → HasTexts fixed address → Fits (form_view place.form) (hashes_of address) × (place.key ≡ form_key (form_view place.form) (hashes_of address))
 
 -- ---- reading
 
 -- No segment was read yet.
-pub record AreNone (segments : Segments) : Type 0 where
+pub record AreNone (segments : PathSegments) : Type 0 where
   pub texts : segments.have_texts.items ≡ []
   pub hashes : segments.hashes.items ≡ []
   pub current : segments.current ≡ Some 0
   pub goes_on : segments.is_whole ≡ false
 
 -- More segments may follow.
-pub record AreOpen (segments : Segments) : Type 0 where
+pub record AreOpen (segments : PathSegments) : Type 0 where
   pub few : length segments.have_texts.items ≤ 12
   pub as_many : length segments.hashes.items ≡ length segments.have_texts.items
   pub goes_on : segments.is_whole ≡ false
 
 -- The segment being read is added, with the hash of its text or as an arbitrary segment.
-pub record AddsSegment (before after : Segments) : Type 0 where
+pub record AddsSegment (before after : PathSegments) : Type 0 where
   pub are_open : AreOpen after
   pub texts : after.have_texts.items ≡ before.have_texts.items ++ is_some before.current ∷ []
   pub hashes : after.hashes.items ≡ before.hashes.items ++ unwrap_or before.current 0 ∷ []
@@ -50,7 +50,7 @@ IsCurrent (Some hash) own = own ≡ hash
 IsCurrent None own = Unit {0}
 
 -- The path is read up to some segment, and `own` is the hash of that segment before the rest.
-pub record IsReadTo (segments : Segments) (path rest : List ℕ) : Type 0 where
+pub record IsReadTo (segments : PathSegments) (path rest : List ℕ) : Type 0 where
   pub done : List ℕ
   pub own : ℕ
   pub cut : segment_hashes 0 path ≡ done ++ segment_hashes own rest
@@ -59,6 +59,6 @@ pub record IsReadTo (segments : Segments) (path rest : List ℕ) : Type 0 where
   pub is_current : IsCurrent segments.current own
 
 -- The path is read up to `rest`, or, if not to the end, up to some rest.
-abbrev pub ReadsTo : (to_end : Bool) → Segments → (path rest : List ℕ) → Type 0
+abbrev pub ReadsTo : (to_end : Bool) → PathSegments → (path rest : List ℕ) → Type 0
 ReadsTo true segments path rest = IsReadTo segments path rest
 ReadsTo false segments path rest = (left : List ℕ) × IsReadTo segments path left

@@ -8,7 +8,7 @@ ghost use Rattle.urlpattern_index.specs.Segments.{IsPlaceFor};
 use crate::address::AddressHashes;
 use crate::fixed::Fixed;
 use crate::hashes::{mixed, text_hash};
-use crate::reading::read_segments;
+use crate::path_segments::read_segments;
 use arrayvec::ArrayVec;
 
 /// The maximum number of path segments in a key.
@@ -36,7 +36,7 @@ pub(crate) struct Form {
 
 /// Where a pattern is listed: a form, and the key in that form.
 #[derive(Drop)]
-pub(crate) struct Place {
+pub(crate) struct FormKey {
     pub(crate) form: Form,
     pub(crate) key: u64,
 }
@@ -110,9 +110,9 @@ impl Form {
     }
 }
 
-impl Place {
+impl FormKey {
     /// The place of a pattern, by all of its fixed texts.
-    pub(crate) fn of(fixed: Fixed<'_>) -> Place
+    pub(crate) fn of(fixed: Fixed<'_>) -> FormKey
         ensures { IsPlaceFor (fixed_texts fixed.entry) result }
     {
         let segments = read_segments(fixed.pathname);
@@ -128,11 +128,11 @@ impl Place {
             is_whole: segments.is_whole,
         };
         let key = form.key_of(&hashes);
-        Place { form, key }
+        FormKey { form, key }
     }
 
     /// The place of a pattern of which nothing is known.
-    pub(crate) fn of_any() -> Place
+    pub(crate) fn of_any() -> FormKey
         ensures { (fixed : FixedTexts) → IsPlaceFor fixed result }
     {
         let form = Form {
@@ -147,7 +147,7 @@ impl Place {
             segments: ArrayVec::new(),
         };
         let key = form.key_of(&hashes);
-        Place { form, key }
+        FormKey { form, key }
     }
 }
 

@@ -9,7 +9,7 @@ ghost use Rattle.urlpattern_index.specs.Segments.{IsPlaceFor};
 
 use crate::address::AddressHashes;
 use crate::fixed::Fixed;
-use crate::form::{Form, GROUPS, Place};
+use crate::form::{Form, FormKey, GROUPS};
 use crate::numbers::Numbers;
 use std::alloc::{AllocError, Global};
 use std::array;
@@ -64,7 +64,7 @@ impl Index {
         ensures appended { OnOk result (GetsPattern self.old self.new (fixed_texts fixed.entry)) }
         ensures unchanged { OnErr result (self.new ≡ self.old) }
     {
-        let Place { form, key } = self.place_for(fixed);
+        let FormKey { form, key } = self.place_for(fixed);
         let is_new = !self.has_form(&form);
         let group = form.group();
         let number = self.keys.len();
@@ -130,14 +130,14 @@ impl Index {
 
     /// Where to list a pattern: by its fixed texts, or, if their group has too many forms already,
     /// as a pattern of which nothing is known.
-    fn place_for(&self, fixed: Fixed<'_>) -> Place
+    fn place_for(&self, fixed: Fixed<'_>) -> FormKey
         ensures { IsPlaceFor (fixed_texts fixed.entry) result }
     {
-        let place = Place::of(fixed);
+        let place = FormKey::of(fixed);
         if self.forms[place.form.group()].len() < FORMS || self.has_form(&place.form) {
             place
         } else {
-            Place::of_any()
+            FormKey::of_any()
         }
     }
 

@@ -15,7 +15,7 @@ mod hashes;
 mod index;
 mod known;
 mod numbers;
-mod reading;
+mod path_segments;
 
 pub use address::AddressHashes;
 pub use fixed::{Address, Fixed, KnownPath};

@@ -3,4 +3,4 @@ pub mod SplitExists
 pub mod InheritanceLemmas
 pub mod SplitExamples
 pub mod UrlTexts
-pub mod SchemeLemmas
+pub mod SpecialSchemeLemmas

@@ -4,8 +4,8 @@ use Rattle.std.proofs.Math.Path.{fun_ext}
 use Rattle.std.specs.Result.{IsErrAnd}
 use Rattle.urlpattern_inputs.specs.ReadResults.{IsUnread, ReturnsRead}
 use Rattle.urlpattern_inputs.specs.Trees.{◌>>=◌, read_each}
-use Rattle.urlpattern_inputs.specs.declared.reading.Unread.{Unread}
-use Rattle.urlpattern_inputs.specs.declared.reading.Unread.TheVariants.{OutOfMemory, Shape}
+use Rattle.urlpattern_inputs.specs.declared.json_reading.Unread.{Unread}
+use Rattle.urlpattern_inputs.specs.declared.json_reading.Unread.TheVariants.{OutOfMemory, Shape}
 use Rattle.urlpattern_components.specs.Eight.{at, each}
 use Rattle.urlpattern_components.specs.declared.eight.ComponentName.{ComponentName}
 use Rattle.urlpattern_components.specs.declared.eight.ComponentName.TheVariants.{Protocol}

@@ -7,8 +7,8 @@ use Rattle.urlpattern_inputs.specs.InputJson.{init_read}
 use Rattle.urlpattern_inputs.specs.InputValues.{InitView}
 use Rattle.urlpattern_inputs.specs.ReadResults.{IsUnread}
 use Rattle.urlpattern_inputs.specs.Trees.{optional_read, read_each}
-use Rattle.urlpattern_inputs.specs.declared.reading.Unread.{Unread}
-use Rattle.urlpattern_inputs.specs.declared.reading.Unread.TheVariants.{OutOfMemory, Shape}
+use Rattle.urlpattern_inputs.specs.declared.json_reading.Unread.{Unread}
+use Rattle.urlpattern_inputs.specs.declared.json_reading.Unread.TheVariants.{OutOfMemory, Shape}
 use Rattle.urlpattern_inputs.proofs.EachLemmas.{nothing}
 use Rattle.urlpattern_components.specs.Eight.{name_text}
 

@@ -1,4 +1,4 @@
-pub mod JsonExamples
+pub mod InputJsonExamples
 pub mod TreeLemmas
 pub mod EachLemmas
 pub mod InitLemmas

@@ -1,6 +1,6 @@
 -- Results of the steps of reading JSON.
 use Rattle.std.specs.Prelude.{◌≡◌, Option, None, Some, Result, Ok, Err, ⊤}
-use Rattle.urlpattern_inputs.specs.declared.reading.Unread.{Unread}
+use Rattle.urlpattern_inputs.specs.declared.json_reading.Unread.{Unread}
 use Rattle.urlpattern_syntax.specs.declared.error.Error.{Error}
 
 -- Why nothing is read: the tree has no value, or memory ran out.

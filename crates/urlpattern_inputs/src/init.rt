@@ -9,8 +9,8 @@ ghost use Rattle.urlpattern_inputs.specs.InputValues.{plain_init_texts, init_vie
 ghost use Rattle.urlpattern_components.specs.Eight.{at};
 ghost use Rattle.urlpattern_syntax.specs.Errors.{OnlyOutOfMemory};
 
-use crate::reading::{Unread, optional_text_field, read_or_none};
-use crate::writing::put_optional;
+use crate::json_reading::{Unread, optional_text_field, read_or_none};
+use crate::json_writing::put_optional;
 use serde::{Deserialize, Serialize};
 use serde_json::{Map, Value};
 use std::alloc::{AllocError, Global};

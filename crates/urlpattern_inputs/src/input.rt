@@ -7,7 +7,7 @@ ghost use Rattle.urlpattern_inputs.specs.{ReadResults.ReturnsRead, InputValues.i
 ghost use Rattle.urlpattern_syntax.specs.Errors.{OnlyOutOfMemory};
 
 use crate::init::UrlPatternInit;
-use crate::reading::{Unread, read_or_none};
+use crate::json_reading::{Unread, read_or_none};
 use serde_json::Value;
 use std::alloc::Global;
 use std::borrow::CowStr;

@@ -3,10 +3,10 @@
 
 mod init;
 mod input;
+pub mod json_reading;
+pub mod json_writing;
 mod match_input;
 mod options;
-pub mod reading;
-pub mod writing;
 
 pub use init::UrlPatternInit;
 pub use input::{Inputs, StringOrInit};

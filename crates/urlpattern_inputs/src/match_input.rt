@@ -7,8 +7,8 @@ ghost use Rattle.urlpattern_inputs.specs.InputValues.{match_input_view, matched_
 ghost use Rattle.urlpattern_components.specs.Eight.{at, each};
 ghost use Rattle.urlpattern_syntax.specs.Errors.{OnlyOutOfMemory};
 
-use crate::reading::{Unread, read_or_none, text_field};
-use crate::writing::put_text;
+use crate::json_reading::{Unread, read_or_none, text_field};
+use crate::json_writing::put_text;
 use serde::{Deserialize, Serialize};
 use serde_json::{Map, Value};
 use std::alloc::{AllocError, Global};

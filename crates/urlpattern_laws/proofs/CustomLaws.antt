@@ -21,7 +21,7 @@ use Rattle.urlpattern_laws.proofs.ValuesTaken.{first_captured, pattern_values_ca
 use Rattle.urlpattern_laws.specs.Expressions.{ExpressionTakes, TakesWhole}
 use Rattle.urlpattern_laws.specs.LawsOfTexts.{ComponentsCapture, HasNumbers, IsCapturedByParts, IsTakenAlone, MatchersAnswerTaken, MatchersCapture, ReadsInGroups, Room, TookAlone}
 use Rattle.urlpattern_laws.specs.LawsOfWays.{ComponentsAnswerFirstOfParts, MatchersAnswerFirstOfParts}
-use Rattle.urlpattern_laws.specs.PartTexts.{AllCaptureNothing, AllStandAlone}
+use Rattle.urlpattern_laws.specs.TakenPartTexts.{AllCaptureNothing, AllStandAlone}
 use Rattle.urlpattern_laws.specs.PartWays.{parts_first_way}
 use Rattle.urlpattern_engine.specs.PatternRegexps.{pattern_engine}
 use Rattle.urlpattern_meaning.specs.FirstAnswers.{TookText}

@@ -6,7 +6,7 @@ use Rattle.urlpattern_engine.proofs.EngineLaws as own
 use Rattle.urlpattern_engine.specs.PatternRegexps.{pattern_engine}
 use Rattle.urlpattern_pattern.specs.ByText.{MakesFirstWays}
 use Rattle.urlpattern_laws.proofs.MatchingLemmas.{own_parts_mean}
-use Rattle.urlpattern_laws.specs.Readings.{OwnPartsMean}
+use Rattle.urlpattern_laws.specs.PartReadings.{OwnPartsMean}
 use Rattle.urlpattern_engine.proofs.RegexMatchers as regex
 
 pub parts_mean_by_first_ways : {E : Type 0} (engine : Engine E) → MakesFirstWays engine → OwnPartsMean engine

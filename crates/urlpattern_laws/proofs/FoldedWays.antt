@@ -24,7 +24,7 @@ use Rattle.urlpattern_meaning.specs.Ways.{first_way, first_way_by}
 use Rattle.urlpattern_meaning.specs.Matching.{Accepts, Agrees, Answers, BeginsPlain, EndsPlain, IsMadeBetween, IsMadeOf, InnerView, IsMadeOfOne, IsOfMiddle, IsRemoved, IsSame, Literal, MatcherView, Matches, RegExp, SingleCapture, end_text, folded, folded_captures, single_capture_matcher}
 use Rattle.urlpattern_meaning.specs.PartMeaning.{AreGenerated, Captures, PartsMean}
 use Rattle.urlpattern_laws.proofs.FoldedMatchers.{AnswersFolding, AnyEngine, FoldsAnswer, answers_folded, between_ignores, cut_unfolded, end_folded, folded_inner, folded_matcher, lower, lower_lacks, lower_scalars, made_folded, no_engine, peeled_folded}
-use Rattle.urlpattern_laws.proofs.FoldedTrees.{tree_folds}
+use Rattle.urlpattern_laws.proofs.FoldedTreeLaws.{tree_folds}
 use Rattle.urlpattern_laws.specs.Folded.{AreInPlace, FoldedFirstsAreAnswered, FoldedMean, FoldedWaysAreAnswered, HoldsNoEngine, IsFoldedFirst, IsFoldedStretch, IsWithinStretch, folded_options, folded_part, folded_parts}
 use Rattle.urlpattern_syntax.specs.declared.parser.PartModifier.{PartModifier}
 use Rattle.urlpattern_syntax.specs.declared.parser.PartModifier.TheVariants as modifiers

@@ -14,7 +14,7 @@ use Rattle.urlpattern_components.specs.declared.eight.ComponentName.TheVariants.
 use Rattle.urlpattern_components.specs.Eight.{components, name_text}
 use Rattle.urlpattern_generate.specs.Manners.{GivenView, given_groups, given_view, text_given}
 use Rattle.urlpattern_laws.specs.MatchLinks.{Lent}
-use Rattle.urlpattern_matches.proofs.GroupLemmas.{cond-or, lookup-append}
+use Rattle.urlpattern_matches.proofs.MatchGroupLemmas.{cond-or, lookup-append}
 use Rattle.urlpattern_matches.specs.BorrowedMatches.{GroupText, lent_group, named_groups, text_captured, texts_captured}
 
 abbrev pub Groups : Type 0

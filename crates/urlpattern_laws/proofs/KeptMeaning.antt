@@ -4,7 +4,7 @@ use Rattle.std.specs.Prelude.{◌↔◌, IsTrue, Option, Some}
 use Rattle.urlpattern_matcher.specs.Components.{ComponentView}
 use Rattle.urlpattern_printing.specs.Generated.{AreGenerated}
 use Rattle.urlpattern_matcher.specs.declared.regexp.RegExp.{Ghosts as Engine}
-use Rattle.urlpattern_compare.specs.Meaning.{MeansText}
+use Rattle.urlpattern_compare.specs.MeantTexts.{MeansText}
 use Rattle.urlpattern_compile.specs.Compiled.{IsPathKind, Manner, ReadsAs, manner_of}
 use Rattle.urlpattern_components.specs.declared.eight.ComponentName.TheVariants.{Protocol}
 use Rattle.urlpattern_components.specs.Eight.{Values, at}
@@ -17,7 +17,7 @@ use Rattle.urlpattern_pattern.specs.ByText.{AnswersByText, HasMeaning}
 use Rattle.urlpattern_pattern.specs.KeptParts.{AreReadInManner}
 use Rattle.urlpattern_pattern.specs.Patterns.{pattern_view}
 use Rattle.urlpattern_laws.proofs.MatchingLemmas.{by_answer}
-use Rattle.urlpattern_laws.specs.Readings.{KeptPartsMean}
+use Rattle.urlpattern_laws.specs.PartReadings.{KeptPartsMean}
 use Rattle.urlpattern_compare.specs.Comparing.{IsKnown}
 use Rattle.urlpattern_syntax.specs.ComponentParts.{kept_parts}
 use Rattle.urlpattern_syntax.specs.declared.parts.ComponentParts.{ComponentParts}

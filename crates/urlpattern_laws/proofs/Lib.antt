@@ -1,7 +1,7 @@
 pub mod MatchExamples
 pub mod OutcomesOne
-pub mod OutcomesExist
-pub mod FoldedTrees
+pub mod InitOutcomesExist
+pub mod FoldedTreeLaws
 pub mod ChangedParts
 pub mod FoldedMatchers
 pub mod FoldedWays

@@ -7,7 +7,7 @@ use Rattle.urlpattern_compile.specs.PatternViews.{eight_view}
 use Rattle.urlpattern_components.proofs.EightLemmas.{same_values}
 use Rattle.urlpattern_components.specs.Eight.{Texts, at}
 use Rattle.urlpattern_generate.specs.Manners.{GivenView, WritingManner}
-use Rattle.urlpattern_generate.specs.Writing.{IsWritten}
+use Rattle.urlpattern_generate.specs.WrittenTexts.{IsWritten}
 use Rattle.urlpattern_init.specs.Inheritance.{texts_of_url}
 use Rattle.urlpattern_laws.proofs.AskedCaptures.{asked_one, given_again}
 use Rattle.urlpattern_laws.specs.LinkLaws.{IsWrittenBack, LinksAreOne, LinksDiffer, LinksOfCapturesAreTheTexts}
@@ -16,10 +16,10 @@ use Rattle.urlpattern_generate.specs.Links.{text_of_parts}
 use Rattle.urlpattern_meaning.specs.Matching.{Answers, MatcherView}
 use Rattle.urlpattern_meaning.specs.PartMeaning.{Captures}
 use Rattle.urlpattern_pattern.proofs.LinkedLemmas.{answered_once}
-use Rattle.urlpattern_pattern.specs.GeneratedTexts.{manner_in, parts_in}
+use Rattle.urlpattern_pattern.specs.ComponentTexts.{manner_in, parts_in}
 use Rattle.urlpattern_pattern.specs.LinkedUrls.{IsLink, IsLinkOf}
 use Rattle.urlpattern_pattern.specs.UrlPatterns.{UrlPattern}
-use Rattle.urlpattern_compare.specs.declared.pattern.PatternParts.{PatternParts}
+use Rattle.urlpattern_compare.specs.declared.pattern_parts.PatternParts.{PatternParts}
 use Rattle.urlpattern_syntax.specs.Parts.{PartView}
 use Rattle.urlpattern_generate.specs.UrlsOfTexts.{line_of}
 

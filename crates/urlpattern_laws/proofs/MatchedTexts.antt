@@ -16,14 +16,14 @@ use Rattle.urlpattern_generate.specs.Manners.{text_given}
 use Rattle.urlpattern_laws.proofs.GivenGroups.{Distinct, Groups, captured_again, first_found, found_reversed, given_first, zip_distinct}
 use Rattle.urlpattern_laws.proofs.LinkedTexts.{links_of_captures}
 use Rattle.urlpattern_laws.specs.MatchLinks.{GroupsOfCapturesAreGiven, GroupsOfMatchesDiffer, GroupsOfResultsAreGiven, LinksOfMatchesAreTheTexts, NamesDiffer}
-use Rattle.urlpattern_matches.proofs.GroupLemmas.{text-eq}
+use Rattle.urlpattern_matches.proofs.MatchGroupLemmas.{text-eq}
 use Rattle.urlpattern_matches.specs.BorrowedMatches.{groups_view, listed_entries, listed_groups}
 use Rattle.urlpattern_matches.specs.ResultViews.{ResultView, group_of, results_of}
 use Rattle.urlpattern_meaning.proofs.CaptureCount.{captures_counted}
 use Rattle.urlpattern_meaning.proofs.NameLaws.{names_distinct}
 use Rattle.urlpattern_meaning.specs.PartMeaning.{Captures}
 use Rattle.urlpattern_compile.specs.Compiled.{canonical_encoding, manner_of}
-use Rattle.urlpattern_pattern.specs.GeneratedTexts.{manner_in, parts_in}
+use Rattle.urlpattern_pattern.specs.ComponentTexts.{manner_in, parts_in}
 use Rattle.urlpattern_pattern.specs.Patterns.{pattern_view}
 use Rattle.urlpattern_syntax.specs.{RegexpText.group_names, Text.text_of}
 

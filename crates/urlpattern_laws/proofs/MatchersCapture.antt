@@ -10,7 +10,7 @@ use Rattle.urlpattern_laws.proofs.Catching.{Then}
 use Rattle.urlpattern_laws.proofs.MatchersTaken.{HasRoomForFewer, TookAsKept, all_plain, asked, engine_taken, fast_plain, fast_taken, matcher_asks, middle_all}
 use Rattle.urlpattern_laws.specs.LawsOfTexts.{IsCapturedByParts, IsSomeIfTaken, MatchersCapture, PartsCaptureMeanings, Room, ValuesCapture}
 use Rattle.urlpattern_laws.specs.PartCaptures.{PartCaptures, PartsCapture}
-use Rattle.urlpattern_laws.specs.PartTexts.{CapturesNothing, PartsTake}
+use Rattle.urlpattern_laws.specs.TakenPartTexts.{CapturesNothing, PartsTake}
 use Rattle.urlpattern_meaning.proofs.MatcherMeaning.{HasEnds}
 use Rattle.urlpattern_meaning.proofs.MatchingLaws.{fast_means, part_of}
 use Rattle.urlpattern_meaning.proofs.PartTrees.{IsNotCustom}

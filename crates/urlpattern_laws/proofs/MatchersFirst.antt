@@ -10,7 +10,7 @@ use Rattle.urlpattern_laws.proofs.MatchersTaken.{HasRoomForFewer, TookAsKept, al
 use Rattle.urlpattern_laws.proofs.PeeledWays.{between_ends, first_peeled}
 use Rattle.urlpattern_laws.specs.LawsOfTexts.{Room}
 use Rattle.urlpattern_laws.specs.LawsOfWays.{MatchersAnswerFirstOfParts, ValuesAnswerFirstOfParts}
-use Rattle.urlpattern_laws.specs.PartTexts.{CapturesNothing}
+use Rattle.urlpattern_laws.specs.TakenPartTexts.{CapturesNothing}
 use Rattle.urlpattern_laws.specs.PartWays.{parts_first_way}
 use Rattle.urlpattern_meaning.proofs.FirstAnswers.{matcher_first}
 use Rattle.urlpattern_meaning.proofs.MatcherMeaning.{HasEnds, scalars_middle}

@@ -13,7 +13,7 @@ use Rattle.urlpattern_laws.proofs.ItemsOf.{joined_assoc, nothing_joined, same_th
 use Rattle.urlpattern_laws.proofs.GroupItems.{one_copy}
 use Rattle.urlpattern_laws.proofs.TakenMeanings.{means_takes, parts_take_meanings}
 use Rattle.urlpattern_laws.specs.LawsOfTexts.{HasNumbers, IsSomeIfTaken, IsTakenAlone, MatchersAnswerTaken, Room, ValuesAnswerTaken}
-use Rattle.urlpattern_laws.specs.PartTexts.{AllStandAlone, PartTakes, PartsTake, StandsAlone}
+use Rattle.urlpattern_laws.specs.TakenPartTexts.{AllStandAlone, PartTakes, PartsTake, StandsAlone}
 use Rattle.urlpattern_meaning.proofs.MatcherMeaning.{HasEnds, ends_of, not_fast, scalars_middle}
 use Rattle.urlpattern_meaning.proofs.MatchingLaws.{IsFast, fast_means, middle_kept, part_of}
 use Rattle.urlpattern_meaning.proofs.PartTrees.{IsNotCustom}

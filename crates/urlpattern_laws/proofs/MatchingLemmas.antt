@@ -3,7 +3,7 @@ use Rattle.std.proofs.Common.{◌⊎◌, ℕ, List, inl, inr, sym, subst}
 use Rattle.std.proofs.lemmas.Str.{scalars-chars, IsUtf8-string_bytes}
 use Rattle.std.specs.Prelude.{⊤, Option, Some, None, String, string_bytes}
 use Rattle.std.specs.declared.alloc.Global.{Global}
-use Rattle.urlpattern_compare.specs.Meaning.{MeansText}
+use Rattle.urlpattern_compare.specs.MeantTexts.{MeansText}
 use Rattle.urlpattern_matcher.specs.Components.{engine_flags}
 use Rattle.urlpattern_matcher.specs.FirstWays.{EachAnswersFirst, Taking}
 use Rattle.urlpattern_matcher.specs.declared.regexp.RegExp.{Ghosts as Engine}
@@ -13,11 +13,11 @@ use Rattle.urlpattern_meaning.specs.Matching.{Agrees, Answers, InnerView, IsMatc
 use Rattle.urlpattern_meaning.specs.PartMeaning.{Captures}
 use Rattle.urlpattern_pattern.proofs.MatchersDecide.{answered}
 use Rattle.urlpattern_pattern.specs.{Match.AreMatched, Patterns.PatternView, UrlPatterns.AreMadeOfParts}
-use Rattle.urlpattern_laws.specs.Readings.{ApartMatchNothing, AreItsParts, CommonAreMatched, CoveredAreMatched, CoveredByEngineAreMatched, CoveredByMeaningAreMatched, IsCoveredByMeaning, KnownAreCoveredByMeaning, OwnPartsMean, PartingsAreMatched, SameAreMatched}
+use Rattle.urlpattern_laws.specs.PartReadings.{ApartMatchNothing, AreItsParts, CommonAreMatched, CoveredAreMatched, CoveredByEngineAreMatched, CoveredByMeaningAreMatched, IsCoveredByMeaning, KnownAreCoveredByMeaning, OwnPartsMean, PartingsAreMatched, SameAreMatched}
 use Rattle.urlpattern_compare.proofs.SameParts.{known_or_not, same_within}
 use Rattle.urlpattern_compare.specs.Comparing.{AreSame, IsComponentCovered, IsKnown, IsMeantBy, TakesNoLine}
 use Rattle.urlpattern_syntax.specs.declared.parts.ComponentParts.{ComponentParts}
-use Rattle.urlpattern_compare.specs.declared.pattern.PatternParts.{PatternParts}
+use Rattle.urlpattern_compare.specs.declared.pattern_parts.PatternParts.{PatternParts}
 use Rattle.urlpattern_components.proofs.EightLemmas.{at-each}
 use Rattle.urlpattern_components.specs.declared.eight.ComponentName.{ComponentName}
 use Rattle.urlpattern_components.specs.Eight.{Texts, at}

@@ -22,7 +22,7 @@ use Rattle.urlpattern_pattern.proofs.MadeAlike.{took_too}
 use Rattle.urlpattern_pattern.proofs.MeaningLemmas.{read_once}
 use Rattle.urlpattern_pattern.specs.ByText.{AnswersByText, HasMeaning, MakesFirstWays}
 use Rattle.urlpattern_compile.specs.Compiled.{AreCompiled, FirstRefused, HasEngine, HasHierarchicalPath, IsComponentCompiled, IsComponentRefused, IsPathKind, Manner, RefusesValues, after_protocol, canonical_encoding, manner_of, pattern_values}
-use Rattle.urlpattern_pattern.specs.Meaning.{ReadsAs}
+use Rattle.urlpattern_pattern.specs.MatchMeaning.{ReadsAs}
 use Rattle.urlpattern_laws.specs.Outcomes.{AcceptsAlike, Decides, FirstWaysDecide, InitRefusalsAreOne, IsOfTexts, PatternsExcludeRefusals, TakesOrRefuses, TakesOrRefusesText, of_texts}
 use Rattle.urlpattern_pattern.specs.Patterns.{PatternView}
 use Rattle.urlpattern_components.specs.declared.eight.ComponentName.{ComponentName}

@@ -10,7 +10,7 @@ use Rattle.urlpattern_laws.proofs.PartCharacters.{IsOfCharacters, no_fixed, part
 use Rattle.urlpattern_laws.proofs.PieceItems.{fixed_items, piece_inside}
 use Rattle.urlpattern_laws.proofs.Senses.{Sense, joined, no_text, quiet}
 use Rattle.urlpattern_laws.specs.PartCaptures.{PartCaptures, PartsCapture}
-use Rattle.urlpattern_laws.specs.PartTexts.{AllCaptureNothing, AllStandAlone, CapturesNothing, IsTakenPiece, PartTakes, PartsTake, StandsAlone}
+use Rattle.urlpattern_laws.specs.TakenPartTexts.{AllCaptureNothing, AllStandAlone, CapturesNothing, IsTakenPiece, PartTakes, PartsTake, StandsAlone}
 use Rattle.urlpattern_laws.specs.PartWays.{fixed_ways, part_ways_by, parts_ways, piece_ways}
 use Rattle.urlpattern_meaning.specs.PartMeaning.{Allows, Captures, IsCapture, capture_of_none}
 use Rattle.urlpattern_meaning.proofs.Copies.{GroupMeans, IsBetween, core_copies}

@@ -23,7 +23,7 @@ use Rattle.urlpattern_laws.proofs.Denoting.{Denotes, Joined, Quantified, AreSame
 use Rattle.urlpattern_laws.proofs.GroupsOf.{IsInside, items_inside}
 use Rattle.urlpattern_laws.proofs.ItemsOf.{AreItemsOf, IsItemOf, no_items, append_items, same_items, quantified_items, once_items, atom_item}
 use Rattle.urlpattern_laws.proofs.Senses.{Sense, joined_quiet, quiet, quiet_same}
-use Rattle.urlpattern_laws.specs.PartTexts.{CapturesNothing, IsTakenPiece, StandsAlone}
+use Rattle.urlpattern_laws.specs.TakenPartTexts.{CapturesNothing, IsTakenPiece, StandsAlone}
 use Rattle.urlpattern_laws.specs.PartWays.{exactly, piece_ways}
 use Rattle.urlpattern_meaning.specs.Ways.{Choice, one_that, quantified_ways}
 use Rattle.urlpattern_meaning.specs.Dialect.{Character, Plain, Escaped, character_of, character_text, ZeroOrMore, LazyOneOrMore, Dot, AnyBut, Literal, AtomMeans, IsCharacter, IsClassCharacter, IsOneBut, atom_text}

@@ -9,7 +9,7 @@ use Rattle.std.specs.Str.{chars}
 use Rattle.url.specs.Parser.{Parsed}
 use Rattle.urlpattern_pattern.proofs.MeaningLemmas.{none_custom}
 use Rattle.urlpattern_compile.specs.Compiled.{IsComponentCompiled, Manner, canonical_encoding}
-use Rattle.urlpattern_pattern.specs.Meaning.{ReadsAs}
+use Rattle.urlpattern_pattern.specs.MatchMeaning.{ReadsAs}
 use Rattle.urlpattern_matcher.proofs.FirstMatchers.{flags_agree}
 use Rattle.urlpattern_matcher.specs.Components.{ComponentView, engine_flags, has_regexp}
 use Rattle.urlpattern_engine.proofs.EngineLaws.{taken_first}

@@ -24,7 +24,7 @@ use Rattle.urlpattern_pattern.specs.Match.{IsMatch}
 use Rattle.urlpattern_matches.specs.ResultViews.{IsResultOf, ResultView}
 use Rattle.urlpattern_matches.specs.MatchInput.{input_texts}
 use Rattle.urlpattern_pattern.specs.ByText.{IsFirstResult}
-use Rattle.urlpattern_pattern.specs.Meaning.{MeaningPremises, RegexPremises}
+use Rattle.urlpattern_pattern.specs.MatchMeaning.{MeaningPremises, RegexPremises}
 use Rattle.urlpattern_pattern.specs.Patterns.{PatternView}
 use Rattle.urlpattern_syntax.specs.Parts.{PartView}
 use Rattle.urlpattern_syntax.specs.RegexpText.{regexp_text}

@@ -6,7 +6,7 @@ use Rattle.std.specs.Str.{all_scalars}
 use Rattle.urlpattern_matcher.specs.Components.{IsEngineOf, engine_flags}
 use Rattle.urlpattern_matcher.specs.declared.regexp.RegExp.{Ghosts as Engine}
 use Rattle.urlpattern_components.specs.Eight.{at}
-use Rattle.urlpattern_engine.specs.Readings.{ExpressionsAnswerAlike}
+use Rattle.urlpattern_engine.specs.GrammarReadings.{ExpressionsAnswerAlike}
 use Rattle.urlpattern_meaning.proofs.MatcherMeaning.{all_left, all_right, scalars_middle}
 use Rattle.urlpattern_meaning.proofs.PartTrees.{IsNotCustom}
 use Rattle.urlpattern_meaning.specs.FirstAnswers.{TookText}
@@ -15,7 +15,7 @@ use Rattle.urlpattern_meaning.specs.PartMeaning.{AreGenerated, Captures}
 use Rattle.urlpattern_pattern.proofs.MadeAlike.{AreAlike, made_alike}
 use Rattle.urlpattern_pattern.specs.UrlPatterns.{IsMadeOfParts}
 use Rattle.urlpattern_laws.proofs.ChangedParts.{peeled_changed}
-use Rattle.urlpattern_laws.specs.Readings.{MadeAreMatched, MatchesEachLineOf}
+use Rattle.urlpattern_laws.specs.PartReadings.{MadeAreMatched, MatchesEachLineOf}
 use Rattle.urlpattern_compare.proofs.NamelessParts.{all_nameless, generated_nameless, nameless}
 use Rattle.urlpattern_compare.proofs.SameParts.{same_nameless}
 use Rattle.urlpattern_syntax.specs.declared.parser.PartModifier.{PartModifier}

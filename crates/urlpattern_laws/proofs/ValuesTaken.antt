@@ -25,13 +25,13 @@ use Rattle.urlpattern_laws.proofs.WholeRead.{between_lines, found_captures, sear
 use Rattle.urlpattern_laws.specs.LawsOfTexts.{HasNumbers, IsCapturedByParts, IsSomeIfTaken, Room, ValuesAnswerTaken, ValuesCapture}
 use Rattle.urlpattern_laws.specs.LawsOfWays.{FirstWaysAreCaptured, ValuesAnswerFirstOfParts}
 use Rattle.urlpattern_laws.specs.PartCaptures.{PartsCapture}
-use Rattle.urlpattern_laws.specs.PartTexts.{AllCaptureNothing, AllStandAlone, PartsTake}
+use Rattle.urlpattern_laws.specs.TakenPartTexts.{AllCaptureNothing, AllStandAlone, PartsTake}
 use Rattle.urlpattern_laws.specs.PartWays.{parts_first_way, parts_ways}
 use Rattle.urlpattern_engine.proofs.EngineLaws.{expression_good, form_of, pattern_values_read, regex_values_read, text_good}
 use Rattle.urlpattern_engine.proofs.ReadAnswers.{read_by_default, regex_some}
 use Rattle.urlpattern_engine.specs.Automatons.{config_for}
 use Rattle.urlpattern_engine.specs.PatternRegexps.{IsExpressionOf, pattern_engine}
-use Rattle.urlpattern_engine.specs.Readings.{re_answer}
+use Rattle.urlpattern_engine.specs.GrammarReadings.{re_answer}
 use Rattle.urlpattern_engine.specs.declared.strategy.Strategy.{Strategy}
 use Rattle.urlpattern_engine.specs.declared.pattern_regexp.PatternRegexp.{PatternRegexp}
 use Rattle.urlpattern_meaning.specs.Dialect.{Atom, Items, Nothing, Item, Captured, Grouped, IsTreeOf, atom_group_count, atom_text, group_count, items_text, quantifier_text}

@@ -7,7 +7,7 @@ use Rattle.urlpattern_init.specs.UrlTexts.{IsLine}
 use Rattle.urlpattern_meaning.specs.{Dialect.IsTreeOf, Dialect.Items, FirstAnswers.IsFirstOf, PartMeaning.Captures, PartMeaning.PartMeans, Ways.first_way_by}
 use Rattle.urlpattern_meaning.specs.Matching.{Answers, ArePeeled, InnerView, IsSame, Literal, RegExp, SingleCapture, end_text, folded, folded_captures, folded_character}
 use Rattle.urlpattern_syntax.specs.{Options.OptionsView, Parts.PartView, RegexpText.regexp_text}
-use Rattle.urlpattern_pattern.specs.{ByText.ReadsNoCustom, Meaning.ReadsAs}
+use Rattle.urlpattern_pattern.specs.{ByText.ReadsNoCustom, MatchMeaning.ReadsAs}
 use Rattle.urlpattern_compile.specs.{Compiled.IsComponentCompiled, Compiled.Manner}
 
 -- ---- folded parts

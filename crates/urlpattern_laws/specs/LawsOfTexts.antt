@@ -11,7 +11,7 @@ use Rattle.urlpattern_matcher.specs.FirstWays.{Keeping, Taking}
 use Rattle.urlpattern_printing.specs.Generated.{AreGenerated}
 use Rattle.urlpattern_matcher.specs.declared.regexp.RegExp.{Ghosts as Engine}
 use Rattle.urlpattern_laws.specs.Expressions.{ExpressionTakes, TakesWhole, stands_alone}
-use Rattle.urlpattern_laws.specs.PartTexts.{AllCaptureNothing, AllStandAlone, PartsTake}
+use Rattle.urlpattern_laws.specs.TakenPartTexts.{AllCaptureNothing, AllStandAlone, PartsTake}
 use Rattle.urlpattern_laws.specs.PartCaptures.{PartsCapture}
 use Rattle.urlpattern_meaning.specs.FirstAnswers.{TookText}
 use Rattle.urlpattern_meaning.specs.Matching.{EachAnswerIs, IsMadeOf, MatcherView}

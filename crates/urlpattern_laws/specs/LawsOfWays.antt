@@ -7,7 +7,7 @@ use Rattle.urlpattern_matcher.specs.FirstWays.{Keeping, Taking}
 use Rattle.urlpattern_printing.specs.Generated.{AreGenerated}
 use Rattle.urlpattern_matcher.specs.declared.regexp.RegExp.{Ghosts as Engine}
 use Rattle.urlpattern_laws.specs.LawsOfTexts.{IsCapturedByParts, IsTakenAlone, Room}
-use Rattle.urlpattern_laws.specs.PartTexts.{AllCaptureNothing, AllStandAlone}
+use Rattle.urlpattern_laws.specs.TakenPartTexts.{AllCaptureNothing, AllStandAlone}
 use Rattle.urlpattern_laws.specs.PartWays.{parts_first_way}
 use Rattle.urlpattern_meaning.specs.Dialect.{IsTreeOf, Items}
 use Rattle.urlpattern_meaning.specs.FirstAnswers.{TookText}

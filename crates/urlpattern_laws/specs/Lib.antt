@@ -4,9 +4,9 @@ pub mod MatchLinks
 pub mod Outcomes
 pub mod PatternLaws
 pub mod Expressions
-pub mod PartTexts
+pub mod TakenPartTexts
 pub mod PartCaptures
 pub mod PartWays
 pub mod LawsOfTexts
 pub mod LawsOfWays
-pub mod Readings
+pub mod PartReadings

@@ -11,12 +11,12 @@ use Rattle.urlpattern_init.specs.Inheritance.{texts_of_url}
 use Rattle.urlpattern_generate.specs.LawsOfLinks.{HavePlainTexts}
 use Rattle.urlpattern_meaning.specs.Matching.{Answers, MatcherView}
 use Rattle.urlpattern_meaning.specs.PartMeaning.{Captures, PartsMean}
-use Rattle.urlpattern_pattern.specs.GeneratedTexts.{manner_in, parts_in}
+use Rattle.urlpattern_pattern.specs.ComponentTexts.{manner_in, parts_in}
 use Rattle.urlpattern_pattern.specs.LinkedUrls.{IsLink}
 use Rattle.urlpattern_pattern.specs.Match.{AreAnswers}
 use Rattle.urlpattern_pattern.specs.Patterns.{pattern_view}
 use Rattle.urlpattern_pattern.specs.UrlPatterns.{UrlPattern}
-use Rattle.urlpattern_compare.specs.declared.pattern.PatternParts.{PatternParts}
+use Rattle.urlpattern_compare.specs.declared.pattern_parts.PatternParts.{PatternParts}
 use Rattle.urlpattern_syntax.specs.{Parts.PartView, RegexpText.group_names}
 
 -- `Is` holds of the parts of a component, with the manner in which its text is written for the

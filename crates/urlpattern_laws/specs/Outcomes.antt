@@ -14,7 +14,7 @@ use Rattle.urlpattern_syntax.specs.Errors.{ErrorView, ErrorView as views}
 use Rattle.urlpattern_syntax.specs.Parts.{PartView}
 use Rattle.urlpattern_syntax.specs.Reading.{Encoding}
 use Rattle.urlpattern_syntax.specs.RegexpText.{regexp_text}
-use Rattle.urlpattern_pattern.specs.{ByText.MakesFirstWays, ByText.ReadsNoCustom, Meaning.ReadsAs, Patterns.PatternView}
+use Rattle.urlpattern_pattern.specs.{ByText.MakesFirstWays, ByText.ReadsNoCustom, MatchMeaning.ReadsAs, Patterns.PatternView}
 use Rattle.urlpattern_compile.specs.Compiled.{IsComponentCompiled, IsPatternOfInit, Manner, RefusesInit, canonical_encoding, manner_of, pattern_values}
 
 -- ---- errors

@@ -1,6 +1,6 @@
 -- The captures of parts, custom parts included.
 use Rattle.std.specs.Prelude.{◌≡◌, ℕ, List, [], ◌∷◌, ◌++◌, Option}
-use Rattle.urlpattern_laws.specs.PartTexts.{IsTakenCopy}
+use Rattle.urlpattern_laws.specs.TakenPartTexts.{IsTakenCopy}
 use Rattle.urlpattern_meaning.specs.PartMeaning.{Allows, Captures, IsCapture}
 use Rattle.urlpattern_syntax.specs.{Options.OptionsView, Parts.PartView}
 use Rattle.urlpattern_syntax.specs.declared.parser.PartType.{PartType}

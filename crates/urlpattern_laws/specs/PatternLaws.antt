@@ -14,7 +14,7 @@ use Rattle.urlpattern_matches.specs.ResultViews.{IsSameResult, ResultView}
 use Rattle.urlpattern_matches.specs.MatchInput.{input_texts}
 use Rattle.urlpattern_pattern.specs.ByText.{IsFirstResult}
 use Rattle.urlpattern_pattern.specs.Patterns.{PatternView}
-use Rattle.urlpattern_pattern.specs.Meaning.{IsExecuted, IsFoundByMeaning, MeaningPremises, RegexPremises}
+use Rattle.urlpattern_pattern.specs.MatchMeaning.{IsExecuted, IsFoundByMeaning, MeaningPremises, RegexPremises}
 
 -- The result of a compiled pattern for an input is what its pattern texts mean.
 abbrev pub AnswersMeanTheParts : {E : Type 0} → Engine E → Type 0

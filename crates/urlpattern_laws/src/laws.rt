@@ -24,7 +24,7 @@ pub use crate::custom::{
     parts_take_the_texts_that_they_mean, values_answer_the_first_way_of_parts,
     values_answer_the_texts_that_parts_take, values_answer_what_parts_capture,
 };
-pub use urlpattern_engine::laws::{
+pub use urlpattern_engine::expression_laws::{
     matchers_by_pattern_regexp_answer_the_first_way, pattern_regexps_answer_as_regex_does,
     pattern_regexps_answer_the_first_way, pattern_regexps_take_each_generated_text,
     values_of_one_expression_answer_alike,
@@ -33,10 +33,12 @@ pub use urlpattern_engine::regex_laws::{
     matchers_by_regex_answer_the_first_way, regex_answers_the_first_way,
     regex_refuses_no_generated_syntax,
 };
-pub use urlpattern_init::laws::{splits_are_one, texts_are_lines, texts_of_urls_are_lines};
+pub use urlpattern_init::constructor_laws::{
+    splits_are_one, texts_are_lines, texts_of_urls_are_lines,
+};
 use urlpattern_matcher::regexp::RegExp;
-pub use urlpattern_matches::laws::results_are_read_back;
-pub use urlpattern_meaning::laws::{
+pub use urlpattern_matches::result_laws::results_are_read_back;
+pub use urlpattern_meaning::meaning_laws::{
     captures_are_as_many_as_names, copies_are_one_capture, dialect_trees_are_one,
     every_text_has_an_outcome, every_text_has_tokens, first_ways_are_meant, first_ways_fold,
     joining_keeps_meaning, joining_keeps_printed_text, joining_keeps_regexp,
@@ -47,7 +49,7 @@ pub use urlpattern_meaning::laws::{
     read_parts_are_pattern_parts, readings_are_one, readings_by_callbacks_are_one, tokens_are_one,
     tokens_lose_nothing,
 };
-pub use urlpattern_plain::laws::reading_undoes_writing;
+pub use urlpattern_plain::json_laws::reading_undoes_writing;
 
 /// The results of a pattern are what its pattern texts mean. In a match, each component's pattern
 /// text means the component's text, and the groups are the names of its parts with the captures of

@@ -5,7 +5,7 @@
 ghost use Rattle.urlpattern_matcher.specs.Regexes.{regex_engine};
 ghost use Rattle.urlpattern_engine.specs.PatternRegexps.{pattern_engine};
 ghost use Rattle.urlpattern_pattern.specs.ByText.{MakesFirstWays};
-ghost use Rattle.urlpattern_laws.specs.Readings.{ApartMatchNothing, CommonAreMatched, CoveredAreMatched, CoveredByEngineAreMatched, CoveredByMeaningAreMatched, KeptPartsMean, KnownAreCoveredByMeaning, MadeAreMatched, OwnPartsMean, PartingsAreMatched};
+ghost use Rattle.urlpattern_laws.specs.PartReadings.{ApartMatchNothing, CommonAreMatched, CoveredAreMatched, CoveredByEngineAreMatched, CoveredByMeaningAreMatched, KeptPartsMean, KnownAreCoveredByMeaning, MadeAreMatched, OwnPartsMean, PartingsAreMatched};
 
 use urlpattern_matcher::regexp::RegExp;
 

@@ -4,4 +4,4 @@ pub mod EngineLemmas
 pub mod FoldedEnds
 pub mod MatcherTexts
 pub mod MatcherAnswers
-pub mod Peeling
+pub mod PeeledMatchers

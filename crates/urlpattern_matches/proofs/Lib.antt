@@ -1,6 +1,6 @@
 pub mod MatchInputLemmas
-pub mod GroupLemmas
+pub mod MatchGroupLemmas
 pub mod NameOrder
 pub mod ResultJsonLemmas
 pub mod TakenLemmas
-pub mod CopyLemmas
+pub mod CopiedResults

@@ -43,7 +43,7 @@ pub struct UrlPatternCaptures<'p, 'u> {
 }
 
 /// Returns the match of these texts, with the names of the groups and their captures.
-pub fn captures_from<'p, 'u>(
+pub fn assemble_match<'p, 'u>(
     names: Eight<&'p Vec<String>>,
     texts: Eight<&'u str>,
     captures: Eight<GroupCaptures<'u>>,

@@ -6,17 +6,17 @@
 #![tactic(auto)]
 
 mod captures;
-mod groups;
-mod json;
-pub mod laws;
-mod match_input;
+mod group_maps;
+mod input_parsing;
 mod result;
+mod result_json;
+pub mod result_laws;
 mod texts;
 
 pub use captures::{
     GroupCaptures, Missed, UrlPatternCaptures, UrlPatternCapturesIter, UrlPatternGroups,
-    captures_from,
+    assemble_match,
 };
-pub use match_input::parse_match_input;
+pub use input_parsing::parse_match_input;
 pub use result::{UrlPatternComponentResult, UrlPatternResult};
 pub use texts::{input_texts, pathname_texts, url_texts};

@@ -12,7 +12,7 @@ ghost use Rattle.urlpattern_components.specs.declared.eight.ComponentName.{Compo
 ghost use Rattle.urlpattern_syntax.specs.Errors.{OnlyOutOfMemory};
 ghost use Rattle.urlpattern_syntax.specs.Text.{text_of, option_text};
 
-use crate::groups::{Groups, add_groups};
+use crate::group_maps::{Groups, add_groups};
 use std::alloc::{AllocError, Global};
 use std::collections::HashMap;
 use urlpattern_components::{ComponentName, Eight, field_of, with_fields};

@@ -4,7 +4,7 @@ use Rattle.std.specs.Prelude.{IsTrue}
 use Rattle.std.specs.List.{list_all}
 use Rattle.std.proofs.lemmas.Bool.{and_parts}
 use Rattle.urlpattern_syntax.proofs.TokenWords.{joined_values}
-use Rattle.urlpattern_syntax.specs.Pieces.{Placeholder, Matched, IsFilled, TakesRegexp, BeginsWithKind, is_text, is_placeholder, Matched as matched}
+use Rattle.urlpattern_syntax.specs.Pieces.{Placeholder, PlaceholderKindView, IsFilled, TakesRegexp, BeginsWithKind, is_text, is_placeholder, PlaceholderKindView as matched}
 use Rattle.urlpattern_syntax.specs.Tokens.{TokenView}
 use Rattle.urlpattern_meaning.proofs.PlaceholderForms.{cons_one, no_text, begins, PlaceholderForm, placeholder_form, placeholder_one, form_begins}
 
@@ -79,7 +79,7 @@ filled_form inner rest more before after placeholder widen f =
     (ap (λ x. Filled x placeholder after) (f.are_texts_before.1) ∙ ap (λ x. Filled (joined_values f.front) placeholder x) (f.are_texts_after.1))
 
 -- A Close is not a Regexp that a name would take.
-pub widened : (what : Matched) (behind : List TokenView) (closing : TokenView) (back : List TokenView) → TakesRegexp what (back ++ closing ∷ []) → TakesRegexp what (back ++ closing ∷ behind)
+pub widened : (what : PlaceholderKindView) (behind : List TokenView) (closing : TokenView) (back : List TokenView) → TakesRegexp what (back ++ closing ∷ []) → TakesRegexp what (back ++ closing ∷ behind)
 widened matched.Segment behind closing [] h = h
 widened matched.Segment behind closing (token ∷ back) h = h
 widened matched.Anything behind closing back h = tt

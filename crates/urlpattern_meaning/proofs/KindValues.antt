@@ -3,7 +3,7 @@
 use Rattle.std.proofs.Common.{◌≡◌, ◌≢◌, ℕ, List, [], ◌∷◌, ◌++◌, Option, sym, subst}
 use Rattle.urlpattern_syntax.specs.declared.tokenizer.TokenType.{TokenType}
 use Rattle.urlpattern_syntax.specs.declared.tokenizer.TokenType.TheVariants.{End}
-use Rattle.urlpattern_syntax.specs.Pieces.{ArePieces, Ending, IsPiece, IsPlaceholderOf, Matched, Piece, Piece as pieces}
+use Rattle.urlpattern_syntax.specs.Pieces.{ArePieces, Ending, IsPiece, IsPlaceholderOf, PlaceholderKindView, Piece, Piece as pieces}
 use Rattle.urlpattern_syntax.specs.Tokens.{AreTokens, IsCut, IsTokenOf, Spells, TokenView, end_of}
 
 -- `Is` holds of the value of each token of this kind.
@@ -39,19 +39,19 @@ module _ (kind : TokenType) (Is : List ℕ → Type 0) where
 -- ---- the placeholders of pieces
 
 -- `Has` holds of the piece's placeholder, if it has one.
-abbrev pub PieceHas : (Option (List ℕ) → Matched → Type 0) → Piece → Type 0
+abbrev pub PieceHas : (Option (List ℕ) → PlaceholderKindView → Type 0) → Piece → Type 0
 PieceHas Has (pieces.Text text) = Unit {0}
 PieceHas Has (pieces.TextGroup text modifier) = Unit {0}
 PieceHas Has (pieces.Bare prefix placeholder modifier) = Has placeholder.name placeholder.matched
 PieceHas Has (pieces.Group before placeholder after modifier) = Has placeholder.name placeholder.matched
 
-abbrev pub PiecesHave : (Option (List ℕ) → Matched → Type 0) → List Piece → Type 0
+abbrev pub PiecesHave : (Option (List ℕ) → PlaceholderKindView → Type 0) → List Piece → Type 0
 PiecesHave Has [] = Unit {0}
 PiecesHave Has (piece ∷ rest) = PieceHas Has piece × PiecesHave Has rest
 
 -- A property of each placeholder of tokens with such values.
-module _ (kind : TokenType) (Is : List ℕ → Type 0) (Has : Option (List ℕ) → Matched → Type 0)
-    (given : (tokens : List TokenView) (name : Option (List ℕ)) (what : Matched) → AllOfKind kind Is tokens → IsPlaceholderOf tokens name what → Has name what) where
+module _ (kind : TokenType) (Is : List ℕ → Type 0) (Has : Option (List ℕ) → PlaceholderKindView → Type 0)
+    (given : (tokens : List TokenView) (name : Option (List ℕ)) (what : PlaceholderKindView) → AllOfKind kind Is tokens → IsPlaceholderOf tokens name what → Has name what) where
   piece_has : (point : List ℕ) (tokens rest : List TokenView) (piece : Piece) → AllOfKind kind Is tokens → IsPiece point tokens piece rest
       → PieceHas Has piece
   piece_has point tokens rest (pieces.Text text) h is = tt

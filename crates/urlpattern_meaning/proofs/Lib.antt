@@ -40,7 +40,7 @@ pub mod OneMeaning
 pub mod MatcherMeaning
 pub mod OneMeaningExamples
 pub mod PrintedTokens
-pub mod PrintedTexts
+pub mod PrintedMeanings
 pub mod PrintedPlaceholders
 pub mod PrintedBraces
 pub mod PrintedGroups

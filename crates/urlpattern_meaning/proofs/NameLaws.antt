@@ -14,7 +14,7 @@ use Rattle.urlpattern_syntax.specs.declared.tokenizer.TokenType.TheVariants.{Nam
 use Rattle.urlpattern_meaning.specs.Laws.{CountFrom, numbers_among}
 use Rattle.urlpattern_syntax.specs.Options.{OptionsView}
 use Rattle.urlpattern_syntax.specs.Parts.{PartView}
-use Rattle.urlpattern_syntax.specs.Pieces.{ArePieces, Ending, IsPlaceholderOf, Matched, Piece, kinds, values, Ending as endings, Matched as matched, Piece as pieces}
+use Rattle.urlpattern_syntax.specs.Pieces.{ArePieces, Ending, IsPlaceholderOf, PlaceholderKindView, Piece, kinds, values, Ending as endings, PlaceholderKindView as matched, Piece as pieces}
 use Rattle.urlpattern_syntax.specs.Reading.{AreMet, Capture, Demand, Encoding, Fixed, Item, Reads, demands_after, encode_fixed, items_from, items_of, joined_items, name_or, next_number, with_text}
 use Rattle.urlpattern_syntax.specs.RegexpText.{group_names}
 use Rattle.urlpattern_syntax.specs.Text.{begins_with, BeginsWith}
@@ -40,7 +40,7 @@ first_name (token ∷ tokens) more others name h k v =
     let value : token.value ≡ name = cc v in
     subst IsName value (h.0 kind)
 
-placeholder_name : (tokens : List TokenView) (name : Option (List ℕ)) (what : Matched) → NameTokens tokens → IsPlaceholderOf tokens name what → GivesName name
+placeholder_name : (tokens : List TokenView) (name : Option (List ℕ)) (what : PlaceholderKindView) → NameTokens tokens → IsPlaceholderOf tokens name what → GivesName name
 placeholder_name tokens None what h is = tt
 placeholder_name tokens (Some name) matched.Segment h is = first_name tokens [] [] name h is.0 is.1
 placeholder_name tokens (Some name) (matched.Custom body) h is = first_name tokens (Regexp ∷ []) (body ∷ []) name h is.0 is.1

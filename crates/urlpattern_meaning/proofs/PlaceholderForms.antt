@@ -6,7 +6,7 @@ use Rattle.urlpattern_syntax.specs.declared.parser.PartModifier.{PartModifier}
 use Rattle.urlpattern_syntax.specs.declared.parser.PartModifier.TheVariants as modifiers
 use Rattle.urlpattern_syntax.specs.declared.tokenizer.TokenType.{TokenType}
 use Rattle.urlpattern_syntax.specs.declared.tokenizer.TokenType.TheVariants.{Asterisk, Char, Close, End, EscapedChar, InvalidChar, Name, Open, OtherModifier, Regexp}
-use Rattle.urlpattern_syntax.specs.Pieces.{Placeholder, Matched, IsPlaceholderOf, IsModifier, TakesModifier, TakesRegexp, BeginsWithKind, is_text, is_placeholder, is_modifier, is_regexp, is_stop, Matched as matched}
+use Rattle.urlpattern_syntax.specs.Pieces.{Placeholder, PlaceholderKindView, IsPlaceholderOf, IsModifier, TakesModifier, TakesRegexp, BeginsWithKind, is_text, is_placeholder, is_modifier, is_regexp, is_stop, PlaceholderKindView as matched}
 use Rattle.urlpattern_syntax.specs.Tokens.{TokenView}
 
 -- ---- lists and kinds
@@ -73,7 +73,7 @@ begins test tokens rest token e h = subst (BeginsWithKind test) (sym e) h
 
 -- ---- placeholders
 
-abbrev pub placeholder_of : Option (List ℕ) → Matched → Placeholder
+abbrev pub placeholder_of : Option (List ℕ) → PlaceholderKindView → Placeholder
 placeholder_of name what = record { name = name; matched = what }
 
 -- A placeholder and the tokens after it, as the tokens determine them.
@@ -84,7 +84,7 @@ pub data PlaceholderForm (tokens behind : List TokenView) (placeholder : Placeho
   anything : (asterisk : TokenView) → tokens ≡ asterisk ∷ behind → asterisk.kind ≡ Asterisk → placeholder ≡ placeholder_of None matched.Anything → PlaceholderForm tokens behind placeholder
 
 -- A placeholder, as its tokens determine it.
-pub placeholder_form : (middle behind : List TokenView) (name : Option (List ℕ)) (what : Matched) → IsPlaceholderOf middle name what → TakesRegexp what behind → PlaceholderForm (middle ++ behind) behind (placeholder_of name what)
+pub placeholder_form : (middle behind : List TokenView) (name : Option (List ℕ)) (what : PlaceholderKindView) → IsPlaceholderOf middle name what → TakesRegexp what behind → PlaceholderForm (middle ++ behind) behind (placeholder_of name what)
 placeholder_form [] behind (Some name) matched.Segment h t = absurd (cc (h.0))
 placeholder_form [] behind (Some name) (matched.Custom body) h t = absurd (cc (h.0))
 placeholder_form [] behind None (matched.Custom body) h t = absurd (cc (h.0))

@@ -13,7 +13,7 @@ use Rattle.urlpattern_syntax.specs.Text.{BeginsWith, begins_with, is_among, is_n
 use Rattle.urlpattern_syntax.specs.Tokens.{IsLexed, TokenView}
 use Rattle.urlpattern_meaning.specs.Printing.{escaped_pattern, in_braces, pattern_marks}
 use Rattle.urlpattern_meaning.specs.RoundTrip.{IsUnskipped}
-use Rattle.urlpattern_meaning.proofs.PrintedTexts.{escaped_first, escaped_none, escaped_one, text_are, text_no_regexp, text_run, text_tokens}
+use Rattle.urlpattern_meaning.proofs.PrintedMeanings.{escaped_first, escaped_none, escaped_one, text_are, text_no_regexp, text_run, text_tokens}
 use Rattle.urlpattern_meaning.proofs.PrintedTokens.{Run, asterisk_lexed, backslash_lexed, close_lexed, done, mark_ends, mark_no_part, next, open_lexed, optional_lexed, plus_lexed, run_joined, token_at}
 
 -- ---- modifiers

@@ -8,8 +8,8 @@ use Rattle.urlpattern_syntax.specs.declared.parser.PartType.TheVariants.{FixedTe
 use Rattle.urlpattern_syntax.specs.declared.tokenizer.TokenType.{TokenType}
 use Rattle.urlpattern_syntax.specs.Options.{OptionsView}
 use Rattle.urlpattern_syntax.specs.Parts.{PartView}
-use Rattle.urlpattern_syntax.specs.Pieces.{BeginsWithKind, Matched, is_modifier, is_placeholder, is_regexp, Ending as endings}
-use Rattle.urlpattern_syntax.specs.Reading.{Capture, compared, items_from, joined_items, kind_of, number_after, value_of}
+use Rattle.urlpattern_syntax.specs.Pieces.{BeginsWithKind, PlaceholderKindView, is_modifier, is_placeholder, is_regexp, Ending as endings}
+use Rattle.urlpattern_syntax.specs.Reading.{Capture, placeholder_regexp, items_from, joined_items, kind_of, number_after, value_of}
 use Rattle.urlpattern_syntax.specs.RegexpText.{is_empty, is_fixed_text, is_unmodified}
 use Rattle.urlpattern_syntax.specs.Text.{BeginsWith, begins_with, byte_len, is_name_part}
 use Rattle.urlpattern_syntax.specs.Tokens.{TokenView, end_of}
@@ -21,7 +21,7 @@ use Rattle.urlpattern_meaning.proofs.PrintedTokens.{Run, run_joined}
 use Rattle.urlpattern_meaning.proofs.RoundTripWords.{IsItemOf}
 
 -- A group is the item of its part.
-capture_item : (options : OptionsView) (kind : PartType) (part : PartView) (match : Matched) → is_fixed_text kind ≡ false → kind_of options (compared options match) ≡ part.kind → value_of part.kind (compared options match) ≡ part.value →
+capture_item : (options : OptionsView) (kind : PartType) (part : PartView) (match : PlaceholderKindView) → is_fixed_text kind ≡ false → kind_of options (placeholder_regexp options match) ≡ part.kind → value_of part.kind (placeholder_regexp options match) ≡ part.value →
     IsItemOf options kind part (Capture part.prefix part.name match part.suffix part.modifier)
 capture_item options FixedText part match group k v = absurd (false≢true (sym group))
 capture_item options Regexp part match group k v = (match, refl, k, v)

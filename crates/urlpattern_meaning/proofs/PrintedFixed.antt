@@ -19,7 +19,7 @@ use Rattle.urlpattern_meaning.specs.Printing.{escaped_pattern, first_part, goes_
 use Rattle.urlpattern_meaning.specs.RoundTrip.{IsUnskipped}
 use Rattle.urlpattern_meaning.proofs.PrintedAfter.{Behind, ReadsBack, are_more, after_any, goes_by, goes_not}
 use Rattle.urlpattern_meaning.proofs.PrintedBraces.{braced_run, braced_tokens, closing_text, is_braced, text_ends}
-use Rattle.urlpattern_meaning.proofs.PrintedTexts.{are_text_pieces, text_are, text_first, text_items, text_no_modifier, text_no_placeholder, text_no_regexp, text_pieces, text_run, text_tokens}
+use Rattle.urlpattern_meaning.proofs.PrintedMeanings.{are_text_pieces, text_are, text_first, text_items, text_no_modifier, text_no_placeholder, text_no_regexp, text_pieces, text_run, text_tokens}
 use Rattle.urlpattern_meaning.proofs.PrintedTokens.{Run, mark_ends, run_joined}
 use Rattle.urlpattern_meaning.proofs.PrintingLaws.{plain_fixed, plain_modifier, plain_printed}
 use Rattle.urlpattern_meaning.proofs.RoundTripWords.{AreApart, AreItemsOf, IsItemOf}

@@ -17,7 +17,7 @@ use Rattle.urlpattern_meaning.specs.Printing.{admits_asterisk, escaped_pattern, 
 use Rattle.urlpattern_meaning.specs.RoundTrip.{HasFields, IsNamed, IsPrefixPoint, IsUnskipped, following_number}
 use Rattle.urlpattern_meaning.proofs.PrintedBraces.{SuffixTokens, braced_run, braced_tokens, closing_text, is_braced, modifier_ends, modifier_is, modifier_regexp, modifier_run, modifier_takes, modifier_tokens, suffix_ends, suffix_text, suffix_tokens, text_ends, texts_no_regexp}
 use Rattle.urlpattern_meaning.proofs.PrintedPlaceholders.{Placed, Shows, name_by, named_no_regexp, not_anything, placed_no_modifier, placed_part, placeholder_of, shows_part, takes_regexp}
-use Rattle.urlpattern_meaning.proofs.PrintedTexts.{kind_by, text_are, text_first, text_no_modifier, text_no_placeholder, text_no_regexp, text_run, text_tokens}
+use Rattle.urlpattern_meaning.proofs.PrintedMeanings.{kind_by, text_are, text_first, text_no_modifier, text_no_placeholder, text_no_regexp, text_run, text_tokens}
 use Rattle.urlpattern_meaning.proofs.PrintedTokens.{Run, mark_ends, run_joined}
 
 -- The properties of a group, where `number` groups before it have no name.

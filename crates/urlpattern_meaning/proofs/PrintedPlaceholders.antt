@@ -13,8 +13,8 @@ use Rattle.urlpattern_syntax.specs.declared.tokenizer.TokenType.{TokenType}
 use Rattle.urlpattern_syntax.specs.declared.tokenizer.TokenType.TheVariants as tokens
 use Rattle.urlpattern_syntax.specs.Options.{OptionsView}
 use Rattle.urlpattern_syntax.specs.Parts.{PartView}
-use Rattle.urlpattern_syntax.specs.Pieces.{BeginsWithKind, IsPlaceholderOf, Matched, Placeholder, TakesRegexp, is_modifier, is_regexp, kinds, Matched as matched}
-use Rattle.urlpattern_syntax.specs.Reading.{compared, kind_of, name_or, next_number, value_of}
+use Rattle.urlpattern_syntax.specs.Pieces.{BeginsWithKind, IsPlaceholderOf, PlaceholderKindView, Placeholder, TakesRegexp, is_modifier, is_regexp, kinds, PlaceholderKindView as matched}
+use Rattle.urlpattern_syntax.specs.Reading.{placeholder_regexp, kind_of, name_or, next_number, value_of}
 use Rattle.urlpattern_syntax.specs.RegexpText.{captured, full_wildcard, is_fixed_text, segment_wildcard, segment_wildcard_of}
 use Rattle.urlpattern_syntax.specs.Text.{BeginsWith, begins_with, is_name_part}
 use Rattle.urlpattern_syntax.specs.Tokens.{IsName, IsRegexpBody, TokenView, Body as bodies}
@@ -44,7 +44,7 @@ full_other syntax (Some c) e = false≢true (sym (ap (λ t. bytes_eq t full_wild
 abbrev pub name_by : (custom : Bool) → List ℕ → Option (List ℕ)
 name_by custom name = if custom then Some name else None
 
-abbrev matched_by : (custom asterisk : Bool) → OptionsView → PartType → (value : List ℕ) → Matched
+abbrev matched_by : (custom asterisk : Bool) → OptionsView → PartType → (value : List ℕ) → PlaceholderKindView
 matched_by custom asterisk options FixedText value = matched.Segment
 matched_by custom asterisk options Regexp value = matched.Custom value
 matched_by custom asterisk options SegmentWildcard value = if custom then matched.Segment else matched.Custom (segment_wildcard options)
@@ -89,11 +89,11 @@ number_of number Regexp part group = refl
 number_of number SegmentWildcard part group = refl
 number_of number FullWildcard part group = refl
 
-compared_segment : (options : OptionsView) (custom : Bool) → compared options (if custom then matched.Segment else matched.Custom (segment_wildcard options)) ≡ segment_wildcard options
+compared_segment : (options : OptionsView) (custom : Bool) → placeholder_regexp options (if custom then matched.Segment else matched.Custom (segment_wildcard options)) ≡ segment_wildcard options
 compared_segment options true = refl
 compared_segment options false = refl
 
-compared_full : (options : OptionsView) (asterisk : Bool) → compared options (if asterisk then matched.Anything else matched.Custom full_wildcard) ≡ full_wildcard
+compared_full : (options : OptionsView) (asterisk : Bool) → placeholder_regexp options (if asterisk then matched.Anything else matched.Custom full_wildcard) ≡ full_wildcard
 compared_full options true = refl
 compared_full options false = refl
 
@@ -101,17 +101,17 @@ compared_full options false = refl
 pub record Shows (options : OptionsView) (number : ℕ) (kind : PartType) (part : PartView) (placeholder : Placeholder) : Type 0 where
   pub name : name_or placeholder.name number ≡ part.name
   pub number_after : next_number placeholder.name number ≡ following_number number kind part
-  pub is_kind : kind_of options (compared options placeholder.matched) ≡ kind
-  pub is_value : value_of kind (compared options placeholder.matched) ≡ part.value
+  pub is_kind : kind_of options (placeholder_regexp options placeholder.matched) ≡ kind
+  pub is_value : value_of kind (placeholder_regexp options placeholder.matched) ≡ part.value
 
-shown_kind : (options : OptionsView) (kind : PartType) (part : PartView) (custom asterisk : Bool) → is_fixed_text kind ≡ false → HasFields options kind part → kind_of options (compared options (matched_by custom asterisk options kind part.value)) ≡ kind
+shown_kind : (options : OptionsView) (kind : PartType) (part : PartView) (custom asterisk : Bool) → is_fixed_text kind ≡ false → HasFields options kind part → kind_of options (placeholder_regexp options (matched_by custom asterisk options kind part.value)) ≡ kind
 shown_kind options FixedText part custom asterisk group h = absurd (false≢true (sym group))
 shown_kind options Regexp part custom asterisk group h = kind_custom options part.value h.1 h.2
 shown_kind options SegmentWildcard part custom asterisk group h = kind_segment options _ (compared_segment options custom)
 shown_kind options FullWildcard part custom asterisk group h =
     ap (kind_of options) (compared_full options asterisk) ∙ kind_full options full_wildcard (full_other options.syntax options.delimiter) refl
 
-shown_value : (options : OptionsView) (kind : PartType) (part : PartView) (custom asterisk : Bool) → is_fixed_text kind ≡ false → HasFields options kind part → value_of kind (compared options (matched_by custom asterisk options kind part.value)) ≡ part.value
+shown_value : (options : OptionsView) (kind : PartType) (part : PartView) (custom asterisk : Bool) → is_fixed_text kind ≡ false → HasFields options kind part → value_of kind (placeholder_regexp options (matched_by custom asterisk options kind part.value)) ≡ part.value
 shown_value options FixedText part custom asterisk group h = absurd (false≢true (sym group))
 shown_value options Regexp part custom asterisk group h = refl
 shown_value options SegmentWildcard part custom asterisk group h = sym h.0
@@ -220,7 +220,7 @@ first_kind : (token : TokenView) (first : List TokenView) (kind : TokenType) (mo
 first_kind token first kind more e = cc e
 
 -- A placeholder with a name does not begin with a Regexp.
-pub named_no_regexp : (first behind : List TokenView) (name : List ℕ) (what : Matched) → IsPlaceholderOf first (Some name) what → ¬ BeginsWithKind is_regexp (first ++ behind)
+pub named_no_regexp : (first behind : List TokenView) (name : List ℕ) (what : PlaceholderKindView) → IsPlaceholderOf first (Some name) what → ¬ BeginsWithKind is_regexp (first ++ behind)
 named_no_regexp [] behind name matched.Segment is b = cc (is.0)
 named_no_regexp [] behind name (matched.Custom body) is b = cc (is.0)
 named_no_regexp [] behind name matched.Anything is b = is
@@ -229,7 +229,7 @@ named_no_regexp (token ∷ first) behind name (matched.Custom body) is b = no (s
 named_no_regexp (token ∷ first) behind name matched.Anything is b = is
 
 -- A placeholder that is not an asterisk begins with no modifier.
-pub placed_no_modifier : (first behind : List TokenView) (name : Option (List ℕ)) (what : Matched) → IsPlaceholderOf first name what → what ≢ matched.Anything → ¬ BeginsWithKind is_modifier (first ++ behind)
+pub placed_no_modifier : (first behind : List TokenView) (name : Option (List ℕ)) (what : PlaceholderKindView) → IsPlaceholderOf first name what → what ≢ matched.Anything → ¬ BeginsWithKind is_modifier (first ++ behind)
 placed_no_modifier first behind name matched.Anything is other b = other refl
 placed_no_modifier first behind None matched.Segment is other b = is
 placed_no_modifier [] behind None (matched.Custom body) is other b = cc (is.0)

@@ -12,8 +12,8 @@ use Rattle.urlpattern_syntax.specs.declared.parser.PartType.TheVariants as part_
 use Rattle.urlpattern_syntax.specs.declared.tokenizer.TokenType.TheVariants.{Name, Regexp}
 use Rattle.urlpattern_syntax.specs.Options.{OptionsView}
 use Rattle.urlpattern_syntax.specs.Parts.{PartView}
-use Rattle.urlpattern_syntax.specs.Pieces.{ArePieces, Ending, IsPlaceholderOf, Matched, Piece, kinds, values, Ending as endings, Matched as matched, Piece as pieces}
-use Rattle.urlpattern_syntax.specs.Reading.{AreParts, Capture, Encoding, Fixed, Item, Reads, capture_part, compared, items_from, items_of, joined_items, kind_of, name_or, next_number, value_of, with_text}
+use Rattle.urlpattern_syntax.specs.Pieces.{ArePieces, Ending, IsPlaceholderOf, PlaceholderKindView, Piece, kinds, values, Ending as endings, PlaceholderKindView as matched, Piece as pieces}
+use Rattle.urlpattern_syntax.specs.Reading.{AreParts, Capture, Encoding, Fixed, Item, Reads, capture_part, placeholder_regexp, items_from, items_of, joined_items, kind_of, name_or, next_number, value_of, with_text}
 use Rattle.urlpattern_syntax.specs.RegexpText.{full_wildcard, segment_wildcard, segment_wildcard_of}
 use Rattle.urlpattern_syntax.specs.Text.{begins_with, is_among}
 use Rattle.urlpattern_syntax.specs.Tokens.{AreTokens, IsName, IsRegexpBody, TokenView}
@@ -31,7 +31,7 @@ BodyTokens tokens = AllOfKind Regexp IsRegexpBody tokens
 text_bodies : (text : List ℕ) (tokens : List TokenView) → AreTokens text tokens → BodyTokens tokens
 text_bodies = text_of_kind Regexp IsRegexpBody (λ e. cc e) (λ value text spells. spells.1)
 
-abbrev GivesBody : Matched → Type 0
+abbrev GivesBody : PlaceholderKindView → Type 0
 GivesBody (matched.Custom body) = IsRegexpBody body
 GivesBody match = Unit {0}
 
@@ -46,29 +46,29 @@ second_body : (tokens : List TokenView) (name body : List ℕ) → BodyTokens to
 second_body [] name body h k v = absurd (cc k)
 second_body (token ∷ tokens) name body h k v = first_body tokens body h.1 (cc k) (cc v)
 
-placeholder_body : (tokens : List TokenView) (name : Option (List ℕ)) (what : Matched) → BodyTokens tokens → IsPlaceholderOf tokens name what → GivesBody what
+placeholder_body : (tokens : List TokenView) (name : Option (List ℕ)) (what : PlaceholderKindView) → BodyTokens tokens → IsPlaceholderOf tokens name what → GivesBody what
 placeholder_body tokens name matched.Segment h is = tt
 placeholder_body tokens name matched.Anything h is = tt
 placeholder_body tokens None (matched.Custom body) h is = first_body tokens body h is.0 is.1
 placeholder_body tokens (Some name) (matched.Custom body) h is = second_body tokens name body h is.0 is.1
 
 -- A segment has a name of its own.
-abbrev IsNamedSegment : Option (List ℕ) → Matched → Type 0
+abbrev IsNamedSegment : Option (List ℕ) → PlaceholderKindView → Type 0
 IsNamedSegment None matched.Segment = ⊥
 IsNamedSegment name match = Unit {0}
 
-placeholder_segment : (tokens : List TokenView) (name : Option (List ℕ)) (what : Matched) → IsPlaceholderOf tokens name what → IsNamedSegment name what
+placeholder_segment : (tokens : List TokenView) (name : Option (List ℕ)) (what : PlaceholderKindView) → IsPlaceholderOf tokens name what → IsNamedSegment name what
 placeholder_segment tokens None matched.Segment is = absurd is
 placeholder_segment tokens None (matched.Custom body) is = tt
 placeholder_segment tokens None matched.Anything is = tt
 placeholder_segment tokens (Some name) what is = tt
 
 -- The properties of a placeholder's match.
-record HasMatch (name : Option (List ℕ)) (what : Matched) : Type 0 where
+record HasMatch (name : Option (List ℕ)) (what : PlaceholderKindView) : Type 0 where
   pub body : GivesBody what
   pub segment : IsNamedSegment name what
 
-placeholder_match : (tokens : List TokenView) (name : Option (List ℕ)) (what : Matched) → BodyTokens tokens → IsPlaceholderOf tokens name what → HasMatch name what
+placeholder_match : (tokens : List TokenView) (name : Option (List ℕ)) (what : PlaceholderKindView) → BodyTokens tokens → IsPlaceholderOf tokens name what → HasMatch name what
 placeholder_match tokens name what h is = record { body = placeholder_body tokens name what h is; segment = placeholder_segment tokens name what is }
 
 -- The placeholder of each piece has these properties.
@@ -85,13 +85,13 @@ abbrev number_with : ℕ → List ℕ → ℕ
 number_with number name = if not (begins_with is_ascii_digit name) then number else suc number
 
 -- A custom regular expression is a body, and a segment has a name of its own.
-abbrev IsItemMatch : Matched → List ℕ → Type 0
+abbrev IsItemMatch : PlaceholderKindView → List ℕ → Type 0
 IsItemMatch matched.Segment name = IsName name
 IsItemMatch (matched.Custom body) name = IsRegexpBody body
 IsItemMatch matched.Anything name = Unit {0}
 
 -- The properties of a group's match and name, where `number` groups without a name are before it.
-record IsGroup (number : ℕ) (name : List ℕ) (match : Matched) : Type 0 where
+record IsGroup (number : ℕ) (name : List ℕ) (match : PlaceholderKindView) : Type 0 where
   pub matches : IsItemMatch match name
   pub named : IsName name ⊎ (name ≡ decimal number)
 
@@ -113,7 +113,7 @@ with_or number (Some name) is = with_name number name is
 with_or number None is = with_number number
 
 -- The group of a placeholder.
-placeholder_group : (number : ℕ) (name : Option (List ℕ)) (match : Matched) → GivesName name → HasMatch name match → IsGroup number (name_or name number) match
+placeholder_group : (number : ℕ) (name : Option (List ℕ)) (match : PlaceholderKindView) → GivesName name → HasMatch name match → IsGroup number (name_or name number) match
 placeholder_group number (Some name) matched.Segment is h = record { matches = is; named = inl is }
 placeholder_group number (Some name) (matched.Custom body) is h = record { matches = h.body; named = inl is }
 placeholder_group number (Some name) matched.Anything is h = record { matches = tt; named = inl is }
@@ -184,8 +184,8 @@ kind_has options regexp name before after modifier segment custom =
     let another : regexp ≢ full_wildcard = λ same. false≢true (sym f ∙ (bytes_eq-Decides regexp full_wildcard).1 same) in
     (custom other another, other, another)))
 
-capture_fields : (options : OptionsView) (before name : List ℕ) (match : Matched) (after : List ℕ) (modifier : PartModifier) → IsItemMatch match name →
-    HasKind options (compared options match) name (kind_of options (compared options match)) before after modifier
+capture_fields : (options : OptionsView) (before name : List ℕ) (match : PlaceholderKindView) (after : List ℕ) (modifier : PartModifier) → IsItemMatch match name →
+    HasKind options (placeholder_regexp options match) name (kind_of options (placeholder_regexp options match)) before after modifier
 unfolding starts_with_digit
 capture_fields options before name matched.Segment after modifier is =
     kind_has options (segment_wildcard options) name before after modifier
@@ -224,8 +224,8 @@ parts_names options encoding number (Fixed (c ∷ text) modifier ∷ items) part
 parts_names options encoding number (Capture prefix name match suffix modifier ∷ items) parts h are =
     let part = capture_part options are.0 name match are.1 modifier in
     subst (AreNamed number) (sym are.3) (
-      group_named options (compared options match) number name h.0.named,
-      subst (λ n. AreNamed n are.2) (sym (group_number options (compared options match) number part))
+      group_named options (placeholder_regexp options match) number name h.0.named,
+      subst (λ n. AreNamed n are.2) (sym (group_number options (placeholder_regexp options match) number part))
           (parts_names options encoding (number_with number name) items are.2 h.1 are.6),
     )
 

@@ -4,8 +4,8 @@ use Rattle.urlpattern_syntax.specs.declared.parser.PartType.{PartType}
 use Rattle.urlpattern_syntax.specs.declared.parser.PartType.TheVariants.{FixedText}
 use Rattle.urlpattern_syntax.specs.Options.{OptionsView}
 use Rattle.urlpattern_syntax.specs.Parts.{PartView}
-use Rattle.urlpattern_syntax.specs.Pieces.{ArePieces, Matched, Piece, Ending as endings}
-use Rattle.urlpattern_syntax.specs.Reading.{Capture, Fixed, Item, compared, items_of, kind_of, value_of}
+use Rattle.urlpattern_syntax.specs.Pieces.{ArePieces, PlaceholderKindView, Piece, Ending as endings}
+use Rattle.urlpattern_syntax.specs.Reading.{Capture, Fixed, Item, placeholder_regexp, items_of, kind_of, value_of}
 use Rattle.urlpattern_syntax.specs.RegexpText.{is_plain}
 use Rattle.urlpattern_syntax.specs.Tokens.{AreTokens, TokenView, end_of}
 use Rattle.urlpattern_meaning.specs.Printing.{printed}
@@ -14,8 +14,8 @@ use Rattle.urlpattern_meaning.specs.Printing.{printed}
 abbrev pub IsItemOf : OptionsView → PartType → PartView → Item → Type 0
 IsItemOf options FixedText part item = item ≡ Fixed part.value part.modifier
 IsItemOf options kind part item =
-    (match : Matched) × (item ≡ Capture part.prefix part.name match part.suffix part.modifier)
-    × (kind_of options (compared options match) ≡ part.kind) × (value_of part.kind (compared options match) ≡ part.value)
+    (match : PlaceholderKindView) × (item ≡ Capture part.prefix part.name match part.suffix part.modifier)
+    × (kind_of options (placeholder_regexp options match) ≡ part.kind) × (value_of part.kind (placeholder_regexp options match) ≡ part.value)
 
 -- The items spell the parts, one by one.
 abbrev pub AreItemsOf : OptionsView → List PartView → List Item → Type 0

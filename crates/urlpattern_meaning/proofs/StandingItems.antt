@@ -11,8 +11,8 @@ use Rattle.urlpattern_syntax.specs.declared.tokenizer.TokenType.TheVariants.{End
 use Rattle.urlpattern_syntax.specs.Errors.{ErrorView}
 use Rattle.urlpattern_syntax.specs.Options.{OptionsView}
 use Rattle.urlpattern_syntax.specs.Parts.{PartView, fixed_text}
-use Rattle.urlpattern_syntax.specs.Pieces.{Matched, Ending as endings}
-use Rattle.urlpattern_syntax.specs.Reading.{AreMet, AreParts, Capture, Encoding, FirstFails, Fixed, Item, capture_part, compared, demands_after, encode_fixed, value_of}
+use Rattle.urlpattern_syntax.specs.Pieces.{PlaceholderKindView, Ending as endings}
+use Rattle.urlpattern_syntax.specs.Reading.{AreMet, AreParts, Capture, Encoding, FirstFails, Fixed, Item, capture_part, placeholder_regexp, demands_after, encode_fixed, value_of}
 use Rattle.urlpattern_syntax.specs.RegexpText.{is_fixed_text}
 use Rattle.urlpattern_syntax.specs.Tokens.{TokenView}
 use Rattle.urlpattern_meaning.specs.Printing.{HaveTexts, encoded_texts}
@@ -41,7 +41,7 @@ each_contained (text ∷ texts) =
 pub data AllStand (options : OptionsView) (Of : List ℕ → Type 0) : List PartView → List Item → Type 0 where
   none : AllStand options Of [] []
   fixed : (c : ℕ) (text : List ℕ) (modifier : PartModifier) (parts : List PartView) (items : List Item) → Of (c ∷ text) → AllStand options Of parts items → AllStand options Of (fixed_text (c ∷ text) modifier ∷ parts) (Fixed (c ∷ text) modifier ∷ items)
-  group : (prefix name : List ℕ) (match : Matched) (suffix : List ℕ) (modifier : PartModifier) (parts : List PartView) (items : List Item) → Of prefix → Of suffix → AllStand options Of parts items → AllStand options Of (capture_part options prefix name match suffix modifier ∷ parts) (Capture prefix name match suffix modifier ∷ items)
+  group : (prefix name : List ℕ) (match : PlaceholderKindView) (suffix : List ℕ) (modifier : PartModifier) (parts : List PartView) (items : List Item) → Of prefix → Of suffix → AllStand options Of parts items → AllStand options Of (capture_part options prefix name match suffix modifier ∷ parts) (Capture prefix name match suffix modifier ∷ items)
 
 module _ (options : OptionsView) (Of : List ℕ → Type 0) where
   -- The texts of a part of this kind, and of the parts after it.
@@ -70,7 +70,7 @@ module _ (options : OptionsView) (Of : List ℕ → Type 0) where
       (filled refl) texts.0 is more
   stand_first kind part item parts items number e is fields name filled texts more =
       let same : part ≡ capture_part options part.prefix part.name is.0 part.suffix part.modifier =
-      λ i. record { kind = sym is.2 i; value = (sym is.3 ∙ ap (λ k. value_of k (compared options is.0)) (sym is.2)) i; modifier = part.modifier; name = part.name; prefix = part.prefix; suffix = part.suffix } in
+      λ i. record { kind = sym is.2 i; value = (sym is.3 ∙ ap (λ k. value_of k (placeholder_regexp options is.0)) (sym is.2)) i; modifier = part.modifier; name = part.name; prefix = part.prefix; suffix = part.suffix } in
       subst (λ x. AllStand options Of (x ∷ parts) (item ∷ items)) (sym same)
       (subst (λ x. AllStand options Of (capture_part options part.prefix part.name is.0 part.suffix part.modifier ∷ parts) (x ∷ items)) (sym is.1)
       (group part.prefix part.name is.0 part.suffix part.modifier parts items texts.0 texts.1.0 more))

@@ -2,4 +2,4 @@
 //! matching and printing, with the laws of these definitions.
 #![tactic(auto)]
 
-pub mod laws;
+pub mod meaning_laws;

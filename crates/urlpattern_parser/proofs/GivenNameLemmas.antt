@@ -29,7 +29,6 @@ knows_none given none = record {
 }
 
 module _ (names : List (List ℕ)) (given : GivenNames) (number : ℕ) (knows : KnowsNames names given number) where
-
   -- A number is added to the names.
   pub knows_number : number < 2 ^ 64 → KnowsNames (names ++ decimal number ∷ []) given (number + 1)
   knows_number small = record {

@@ -1,5 +1,5 @@
 pub mod LexemeLemmas
-pub mod GroupLemmas
+pub mod GroupPieceLemmas
 pub mod PartListLemmas
 pub mod ReaderLemmas
 pub mod BracedLemmas

@@ -7,7 +7,7 @@ use Rattle.urlpattern_parser.specs.declared.parser.pieces.Reader.{Reader}
 use Rattle.urlpattern_syntax.specs.Parsing.{BeginsWithPiece, BeginsWithRow, HasEndingAt}
 use Rattle.urlpattern_parser.specs.Readers.{HasTokensLeft, StartsText, Takes}
 use Rattle.urlpattern_syntax.specs.Pieces.{ArePieces, BeginsWithKind, Ending, IsEnding, Piece, is_text, Piece as kinds_of_piece}
-use Rattle.urlpattern_syntax.specs.Stops.{IsStopOf, found_in}
+use Rattle.urlpattern_syntax.specs.Stops.{IsStopOf, stopping_token}
 use Rattle.urlpattern_syntax.specs.Tokens.{AreTokens, TokenView, token_view}
 use Rattle.urlpattern_parser.proofs.PartListLemmas.{no_placeholder, row_goes_on}
 
@@ -67,7 +67,7 @@ module _ (point text : List ℕ) where
         }
 
     -- The token with which no piece begins.
-    pub stop_reached : (ending : TokenView → Ending) → ((found : TokenView) → found ≡ found_in (ending found)) → Takes old new (λ tokens rest. HasEndingAt tokens ending rest) →
+    pub stop_reached : (ending : TokenView → Ending) → ((found : TokenView) → found ≡ stopping_token (ending found)) → Takes old new (λ tokens rest. HasEndingAt tokens ending rest) →
         (tokens : List TokenView) × HasTokensLeft new tokens → IsStopOf text point (token_view old.token) (token_view new.token)
     stop_reached ending is takes left =
         let t = takes.gives left.0 left.1 in

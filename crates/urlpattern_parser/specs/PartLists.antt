@@ -3,7 +3,7 @@
 use Rattle.std.specs.Prelude.{◌≡◌, ℕ, List, [], ◌∷◌, ◌++◌, Contains, Option}
 use Rattle.std.specs.Borrow.{Bor}
 use Rattle.urlpattern_parser.specs.declared.parser.part_list.PartList.{PartList}
-use Rattle.urlpattern_parser.specs.declared.parser.{PatternParser.PatternParser, pieces.Matched.Matched, pieces.Piece.Piece, pieces.Placeholder.Placeholder}
+use Rattle.urlpattern_parser.specs.declared.parser.{PatternParser.PatternParser, pieces.PlaceholderKind.PlaceholderKind, pieces.Piece.Piece, pieces.Placeholder.Placeholder}
 use Rattle.urlpattern_syntax.specs.declared.tokenizer.TokenType.TheVariants.{End}
 use Rattle.urlpattern_syntax.specs.Errors.{ErrorView}
 use Rattle.urlpattern_syntax.specs.declared.error.Error.{Error}
@@ -13,7 +13,7 @@ use Rattle.urlpattern_parser.specs.Readers.{KnowsNames, group_item, matched_view
 use Rattle.urlpattern_syntax.specs.Parts.{parts_view}
 use Rattle.urlpattern_syntax.specs.declared.parser.Part.{Part}
 use Rattle.urlpattern_syntax.specs.declared.parser.PartModifier.{PartModifier}
-use Rattle.urlpattern_syntax.specs.Reading.{Calls, Demand, Encoding, Expect, Fixed, Item, Reads, Refuses, compared, encode_fixed, encoding_by, item, name_or}
+use Rattle.urlpattern_syntax.specs.Reading.{Calls, Demand, Encoding, Expect, Fixed, Item, Reads, Refuses, placeholder_regexp, encode_fixed, encoding_by, item, name_or}
 use Rattle.urlpattern_syntax.specs.RegexpText.{group_names}
 use Rattle.urlpattern_syntax.specs.Tokens.{token_view}
 use Rattle.urlpattern_syntax.specs.declared.tokenizer.Token.{Token}
@@ -38,8 +38,8 @@ abbrev pub ParserRefuses : {F : Type 0} → Calls F → PatternParser F → List
 ParserRefuses calls parser text error = Refuses text (parser_options parser) (parser_encoding calls parser) error
 
 -- The regular expression that decides the kind of a placeholder's part.
-abbrev pub matched_regexp : {F : Type 0} → PatternParser F → Matched → List ℕ
-matched_regexp parser matched = compared (parser_options parser) (matched_view matched)
+abbrev pub matched_regexp : {F : Type 0} → PatternParser F → PlaceholderKind → List ℕ
+matched_regexp parser matched = placeholder_regexp (parser_options parser) (matched_view matched)
 
 -- ---- the names of a list
 

@@ -3,7 +3,7 @@
 use Rattle.std.specs.Prelude.{◌≡◌, ◌≢◌, ◌<◌, ◌≤◌, ◌+◌, ℕ, ◌⊎◌, List, [], ◌∷◌, ◌++◌, length, decimal, Contains, IsTrue, ◌^◌, ◌↔◌}
 use Rattle.std.specs.Str.{chars, IsUtf8}
 use Rattle.std.specs.Borrow.{Bor}
-use Rattle.urlpattern_parser.specs.declared.parser.pieces.{Matched.Matched as MatchedValue, Next.Next, Piece.Piece as PieceValue, Placeholder.Placeholder as PlaceholderValue, Reader.Reader}
+use Rattle.urlpattern_parser.specs.declared.parser.pieces.{PlaceholderKind.PlaceholderKind as MatchedValue, Next.Next, Piece.Piece as PieceValue, Placeholder.Placeholder as PlaceholderValue, Reader.Reader}
 use Rattle.urlpattern_syntax.specs.declared.tokenizer.TokenType.TheVariants.{End}
 use Rattle.urlpattern_parser.specs.declared.parser.part_list.PartList.{PartList}
 use Rattle.urlpattern_syntax.specs.Cursors.{AreTokensAfter, IsPlace, tokens_left}
@@ -17,7 +17,7 @@ use Rattle.urlpattern_syntax.specs.Parsing.{IsTokenList, IsModifierSpelled, IsNa
 use Rattle.urlpattern_syntax.specs.Parts.{parts_view}
 use Rattle.urlpattern_syntax.specs.declared.parser.PartModifier.{PartModifier}
 use Rattle.urlpattern_syntax.specs.Text.{option_text, text_of}
-use Rattle.urlpattern_syntax.specs.Pieces.{Piece, Placeholder, Matched, Ending, IsPrefixOf}
+use Rattle.urlpattern_syntax.specs.Pieces.{Piece, Placeholder, PlaceholderKindView, Ending, IsPrefixOf}
 use Rattle.urlpattern_syntax.specs.Reading.{Item, Capture, name_or}
 use Rattle.urlpattern_syntax.specs.Tokens.{AreTokens, ReportsFault, TokenView, token_view}
 
@@ -57,10 +57,10 @@ pub record StartsText (text : List ℕ) (reader : Reader) : Type 0 where
   pub all : (tokens : List TokenView) → HasTokensLeft reader tokens → AreTokens text tokens
 
 -- What a placeholder matches, as a value of the specification.
-abbrev pub matched_view : MatchedValue → Matched
-matched_view MatchedValue.Segment = Matched.Segment
-matched_view (MatchedValue.Custom body) = Matched.Custom (chars body.now)
-matched_view MatchedValue.Anything = Matched.Anything
+abbrev pub matched_view : MatchedValue → PlaceholderKindView
+matched_view MatchedValue.Segment = PlaceholderKindView.Segment
+matched_view (MatchedValue.Custom body) = PlaceholderKindView.Custom (chars body.now)
+matched_view MatchedValue.Anything = PlaceholderKindView.Anything
 
 -- A placeholder, as a value of the specification.
 abbrev pub placeholder_view : PlaceholderValue → Placeholder

@@ -17,7 +17,7 @@ mod stop;
 
 use crate::tokenizer::{Token, TokenType};
 use part_list::PartList;
-use pieces::{Matched, Next, Reader};
+use pieces::{Next, PlaceholderKind, Reader};
 use std::alloc::{AllocError, Global};
 pub use stop::Stop;
 use urlpattern_syntax::error::{Error, ParserError};
@@ -77,7 +77,7 @@ impl<F: Fn(&str) -> Result<String, Error>> PatternParser<'_, F> {
         loop {
             reader.next_piece(&self.options.prefix_code_point, &mut next)?;
             match &next {
-                Next::Piece(piece) => match list.add(self, piece) {
+                Next::Piece(piece) => match list.add_piece(self, piece) {
                     Ok(()) => {}
                     Err(error) => return Err(first_fault(reader, error)),
                 },
@@ -128,14 +128,14 @@ impl<F: Fn(&str) -> Result<String, Error>> PatternParser<'_, F> {
     /// Returns the kind of a placeholder's part, and its value: the body of a custom regular
     /// expression that is not a wildcard.
     #[inline(always)]
-    fn kind_and_value(&self, matched: Matched<'_>) -> Result<(PartType, String), AllocError>
+    fn kind_and_value(&self, matched: PlaceholderKind<'_>) -> Result<(PartType, String), AllocError>
         ensures kind { IfOk result (λ found. found.0 ≡ kind_of (parser_options self.now) (matched_regexp self.now matched.entry)) }
         ensures value { IfOk result (λ found. text_of found.1 ≡ value_of found.0 (matched_regexp self.now matched.entry)) }
     {
         match matched {
-            Matched::Segment => Ok((PartType::SegmentWildcard, String::new(self.alloc))),
-            Matched::Anything => Ok((PartType::FullWildcard, String::new(self.alloc))),
-            Matched::Custom(body) => self.kind_by_regexp(body),
+            PlaceholderKind::Segment => Ok((PartType::SegmentWildcard, String::new(self.alloc))),
+            PlaceholderKind::Anything => Ok((PartType::FullWildcard, String::new(self.alloc))),
+            PlaceholderKind::Custom(body) => self.kind_by_regexp(body),
         }
     }
 

@@ -39,7 +39,7 @@ use Rattle.urlpattern_matches.specs.MatchInput.{input_texts}
 use Rattle.urlpattern_pattern.specs.Match.{FindsInTexts, IsLongInput, IsMatchOf, IsRefused}
 use Rattle.urlpattern_matches.specs.ResultViews.{IsResultOf, IsSameResult, ResultView, group_of}
 use Rattle.urlpattern_pattern.specs.ByTextLaws.{AllHaveMeaning, FindingsAreOne, IsSameFinding, TakenPatternsAnswerByText}
-use Rattle.urlpattern_pattern.specs.Meaning.{IsExecuted, ReadsAs}
+use Rattle.urlpattern_pattern.specs.MatchMeaning.{IsExecuted, ReadsAs}
 use Rattle.urlpattern_pattern.specs.Patterns.{PatternView}
 
 -- ---- no custom regular expression

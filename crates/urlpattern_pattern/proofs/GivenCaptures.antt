@@ -11,7 +11,7 @@ use Rattle.std.specs.Prelude.{◌||◌, filter, not, if◌then◌else◌}
 use Rattle.urlpattern_generate.specs.Asked.{AreAsked, IsAsked, IsAskedBy}
 use Rattle.urlpattern_generate.specs.Manners.{WritingManner}
 use Rattle.urlpattern_generate.specs.Links.{OfFirst, captures_after}
-use Rattle.urlpattern_matches.proofs.GroupLemmas.{lookup-append}
+use Rattle.urlpattern_matches.proofs.MatchGroupLemmas.{lookup-append}
 use Rattle.urlpattern_matches.specs.ResultViews.{group_of}
 use Rattle.urlpattern_meaning.specs.PartMeaning.{Captures}
 use Rattle.urlpattern_syntax.specs.declared.parser.PartType.{PartType}

@@ -5,7 +5,7 @@ use Rattle.urlpattern_matcher.specs.declared.component.{Component.Component, Com
 use Rattle.urlpattern_matcher.specs.declared.regexp.RegExp.{Ghosts as Engine}
 use Rattle.urlpattern_compile.proofs.CompiledLemmas.{kept_compiled}
 use Rattle.urlpattern_compile.specs.Compiled.{AreCompiled, HasEngine, IsComponentCompiled, IsPathKind, IsPatternOfInit, manner_of}
-use Rattle.urlpattern_compile.specs.Kept.{AreCompiledKeeping, IsKeptOfInit}
+use Rattle.urlpattern_compile.specs.KeptComponents.{AreCompiledKeeping, IsKeptOfInit}
 use Rattle.urlpattern_compile.specs.PatternViews.{eight_view}
 use Rattle.urlpattern_components.specs.declared.eight.ComponentName.TheVariants.{Protocol}
 use Rattle.urlpattern_components.specs.declared.eight.Eight.{Eight}
@@ -14,7 +14,7 @@ use Rattle.urlpattern_init.specs.declared.init.UrlPatternInit.{UrlPatternInit}
 use Rattle.urlpattern_inputs.specs.declared.options.UrlPatternOptions.{UrlPatternOptions}
 use Rattle.urlpattern_pattern.specs.KeptParts.{AreParted, AreReadInManner, KeepsPartsOf}
 use Rattle.urlpattern_pattern.specs.UrlPatterns.{AreMadeOfParts, UrlPattern}
-use Rattle.urlpattern_compare.specs.declared.pattern.PatternParts.{PatternParts}
+use Rattle.urlpattern_compare.specs.declared.pattern_parts.PatternParts.{PatternParts}
 use Rattle.urlpattern_syntax.specs.ComponentParts.{kept_options, kept_parts}
 use Rattle.urlpattern_syntax.specs.declared.parts.ComponentParts.{ComponentParts}
 

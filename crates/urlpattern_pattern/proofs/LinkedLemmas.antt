@@ -15,20 +15,20 @@ use Rattle.urlpattern_components.specs.declared.eight.ComponentName.{ComponentNa
 use Rattle.urlpattern_components.specs.declared.eight.ComponentName.TheVariants.{Protocol}
 use Rattle.urlpattern_components.specs.Eight.{IsFirstError, Texts, at, components}
 use Rattle.urlpattern_generate.specs.Manners.{GivenView, manner_for}
-use Rattle.urlpattern_generate.specs.Writing.{CannotWrite, IsWritten, cow_text}
-use Rattle.urlpattern_generate.specs.declared.error.GenerateError.{GenerateError}
-use Rattle.urlpattern_generate.specs.declared.error.GenerateError.TheVariants as generating
+use Rattle.urlpattern_generate.specs.WrittenTexts.{CannotWrite, IsWritten, cow_text}
+use Rattle.urlpattern_generate.specs.declared.generate_error.GenerateError.{GenerateError}
+use Rattle.urlpattern_generate.specs.declared.generate_error.GenerateError.TheVariants as generating
 use Rattle.urlpattern_init.specs.Inheritance.{texts_of_url}
 use Rattle.urlpattern_init.specs.declared.init.UrlPatternMatchInput.TheVariants as inputs
 use Rattle.urlpattern_matches.specs.ResultViews.{group_of}
 use Rattle.urlpattern_meaning.specs.Matching.{Accepts, Answers, InnerView, Literal, MatcherView, RegExp, SingleCapture}
 use Rattle.urlpattern_meaning.specs.PartMeaning.{Captures}
 use Rattle.urlpattern_pattern.proofs.GivenCaptures.{given_captured}
-use Rattle.urlpattern_pattern.specs.GeneratedTexts.{HasParts, manner_in, parts_in}
+use Rattle.urlpattern_pattern.specs.ComponentTexts.{HasParts, manner_in, parts_in}
 use Rattle.urlpattern_pattern.specs.LinkedUrls.{AnswersParts, AreWritten, IsCapturedBy, IsConfirmed, IsConfirmedBefore, IsLink, IsLinkOf, IsOther, RefusesLink, RefusesLinkOf, ReturnsGiven, TellsConfirmed}
 use Rattle.urlpattern_pattern.specs.Match.{HasMatch}
 use Rattle.urlpattern_pattern.specs.UrlPatterns.{AreMadeOfParts, UrlPattern}
-use Rattle.urlpattern_compare.specs.declared.pattern.PatternParts.{PatternParts}
+use Rattle.urlpattern_compare.specs.declared.pattern_parts.PatternParts.{PatternParts}
 use Rattle.urlpattern_syntax.specs.ComponentParts.{kept_options, kept_parts}
 use Rattle.urlpattern_syntax.specs.declared.parts.ComponentParts.{ComponentParts}
 use Rattle.urlpattern_generate.specs.UrlsOfTexts.{IsReadOfTexts, RefusesTexts}

@@ -6,7 +6,7 @@ use Rattle.urlpattern_components.specs.declared.eight.ComponentName.{ComponentNa
 use Rattle.urlpattern_init.specs.declared.init.UrlPatternMatchInput.{UrlPatternMatchInput}
 use Rattle.urlpattern_components.specs.declared.eight.Eight.{Eight}
 use Rattle.urlpattern_components.proofs.EightLemmas.{by_name}
-use Rattle.urlpattern_pattern.specs.Calls.{AreLooks, AskWithCause}
+use Rattle.urlpattern_pattern.specs.MatchCalls.{AreLooks, AskWithCause}
 use Rattle.urlpattern_matches.specs.GroupTexts.{borrowed_texts}
 use Rattle.urlpattern_pattern.specs.Match.{AreMatched, AsksAnEngine, FindsInTexts, HasMatch, HasNoMatch, IsMatch, IsMatchOf, IsRefused}
 use Rattle.urlpattern_matches.specs.ResultViews.{IsSameResult, ResultView}

@@ -19,7 +19,7 @@ use Rattle.urlpattern_pattern.specs.Match.{HasNoMatch, IsLongInput, IsMatch}
 use Rattle.urlpattern_matches.specs.ResultViews.{IsResultOf, ResultView, group_of, result_view}
 use Rattle.urlpattern_matches.specs.declared.result.UrlPatternResult.{UrlPatternResult}
 use Rattle.urlpattern_matches.specs.MatchInput.{input_texts}
-use Rattle.urlpattern_pattern.specs.Meaning.{IsExecuted, IsFoundByMeaning, IsMeant, MeaningPremises, ReadsAs}
+use Rattle.urlpattern_pattern.specs.MatchMeaning.{IsExecuted, IsFoundByMeaning, IsMeant, MeaningPremises, ReadsAs}
 use Rattle.urlpattern_pattern.specs.Patterns.{PatternView}
 use Rattle.urlpattern_syntax.specs.declared.parser.PartType.{PartType}
 use Rattle.urlpattern_syntax.specs.declared.parser.PartType.TheVariants.{Regexp}

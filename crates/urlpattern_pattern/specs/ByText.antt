@@ -19,7 +19,7 @@ use Rattle.urlpattern_pattern.specs.Match.{IsLongInput}
 use Rattle.urlpattern_matches.specs.ResultViews.{IsResultOf, ResultView}
 use Rattle.urlpattern_matches.specs.MatchInput.{input_texts}
 use Rattle.urlpattern_pattern.specs.Patterns.{PatternView}
-use Rattle.urlpattern_pattern.specs.Meaning.{IsExecuted, IsFoundByMeaning, ReadsAs}
+use Rattle.urlpattern_pattern.specs.MatchMeaning.{IsExecuted, IsFoundByMeaning, ReadsAs}
 
 -- The pattern text has no custom regular expression.
 abbrev pub ReadsNoCustom : Manner → Type 0

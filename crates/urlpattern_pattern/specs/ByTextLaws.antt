@@ -14,7 +14,7 @@ use Rattle.urlpattern_compile.specs.Compiled.{AreCompiled, IsComponentCompiled, 
 use Rattle.urlpattern_pattern.specs.Match.{FindsInTexts, IsLongInput}
 use Rattle.urlpattern_matches.specs.ResultViews.{IsSameResult, ResultView}
 use Rattle.urlpattern_matches.specs.MatchInput.{input_texts}
-use Rattle.urlpattern_pattern.specs.Meaning.{IsExecuted, ReadsAs}
+use Rattle.urlpattern_pattern.specs.MatchMeaning.{IsExecuted, ReadsAs}
 use Rattle.urlpattern_pattern.specs.Patterns.{PatternView}
 
 -- ---- patterns that return what their texts say

@@ -13,7 +13,7 @@ use Rattle.urlpattern_init.specs.declared.init.UrlPatternInit.{UrlPatternInit}
 use Rattle.urlpattern_inputs.specs.declared.options.UrlPatternOptions.{UrlPatternOptions}
 use Rattle.urlpattern_pattern.specs.Patterns.{pattern_view}
 use Rattle.urlpattern_pattern.specs.UrlPatterns.{AreMadeOfParts, UrlPattern}
-use Rattle.urlpattern_compare.specs.declared.pattern.PatternParts.{PatternParts}
+use Rattle.urlpattern_compare.specs.declared.pattern_parts.PatternParts.{PatternParts}
 use Rattle.urlpattern_syntax.specs.ComponentParts.{kept_options, kept_parts}
 use Rattle.urlpattern_syntax.specs.declared.parts.ComponentParts.{ComponentParts}
 

@@ -1,12 +1,12 @@
 pub mod ByText
 pub mod ByTextLaws
-pub mod Calls
-pub mod Comparing
-pub mod GeneratedTexts
+pub mod MatchCalls
+pub mod PatternComparing
+pub mod ComponentTexts
 pub mod KeptParts
 pub mod LinkedUrls
 pub mod Match
-pub mod Meaning
+pub mod MatchMeaning
 pub mod Mismatch
 pub mod Patterns
 pub mod UrlPatterns

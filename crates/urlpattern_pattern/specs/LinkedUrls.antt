@@ -9,17 +9,17 @@ use Rattle.urlpattern_components.specs.declared.eight.ComponentName.{ComponentNa
 use Rattle.urlpattern_components.specs.Eight.{IsFirstError, Texts, at, components}
 use Rattle.urlpattern_generate.specs.Generating.{FindsAsked, FindsOther}
 use Rattle.urlpattern_generate.specs.Manners.{GivenView, text_given}
-use Rattle.urlpattern_generate.specs.Writing.{CannotWrite, IsWritten, cow_text}
-use Rattle.urlpattern_generate.specs.declared.error.GenerateError.{GenerateError}
-use Rattle.urlpattern_generate.specs.declared.error.GenerateError.TheVariants as generating
+use Rattle.urlpattern_generate.specs.WrittenTexts.{CannotWrite, IsWritten, cow_text}
+use Rattle.urlpattern_generate.specs.declared.generate_error.GenerateError.{GenerateError}
+use Rattle.urlpattern_generate.specs.declared.generate_error.GenerateError.TheVariants as generating
 use Rattle.urlpattern_init.specs.Inheritance.{texts_of_url}
 use Rattle.urlpattern_init.specs.declared.init.UrlPatternMatchInput.TheVariants as inputs
 use Rattle.urlpattern_matches.specs.ResultViews.{ResultView}
 use Rattle.urlpattern_meaning.specs.PartMeaning.{Captures}
-use Rattle.urlpattern_pattern.specs.GeneratedTexts.{HasParts, manner_in, parts_in}
+use Rattle.urlpattern_pattern.specs.ComponentTexts.{HasParts, manner_in, parts_in}
 use Rattle.urlpattern_pattern.specs.Match.{IsMatch}
 use Rattle.urlpattern_pattern.specs.UrlPatterns.{UrlPattern}
-use Rattle.urlpattern_compare.specs.declared.pattern.PatternParts.{PatternParts}
+use Rattle.urlpattern_compare.specs.declared.pattern_parts.PatternParts.{PatternParts}
 use Rattle.urlpattern_generate.specs.UrlsOfTexts.{IsReadOfTexts, RefusesTexts}
 use Rattle.urlpattern_generate.specs.declared.no_link.NoLink.{NoLink}
 use Rattle.urlpattern_generate.specs.declared.no_link.NoLink.TheVariants.{Component, OutOfMemory}

@@ -7,7 +7,7 @@ use Rattle.urlpattern_compile.specs.{Compiled.HasEngine, PatternViews.PatternVie
 use Rattle.urlpattern_components.specs.declared.eight.ComponentName.{ComponentName}
 use Rattle.urlpattern_components.specs.declared.eight.Eight.{Eight}
 use Rattle.urlpattern_components.specs.Eight.{at}
-use Rattle.urlpattern_compare.specs.declared.pattern.PatternParts.{PatternParts}
+use Rattle.urlpattern_compare.specs.declared.pattern_parts.PatternParts.{PatternParts}
 use Rattle.urlpattern_syntax.specs.ComponentParts.{kept_options, kept_parts}
 use Rattle.urlpattern_syntax.specs.declared.parts.ComponentParts.{ComponentParts}
 

@@ -1,9 +1,9 @@
 //! A URL pattern: eight components, compiled from an init or a constructor string, and matched
 //! against URLs and inits.
 //!
-//! `urlpattern` re-exports `UrlPattern`; `captures_of_texts` is for calls within that crate.
+//! `urlpattern` re-exports `UrlPattern`; `match_of_texts` is for calls within that crate.
 #![tactic(auto)]
 
 mod pattern;
 
-pub use pattern::{CompareError, UrlPattern, captures_of_texts};
+pub use pattern::{CompareError, UrlPattern, match_of_texts};

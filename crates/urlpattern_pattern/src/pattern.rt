@@ -16,7 +16,7 @@ mod matching;
 mod mismatch;
 
 pub use compare::CompareError;
-pub use matching::captures_of_texts;
+pub use matching::match_of_texts;
 use std::marker::Model;
 use urlpattern_compare::PatternParts;
 use urlpattern_components::{ComponentName, Eight, field_of, with_fields};

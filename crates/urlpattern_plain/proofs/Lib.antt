@@ -1,5 +1,5 @@
-pub mod JsonExamples
+pub mod PatternJsonExamples
 pub mod ItemLemmas
 pub mod PatternLemmas
-pub mod RoundTrip
-pub mod CopyLemmas
+pub mod PatternRoundTrip
+pub mod CopiedPatterns

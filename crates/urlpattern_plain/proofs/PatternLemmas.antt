@@ -3,10 +3,10 @@ use Rattle.std.proofs.Common.{◌≡◌, None, Some, codes, refl}
 use Rattle.serde_json.specs.Data.{Data}
 use Rattle.urlpattern_inputs.specs.ReadResults.{IsUnread}
 use Rattle.urlpattern_inputs.specs.Trees.{flag_read, member_read, read_each}
-use Rattle.urlpattern_inputs.specs.declared.reading.Unread.{Unread}
-use Rattle.urlpattern_inputs.specs.declared.reading.Unread.TheVariants.{OutOfMemory, Shape}
+use Rattle.urlpattern_inputs.specs.declared.json_reading.Unread.{Unread}
+use Rattle.urlpattern_inputs.specs.declared.json_reading.Unread.TheVariants.{OutOfMemory, Shape}
 use Rattle.urlpattern_inputs.proofs.EachLemmas.{nothing}
-use Rattle.urlpattern_plain.specs.Json.{component_read, pattern_read}
+use Rattle.urlpattern_plain.specs.PatternJson.{component_read, pattern_read}
 use Rattle.urlpattern_plain.specs.Values.{PlainPatternView}
 use Rattle.urlpattern_components.specs.Eight.{name_text}
 

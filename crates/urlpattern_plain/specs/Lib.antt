@@ -1,3 +1,3 @@
 pub mod Values
-pub mod Json
+pub mod PatternJson
 pub mod Plain

@@ -2,20 +2,20 @@
 
 ghost use Rattle.std.specs.Prelude.{◌≡◌, IfOk, OnOk, option_map};
 ghost use Rattle.serde_json.specs.View.{view};
-ghost use Rattle.urlpattern_plain.specs.Json.{capture_read, inner_members, inner_read, inner_tree, matcher_read, matcher_tree};
+ghost use Rattle.urlpattern_plain.specs.PatternJson.{capture_read, inner_members, inner_read, inner_tree, matcher_read, matcher_tree};
 ghost use Rattle.urlpattern_matcher.specs.Matchers as compiled;
 ghost use Rattle.urlpattern_inputs.specs.{ReadResults.ReturnsRead, Trees.GainAll};
 ghost use Rattle.urlpattern_plain.specs.Plain.{engine_text, plain_inner, plain_matcher};
 ghost use Rattle.urlpattern_plain.specs.Values.{inner_by, plain_inner_view, matcher_by, plain_matcher_view};
 ghost use Rattle.urlpattern_syntax.specs.{Errors.OnlyOutOfMemory, Text.text_of};
 
-use crate::reading::optional_character_field;
-use crate::writing::filter_value;
+use crate::pattern_reading::optional_character_field;
+use crate::pattern_writing::filter_value;
 use serde::{Deserialize, Serialize};
 use serde_json::{Map, Value};
 use std::alloc::{AllocError, Global};
-use urlpattern_inputs::reading::{Unread, flag_field, read_or_none, text_field, text_of};
-use urlpattern_inputs::writing::put_text;
+use urlpattern_inputs::json_reading::{Unread, flag_field, read_or_none, text_field, text_of};
+use urlpattern_inputs::json_writing::put_text;
 use urlpattern_matcher::matcher;
 use urlpattern_matcher::regexp::RegExp;
 use urlpattern_syntax::Error;
@@ -103,7 +103,7 @@ impl Matcher {
         read_or_none(Self::read(alloc, value))
     }
 
-    #[tactic(auto, unfolding(crate::specs::Json::matcher_read))]
+    #[tactic(auto, unfolding(crate::specs::PatternJson::matcher_read))]
     pub(crate) fn read(alloc: Global, value: &Value) -> Result<Self, Unread>
         ensures { ReturnsRead plain_matcher_view result (matcher_read (view value.now)) }
     {
@@ -185,7 +185,7 @@ impl InnerMatcher {
     }
 
     /// Reads the keys of the kind that the object names.
-    #[tactic(auto, unfolding(crate::specs::Json::inner_read))]
+    #[tactic(auto, unfolding(crate::specs::PatternJson::inner_read))]
     fn read(alloc: Global, value: &Value) -> Result<Self, Unread>
         ensures { ReturnsRead plain_inner_view result (inner_read (view value.now)) }
     {
@@ -203,7 +203,7 @@ impl InnerMatcher {
         }
     }
 
-    #[tactic(auto, unfolding(crate::specs::Json::capture_read))]
+    #[tactic(auto, unfolding(crate::specs::PatternJson::capture_read))]
     fn read_capture(value: &Value) -> Result<Self, Unread>
         ensures { ReturnsRead plain_inner_view result (capture_read (view value.now)) }
     {

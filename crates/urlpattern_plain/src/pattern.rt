@@ -2,7 +2,7 @@
 
 ghost use Rattle.std.specs.Prelude.{◌≡◌, IfOk, OnOk, Some, option_map};
 ghost use Rattle.serde_json.specs.View.{view};
-ghost use Rattle.urlpattern_plain.specs.Json.{component_read, component_tree, matcher_read, pattern_read, pattern_tree};
+ghost use Rattle.urlpattern_plain.specs.PatternJson.{component_read, component_tree, matcher_read, pattern_read, pattern_tree};
 ghost use Rattle.urlpattern_matcher.specs.Components as compiled;
 ghost use Rattle.urlpattern_plain.specs.Plain.{plain_component};
 ghost use Rattle.urlpattern_inputs.specs.ReadResults.{ReturnsRead};
@@ -13,14 +13,14 @@ ghost use Rattle.urlpattern_syntax.specs.Errors.{OnlyOutOfMemory};
 ghost use Rattle.urlpattern_syntax.specs.Text.{text_of};
 
 use crate::matcher::{Matcher, engine_text};
-use crate::reading::texts_field;
-use crate::writing::texts_value;
+use crate::pattern_reading::texts_field;
+use crate::pattern_writing::texts_value;
 use serde::{Deserialize, Serialize};
 use serde_json::{Map, Value};
 use std::alloc::{AllocError, Global};
 use urlpattern_components::{ComponentName, Eight, field_of, with_fields};
-use urlpattern_inputs::reading::{Unread, flag_field, member, read_or_none, text_field};
-use urlpattern_inputs::writing::put_text;
+use urlpattern_inputs::json_reading::{Unread, flag_field, member, read_or_none, text_field};
+use urlpattern_inputs::json_writing::put_text;
 use urlpattern_matcher::component::Component;
 use urlpattern_matcher::regexp::RegExp;
 use urlpattern_syntax::Error;
@@ -115,7 +115,7 @@ impl UrlPattern {
         read_or_none(Self::read(alloc, value))
     }
 
-    #[tactic(auto, unfolding(crate::specs::Json::pattern_read))]
+    #[tactic(auto, unfolding(crate::specs::PatternJson::pattern_read))]
     fn read(alloc: Global, value: &Value) -> Result<Self, Unread>
         ensures { ReturnsRead plain_pattern_view result (pattern_read (view value.now)) }
     {
@@ -194,7 +194,7 @@ impl UrlPatternComponent {
         read_or_none(Self::read(alloc, value))
     }
 
-    #[tactic(auto, unfolding(crate::specs::Json::component_read))]
+    #[tactic(auto, unfolding(crate::specs::PatternJson::component_read))]
     fn read(alloc: Global, value: &Value) -> Result<Self, Unread>
         ensures { ReturnsRead plain_component_view result (component_read (view value.now)) }
     {

@@ -1,4 +1,4 @@
 pub mod Generated
 pub mod Neighbours
 pub mod NormalForms
-pub mod PartTexts
+pub mod WrittenParts

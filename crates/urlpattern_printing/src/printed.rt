@@ -5,7 +5,7 @@
 ghost use Rattle.std.specs.Prelude.{◌≡◌, ◌&&◌, ◌||◌, false, IfOk};
 ghost use Rattle.std.specs.Str.{chars};
 ghost use Rattle.urlpattern_printing.specs.Neighbours.{ends_with_prefix, neighbour};
-ghost use Rattle.urlpattern_printing.specs.{NormalForms.ReadsBackIfKept, PartTexts.group_part};
+ghost use Rattle.urlpattern_printing.specs.{NormalForms.ReadsBackIfKept, WrittenParts.group_part};
 ghost use Rattle.urlpattern_meaning.specs.Printing.{escaped_pattern, goes_on, has_custom_name, has_other_prefix, has_suffix, in_braces, is_asterisk, is_name_alone, needs_braces, printed, printed_fixed, printed_match, printed_name, printed_part, printed_suffix, takes_before, takes_next, admits_asterisk};
 ghost use Rattle.urlpattern_syntax.specs.{Errors.OnlyOutOfMemory, Options.options_view, RegexpText.is_fixed_text};
 ghost use Rattle.urlpattern_syntax.specs.Parts.{part_view, parts_view};
@@ -109,7 +109,7 @@ impl PrintedPart<'_> {
         ensures { W.Writes writer.old (group_part self.now braces) writer.new }
     {
         let part = self.part;
-        let matched = Matched {
+        let matched = PrintedBody {
             options: self.options,
             part,
             asterisk: is_asterisk(self.previous, part, braces),
@@ -172,13 +172,13 @@ impl Writable for Name<'_> {
 
 /// The regular expression or asterisk of a part, unless the name alone says it.
 #[derive(Clone, Copy)]
-struct Matched<'a> {
+struct PrintedBody<'a> {
     options: &'a Options,
     part: &'a Part,
     asterisk: bool,
 }
 
-impl Writable for Matched<'_> {
+impl Writable for PrintedBody<'_> {
     ghost text = { λ matched. let part = part_view matched.part.now in printed_match (options_view matched.options.now) part.kind part matched.asterisk };
 
     fn write_to<W: Writer>(&self, writer: &mut W) {

@@ -3,7 +3,7 @@
 //! <https://urlpattern.spec.whatwg.org/#generate-a-regular-expression-and-name-list>
 
 ghost use Rattle.std.specs.Prelude.{◌≡◌, ◌++◌, IfOk};
-ghost use Rattle.urlpattern_printing.specs.PartTexts.{affixed_part, bare_part, escaped_prefix, escaped_suffix, escaped_value, fixed_part, matched_text};
+ghost use Rattle.urlpattern_printing.specs.WrittenParts.{affixed_part, bare_part, escaped_prefix, escaped_suffix, escaped_value, fixed_part, matched_text};
 ghost use Rattle.urlpattern_syntax.specs.{Options.options_view, Text.text_of, Writing.escaped_text};
 ghost use Rattle.urlpattern_syntax.specs.Parts.{part_view, parts_view};
 ghost use Rattle.urlpattern_syntax.specs.RegexpText.{captured, grouped, part_regexp, regexp_text, repeated_regexp};
@@ -131,10 +131,10 @@ impl<'a> PartRegexp<'a> {
         let modifier = self.part.modifier.as_str();
         match self.part.modifier {
             PartModifier::None | PartModifier::Optional => {
-                (Captured(Matched(*self)), modifier).write_to(writer);
+                (Captured(RegexpBody(*self)), modifier).write_to(writer);
             }
             PartModifier::ZeroOrMore | PartModifier::OneOrMore => {
-                Captured((Grouped(Matched(*self)), modifier)).write_to(writer);
+                Captured((Grouped(RegexpBody(*self)), modifier)).write_to(writer);
             }
         }
     }
@@ -155,9 +155,9 @@ impl<'a> PartRegexp<'a> {
 
 /// The regular expression of one copy of a part, without its prefix and its suffix.
 #[derive(Clone, Copy)]
-struct Matched<'a>(PartRegexp<'a>);
+struct RegexpBody<'a>(PartRegexp<'a>);
 
-impl Writable for Matched<'_> {
+impl Writable for RegexpBody<'_> {
     ghost text = { λ matched. matched_text matched.0 };
 
     fn write_to<W: Writer>(&self, writer: &mut W) {
@@ -178,7 +178,7 @@ impl Writable for Single<'_> {
     ghost text = { λ single. grouped (escaped_prefix single.0 ++ captured (matched_text single.0) ++ escaped_suffix single.0) };
 
     fn write_to<W: Writer>(&self, writer: &mut W) {
-        let matched = Captured(Matched(self.0));
+        let matched = Captured(RegexpBody(self.0));
         Grouped((self.0.prefix(), matched, self.0.suffix())).write_to(writer);
     }
 }
@@ -193,7 +193,7 @@ impl Writable for Repeated<'_> {
 
     fn write_to<W: Writer>(&self, writer: &mut W) {
         let (prefix, suffix) = (self.0.prefix(), self.0.suffix());
-        let matched = Grouped(Matched(self.0));
+        let matched = Grouped(RegexpBody(self.0));
         let more = Grouped((suffix, prefix, matched));
         Grouped((prefix, Captured((matched, more, '*')), suffix)).write_to(writer);
     }

@@ -72,8 +72,8 @@ pub record AreInputs (input : StringOrInit) (base : Option (List ℕ)) (again : 
   pub same_base : option_map text_of again.1 ≡ option_map chars base
 
 -- What a pattern is matched against, and the input again.
-abbrev pub IsFound : StringOrInit → (base : Option (List ℕ)) → UrlPatternMatchInput × (StringOrInit × Option (String Global)) → Type 0
-IsFound input base found = IsMatchInput input base found.0 × AreInputs input base found.1
+abbrev pub IsProcessed : StringOrInit → (base : Option (List ℕ)) → UrlPatternMatchInput × (StringOrInit × Option (String Global)) → Type 0
+IsProcessed input base found = IsMatchInput input base found.0 × AreInputs input base found.1
 
 -- `url` rejects the text of the input, or the base URL.
 abbrev pub IsNoInputOf : StringOrInit → (base : Option (List ℕ)) → Type 0
@@ -83,7 +83,7 @@ IsNoInputOf (inputs.Init plain) (Some base) = ⊥
 
 -- What a pattern is matched against, with the input again; `None` if a URL is rejected.
 abbrev pub FindsInput : StringOrInit → (base : Option (List ℕ)) → Option (UrlPatternMatchInput × (StringOrInit × Option (String Global))) → Type 0
-FindsInput input base found = MatchOption found (IsNoInputOf input base) (IsFound input base)
+FindsInput input base found = MatchOption found (IsNoInputOf input base) (IsProcessed input base)
 
 -- The error is that of a base URL passed with an init.
 abbrev pub RefusesSecondBase : StringOrInit → (base : Option (List ℕ)) → ErrorView → Type 0

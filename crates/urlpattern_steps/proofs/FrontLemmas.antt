@@ -8,16 +8,16 @@ use Rattle.urlpattern_meaning.specs.Dialect as dialect
 use Rattle.urlpattern_meaning.proofs.DialectLeads.{first}
 use Rattle.urlpattern_syntax.specs.RegexpText.{regexp_marks}
 use Rattle.urlpattern_syntax.specs.Text.{is_among, line_feed}
-use Rattle.urlpattern_steps.specs.declared.tokens.Times.{Times}
-use Rattle.urlpattern_steps.specs.declared.tokens.Times.TheVariants as often
-use Rattle.urlpattern_steps.specs.declared.tokens.Token.{Token}
-use Rattle.urlpattern_steps.specs.declared.tokens.Token.TheVariants.{Open, Close, Step as One, MaybeStep, FirstSegment}
+use Rattle.urlpattern_steps.specs.declared.step_tokens.Times.{Times}
+use Rattle.urlpattern_steps.specs.declared.step_tokens.Times.TheVariants as often
+use Rattle.urlpattern_steps.specs.declared.step_tokens.StepToken.{StepToken}
+use Rattle.urlpattern_steps.specs.declared.step_tokens.StepToken.TheVariants.{Open, Close, Step as One, MaybeStep, FirstSegment}
 use Rattle.urlpattern_steps.specs.declared.step.Run.{Run}
 use Rattle.urlpattern_steps.specs.declared.step.Step.{Step}
 use Rattle.urlpattern_steps.specs.declared.step.Step.TheVariants.{Literal, Segment, Anything, Maybe, Longest, Copies, Segments}
 use Rattle.urlpattern_steps.specs.Walk.{capture_count}
 use Rattle.urlpattern_steps.specs.ReadSteps.{BeginsWithCaptured, BeginsWithCharacter, BeginsWithRegexpToken, IsAllBut, IsRead, IsRunOf, IsRunStep, IsStepOf, IsUnquantified, AllowsEmptyRun, RepeatsRuns, quantifier_of, times_text}
-use Rattle.urlpattern_steps.proofs.TokenLemmas.{captured_literal}
+use Rattle.urlpattern_steps.proofs.StepTokenLemmas.{captured_literal}
 
 -- ---- first characters
 
@@ -230,7 +230,7 @@ segments_opened end is_greedy text rest (front, (items, are, is, same), e) =
     (inner, run_step end is_greedy, after_same 40 text (codes "(?:" ++ inner) spelled, step.0, (items, are, step.1, refl))
 
 -- The text of a token after its `(`.
-abbrev pub InBracket : Token → (text rest : List ℕ) → Type 0
+abbrev pub InBracket : StepToken → (text rest : List ℕ) → Type 0
 InBracket Open text rest = text ≡ codes "?:" ++ rest
 InBracket (Close times) text rest = ⊥
 InBracket (One step) text rest = BeginsWithCaptured text step (codes ")" ++ rest)
@@ -254,7 +254,7 @@ atom_in step (AnyBut character) text rest is of e = absurd (eqb-false 40 91 refl
 atom_in step (Captured items) text rest is of e = (items, is, of, after_same 40 text _ e ∙ append_assoc (items_text items) (codes ")") rest)
 atom_in step (Grouped items) text rest is of e = absurd (no_step_of_group step items of)
 
-pub bracket_in : (token : Token) (text rest : List ℕ) → BeginsWithRegexpToken (codes "(" ++ text) token rest → InBracket token text rest
+pub bracket_in : (token : StepToken) (text rest : List ℕ) → BeginsWithRegexpToken (codes "(" ++ text) token rest → InBracket token text rest
 bracket_in Open text rest (front, is, e) = after_same 40 text (codes "?:" ++ rest) (e ∙ ap (λ t. t ++ rest) is)
 bracket_in (Close times) text rest (front, is, e) = apart 40 41 text (times_text times ++ rest) refl (e ∙ ap (λ t. t ++ rest) is)
 bracket_in (One step) text rest (front, (atom, is, of, f), e) = atom_in step atom text rest is of (e ∙ ap (λ t. t ++ rest) f)
@@ -263,14 +263,14 @@ bracket_in (MaybeStep step) text rest (front, (own, one, (atom, is, of, f), g), 
 bracket_in (FirstSegment end is_greedy) text rest begins = begins
 
 -- A fact about a token that begins with `(`, by cases of the token.
-pub by_bracket : (P : Token → List ℕ → Type 0) (text : List ℕ) → ((rest : List ℕ) → text ≡ codes "?:" ++ rest → P Open rest)
+pub by_bracket : (P : StepToken → List ℕ → Type 0) (text : List ℕ) → ((rest : List ℕ) → text ≡ codes "?:" ++ rest → P Open rest)
     → ((step : Step) (rest : List ℕ) → BeginsWithCaptured text step (codes ")" ++ rest) → P (One step) rest)
     → ((step : Step) (rest : List ℕ) → BeginsWithCaptured text step (codes ")" ++ (codes "?" ++ rest)) → P (MaybeStep step) rest)
     → ((end : ℕ) (is_greedy : Bool) (rest : List ℕ) → BeginsWithRegexpToken (codes "(" ++ text) (FirstSegment end is_greedy) rest → P (FirstSegment end is_greedy) rest)
-    → (token : Token) (rest : List ℕ) → BeginsWithRegexpToken (codes "(" ++ text) token rest → P token rest
+    → (token : StepToken) (rest : List ℕ) → BeginsWithRegexpToken (codes "(" ++ text) token rest → P token rest
 by_bracket P text opens one maybe segments token rest begins = by token (bracket_in token text rest begins)
   where
-    by : (token : Token) → InBracket token text rest → P token rest
+    by : (token : StepToken) → InBracket token text rest → P token rest
     by Open inside = opens rest inside
     by (Close times) inside = absurd inside
     by (One step) inside = one step rest inside
@@ -293,10 +293,10 @@ step_opens (Copies copies) atom text rest is of e = absurd of
 step_opens (Segments segments) atom text rest is of e = absurd of
 
 -- A fact about a token, by cases of its first character.
-pub by_token : (P : Token → List ℕ → Type 0) (text : List ℕ) → ((times : Times) (rest : List ℕ) → text ≡ codes ")" ++ (times_text times ++ rest) → P (Close times) rest)
+pub by_token : (P : StepToken → List ℕ → Type 0) (text : List ℕ) → ((times : Times) (rest : List ℕ) → text ≡ codes ")" ++ (times_text times ++ rest) → P (Close times) rest)
     → ((c : ℕ) (rest : List ℕ) → BeginsWithCharacter IsCharacter text c rest → P (One (Literal c)) rest)
-    → ((token : Token) (rest behind : List ℕ) → text ≡ codes "(" ++ behind → P token rest)
-    → (token : Token) (rest : List ℕ) → BeginsWithRegexpToken text token rest → P token rest
+    → ((token : StepToken) (rest behind : List ℕ) → text ≡ codes "(" ++ behind → P token rest)
+    → (token : StepToken) (rest : List ℕ) → BeginsWithRegexpToken text token rest → P token rest
 by_token P text close literal bracket Open rest (front, is, e) = bracket Open rest (codes "?:" ++ rest) (e ∙ ap (λ t. t ++ rest) is)
 by_token P text close literal bracket (Close times) rest (front, is, e) = close times rest (e ∙ ap (λ t. t ++ rest) is)
 by_token P text close literal bracket (One step) rest (front, (atom, is, of, f), e) = by (step_opens step atom text rest is of (e ∙ ap (λ t. t ++ rest) f))

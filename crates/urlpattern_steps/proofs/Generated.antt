@@ -15,15 +15,15 @@ use Rattle.urlpattern_syntax.specs.Options.{OptionsView}
 use Rattle.urlpattern_syntax.specs.Parts.{PartView}
 use Rattle.urlpattern_syntax.specs.RegexpText.{IsWildcard, escaped_marks, is_empty}
 use Rattle.urlpattern_syntax.specs.Text.{line_feed}
-use Rattle.urlpattern_steps.specs.declared.tokens.Times.{Times}
-use Rattle.urlpattern_steps.specs.declared.tokens.Times.TheVariants as often
+use Rattle.urlpattern_steps.specs.declared.step_tokens.Times.{Times}
+use Rattle.urlpattern_steps.specs.declared.step_tokens.Times.TheVariants as often
 use Rattle.urlpattern_steps.specs.declared.step.Step.{Step}
 use Rattle.urlpattern_steps.specs.declared.step.Step.TheVariants.{Literal, Longest}
 use Rattle.urlpattern_steps.specs.ReadSteps.{IsRunOf, IsStepOf, quantifier_of}
 use Rattle.urlpattern_steps.specs.Walk.{capture_count}
 use Rattle.urlpattern_steps.proofs.FrontLemmas.{run_step, run_step_is}
 use Rattle.urlpattern_steps.proofs.SegmentLemmas.{in_order, segment_items}
-use Rattle.urlpattern_steps.proofs.TokenLemmas.{captures_one}
+use Rattle.urlpattern_steps.proofs.StepTokenLemmas.{captures_one}
 
 -- ---- the forms
 

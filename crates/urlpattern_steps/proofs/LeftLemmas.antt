@@ -12,14 +12,14 @@ use Rattle.urlpattern_meaning.proofs.PartTreeAllowed.{tree_allowed}
 use Rattle.urlpattern_meaning.proofs.PartTreeTexts.{tree_text}
 use Rattle.urlpattern_syntax.specs.RegexpText.{regexp_marks}
 use Rattle.urlpattern_syntax.specs.Text.{is_among}
-use Rattle.urlpattern_steps.specs.declared.tokens.Times.{Times}
-use Rattle.urlpattern_steps.specs.declared.tokens.Times.TheVariants as often
-use Rattle.urlpattern_steps.specs.declared.tokens.Token.{Token}
-use Rattle.urlpattern_steps.specs.declared.tokens.Token.TheVariants.{Open, Close, Step as One, MaybeStep, FirstSegment}
+use Rattle.urlpattern_steps.specs.declared.step_tokens.Times.{Times}
+use Rattle.urlpattern_steps.specs.declared.step_tokens.Times.TheVariants as often
+use Rattle.urlpattern_steps.specs.declared.step_tokens.StepToken.{StepToken}
+use Rattle.urlpattern_steps.specs.declared.step_tokens.StepToken.TheVariants.{Open, Close, Step as One, MaybeStep, FirstSegment}
 use Rattle.urlpattern_steps.specs.declared.step.Step.{Step}
 use Rattle.urlpattern_steps.specs.declared.step.Step.TheVariants.{Literal, Segments}
 use Rattle.urlpattern_meaning.specs.GeneratedTexts.{IsGenerated}
-use Rattle.urlpattern_steps.specs.ReadSteps.{AreCharacters, AreCopySteps, AreLiterals, BeginsWithRegexpToken, EndsSegments, IsGroup, IsUnquantified, characters_text, literal_steps, times_text}
+use Rattle.urlpattern_steps.specs.ReadSteps.{AreCharacters, AreCopySteps, AreLiterals, BeginsWithRegexpToken, EndsSegments, IsStepGroup, IsUnquantified, characters_text, literal_steps, times_text}
 use Rattle.urlpattern_steps.proofs.FrontLemmas.{apart, by_token, character_kind, ByItself, IsEscapedAt}
 use Rattle.urlpattern_steps.proofs.Generated.{AreInside, AreReadable, AreSingle, IsGroupAtom, IsSegmentGroup, IsStep, StandInside, tree_readable}
 use Rattle.urlpattern_steps.proofs.SegmentTextLemmas.{in_order_text, spelled_segments}
@@ -55,18 +55,18 @@ IsLeft None rest done = IsLeftOutside rest
 IsLeft (Some first) rest done = IsLeftInside rest (drop first done)
 
 -- The rest of a generated expression after a token.
-abbrev pub GoesOn : Token → (opened : Option ℕ) → (rest : List ℕ) → List Step → Type 0
+abbrev pub GoesOn : StepToken → (opened : Option ℕ) → (rest : List ℕ) → List Step → Type 0
 GoesOn (One step) opened rest done = IsLeft opened rest (done ++ step ∷ [])
 GoesOn (MaybeStep step) opened rest done = (own : List Step) → IsLeft opened rest (done ++ own)
 GoesOn Open opened rest done = (opened ≡ None) × IsLeft (Some (length done)) rest done
 GoesOn (Close times) opened rest done =
-    (first : ℕ) × (group : List Step) × (opened ≡ Some first) × IsGroup times (drop first done) group × ((steps : List Step) → IsLeft None rest steps)
+    (first : ℕ) × (group : List Step) × (opened ≡ Some first) × IsStepGroup times (drop first done) group × ((steps : List Step) → IsLeft None rest steps)
 GoesOn (FirstSegment end is_greedy) opened rest done =
     (own : List Step) × (behind : List ℕ) × EndsSegments end is_greedy own rest behind × ((own : List Step) → IsLeft opened behind (done ++ own))
 
 -- The text begins with a token, and the rest continues the expression.
 pub record Comes (opened : Option ℕ) (rest : List ℕ) (done : List Step) : Type 0 where
-  pub token : Token
+  pub token : StepToken
   pub remaining : List ℕ
   pub begins : BeginsWithRegexpToken rest token remaining
   pub unquantified : IsUnquantified remaining
@@ -193,7 +193,7 @@ copied may_be_missing [] plain = ([], inl (refl, refl))
 copied may_be_missing (Literal c ∷ others) plain = (_, inr (c, others, refl, plain, refl))
 copied may_be_missing (step ∷ others) plain = absurd plain
 
-closes : (times : Times) (own : List Step) → MayBeTaken times own → (group : List Step) × IsGroup times own group
+closes : (times : Times) (own : List Step) → MayBeTaken times own → (group : List Step) × IsStepGroup times own group
 closes often.Once own may = (own, inr refl)
 closes often.Optional own may = (_, inr refl)
 closes often.ZeroOrMore own may = copied true own may
@@ -292,7 +292,7 @@ comes None rest done (Item atom quantifier items, (is, allows, are), (captured, 
 
 -- ---- the next token that is read
 
-no_token : (token : Token) (remaining : List ℕ) → ¬ BeginsWithRegexpToken (codes "$") token remaining
+no_token : (token : StepToken) (remaining : List ℕ) → ¬ BeginsWithRegexpToken (codes "$") token remaining
 no_token token remaining begins =
     by_token (λ token rest. ⊥) (codes "$")
     (λ times rest e. apart 36 41 [] (times_text times ++ rest) refl e)
@@ -305,8 +305,8 @@ no_token token remaining begins =
     by c rest (inr (is, e)) = apart 36 92 [] (c ∷ rest) refl e
 
 -- The token that is read is the next one.
-pub came : (opened : Option ℕ) (rest : List ℕ) (done : List Step) (token : Token) (remaining : List ℕ) → IsLeft opened rest done → BeginsWithRegexpToken rest token remaining
-    → ((next : Token) (left : List ℕ) → BeginsWithRegexpToken rest next left → IsUnquantified left → (token ≡ next) × (remaining ≡ left)) → GoesOn token opened remaining done
+pub came : (opened : Option ℕ) (rest : List ℕ) (done : List Step) (token : StepToken) (remaining : List ℕ) → IsLeft opened rest done → BeginsWithRegexpToken rest token remaining
+    → ((next : StepToken) (left : List ℕ) → BeginsWithRegexpToken rest next left → IsUnquantified left → (token ≡ next) × (remaining ≡ left)) → GoesOn token opened remaining done
 came opened rest done token remaining left begins reads = by (comes opened rest done left)
   where
     by : ((opened ≡ None) × (rest ≡ codes "$")) ⊎ Comes opened rest done → GoesOn token opened remaining done
@@ -316,7 +316,7 @@ came opened rest done token remaining left begins reads = by (comes opened rest 
         subst (λ t. GoesOn t opened remaining done) (sym same.0) (subst (λ r. GoesOn next.token opened r done) (sym same.1) next.goes_on)
 
 -- The expression is at its end, if no token is read.
-pub ended : (opened : Option ℕ) (rest : List ℕ) (done : List Step) → IsLeft opened rest done → ((next : Token) (left : List ℕ) → BeginsWithRegexpToken rest next left → ¬ IsUnquantified left)
+pub ended : (opened : Option ℕ) (rest : List ℕ) (done : List Step) → IsLeft opened rest done → ((next : StepToken) (left : List ℕ) → BeginsWithRegexpToken rest next left → ¬ IsUnquantified left)
     → (opened ≡ None) × (rest ≡ codes "$")
 ended opened rest done left none = by (comes opened rest done left)
   where

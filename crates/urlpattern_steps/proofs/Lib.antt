@@ -13,11 +13,11 @@ pub mod RepeatLemmas
 pub mod FirstLemmas
 pub mod FollowLemmas
 pub mod AttemptLemmas
-pub mod TokenLemmas
+pub mod StepTokenLemmas
 pub mod FrontLemmas
-pub mod GroupLemmas
+pub mod StepGroupLemmas
 pub mod SegmentTextLemmas
-pub mod ReadingLemmas
+pub mod StepReadingLemmas
 pub mod FailedLemmas
 pub mod SegmentLemmas
 pub mod Generated

@@ -5,8 +5,8 @@ use Rattle.std.specs.Option.{option_or}
 use Rattle.std.proofs.Math.Seq.{take-append_seam}
 use Rattle.urlpattern_meaning.specs.Dialect.{Quantifier, ZeroOrMore, OneOrMore, Items, Item, Atom, Grouped, atom_group_count, group_count}
 use Rattle.urlpattern_meaning.specs.Ways.{Choice, idle, is_shorter, looped, more_rounds, quantified_ways, atom_ways_by, ways_by}
-use Rattle.urlpattern_steps.specs.declared.tokens.Times.{Times}
-use Rattle.urlpattern_steps.specs.declared.tokens.Times.TheVariants as often
+use Rattle.urlpattern_steps.specs.declared.step_tokens.Times.{Times}
+use Rattle.urlpattern_steps.specs.declared.step_tokens.Times.TheVariants as often
 use Rattle.urlpattern_steps.specs.declared.step.Step.{Step}
 use Rattle.urlpattern_steps.specs.declared.step.Step.TheVariants.{Literal, Copies}
 use Rattle.urlpattern_steps.specs.ReadSteps.{AreLiterals, quantifier_of}

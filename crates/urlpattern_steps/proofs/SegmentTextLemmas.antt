@@ -13,7 +13,7 @@ use Rattle.urlpattern_steps.specs.declared.step.Step.TheVariants.{Literal, Segme
 use Rattle.urlpattern_steps.specs.ReadSteps.{AreCharacters, AreLiterals, AreSegments, BeginsWithCaptured, EndsSegments, characters_text, literal_steps, BeginsWithCharacter, IsRunOf, IsRunStep, ClosesSegments, MakeUp, last_text}
 use Rattle.urlpattern_steps.proofs.FrontLemmas.{ReadsRun, ByItself, IsEscapedAt, apart, character_kind, run_step, run_step_is}
 use Rattle.urlpattern_steps.proofs.SegmentLemmas.{in_order, literal_steps-plain}
-use Rattle.urlpattern_steps.proofs.GroupLemmas.{take_rest, drop-one}
+use Rattle.urlpattern_steps.proofs.StepGroupLemmas.{take_rest, drop-one}
 
 -- ---- runs and separators
 

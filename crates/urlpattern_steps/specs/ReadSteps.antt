@@ -4,10 +4,10 @@ use Rattle.std.specs.Borrow.{Bor}
 use Rattle.std.specs.Global.{Global}
 use Rattle.std.specs.declared.vec.Vec.{Vec}
 use Rattle.std.specs.Str.{chars}
-use Rattle.urlpattern_steps.specs.declared.tokens.Times.{Times}
-use Rattle.urlpattern_steps.specs.declared.tokens.Times.TheVariants as times
-use Rattle.urlpattern_steps.specs.declared.tokens.Token.{Token}
-use Rattle.urlpattern_steps.specs.declared.tokens.Token.TheVariants.{Open, Close, Step as One, MaybeStep, FirstSegment}
+use Rattle.urlpattern_steps.specs.declared.step_tokens.Times.{Times}
+use Rattle.urlpattern_steps.specs.declared.step_tokens.Times.TheVariants as times
+use Rattle.urlpattern_steps.specs.declared.step_tokens.StepToken.{StepToken}
+use Rattle.urlpattern_steps.specs.declared.step_tokens.StepToken.TheVariants.{Open, Close, Step as One, MaybeStep, FirstSegment}
 use Rattle.urlpattern_steps.specs.declared.step.Step.{Step}
 use Rattle.urlpattern_steps.specs.declared.step.Stretch.{Stretch}
 use Rattle.urlpattern_steps.specs.declared.step.Step.TheVariants.{Literal, Segment, Anything, Maybe, Longest, Copies, Segments}
@@ -123,7 +123,7 @@ abbrev pub BeginsSegments : (end : ℕ) → (is_greedy : Bool) → (text : List 
 BeginsSegments end is_greedy text = (items : Items) × AreItems items × IsRunOf end is_greedy items × (text ≡ codes "((?:" ++ (items_text items ++ codes ")(?:"))
 
 -- The text spells the token.
-abbrev pub IsToken : Token → List ℕ → Type 0
+abbrev pub IsToken : StepToken → List ℕ → Type 0
 IsToken Open text = text ≡ codes "(?:"
 IsToken (Close times) text = text ≡ codes ")" ++ times_text times
 IsToken (One step) text = SpellsStep step text
@@ -131,15 +131,15 @@ IsToken (FirstSegment end is_greedy) text = BeginsSegments end is_greedy text
 IsToken (MaybeStep step) text = (front : List ℕ) × (capture_count (step ∷ []) ≡ 1) × SpellsStep step front × (text ≡ front ++ codes "?")
 
 -- The text begins with the token, followed by `rest`.
-abbrev pub BeginsWithRegexpToken : (text : List ℕ) → Token → (rest : List ℕ) → Type 0
+abbrev pub BeginsWithRegexpToken : (text : List ℕ) → StepToken → (rest : List ℕ) → Type 0
 BeginsWithRegexpToken text token rest = (front : List ℕ) × IsToken token front × (text ≡ front ++ rest)
 
 -- Each token that the text begins with is read, if no quantifier follows it.
-abbrev pub ReadsRegexpTokens : (text : List ℕ) → Option (Token × Bor (List ℕ)) → Type 0
-ReadsRegexpTokens text read = (token : Token) (rest : List ℕ) → BeginsWithRegexpToken text token rest → IsUnquantified rest → IsRead read token rest
+abbrev pub ReadsRegexpTokens : (text : List ℕ) → Option (StepToken × Bor (List ℕ)) → Type 0
+ReadsRegexpTokens text read = (token : StepToken) (rest : List ℕ) → BeginsWithRegexpToken text token rest → IsUnquantified rest → IsRead read token rest
 
 -- Each first of separated runs that the text begins with is read.
-abbrev pub ReadsFirstSegments : (text : List ℕ) → Option (Token × Bor (List ℕ)) → Type 0
+abbrev pub ReadsFirstSegments : (text : List ℕ) → Option (StepToken × Bor (List ℕ)) → Type 0
 ReadsFirstSegments text read =
     (end : ℕ) (is_greedy : Bool) (rest : List ℕ) → BeginsWithRegexpToken text (FirstSegment end is_greedy) rest → IsRead read (FirstSegment end is_greedy) rest
 
@@ -168,8 +168,8 @@ IsSomeGroup times.ZeroOrMore own group = AreCopySteps true own group
 IsSomeGroup times.OneOrMore own group = AreCopySteps false own group
 
 -- The steps of a quantified group, by the steps of its body; none if the body is empty.
-abbrev pub IsGroup : Times → (own group : List Step) → Type 0
-IsGroup times own group = ((own ≡ []) × (group ≡ [])) ⊎ IsSomeGroup times own group
+abbrev pub IsStepGroup : Times → (own group : List Step) → Type 0
+IsStepGroup times own group = ((own ≡ []) × (group ≡ [])) ⊎ IsSomeGroup times own group
 
 -- The steps from `first` on were replaced by a group of them.
 abbrev pub AreGrouped : (Is : (own group : List Step) → Type 0) → (first : ℕ) → (old new : Vec Step Global) → Type 0

@@ -8,11 +8,11 @@ ghost use Rattle.urlpattern_steps.specs.Walk.{walk};
 ghost use Rattle.urlpattern_steps.specs.Table.{following, is_capture, IsRow, IsSingle};
 ghost use Rattle.urlpattern_steps.specs.Taken.{LeavesChosen, LeavesFollowing};
 
+use crate::end_table::{is_taken, row_for, rows_of};
 use crate::fronts::{following, front_of, is_capture};
 use crate::repeats::pass;
 use crate::step::{Group, Step};
-use crate::table::{is_taken, row_for, rows_of};
-use crate::texts::split_at_seam;
+use crate::text_cuts::split_at_seam;
 use crate::walk::add_missing;
 use std::alloc::Global;
 use urlpattern_syntax::error::OutOfMemory;

@@ -8,7 +8,7 @@ ghost use Rattle.urlpattern_steps.specs.Taken.{IsEndOfFront};
 
 use crate::repeats::{begun_after, ends, first_steps, goes_on, pass};
 use crate::step::{Step, Stretch};
-use crate::texts::{after_front, without_last};
+use crate::text_cuts::{after_front, without_last};
 use std::alloc::Global;
 use urlpattern_syntax::error::OutOfMemory;
 

@@ -6,16 +6,16 @@
 #![tactic(auto)]
 
 mod by_table;
+mod end_table;
 mod failed;
 mod fronts;
 pub mod reading;
 pub mod repeats;
-mod runs;
+mod run_ends;
 pub mod step;
+mod step_tokens;
 pub mod stops;
-mod table;
-pub mod texts;
-mod tokens;
+pub mod text_cuts;
 pub mod walk;
 
 pub use by_table::walk_by_table;

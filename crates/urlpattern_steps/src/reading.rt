@@ -3,14 +3,14 @@
 ghost use Rattle.std.specs.Prelude.{◌≡◌, ◌↔◌, ◌∷◌, ℕ, ◌<◌, ◌≤◌, List, length, drop, codes, IfNone, IfOk, IfSome, IsTrue};
 ghost use Rattle.std.specs.Str.{chars};
 ghost use Rattle.urlpattern_meaning.specs.GeneratedTexts.{IsGenerated};
-ghost use Rattle.urlpattern_steps.specs.ReadSteps.{AddsSegments, AreCopySteps, AreGrouped, AreLiterals, AreStepsOf, ClosesSegments, IsGroup, MakeUp, ReadsLast, ReadsSegments};
+ghost use Rattle.urlpattern_steps.specs.ReadSteps.{AddsSegments, AreCopySteps, AreGrouped, AreLiterals, AreStepsOf, ClosesSegments, IsStepGroup, MakeUp, ReadsLast, ReadsSegments};
 ghost use Rattle.urlpattern_steps.specs.Walk.{capture_count};
 
 use crate::step::{Copies, Group, Segments, Step, Stretch};
-use crate::texts::after;
-use crate::tokens::{
-    Times, Token, after_open, after_segments, read_literal, read_run, read_token, run_of,
+use crate::step_tokens::{
+    StepToken, Times, after_open, after_segments, read_literal, read_run, read_token, run_of,
 };
+use crate::text_cuts::after;
 use std::alloc::{AllocError, Global};
 
 /// Parses an expression into steps. `None`: the expression is not generated from parts without
@@ -26,23 +26,23 @@ pub fn read_steps(alloc: Global, regexp: &str) -> Result<Option<Vec<Step>>, Allo
     let mut opened = None;
     while let Some((token, remaining)) = read_token(rest) {
         match token {
-            Token::Step(step) => steps.push(step)?,
-            Token::MaybeStep(step) => {
+            StepToken::Step(step) => steps.push(step)?,
+            StepToken::MaybeStep(step) => {
                 steps.push(Step::Maybe(ONE_CAPTURE))?;
                 steps.push(step)?;
             }
-            Token::FirstSegment(end, is_greedy) => {
+            StepToken::FirstSegment(end, is_greedy) => {
                 let Some(after) = read_segments(&mut steps, end, is_greedy, remaining)? else {
                     return Ok(None);
                 };
                 rest = after;
                 continue;
             }
-            Token::Open => match opened {
+            StepToken::Open => match opened {
                 Some(_) => return Ok(None),
                 None => opened = Some(steps.len()),
             },
-            Token::Close(times) => {
+            StepToken::Close(times) => {
                 let Some(first) = opened else {
                     return Ok(None);
                 };
@@ -65,8 +65,8 @@ pub fn read_steps(alloc: Global, regexp: &str) -> Result<Option<Vec<Step>>, Allo
 /// Returns whether steps can express the quantified group.
 fn close_group(steps: &mut Vec<Step>, first: usize, times: Times) -> Result<bool, AllocError>
     requires { first ≤ length steps.old.items }
-    ensures group { IfOk result (λ is_group. IsTrue is_group → AreGrouped (IsGroup times) first steps.old steps.new) }
-    ensures any { IfOk result (λ is_group. (group : List Step) → IsGroup times (drop first steps.old.items) group → IsTrue is_group) }
+    ensures group { IfOk result (λ is_group. IsTrue is_group → AreGrouped (IsStepGroup times) first steps.old steps.new) }
+    ensures any { IfOk result (λ is_group. (group : List Step) → IsStepGroup times (drop first steps.old.items) group → IsTrue is_group) }
 {
     if steps.len() == first {
         return Ok(true);
@@ -74,7 +74,7 @@ fn close_group(steps: &mut Vec<Step>, first: usize, times: Times) -> Result<bool
     match times {
         Times::Once => Ok(true),
         Times::Optional => {
-            let group = group_of(&steps[first..]);
+            let group = counted_group(&steps[first..]);
             steps.insert(first, Step::Maybe(group))?;
             Ok(true)
         }
@@ -135,7 +135,7 @@ const ONE_CAPTURE: Group = Group {
 };
 
 /// Counts the steps and those that capture.
-fn group_of(steps: &[Step]) -> Group
+fn counted_group(steps: &[Step]) -> Group
     ensures { result ≡ record { steps = length steps.now; captures = capture_count steps.now } }
 {
     let mut captures = 0;

@@ -6,7 +6,7 @@ ghost use Rattle.std.specs.Str.{chars};
 ghost use Rattle.urlpattern_steps.specs.Walk.{BeginsAs, BeginsWithCopies, IsEntryForRest, IsWithoutLast, going_on, literal_text, literals};
 
 use crate::step::Step;
-use crate::texts::{after_same, is_same, without_last};
+use crate::text_cuts::{after_same, is_same, without_last};
 use urlpattern_syntax::text::split_first;
 
 /// The steps after the first `count`, or none if there are fewer.

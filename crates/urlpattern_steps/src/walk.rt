@@ -13,9 +13,9 @@ mod segments;
 
 use crate::failed::Failed;
 use crate::repeats::pass;
-use crate::runs::has_one_end;
+use crate::run_ends::has_one_end;
 use crate::step::{Group, Step};
-use crate::texts::{after_same, split_at_first};
+use crate::text_cuts::{after_same, split_at_first};
 use std::alloc::Global;
 use urlpattern_syntax::error::OutOfMemory;
 

@@ -12,7 +12,7 @@ use Rattle.urlpattern_syntax.specs.declared.tokenizer.TokenType.TheVariants.{Ast
 use Rattle.urlpattern_syntax.specs.Cursors.{AreTokensAfter}
 use Rattle.urlpattern_syntax.proofs.TokenWords.{joined_values, BeginsWithToken}
 use Rattle.urlpattern_syntax.specs.Parsing.{BeginsWithClose, BeginsWithPiece, BeginsWithTexts, HasEndingAt, BeginsWithPlaceholder, BeginsWithModifier, IsTokenList, IsModifierSpelled}
-use Rattle.urlpattern_syntax.specs.Pieces.{AreTexts, IsBraced, IsFilled, IsOpenGroup, IsPrefixOf, TakesPrefix, is_text, BeginsWithKind, IsModifier, TakesModifier, TakesRegexp, Matched, Placeholder, is_modifier, is_placeholder, is_regexp, Ending as endings, Matched as matched, Piece as pieces}
+use Rattle.urlpattern_syntax.specs.Pieces.{AreTexts, IsBraced, IsFilled, IsOpenGroup, IsPrefixOf, TakesPrefix, is_text, BeginsWithKind, IsModifier, TakesModifier, TakesRegexp, PlaceholderKindView, Placeholder, is_modifier, is_placeholder, is_regexp, Ending as endings, PlaceholderKindView as matched, Piece as pieces}
 use Rattle.urlpattern_syntax.specs.Tokens.{AreTokens, IsCut, IsTokenOf, Spells, TokenView, end_of}
 
 -- ---- token lists
@@ -198,7 +198,7 @@ bare_piece point before tokens behind rest prefix placeholder modifier is_prefix
   },
 )
 
-takes_narrower : (what : Matched) (back behind : List TokenView) (closing : TokenView) → TakesRegexp what (back ++ closing ∷ behind) → TakesRegexp what (back ++ closing ∷ [])
+takes_narrower : (what : PlaceholderKindView) (back behind : List TokenView) (closing : TokenView) → TakesRegexp what (back ++ closing ∷ behind) → TakesRegexp what (back ++ closing ∷ [])
 takes_narrower matched.Segment [] behind closing h = h
 takes_narrower matched.Segment (token ∷ back) behind closing h = h
 takes_narrower matched.Anything back behind closing h = tt

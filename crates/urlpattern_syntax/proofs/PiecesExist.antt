@@ -11,7 +11,7 @@ use Rattle.urlpattern_syntax.specs.declared.tokenizer.TokenType.{TokenType}
 use Rattle.urlpattern_syntax.specs.declared.tokenizer.TokenType.TheVariants.{Asterisk, Char, Close, End, EscapedChar, Name, Open, OtherModifier, Regexp}
 use Rattle.urlpattern_syntax.proofs.TokenWords.{joined_values}
 use Rattle.urlpattern_syntax.specs.Parsing.{BeginsWithPlaceholder, BeginsWithModifier, IsTokenList}
-use Rattle.urlpattern_syntax.specs.Pieces.{Piece, Ending, Stops, LacksClose, Placeholder, Matched, ArePieces, IsPiece, IsEnding, IsBare, IsBraced, IsFilled, IsPrefixOf, IsPlaceholderOf, TakesPrefix, TakesRegexp, BeginsWithKind, is_text, is_placeholder, is_modifier, is_stop, Matched as matched, Piece as pieces}
+use Rattle.urlpattern_syntax.specs.Pieces.{Piece, Ending, Stops, LacksClose, Placeholder, PlaceholderKindView, ArePieces, IsPiece, IsEnding, IsBare, IsBraced, IsFilled, IsPrefixOf, IsPlaceholderOf, TakesPrefix, TakesRegexp, BeginsWithKind, is_text, is_placeholder, is_modifier, is_stop, PlaceholderKindView as matched, Piece as pieces}
 use Rattle.urlpattern_syntax.specs.Tokens.{TokenView}
 use Rattle.urlpattern_syntax.proofs.PieceLemmas.{IsTokenList-rest, IsTokenList-texts, bare_piece, named, named_regexp, narrower, one_or_more, open_texts, optional, unnamed_regexp, wildcard, zero_or_more}
 
@@ -128,7 +128,7 @@ data Step (point : List ℕ) (tokens : List TokenView) : Type 0 where
   ends : (ending : Ending) → IsEnding tokens ending → Step point tokens
   goes_on : (front rest : List TokenView) (piece : Piece) → tokens ≡ front ++ rest → IsPiece point front piece rest → IsTokenList rest → ¬ (front ≡ []) → Step point tokens
 
-some_placeholder : (tokens : List TokenView) (name : Option (List ℕ)) (what : Matched) → IsPlaceholderOf tokens name what → ¬ (tokens ≡ [])
+some_placeholder : (tokens : List TokenView) (name : Option (List ℕ)) (what : PlaceholderKindView) → IsPlaceholderOf tokens name what → ¬ (tokens ≡ [])
 some_placeholder (token ∷ tokens) name what h e = cc e
 some_placeholder [] (Some name) matched.Segment h e = cc (h.0)
 some_placeholder [] (Some name) (matched.Custom body) h e = cc (h.0)

@@ -10,7 +10,7 @@ use Rattle.urlpattern_syntax.specs.declared.tokenizer.TokenType.TheVariants.{Ast
 use Rattle.urlpattern_syntax.specs.Errors.{ErrorView, ErrorView as views}
 use Rattle.urlpattern_syntax.specs.Options.{OptionsView, default_options, pathname_options}
 use Rattle.urlpattern_syntax.specs.Parts.{PartView, fixed_text}
-use Rattle.urlpattern_syntax.specs.Pieces.{Piece, Text, Bare, TextGroup, Group, Placeholder, Matched, Segment, Custom, Ending, Stops, LacksClose}
+use Rattle.urlpattern_syntax.specs.Pieces.{Piece, Text, Bare, TextGroup, Group, Placeholder, PlaceholderKindView, Segment, Custom, Ending, Stops, LacksClose}
 use Rattle.urlpattern_syntax.specs.Reading.{AreMet, AreParts, Encoding, FirstFails, Reads, Refuses, demands, items_of}
 use Rattle.urlpattern_syntax.specs.RegexpText.{escaped}
 use Rattle.urlpattern_syntax.specs.Tokens.{TokenView, AreTokens, InvalidName, Nothing, Plain, IsRegexpBody, end_of}
@@ -60,7 +60,7 @@ abbrev pub named : List ℕ → Placeholder
 named name = record { name = Some name; matched = Segment }
 
 -- A placeholder without a name.
-abbrev pub unnamed : Matched → Placeholder
+abbrev pub unnamed : PlaceholderKindView → Placeholder
 unnamed matched = record { name = None; matched = matched }
 
 -- The first name is new.

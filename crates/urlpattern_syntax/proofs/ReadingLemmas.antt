@@ -18,7 +18,7 @@ use Rattle.urlpattern_syntax.specs.Options.{OptionsView}
 use Rattle.urlpattern_syntax.specs.Parsing.{AddsParts, PartListView, MemoryOr, item_demands, pending_items}
 use Rattle.urlpattern_syntax.specs.Parts.{PartView, fixed_text}
 use Rattle.urlpattern_syntax.specs.Pieces.{Ending, Ending as endings}
-use Rattle.urlpattern_syntax.specs.Reading.{AreMet, AreParts, Capture, Demand, Encode, Encoding, Expect, FirstFails, Fixed, Item, NewName, capture_part, compared, demands_after, encode_fixed, encoding_of, item, joined_items, kind_of, with_text}
+use Rattle.urlpattern_syntax.specs.Reading.{AreMet, AreParts, Capture, Demand, Encode, Encoding, Expect, FirstFails, Fixed, Item, NewName, capture_part, placeholder_regexp, demands_after, encode_fixed, encoding_of, item, joined_items, kind_of, with_text}
 use Rattle.urlpattern_syntax.specs.declared.parser.RegexSyntax.{RegexSyntax}
 use Rattle.urlpattern_syntax.specs.RegexpText.{is_empty, full_wildcard, group_names, is_fixed_text, segment_wildcard, segment_wildcard_of}
 use Rattle.urlpattern_syntax.specs.Tokens.{TokenView}
@@ -173,7 +173,7 @@ names-AreParts options encoding (Fixed (c ∷ text) modifier ∷ items) parts h 
     ap group_names h.2 ∙ names-AreParts options encoding items h.1 h.4
 names-AreParts options encoding (Capture prefix name match suffix modifier ∷ items) parts h =
     ap group_names h.3
-    ∙ ap (λ b. map (λ (part : PartView). part.name) (if not b then capture_part options h.0 name match h.1 modifier ∷ filter (λ part. not (is_fixed_text part.kind)) h.2 else filter (λ part. not (is_fixed_text part.kind)) h.2)) (capture_is_group options (compared options match))
+    ∙ ap (λ b. map (λ (part : PartView). part.name) (if not b then capture_part options h.0 name match h.1 modifier ∷ filter (λ part. not (is_fixed_text part.kind)) h.2 else filter (λ part. not (is_fixed_text part.kind)) h.2)) (capture_is_group options (placeholder_regexp options match))
     ∙ ap (λ x. name ∷ x) (names-AreParts options encoding items h.2 h.6)
 
 -- ---- the names of parts

@@ -8,7 +8,7 @@ pub mod Parts
 pub mod PatternText
 pub mod Pieces
 pub mod Reading
-pub mod Refusals
+pub mod UrlErrors
 pub mod RegexpText
 pub mod Stops
 pub mod Text

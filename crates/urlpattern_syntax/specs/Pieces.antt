@@ -7,14 +7,14 @@ use Rattle.urlpattern_syntax.specs.declared.tokenizer.TokenType.TheVariants.{Ast
 use Rattle.urlpattern_syntax.specs.Tokens.{TokenType, TokenView}
 
 -- What a placeholder matches: a segment, any text, or what a custom regular expression matches.
-pub data Matched : Type 0 where
-  Segment Anything : Matched
-  Custom : List ℕ → Matched
+pub data PlaceholderKindView : Type 0 where
+  Segment Anything : PlaceholderKindView
+  Custom : List ℕ → PlaceholderKindView
 
 -- A placeholder, with or without a name.
 pub record Placeholder : Type 0 where
   pub name : Option (List ℕ)
-  pub matched : Matched
+  pub matched : PlaceholderKindView
 
 -- A piece of a pattern text.
 pub data Piece : Type 0 where
@@ -61,8 +61,8 @@ BeginsWithKind test (token ∷ tokens) = IsTrue (test token.kind)
 abbrev pub AreTexts : List TokenView → List ℕ → Type 0
 AreTexts tokens text = IsTrue (list_all (λ token. is_text token.kind) tokens) × (text ≡ flat_map (λ token. token.value) tokens)
 
--- The tokens are a placeholder with this name that matches `Matched`.
-abbrev pub IsPlaceholderOf : List TokenView → Option (List ℕ) → Matched → Type 0
+-- The tokens are a placeholder with this name that matches `PlaceholderKindView`.
+abbrev pub IsPlaceholderOf : List TokenView → Option (List ℕ) → PlaceholderKindView → Type 0
 IsPlaceholderOf tokens (Some name) Segment = (kinds tokens ≡ Name ∷ []) × (values tokens ≡ name ∷ [])
 IsPlaceholderOf tokens (Some name) (Custom body) =
     (kinds tokens ≡ Name ∷ Regexp ∷ []) × (values tokens ≡ name ∷ body ∷ [])
@@ -103,7 +103,7 @@ is_regexp Regexp = true
 is_regexp kind = false
 
 -- A Regexp token belongs to the name before it.
-abbrev pub TakesRegexp : Matched → List TokenView → Type 0
+abbrev pub TakesRegexp : PlaceholderKindView → List TokenView → Type 0
 TakesRegexp Segment rest = ¬ BeginsWithKind is_regexp rest
 TakesRegexp matched rest = Unit {0}
 

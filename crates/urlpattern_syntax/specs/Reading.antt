@@ -8,7 +8,7 @@ use Rattle.std.specs.declared.vec.Vec.{Vec}
 use Rattle.urlpattern_syntax.specs.Errors.{Error, ErrorView, error_view}
 use Rattle.urlpattern_syntax.specs.{Options.OptionsView, Text.text_of}
 use Rattle.urlpattern_syntax.specs.Parts.{Part, PartModifier, PartType, PartView, fixed_text, parts_view}
-use Rattle.urlpattern_syntax.specs.Pieces.{Piece, Matched, Ending, ArePieces}
+use Rattle.urlpattern_syntax.specs.Pieces.{Piece, PlaceholderKindView, Ending, ArePieces}
 use Rattle.urlpattern_syntax.specs.RegexpText.{segment_wildcard, full_wildcard}
 use Rattle.urlpattern_syntax.specs.Tokens.{AreTokens, FaultView, IsFault, TokenType, TokenView}
 
@@ -17,7 +17,7 @@ use Rattle.urlpattern_syntax.specs.Tokens.{AreTokens, FaultView, IsFault, TokenT
 -- A fixed text with its modifier, or a group: its prefix, name, content, suffix and modifier.
 pub data Item : Type 0 where
   Fixed : List ℕ → PartModifier → Item
-  Capture : (prefix name : List ℕ) → Matched → (suffix : List ℕ) → PartModifier → Item
+  Capture : (prefix name : List ℕ) → PlaceholderKindView → (suffix : List ℕ) → PartModifier → Item
 
 -- The name of a placeholder, or its number among the placeholders without a name.
 abbrev pub name_or : Option (List ℕ) → ℕ → List ℕ
@@ -127,10 +127,10 @@ FirstFails encoding (demand ∷ rest) error =
 -- ---- parts
 
 -- The regular expression by which the kind of a part is decided.
-abbrev pub compared : OptionsView → Matched → List ℕ
-compared options Matched.Segment = segment_wildcard options
-compared options (Matched.Custom body) = body
-compared options Matched.Anything = full_wildcard
+abbrev pub placeholder_regexp : OptionsView → PlaceholderKindView → List ℕ
+placeholder_regexp options PlaceholderKindView.Segment = segment_wildcard options
+placeholder_regexp options (PlaceholderKindView.Custom body) = body
+placeholder_regexp options PlaceholderKindView.Anything = full_wildcard
 
 -- The kind of a part with this regular expression.
 abbrev pub kind_of : OptionsView → List ℕ → PartType
@@ -144,9 +144,9 @@ value_of PartType.Regexp regexp = regexp
 value_of kind regexp = []
 
 -- The part of a group.
-abbrev pub capture_part : OptionsView → (prefix name : List ℕ) → Matched → (suffix : List ℕ) → PartModifier → PartView
+abbrev pub capture_part : OptionsView → (prefix name : List ℕ) → PlaceholderKindView → (suffix : List ℕ) → PartModifier → PartView
 capture_part options prefix name match suffix modifier =
-    let regexp = compared options match in
+    let regexp = placeholder_regexp options match in
     record {
       kind = kind_of options regexp;
       value = value_of (kind_of options regexp) regexp;

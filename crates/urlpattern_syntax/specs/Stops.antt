@@ -4,9 +4,9 @@ use Rattle.urlpattern_syntax.specs.Pieces.{ArePieces, Ending, IsEnding, LacksClo
 use Rattle.urlpattern_syntax.specs.Tokens.{AreTokens, TokenView}
 
 -- The token at which the pieces end.
-abbrev pub found_in : Ending → TokenView
-found_in (Stops found) = found
-found_in (LacksClose found) = found
+abbrev pub stopping_token : Ending → TokenView
+stopping_token (Stops found) = found
+stopping_token (LacksClose found) = found
 
 -- The pieces of the text end at the token `found`. The first token outside the pieces is `first`:
 -- `found` itself, or the Open of the group that lacks its Close.
@@ -20,4 +20,4 @@ pub record IsStopOf (text point : List ℕ) (first found : TokenView) : Type 0 w
   pub cut : tokens ≡ front ++ first ∷ more
   pub are_pieces : ArePieces point tokens pieces ending
   pub is_ending : IsEnding (first ∷ more) ending
-  pub is_found : found ≡ found_in ending
+  pub is_found : found ≡ stopping_token ending

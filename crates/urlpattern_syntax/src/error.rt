@@ -6,7 +6,7 @@ ghost use Rattle.urlpattern_syntax.specs.declared.error.RegExpError.TheVariants 
 ghost use Rattle.urlpattern_syntax.specs.ErrorText.{error_text, fault_text, parser_error_text};
 ghost use Rattle.urlpattern_syntax.specs.Errors as view;
 ghost use Rattle.urlpattern_syntax.specs.Errors.{error_view, regexp_error_view};
-ghost use Rattle.urlpattern_syntax.specs.{Refusals.url_error, Tokens.fault_view};
+ghost use Rattle.urlpattern_syntax.specs.{UrlErrors.url_error, Tokens.fault_view};
 
 use crate::tokenizer::TokenType;
 use std::alloc::{AllocError, AllocFailed};

@@ -13,7 +13,7 @@ use urlpattern_components::Eight;
 use urlpattern_index::{Address, AddressHashes};
 use urlpattern_matcher::regexp::RegExp;
 use urlpattern_matches::{UrlPatternCaptures, UrlPatternResult};
-use urlpattern_pattern::captures_of_texts;
+use urlpattern_pattern::match_of_texts;
 use urlpattern_syntax::Error;
 use urlpattern_syntax::error::OutOfMemory;
 
@@ -95,7 +95,7 @@ impl<R: RegExp> UrlPatternList<R> {
         let mut found = Some(index);
         while let Some(index) = found {
             let pattern = &self.patterns[index];
-            if let Some(captures) = captures_of_texts(alloc, pattern, texts)? {
+            if let Some(captures) = match_of_texts(alloc, pattern, texts)? {
                 return Ok(Some((index, captures)));
             }
             found = self.next_asked(hashes, index + 1);

@@ -18,7 +18,7 @@ pub fn reported<T>(answer: ParseResult<T>, bytes: usize) -> Result<T, Error>
 {
     match answer {
         Ok(value) => Ok(value),
-        Err(error) => Err(refusal(error, bytes)),
+        Err(error) => Err(rejection(error, bytes)),
     }
 }
 
@@ -33,13 +33,15 @@ pub(super) fn refused_as(
 {
     match answer {
         Ok(()) => Ok(()),
-        Err(error @ (ParseError::OutOfMemory | ParseError::Overflow)) => Err(refusal(error, bytes)),
+        Err(error @ (ParseError::OutOfMemory | ParseError::Overflow)) => Err(rejection(
+            error, bytes,
+        )),
         Err(_) => Err(Error::Url(reason)),
     }
 }
 
 /// Returns the error for an error of `url` on texts of at most `bytes` bytes.
-fn refusal(error: ParseError, bytes: usize) -> Error
+fn rejection(error: ParseError, bytes: usize) -> Error
     ensures { error_view result ≡ reported_error error bytes }
 {
     match error {

@@ -132,7 +132,7 @@ fn literal_matcher<R>(
         prefix: String::new(alloc),
         suffix: String::new(alloc),
         inner: InnerMatcher::Literal {
-            literal: joined(alloc, prefix, suffix)?,
+            literal: concatenated(alloc, prefix, suffix)?,
         },
         ignore_case: options.ignore_case,
     })
@@ -152,8 +152,8 @@ fn capture_matcher<R>(
         ≡ single_capture_matcher (options_view options.now) (chars prefix.now) (part_view part.now) (chars suffix.now) filter allow_empty) }
 {
     Ok(Matcher {
-        prefix: joined(alloc, prefix, &part.prefix)?,
-        suffix: joined(alloc, &part.suffix, suffix)?,
+        prefix: concatenated(alloc, prefix, &part.prefix)?,
+        suffix: concatenated(alloc, &part.suffix, suffix)?,
         inner: InnerMatcher::SingleCapture {
             filter,
             allow_empty,
@@ -210,7 +210,7 @@ fn ask_engine<R: RegExp>(
 
 /// Joins two texts.
 #[inline(always)]
-fn joined(alloc: Global, front: &str, back: &str) -> Result<String, AllocError>
+fn concatenated(alloc: Global, front: &str, back: &str) -> Result<String, AllocError>
     ensures { IfOk result (λ text. text_of text ≡ chars front.now ++ chars back.now) }
 {
     if front.is_empty() {

@@ -35,7 +35,7 @@ impl<'a> GivenNames<'a> {
     }
 
     /// Adds a name.
-    pub(super) fn add(&mut self, name: &'a str) -> Result<(), AllocError>
+    pub(super) fn add_name(&mut self, name: &'a str) -> Result<(), AllocError>
         ensures { OnOk result ((other : List ℕ) → has_name self.new other ≡ (has_bytes other name.entry || has_name self.old other)) }
     {
         if !self.few.is_full() {

@@ -43,7 +43,7 @@ impl<'a> PartList<'a> {
     /// Adds a piece.
     ///
     /// <https://urlpattern.spec.whatwg.org/#add-a-part>
-    pub(super) fn add<F: Fn(&str) -> Result<String, Error>>(
+    pub(super) fn add_piece<F: Fn(&str) -> Result<String, Error>>(
         &mut self,
         parser: &PatternParser<'_, F>,
         piece: &Piece<'a>,
@@ -165,7 +165,7 @@ impl<'a> PartList<'a> {
                 if self.given_names.contain(name) {
                     return Err(Error::Parser(ParserError::DuplicateName(text)));
                 }
-                self.given_names.add(name)?;
+                self.given_names.add_name(name)?;
                 Ok(text)
             }
         }

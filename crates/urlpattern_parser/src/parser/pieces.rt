@@ -17,7 +17,7 @@ use urlpattern_syntax::parser::PartModifier;
 
 /// The text that a placeholder matches.
 #[derive(Clone, Copy)]
-pub(super) enum Matched<'a> {
+pub(super) enum PlaceholderKind<'a> {
     /// A segment.
     Segment,
     /// A match of the custom regular expression with this body.
@@ -30,7 +30,7 @@ pub(super) enum Matched<'a> {
 #[derive(Clone, Copy)]
 pub(super) struct Placeholder<'a> {
     pub(super) name: Option<&'a str>,
-    pub(super) matched: Matched<'a>,
+    pub(super) matched: PlaceholderKind<'a>,
 }
 
 /// A piece of a pattern.
@@ -262,22 +262,22 @@ impl<'a> Reader<'a> {
                 if self.token.kind != TokenType::Regexp {
                     return Ok(Placeholder {
                         name: Some(first.value),
-                        matched: Matched::Segment,
+                        matched: PlaceholderKind::Segment,
                     });
                 }
                 let regexp = self.take()?;
                 Ok(Placeholder {
                     name: Some(first.value),
-                    matched: Matched::Custom(regexp.value),
+                    matched: PlaceholderKind::Custom(regexp.value),
                 })
             }
             TokenType::Regexp => Ok(Placeholder {
                 name: None,
-                matched: Matched::Custom(first.value),
+                matched: PlaceholderKind::Custom(first.value),
             }),
             _ => Ok(Placeholder {
                 name: None,
-                matched: Matched::Anything,
+                matched: PlaceholderKind::Anything,
             }),
         }
     }

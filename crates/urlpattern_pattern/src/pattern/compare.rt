@@ -1,7 +1,7 @@
 //! Compares patterns by the parts that they were made of.
 ghost use Rattle.std.specs.Prelude.{◌≡◌, IfErr, IfOk, Some};
 ghost use Rattle.urlpattern_components.specs.Eight.{at};
-ghost use Rattle.urlpattern_pattern.specs.Comparing.{HaveParts, LackParts, OfBoth, compare_error_text};
+ghost use Rattle.urlpattern_pattern.specs.PatternComparing.{HaveParts, LackParts, OfBoth, compare_error_text};
 ghost use Rattle.urlpattern_pattern.specs.declared.pattern.compare.CompareError.TheVariants as errors;
 ghost use Rattle.urlpattern_compare.specs.Comparing.{IsPatternCovering, IsPatternOverlap};
 ghost use Rattle.urlpattern_compare.specs.Order.{parts_cmp};

@@ -1,7 +1,7 @@
 //! Generates the text of one component from the texts of its groups.
 ghost use Rattle.std.specs.Prelude.{IfErr, IfOk};
 ghost use Rattle.urlpattern_generate.specs.Manners.{given_groups};
-ghost use Rattle.urlpattern_pattern.specs.GeneratedTexts.{GeneratesText, RefusesGroups};
+ghost use Rattle.urlpattern_pattern.specs.ComponentTexts.{GeneratesText, RefusesGroups};
 ghost use Rattle.urlpattern_syntax.specs.Text.{text_of};
 
 use super::UrlPattern;

@@ -10,7 +10,7 @@ ghost use Rattle.urlpattern_matches.specs.BorrowedMatches.{IfMatch, groups_view,
 ghost use Rattle.urlpattern_pattern.specs.Match.{AreGroupsInOrder, AsksAnEngine, CopiesMatch, FindsInInput, FindsInTexts, IfUrl, IsRefused, TestsInput, TestsTexts};
 ghost use Rattle.urlpattern_matches.specs.ResultViews.{result_view};
 ghost use Rattle.urlpattern_matches.specs.MatchInput.{texts_view};
-ghost use Rattle.urlpattern_pattern.specs.Calls.{AreCaptured, AreLooks, AskWithCause, HasAnswers, HasCaptures, HasGroups};
+ghost use Rattle.urlpattern_pattern.specs.MatchCalls.{AreCaptured, AreLooks, AskWithCause, HasAnswers, HasCaptures, HasGroups};
 ghost use Rattle.urlpattern_matches.specs.GroupTexts.{borrowed_texts};
 ghost use Rattle.urlpattern_pattern.specs.Patterns.{components_of, pattern_view};
 ghost use Rattle.urlpattern_components.specs.declared.eight.ComponentName.{ComponentName as Name};
@@ -26,7 +26,7 @@ use urlpattern_inputs::MatchInput;
 use urlpattern_matcher::matcher::Look;
 use urlpattern_matcher::regexp::RegExp;
 use urlpattern_matches::{
-    GroupCaptures, Missed, UrlPatternCaptures, UrlPatternResult, captures_from, input_texts,
+    GroupCaptures, Missed, UrlPatternCaptures, UrlPatternResult, assemble_match, input_texts,
     parse_match_input, url_texts,
 };
 use urlpattern_syntax::Error;
@@ -143,7 +143,7 @@ impl<R: RegExp> UrlPattern<R> {
         ensures memory { OnlyOutOfMemory result }
         ensures asked { IfErr result (λ _. AsksAnEngine R.answer (pattern_view self.now) (texts_of_url url.now)) }
     {
-        Ok(captures_of_texts(alloc, self, &url_texts(url))?)
+        Ok(match_of_texts(alloc, self, &url_texts(url))?)
     }
 
     /// Returns the match of an input, borrowed from the pattern and the input. `None`: the pattern
@@ -162,7 +162,7 @@ impl<R: RegExp> UrlPattern<R> {
         ensures memory { OnlyOutOfMemory result }
         ensures asked { IfErr result (λ _. AsksAnEngine R.answer (pattern_view self.now) (texts_view input.now)) }
     {
-        Ok(captures_of_texts(alloc, self, &input_texts(input))?)
+        Ok(match_of_texts(alloc, self, &input_texts(input))?)
     }
 
     /// Whether the pattern matches eight texts, as they are. `url_texts` borrows those of a URL,
@@ -201,7 +201,7 @@ impl<R: RegExp> UrlPattern<R> {
         ensures memory { OnlyOutOfMemory result }
         ensures asked { IfErr result (λ _. AsksAnEngine R.answer (pattern_view self.now) (borrowed_texts texts.now)) }
     {
-        Ok(captures_of_texts(alloc, self, texts)?)
+        Ok(match_of_texts(alloc, self, texts)?)
     }
 
     /// Returns an owned match of eight texts. `None`: a component does not match its text.
@@ -215,7 +215,7 @@ impl<R: RegExp> UrlPattern<R> {
         ensures memory { OnlyOutOfMemory result }
         ensures copied { IfErr result (λ _. CopiesMatch R.answer (pattern_view self.now) (borrowed_texts texts.entry)) }
     {
-        match captures_of_texts(alloc, self, &texts)? {
+        match match_of_texts(alloc, self, &texts)? {
             Some(captures) => captures.to_found(alloc),
             None => Ok(None),
         }
@@ -226,11 +226,11 @@ impl<R: RegExp> UrlPattern<R> {
         ensures matched { IfOk result (TestsTexts R.answer (pattern_view self.now) (borrowed_texts texts.now)) }
         ensures asked { IfErr result (λ _. AsksAnEngine R.answer (pattern_view self.now) (borrowed_texts texts.now)) }
     {
-        Ok(self.captured(alloc, texts)?.is_some())
+        Ok(self.group_captures(alloc, texts)?.is_some())
     }
 
     /// Returns the match that has these texts and captures.
-    fn with_captures<'p, 'u>(
+    fn match_with_names<'p, 'u>(
         &'p self,
         texts: &Eight<&'u str>,
         captures: Eight<GroupCaptures<'u>>,
@@ -241,7 +241,7 @@ impl<R: RegExp> UrlPattern<R> {
         let names = |name: ComponentName| -> &Vec<String>
             ensures { result.now ≡ (at (components_of self.entry.now) name).group_name_list }
         { &self.get(name).group_name_list };
-        captures_from(Eight::from_fn(names), with_fields!(Eight, texts), captures)
+        assemble_match(Eight::from_fn(names), with_fields!(Eight, texts), captures)
     }
 
     /// Returns what the components see in their texts before an engine is called. `None`: a
@@ -268,7 +268,7 @@ impl<R: RegExp> UrlPattern<R> {
     /// Returns what the groups capture of eight texts. `None`: a component does not match its text.
     ///
     /// Only an engine allocates.
-    fn captured<'u>(
+    fn group_captures<'u>(
         &self,
         alloc: Global,
         texts: &Eight<&'u str>,
@@ -280,7 +280,7 @@ impl<R: RegExp> UrlPattern<R> {
         let Some(looks) = self.look(texts) else {
             return Ok(None);
         };
-        captures_of_looks(alloc, looks)
+        finish_looks(alloc, looks)
     }
 }
 
@@ -288,7 +288,7 @@ impl<R: RegExp> UrlPattern<R> {
 /// `None`: a component does not match its text.
 ///
 /// Only an engine allocates.
-pub fn captures_of_texts<'p, 'u, R: RegExp>(
+pub fn match_of_texts<'p, 'u, R: RegExp>(
     alloc: Global,
     pattern: &'p UrlPattern<R>,
     texts: &Eight<&'u str>,
@@ -297,14 +297,14 @@ pub fn captures_of_texts<'p, 'u, R: RegExp>(
     ensures groups { IfMatch result (λ found. AreGroupsInOrder R.answer (pattern_view pattern.now) (borrowed_texts texts.now) (groups_view found)) }
     ensures asked { IfErr result (λ _. AsksAnEngine R.answer (pattern_view pattern.now) (borrowed_texts texts.now)) }
 {
-    match pattern.captured(alloc, texts)? {
-        Some(captures) => Ok(Some(pattern.with_captures(texts, captures))),
+    match pattern.group_captures(alloc, texts)? {
+        Some(captures) => Ok(Some(pattern.match_with_names(texts, captures))),
         None => Ok(None),
     }
 }
 
 /// Returns what eight looks capture. `None`: an engine that is called does not match.
-fn captures_of_looks<'u, R: RegExp>(
+fn finish_looks<'u, R: RegExp>(
     alloc: Global,
     looks: Eight<Look<'_, 'u, R>>,
 ) -> Result<Option<Eight<GroupCaptures<'u>>>, OutOfMemory>

@@ -8,7 +8,7 @@ ghost use Rattle.urlpattern_steps.specs.Taken.{AreFollowed};
 
 use crate::repeats::{after_literals, first_steps, pass, skip_copies, without_copy};
 use crate::step::{Copies, Step};
-use crate::texts::after_front;
+use crate::text_cuts::after_front;
 use crate::walk::{Attempt, Taken};
 use urlpattern_syntax::text::before;
 

@@ -6,9 +6,9 @@ ghost use Rattle.urlpattern_steps.specs.Failed.{IsStateOf};
 ghost use Rattle.urlpattern_steps.specs.Walk.{walk};
 ghost use Rattle.urlpattern_steps.specs.Taken.{AreFollowed};
 
-use crate::runs::{longest_front, next_of_run, remember_run};
+use crate::run_ends::{longest_front, next_of_run, remember_run};
 use crate::step::{Run, Step};
-use crate::texts::{after_front, split_at_first, without_last};
+use crate::text_cuts::{after_front, split_at_first, without_last};
 use crate::walk::{Attempt, Taken};
 use urlpattern_syntax::text::before;
 

@@ -8,7 +8,7 @@ ghost use Rattle.urlpattern_steps.specs.Taken.{AreFollowed, IsEndHere, IsEndOfSe
 
 use crate::repeats::{begun_after, ends, first_steps, goes_on, pass};
 use crate::step::{Segments, Step};
-use crate::texts::{after_front, split_at_seam, without_last};
+use crate::text_cuts::{after_front, split_at_seam, without_last};
 use crate::walk::{Attempt, Taken};
 use std::mem;
 use urlpattern_syntax::error::OutOfMemory;

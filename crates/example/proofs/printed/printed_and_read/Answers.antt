@@ -3,7 +3,7 @@ use Rattle.std.proofs.lemmas.Result.{IfErr-weaker, IfOk-weaker}
 use Rattle.std.specs.Prelude.{encode_utf8_all}
 use Rattle.urlpattern.specs.Options.{options_view}
 use Rattle.urlpattern.specs.Parts.{parts_view}
-use Rattle.example.proofs.Copies.{copied_memory, copied_same, out_of_memory}
+use Rattle.example.proofs.ExampleCopies.{copied_memory, copied_same, out_of_memory}
 use Rattle.example.proofs.printed.printed_and_read.Goals as goal
 
 pub returns-clause-same : goal.returns-clause-same

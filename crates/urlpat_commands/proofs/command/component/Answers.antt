@@ -2,7 +2,7 @@ use Rattle.std.proofs.Common.{◌≢◌, ℕ, List, rules, map, inl, inr, ap, su
 use Rattle.std.proofs.lemmas.Result.{err_from_is_err_and}
 use Rattle.std.specs.Prelude.{All, string_bytes, encode_utf8_all}
 use Rattle.urlpat_matching.proofs.MatchLemmas.{bytes_of_text, bytes_of_texts}
-use Rattle.urlpat_commands.specs.Answers.{kept}
+use Rattle.urlpat_commands.specs.CommandAnswers.{kept}
 use Rattle.urlpat_commands.specs.Report.{component_lines}
 use Rattle.urlpattern.specs.Dialect.{HasMeaningOf}
 use Rattle.urlpattern.specs.Laws.{listed}

@@ -1,6 +1,6 @@
 use Rattle.std.proofs.lemmas.Result.{err_from_is_err_and}
 use Rattle.std.specs.Prelude.{string_bytes}
-use Rattle.urlpat_commands.proofs.AnswerLemmas.{match_answers, match_fails, answers_match, three_words}
+use Rattle.urlpat_commands.proofs.CommandAnswerLemmas.{match_answers, match_fails, answers_match, three_words}
 use Rattle.urlpat_matching.specs.MatchTexts.{IsMatchText, IsUnmatched}
 use Rattle.urlpat_matching.specs.PatternWords.{base_of}
 use Rattle.urlpat_commands.proofs.command.match_answer.Goals as goal

@@ -1,6 +1,6 @@
 use Rattle.std.proofs.lemmas.Result.{err_from_is_err_and}
 use Rattle.std.specs.Prelude.{None, string_bytes}
-use Rattle.urlpat_commands.proofs.AnswerLemmas.{answers_match}
+use Rattle.urlpat_commands.proofs.CommandAnswerLemmas.{answers_match}
 use Rattle.urlpat_commands.proofs.ShortLemmas.{short_answers, short_fails}
 use Rattle.urlpat_matching.specs.MatchTexts.{IsMatchText, IsUnmatched}
 use Rattle.urlpat_lines.proofs.WordLemmas.{one_word}

@@ -1,5 +1,5 @@
-use Rattle.urlpat_commands.proofs.NoteLemmas.{reports-alone, reports-no-memory, reports-noted}
-use Rattle.urlpat_commands.specs.Notes.{note_bytes}
+use Rattle.urlpat_commands.proofs.CommandNoteLemmas.{reports-alone, reports-no-memory, reports-noted}
+use Rattle.urlpat_commands.specs.CommandNotes.{note_bytes}
 use Rattle.urlpat_matching.specs.Status.{failure_lines}
 use Rattle.urlpat_commands.proofs.command.write_failure.Goals as goal
 

@@ -1,6 +1,6 @@
 use Rattle.std.proofs.Common.{ap, sym}
 use Rattle.std.specs.Prelude.{option_copied}
-use Rattle.urlpat_commands.proofs.FilterLemmas.{filters}
+use Rattle.urlpat_commands.proofs.FilterCommandLemmas.{filters}
 use Rattle.urlpattern_canonical.specs.BaseUrls.{kept_base}
 use Rattle.urlpat_matching.specs.Status.{status_of}
 use Rattle.urlpattern.specs.Patterns.{pattern_view}

@@ -1,6 +1,6 @@
 use Rattle.std.proofs.lemmas.Result.{err_from_is_err_and}
 use Rattle.std.specs.Prelude.{option_copied}
-use Rattle.urlpat_commands.proofs.FirstLemmas.{patterns-more, refuses-one}
+use Rattle.urlpat_commands.proofs.FirstCommandLemmas.{patterns-more, refuses-one}
 use Rattle.urlpat_commands.proofs.first.compiled_list.Goals as goal
 
 pub returns-in_err-pattern-clause-refused : goal.returns-in_err-pattern-clause-refused

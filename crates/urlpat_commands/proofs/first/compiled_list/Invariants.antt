@@ -1,6 +1,6 @@
 use Rattle.std.proofs.Common.{take}
 use Rattle.std.specs.Prelude.{option_copied}
-use Rattle.urlpat_commands.specs.Answers.{ArePatterns}
+use Rattle.urlpat_commands.specs.CommandAnswers.{ArePatterns}
 use Rattle.urlpat_lines.specs.Words.{words_view}
 use Rattle.urlpattern.specs.FirstMatch.{patterns_view}
 use Rattle.urlpat_commands.proofs.first.compiled_list.Given as goal

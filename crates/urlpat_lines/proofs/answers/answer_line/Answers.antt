@@ -1,6 +1,6 @@
 use Rattle.std.proofs.Common.{[], refl, sym, subst, inl, inr, append-nil, ◌∙◌}
 use Rattle.std.specs.Str.{IsUtf8}
-use Rattle.urlpat_lines.proofs.AnswerLemmas.{answers-text}
+use Rattle.urlpat_lines.proofs.LineAnswerLemmas.{answers-text}
 use Rattle.urlpat_lines.proofs.answers.answer_line.Goals as goal
 
 pub returns-in-Ok : goal.returns-in-Ok

@@ -2,9 +2,9 @@ use Rattle.std.proofs.Common.{◌≡◌, ◌↔◌, ◌<◌, ◌++◌, IsTrue, l
 use Rattle.std.specs.Io.BufRead.{drop_through, take_through}
 use Rattle.std.specs.Io.KnownBytes.{Appends}
 use Rattle.bstr.proofs.lemmas.RecordLemmas.{IfSome-weaker, IfSome-at}
-use Rattle.urlpat_lines.proofs.AnswerLemmas.{Completes, answers-line, appends-both, completes-next, completes-none, no-more, selected-most}
-use Rattle.urlpat_lines.specs.Answers.{IsAnswerTo}
-use Rattle.urlpat_lines.specs.Lines.{IsKept}
+use Rattle.urlpat_lines.proofs.LineAnswerLemmas.{Completes, answers-line, appends-both, completes-next, completes-none, no-more, selected-most}
+use Rattle.urlpat_lines.specs.LineAnswers.{IsAnswerTo}
+use Rattle.urlpat_lines.specs.Lines.{IsLineKept}
 use Rattle.urlpat_lines.proofs.answers.answer_lines.Goals as goal
 
 pub returns-then-not-branch : goal.returns-then-not-branch
@@ -29,7 +29,7 @@ lines-preserved g c =
           let here = g.In.Read.remaining c.lines.input in
           let rest = inv.0 in
           let says = IfSome-at here rest (λ left. IsTrue more ↔ 0 < length left) inv.2 c.in_ok-read_line.ensures.more in
-          let kept = IfSome-at here rest (λ left. IsKept line (take_through 10 left)) inv.2 c.in_ok-read_line.ensures.kept in
+          let kept = IfSome-at here rest (λ left. IsLineKept line (take_through 10 left)) inv.2 c.in_ok-read_line.ensures.kept in
           let left = IfSome-at here rest _ inv.2 c.in_ok-read_line.ensures.rest in
           let is = answers-line Answers line (take_through 10 rest) verdict answer.0 kept (subst (λ l. IsAnswerTo Answers l verdict answer.0) c.deref.ensures.value answer.2) in
           let piece = subst (Appends (g.Out.Write.contents c.lines.out) (g.Out.Write.contents c.write_piece.new.out)) (c.deref-in-lines.ensures.value ∙ grown) c.in_ok-write_piece.ensures in

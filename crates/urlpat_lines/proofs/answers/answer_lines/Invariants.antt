@@ -1,7 +1,7 @@
 -- Output for the remaining lines completes the output so far.
 use Rattle.std.proofs.Common.{◌≡◌, ℕ, ◌≤◌, List, IfSome, Some}
 use Rattle.std.specs.Io.KnownBytes.{Appends}
-use Rattle.urlpat_lines.proofs.AnswerLemmas.{Completes}
+use Rattle.urlpat_lines.proofs.LineAnswerLemmas.{Completes}
 use Rattle.urlpat_lines.proofs.answers.answer_lines.Given as goal
 
 abbrev pub invariant-lines : goal.invariant-lines

@@ -2,7 +2,7 @@ use Rattle.std.proofs.Common.{◌+◌, ◌≡◌, [], ◌++◌, ◌∷◌, All, 
 use Rattle.std.proofs.lemmas.List.{take_at}
 use Rattle.std.proofs.lemmas.List.Elements.{All-append}
 use Rattle.std.specs.Str.{IsUtf8}
-use Rattle.urlpat_lines.proofs.TableLemmas.{All-one, entries-more, line-there}
+use Rattle.urlpat_lines.proofs.EntryLemmas.{All-one, entries-more, line-there}
 use Rattle.urlpat_lines.specs.Tables.{entries_from, line_entries, table_lines}
 use Rattle.urlpat_lines.proofs.table.entries_of.Goals as goal
 
@@ -38,7 +38,7 @@ loop-line-preserved c =
       before ++ line ∷ [],
       are ∙ ap (λ rest. before ++ rest) c.in-Some.ensures.steps ∙ sym (append_assoc before (line ∷ []) c.next.new.self),
       omega (arith, counted, length-append before (line ∷ [])),
-      c.in_ok-add.ensures ∙ ap (λ l. l ++ line_entries (c.loop-line.number + 1) c.in-Ok.text.now) entries ∙ ap (λ t. entries_from 1 before ++ line_entries (c.loop-line.number + 1) t) same
+      c.in_ok-push_entry.ensures ∙ ap (λ l. l ++ line_entries (c.loop-line.number + 1) c.in-Ok.text.now) entries ∙ ap (λ t. entries_from 1 before ++ line_entries (c.loop-line.number + 1) t) same
           ∙ sym (entries-more 1 (c.loop-line.number + 1) before line (omega (arith, counted))),
       All-append IsUtf8 before (line ∷ []) text (All-one IsUtf8 line c.in-Ok.ensures.cases.1),
     )

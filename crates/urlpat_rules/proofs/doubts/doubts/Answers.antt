@@ -10,5 +10,5 @@ loop-index-preserved c =
     let asked = c.index-patterns-index.result in
     let there = slice_get_read patterns (length patterns) index asked refl c.loop-index-test.true
     c.index-patterns-index.is in
-    doubts-more patterns index c.loop-index.found.items c.add.new.found.items c.in_ok-doubt.doubt
-    c.loop-index.invariant (asked, there, c.in_ok-doubt.ensures) c.in_ok-add.ensures
+    doubts-more patterns index c.loop-index.found.items c.push_some.new.found.items c.in_ok-doubt.doubt
+    c.loop-index.invariant (asked, there, c.in_ok-doubt.ensures) c.in_ok-push_some.ensures

@@ -1,6 +1,6 @@
 use Rattle.std.proofs.Common.{take}
 use Rattle.std.specs.Prelude.{option_copied}
-use Rattle.urlpat_rules.specs.Routes.{AreRoutesOf}
+use Rattle.urlpat_rules.specs.TableRoutes.{AreRoutesOf}
 use Rattle.urlpat_lines.specs.Tables.{entries_view}
 use Rattle.urlpat_rules.proofs.routing.routes_of.Given as goal
 

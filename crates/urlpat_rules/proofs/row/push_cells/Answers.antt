@@ -1,7 +1,7 @@
 use Rattle.std.proofs.Common.{[], ◌++◌, ◌∷◌, ◌∙◌, append_assoc, append-nil, sym, ap}
 use Rattle.std.specs.List.{flat_map}
 use Rattle.urlpat_rules.proofs.RouteLemmas.{cells-more}
-use Rattle.urlpat_rules.specs.Routes.{cell_text}
+use Rattle.urlpat_rules.specs.TableRoutes.{cell_text}
 use Rattle.urlpat_rules.proofs.row.push_cells.Goals as goal
 
 pub loop-line-init : goal.loop-line-init

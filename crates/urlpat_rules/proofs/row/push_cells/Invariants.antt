@@ -1,7 +1,7 @@
 -- The lines so far are appended.
 use Rattle.std.proofs.Common.{◌≡◌, ◌++◌, ℕ, List}
 use Rattle.std.specs.List.{flat_map}
-use Rattle.urlpat_rules.specs.Routes.{bare_lines, cell_text}
+use Rattle.urlpat_rules.specs.TableRoutes.{bare_lines, cell_text}
 use Rattle.urlpat_rules.proofs.row.push_cells.Given as goal
 
 abbrev pub invariant-loop-line : goal.invariant-loop-line

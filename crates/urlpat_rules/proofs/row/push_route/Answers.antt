@@ -1,7 +1,7 @@
 use Rattle.std.proofs.Common.{List, ap, string_bytes, ℕ, ◌++◌, ◌∙◌}
 use Rattle.serde_json.specs.View.{view}
 use Rattle.serde_json.specs.Written.{has_float}
-use Rattle.urlpat_matching.proofs.JsonLemmas.{match-none}
+use Rattle.urlpat_matching.proofs.MatchJsonLemmas.{match-none}
 use Rattle.urlpat_matching.specs.MatchJson.{json_line}
 use Rattle.urlpat_rules.proofs.RouteLemmas.{route-none}
 use Rattle.urlpat_lines.specs.Tables.{entry_view}

@@ -1,7 +1,7 @@
 use Rattle.std.proofs.Common.{List, ap, append_assoc, codes, decimal, refl, sym, ℕ, ◌++◌, ◌∙◌}
 use Rattle.std.specs.List.{flat_map}
 use Rattle.urlpat_rules.proofs.RouteLemmas.{row-of}
-use Rattle.urlpat_rules.specs.Routes.{bare_lines, cell_text, row_text}
+use Rattle.urlpat_rules.specs.TableRoutes.{bare_lines, cell_text, row_text}
 use Rattle.urlpat_lines.specs.Tables.{entry_view}
 use Rattle.urlpat_rules.proofs.row.push_row.Goals as goal
 

@@ -1,5 +1,5 @@
 use Rattle.std.specs.Prelude.{option_copied}
-use Rattle.urlpat_rules.proofs.ListLemmas.{parts-more}
+use Rattle.urlpat_rules.proofs.PrintedListLemmas.{parts-more}
 use Rattle.urlpat_rules.proofs.unreachable.parts_of_each.Goals as goal
 
 pub loop-entry-preserved : goal.loop-entry-preserved

@@ -1,6 +1,6 @@
 use Rattle.std.proofs.Common.{◌≡◌, take}
 use Rattle.std.specs.Prelude.{option_copied}
-use Rattle.urlpat_rules.specs.Unreached.{ArePartsOfEach}
+use Rattle.urlpat_rules.specs.UnreachedLines.{ArePartsOfEach}
 use Rattle.urlpat_lines.specs.Tables.{entries_view}
 use Rattle.urlpat_rules.proofs.unreachable.parts_of_each.Given as goal
 

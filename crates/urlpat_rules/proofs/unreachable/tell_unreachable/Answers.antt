@@ -3,7 +3,7 @@ use Rattle.std.specs.Prelude.{option_copied}
 use Rattle.urlpat_matching.specs.Status.{status_of}
 use Rattle.std.specs.Io.KnownBytes.{Appends}
 use Rattle.urlpat_rules.proofs.DoubtLemmas.{has-doubts}
-use Rattle.urlpat_rules.proofs.ListLemmas.{lists-of}
+use Rattle.urlpat_rules.proofs.PrintedListLemmas.{lists-of}
 use Rattle.urlpat_rules.proofs.unreachable.tell_unreachable.Goals as goal
 use Rattle.urlpat_rules.proofs.unreachable.tell_unreachable.Goals.{else-not-is_empty, then-not-is_empty}
 

@@ -1,9 +1,9 @@
 use Rattle.std.proofs.Common.{◌≡◌, ◌∙◌, Bor, List, ap, map, subst, take, take_all}
 use Rattle.std.specs.List.{flat_map}
-use Rattle.urlpat_rules.specs.Unreached.{unreached_line}
+use Rattle.urlpat_rules.specs.UnreachedLines.{unreached_line}
 use Rattle.urlpat_lines.specs.Tables.{entries_view}
 use Rattle.urlpattern_compare.specs.Comparing.{AreUnreachable}
-use Rattle.urlpattern_compare.specs.declared.pattern.PatternParts.{PatternParts}
+use Rattle.urlpattern_compare.specs.declared.pattern_parts.PatternParts.{PatternParts}
 use Rattle.urlpat_rules.proofs.unreachable.unreached_text.Goals as goal
 
 pub returns : goal.returns

@@ -1,6 +1,6 @@
 use Rattle.std.proofs.Common.{◌≡◌, string_bytes, take}
 use Rattle.std.specs.List.{flat_map}
-use Rattle.urlpat_rules.specs.Unreached.{unreached_line}
+use Rattle.urlpat_rules.specs.UnreachedLines.{unreached_line}
 use Rattle.urlpat_lines.specs.Tables.{entries_view}
 use Rattle.urlpat_rules.proofs.unreachable.unreached_text.Given as goal
 

@@ -1,7 +1,7 @@
 use Rattle.std.proofs.Common.{subst, sym}
 use Rattle.urlpattern_c.specs.Handles.{patterns_in}
 use Rattle.urlpattern_ffi.specs.Inits.{IsInitAdded}
-use Rattle.urlpattern_ffi.specs.Kept.{PatternList, boxed_patterns}
+use Rattle.urlpattern_ffi.specs.KeptPatterns.{PatternList, boxed_patterns}
 use Rattle.urlpattern_c.proofs.exports.urlpattern_add_init.Goals as goal
 
 pub returns : goal.returns

@@ -1,5 +1,5 @@
 use Rattle.std.proofs.Common.{subst}
-use Rattle.urlpattern_ffi.specs.Spans.{AreCapturesReported}
+use Rattle.urlpattern_ffi.specs.GroupSpans.{AreCapturesReported}
 use Rattle.urlpattern_c.proofs.exports.urlpattern_captures.Goals as goal
 
 pub returns-clause-answer : goal.returns-clause-answer

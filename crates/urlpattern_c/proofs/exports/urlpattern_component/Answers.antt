@@ -1,5 +1,5 @@
 use Rattle.std.proofs.Common.{subst}
-use Rattle.urlpattern_ffi.specs.Texts.{IsComponentWritten}
+use Rattle.urlpattern_ffi.specs.TextBuffers.{IsComponentWritten}
 use Rattle.urlpattern_c.proofs.exports.urlpattern_component.Goals as goal
 
 pub returns-clause-answer : goal.returns-clause-answer

@@ -1,7 +1,7 @@
 use Rattle.std.proofs.Common.{subst}
 use Rattle.urlpattern_c.specs.Handles.{patterns_in}
-use Rattle.urlpattern_ffi.specs.Coverings.{IsCoveringReported}
-use Rattle.urlpattern_ffi.specs.Kept.{PatternList, boxed_patterns}
+use Rattle.urlpattern_ffi.specs.ReportedCoverings.{IsCoveringReported}
+use Rattle.urlpattern_ffi.specs.KeptPatterns.{PatternList, boxed_patterns}
 use Rattle.urlpattern_c.proofs.exports.urlpattern_covers_between.Goals as goal
 
 pub returns-clause-answer : goal.returns-clause-answer

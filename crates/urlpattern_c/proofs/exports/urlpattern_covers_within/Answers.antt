@@ -1,5 +1,5 @@
 use Rattle.std.proofs.Common.{subst}
-use Rattle.urlpattern_ffi.specs.Coverings.{IsCoveringReported}
+use Rattle.urlpattern_ffi.specs.ReportedCoverings.{IsCoveringReported}
 use Rattle.urlpattern_c.proofs.exports.urlpattern_covers_within.Goals as goal
 
 pub returns-clause-answer : goal.returns-clause-answer

@@ -1,5 +1,5 @@
 use Rattle.std.proofs.Common.{subst}
-use Rattle.urlpattern_ffi.specs.Texts.{IsExecReported}
+use Rattle.urlpattern_ffi.specs.TextBuffers.{IsExecReported}
 use Rattle.urlpattern_c.proofs.exports.urlpattern_exec.Goals as goal
 
 pub returns-clause-answer : goal.returns-clause-answer

@@ -1,5 +1,5 @@
 use Rattle.std.proofs.Common.{subst}
-use Rattle.urlpattern_ffi.specs.Texts.{IsGroupNameWritten}
+use Rattle.urlpattern_ffi.specs.TextBuffers.{IsGroupNameWritten}
 use Rattle.urlpattern_c.proofs.exports.urlpattern_group_name.Goals as goal
 
 pub returns-clause-answer : goal.returns-clause-answer

@@ -1,5 +1,5 @@
 use Rattle.std.proofs.Common.{subst}
-use Rattle.urlpattern_ffi.specs.Links.{IsLinkReported}
+use Rattle.urlpattern_ffi.specs.WrittenLinks.{IsLinkReported}
 use Rattle.urlpattern_c.proofs.exports.urlpattern_link.Goals as goal
 
 pub returns-clause-answer : goal.returns-clause-answer

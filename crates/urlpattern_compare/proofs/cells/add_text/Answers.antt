@@ -4,7 +4,7 @@ use Rattle.std.proofs.lemmas.Iterator.Consumers.{YieldsList-end}
 use Rattle.std.proofs.lemmas.Iterator.{YieldsList-from_chars}
 use Rattle.std.specs.Str.{chars}
 use Rattle.urlpattern_compare.specs.Cells.{text_cells}
-use Rattle.urlpattern_compare.specs.declared.automaton.Test.TheVariants.{Only}
+use Rattle.urlpattern_compare.specs.declared.parts_automaton.Test.TheVariants.{Only}
 use Rattle.urlpattern_compare.specs.declared.cells.Cell.{Cell}
 use Rattle.urlpattern_compare.specs.declared.cells.Cell.TheVariants.{One}
 use Rattle.urlpattern_compare.proofs.cells.add_text.Goals as goal

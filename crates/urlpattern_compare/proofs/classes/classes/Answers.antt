@@ -4,7 +4,7 @@ use Rattle.std.specs.List.{Contains}
 use Rattle.std.proofs.lemmas.List.Elements.{All-weaker}
 use Rattle.urlpattern_compare.specs.Automata.{named}
 use Rattle.urlpattern_compare.specs.Searching.{AreClasses, with_named}
-use Rattle.urlpattern_compare.specs.declared.automaton.Edge.{Edge}
+use Rattle.urlpattern_compare.specs.declared.parts_automaton.Edge.{Edge}
 use Rattle.urlpattern_compare.proofs.CharacterClasses.{AreNamed, classes_all, classes_with, named_kept, named_there}
 use Rattle.urlpattern_syntax.specs.Text.{is_among, line_feed}
 use Rattle.urlpattern_compare.proofs.StateSets.{contains_head}

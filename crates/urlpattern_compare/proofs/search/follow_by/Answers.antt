@@ -1,8 +1,8 @@
 use Rattle.std.proofs.Common.{◌≡◌, ◌<◌, ◌≤◌, ◌∙◌, ap₂, refl, inl, inr, subst, length, get_or}
 use Rattle.std.proofs.lemmas.List.Elements.{Contains-get_or}
 use Rattle.urlpattern_compare.specs.Searching.{IsBy, IsGrownBy, IsSeen, IsStepBy, moved}
-use Rattle.urlpattern_compare.specs.declared.automaton.Edge.{Edge}
-use Rattle.urlpattern_compare.specs.declared.automaton.Test.TheVariants.{Only}
+use Rattle.urlpattern_compare.specs.declared.parts_automaton.Edge.{Edge}
+use Rattle.urlpattern_compare.specs.declared.parts_automaton.Test.TheVariants.{Only}
 use Rattle.urlpattern_compare.proofs.PairLemmas.{contains_all, contains_more, extended_more, grown_reached, seen_more}
 use Rattle.urlpattern_compare.proofs.search.follow_by.Goals as goal
 

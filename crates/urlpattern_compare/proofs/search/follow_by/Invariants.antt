@@ -1,7 +1,7 @@
 use Rattle.std.proofs.Common.{take}
 use Rattle.std.specs.List.{All, Contains}
 use Rattle.urlpattern_compare.specs.Searching.{AreUnlike, IsBy, IsExtended, IsReached, IsSeen, moved}
-use Rattle.urlpattern_compare.specs.declared.automaton.Edge.{Edge}
+use Rattle.urlpattern_compare.specs.declared.parts_automaton.Edge.{Edge}
 use Rattle.urlpattern_compare.proofs.search.follow_by.Given as goal
 
 abbrev pub invariant-loop-edge : goal.invariant-loop-edge

@@ -2,7 +2,7 @@ use Rattle.std.proofs.Common.{◌≤◌, ◌*◌, length}
 use denote.Text.{Utf8}
 use denote.Shadow.{shadow}
 use Rattle.std.specs.Str.{chars}
-use Rattle.urlpattern_engine.specs.Refusals.{copies_in}
+use Rattle.urlpattern_engine.specs.ExpressionFaults.{copies_in}
 use Rattle.urlpattern_engine.proofs.large.copies.Given as goal
 
 abbrev pub invariant-loop-c : goal.invariant-loop-c

@@ -2,7 +2,7 @@ use Rattle.std.proofs.Common.{◌≤◌, length}
 use denote.Text.{Utf8}
 use denote.Shadow.{shadow}
 use Rattle.std.specs.Str.{chars}
-use Rattle.urlpattern_engine.specs.Refusals.{number_from}
+use Rattle.urlpattern_engine.specs.ExpressionFaults.{number_from}
 use Rattle.urlpattern_engine.proofs.large.number.Given as goal
 
 abbrev pub invariant-loop-c : goal.invariant-loop-c

@@ -3,7 +3,7 @@ use Rattle.std.specs.Prelude.{sum}
 use denote.Text.{Utf8}
 use denote.Shadow.{shadow}
 use Rattle.std.specs.Str.{chars}
-use Rattle.urlpattern_engine.specs.Refusals.{room_of}
+use Rattle.urlpattern_engine.specs.ExpressionFaults.{room_of}
 use Rattle.urlpattern_engine.proofs.large.room.Given as goal
 
 abbrev pub invariant-loop-c : goal.invariant-loop-c

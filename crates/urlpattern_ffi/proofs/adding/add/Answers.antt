@@ -4,7 +4,7 @@ use Rattle.std.specs.Str.{chars}
 use Rattle.urlpattern.specs.Errors.{MemoryOr}
 use Rattle.urlpattern.specs.FromString.{RefusesPatternOfText}
 use Rattle.urlpattern_ffi.specs.Calls.{c_options, IsAdded, IsCompiledFromText, KeepsItsParts}
-use Rattle.urlpattern_ffi.specs.Kept.{boxed_patterns}
+use Rattle.urlpattern_ffi.specs.KeptPatterns.{boxed_patterns}
 use Rattle.urlpattern_engine.specs.PatternRegexps.{pattern_engine}
 use Rattle.urlpattern_ffi.proofs.CallLemmas.{added, of_texts, refused}
 use Rattle.urlpattern_ffi.proofs.adding.add.Goals as goal
@@ -24,5 +24,5 @@ returns-in-Err c =
     let Why = λ (bytes : List ℕ) (url : Option (List ℕ)). MemoryOr (RefusesPatternOfText pattern_engine (chars bytes) url (c_options c.args.ignore_case)) c.in-Err.error in
     let why = of_texts Why c.args.text.now c.args.base.now c.in-Ok.text.now c.in-Ok-from_utf8.base.now _
     c.in-Ok.ensures.cases.0 c.in-Ok-from_utf8.ensures.cases.0 c.given_base.ensures c.in-Err.ensures.refused in
-    subst (λ status. IsAdded old c.args.text.now c.args.base.now c.args.ignore_case old status) (sym c.refusal-status.ensures)
+    subst (λ status. IsAdded old c.args.text.now c.args.base.now c.args.ignore_case old status) (sym c.status_of_error-status.ensures)
     (refused old c.args.text.now c.args.base.now c.args.ignore_case c.in-Err.error why)

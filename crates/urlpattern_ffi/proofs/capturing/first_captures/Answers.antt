@@ -1,6 +1,6 @@
 use Rattle.std.proofs.Common.{subst, sym}
-use Rattle.urlpattern_ffi.specs.Kept.{PatternList, boxed_patterns}
-use Rattle.urlpattern_ffi.specs.Spans.{AreFirstCaptures}
+use Rattle.urlpattern_ffi.specs.KeptPatterns.{PatternList, boxed_patterns}
+use Rattle.urlpattern_ffi.specs.GroupSpans.{AreFirstCaptures}
 use Rattle.urlpattern_ffi.specs.declared.kept.Kept.{Kept}
 use Rattle.urlpattern_ffi.proofs.capturing.first_captures.Goals as goal
 

@@ -1,6 +1,6 @@
 use Rattle.std.proofs.Common.{refl}
 use Rattle.urlpattern.specs.Eight.{components}
-use Rattle.urlpattern_ffi.specs.Spans.{numbered_groups}
+use Rattle.urlpattern_ffi.specs.GroupSpans.{numbered_groups}
 use Rattle.urlpattern_ffi.proofs.SpanLemmas.{first_captured}
 use Rattle.urlpattern_matches.specs.BorrowedMatches.{groups_view, pattern_captures_view}
 use Rattle.urlpattern_ffi.proofs.capturing.list_captures.Goals as goal

@@ -1,7 +1,7 @@
 use Rattle.std.proofs.Common.{refl}
 use Rattle.urlpattern.specs.Eight.{components}
 use Rattle.urlpattern.specs.Patterns.{pattern_view}
-use Rattle.urlpattern_ffi.specs.Spans.{numbered_groups}
+use Rattle.urlpattern_ffi.specs.GroupSpans.{numbered_groups}
 use Rattle.urlpattern_ffi.proofs.SpanLemmas.{url_captured}
 use Rattle.urlpattern_matches.specs.BorrowedMatches.{groups_view}
 use Rattle.urlpattern_ffi.proofs.capturing.pattern_captures.Goals as goal

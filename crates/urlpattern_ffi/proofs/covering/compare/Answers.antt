@@ -1,6 +1,6 @@
 use Rattle.std.proofs.Common.{inl, inr}
 use Rattle.urlpattern_ffi.proofs.CoveringLemmas.{of_both}
-use Rattle.urlpattern_ffi.specs.Coverings.{IsPartedIn, IsUnknownIn}
+use Rattle.urlpattern_ffi.specs.ReportedCoverings.{IsPartedIn, IsUnknownIn}
 use Rattle.urlpattern_ffi.specs.Mismatches.{component_number}
 use Rattle.urlpattern_compare.specs.Comparing.{IsParting, IsReasonIn}
 use Rattle.urlpattern_ffi.proofs.covering.compare.Goals as goal

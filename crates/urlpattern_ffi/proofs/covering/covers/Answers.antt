@@ -1,5 +1,5 @@
 use Rattle.std.proofs.Common.{inl, inr, refl, sym}
-use Rattle.urlpattern_ffi.specs.Kept.{boxed_patterns}
+use Rattle.urlpattern_ffi.specs.KeptPatterns.{boxed_patterns}
 use Rattle.urlpattern_ffi.proofs.CoveringLemmas.{covering_reported}
 use Rattle.urlpattern_ffi.proofs.covering.covers.Goals as goal
 

@@ -4,7 +4,7 @@ use Rattle.std.specs.Str.{chars}
 use Rattle.urlpattern.specs.Errors.{error_view}
 use Rattle.urlpattern.specs.FromString.{RefusesPatternOfText}
 use Rattle.urlpattern_ffi.specs.Calls.{given_base, c_options}
-use Rattle.urlpattern_ffi.specs.Diagnoses.{place_of_diagnosis}
+use Rattle.urlpattern_ffi.specs.ReportedDiagnoses.{place_of_diagnosis}
 use Rattle.urlpattern_compile.specs.Diagnoses.{ShowsGiven}
 use Rattle.urlpattern_engine.specs.PatternRegexps.{pattern_engine}
 use Rattle.urlpattern_inputs.specs.declared.options.UrlPatternOptions.{UrlPatternOptions}

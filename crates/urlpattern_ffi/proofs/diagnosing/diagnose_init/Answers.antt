@@ -1,7 +1,7 @@
 use Rattle.std.proofs.Common.{◌∙◌, ap, refl, subst}
 use Rattle.std.specs.Prelude.{string_bytes}
 use Rattle.urlpattern.specs.Errors.{error_view}
-use Rattle.urlpattern_ffi.specs.Diagnoses.{place_of_diagnosis}
+use Rattle.urlpattern_ffi.specs.ReportedDiagnoses.{place_of_diagnosis}
 use Rattle.urlpattern_compile.specs.Compiled.{RefusesInit}
 use Rattle.urlpattern_compile.specs.Diagnoses.{ShowsInit}
 use Rattle.urlpattern_engine.specs.PatternRegexps.{pattern_engine}

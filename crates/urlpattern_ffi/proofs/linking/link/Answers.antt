@@ -1,6 +1,6 @@
 use Rattle.std.proofs.Common.{sym}
-use Rattle.urlpattern_ffi.specs.Kept.{boxed_patterns}
-use Rattle.urlpattern_ffi.proofs.LinkLemmas.{linked}
+use Rattle.urlpattern_ffi.specs.KeptPatterns.{boxed_patterns}
+use Rattle.urlpattern_ffi.proofs.WrittenLinkLemmas.{linked}
 use Rattle.urlpattern_ffi.proofs.linking.link.Goals as goal
 
 pub returns-in-Some : goal.returns-in-Some

@@ -1,4 +1,4 @@
-use Rattle.urlpattern_ffi.proofs.LinkLemmas.{link_written, reason_written}
+use Rattle.urlpattern_ffi.proofs.WrittenLinkLemmas.{link_written, reason_written}
 use Rattle.urlpattern_ffi.proofs.linking.link_pattern.Goals as goal
 
 pub returns-in-Ok : goal.returns-in-Ok

@@ -1,5 +1,5 @@
 use Rattle.std.proofs.Common.{sym}
-use Rattle.urlpattern_ffi.specs.Kept.{boxed_patterns}
+use Rattle.urlpattern_ffi.specs.KeptPatterns.{boxed_patterns}
 use Rattle.urlpattern_ffi.proofs.CallLemmas.{mismatched}
 use Rattle.urlpattern_ffi.proofs.mismatching.mismatch.Goals as goal
 

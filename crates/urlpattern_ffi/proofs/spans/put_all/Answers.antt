@@ -2,7 +2,7 @@ use Rattle.std.proofs.Common.{List, get_or, subst, sym, take}
 use Rattle.urlpattern_components.specs.Eight.{components}
 use Rattle.urlpattern_components.specs.declared.eight.ComponentName.{ComponentName}
 use Rattle.urlpattern_components.specs.declared.eight.ComponentName.TheVariants.{Protocol}
-use Rattle.urlpattern_ffi.specs.Spans.{NumberedGroup, no_sizes, numbered, numbered_groups, ArePut}
+use Rattle.urlpattern_ffi.specs.GroupSpans.{NumberedGroup, no_sizes, numbered, numbered_groups, ArePut}
 use Rattle.urlpattern_matches.specs.BorrowedMatches.{groups_view}
 use Rattle.urlpattern_ffi.proofs.SpanLemmas.{component_more, groups_more}
 use Rattle.urlpattern_ffi.specs.declared.spans.Sizes.{Sizes}

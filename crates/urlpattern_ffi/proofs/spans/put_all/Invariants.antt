@@ -1,6 +1,6 @@
 use Rattle.std.proofs.Common.{take}
 use Rattle.urlpattern_components.specs.Eight.{components}
-use Rattle.urlpattern_ffi.specs.Spans.{no_sizes, numbered_groups, ArePut}
+use Rattle.urlpattern_ffi.specs.GroupSpans.{no_sizes, numbered_groups, ArePut}
 use Rattle.urlpattern_matches.specs.BorrowedMatches.{groups_view}
 use Rattle.urlpattern_ffi.proofs.spans.put_all.Given as goal
 

@@ -1,5 +1,5 @@
 use Rattle.std.proofs.Common.{◌≡◌, ℕ, ◌+◌, ◌-◌, ◌++◌, ◌∷◌, [], ap, append_assoc, arith, sym, ◌∙◌}
-use Rattle.urlpattern_ffi.specs.Spans.{NumberedGroup, numbered}
+use Rattle.urlpattern_ffi.specs.GroupSpans.{NumberedGroup, numbered}
 use Rattle.urlpattern_matches.specs.BorrowedMatches.{groups_left}
 use Rattle.urlpattern_ffi.proofs.SpanLemmas.{groups_more, groups_none}
 use Rattle.urlpattern_syntax.specs.Text.{option_text}

@@ -1,5 +1,5 @@
 use Rattle.std.proofs.Common.{◌≡◌, ◌++◌, ◌-◌, List}
-use Rattle.urlpattern_ffi.specs.Spans.{NumberedGroup, numbered, ArePut}
+use Rattle.urlpattern_ffi.specs.GroupSpans.{NumberedGroup, numbered, ArePut}
 use Rattle.urlpattern_matches.specs.BorrowedMatches.{groups_left}
 use Rattle.urlpattern_ffi.proofs.spans.put_groups.Given as goal
 

@@ -1,5 +1,5 @@
 use Rattle.std.proofs.Common.{arith, rules}
-use Rattle.urlpattern_ffi_links.proofs.GivenLemmas.{given_all, given_more, nothing_given}
+use Rattle.urlpattern_ffi_links.proofs.GivenByteLemmas.{given_all, given_more, nothing_given}
 use Rattle.urlpattern_ffi_links.proofs.given.groups_of.Goals as goal
 
 pub returns-in-None-clause-refused : goal.returns-in-None-clause-refused

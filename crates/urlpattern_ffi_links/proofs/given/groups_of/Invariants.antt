@@ -1,6 +1,6 @@
 use Rattle.std.proofs.Common.{take}
 use Rattle.std.specs.List.{AllZip}
-use Rattle.urlpattern_ffi_links.specs.Given.{GivesGroup}
+use Rattle.urlpattern_ffi_links.specs.GivenBytes.{GivesGroup}
 use Rattle.urlpattern_ffi_links.proofs.given.groups_of.Given as goal
 
 -- The parts so far give these groups.

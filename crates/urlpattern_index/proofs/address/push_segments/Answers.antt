@@ -4,7 +4,7 @@ use Rattle.std.proofs.lemmas.Iterator.Consumers.{YieldsList-end, YieldsList-turn
 use Rattle.std.proofs.lemmas.Iterator.{YieldsList-from_chars}
 use Rattle.std.proofs.lemmas.List.{length_push, take_at}
 use Rattle.std.specs.Str.{chars}
-use Rattle.urlpattern_index.proofs.SegmentLemmas.{hashes-end, hashes-more, hashes-same}
+use Rattle.urlpattern_index.proofs.PathSegmentLemmas.{hashes-end, hashes-more, hashes-same}
 use Rattle.urlpattern_index.specs.Keys.{segment_hashes}
 use Rattle.urlpattern_index.proofs.address.push_segments.Goals as goal
 

@@ -5,7 +5,7 @@ use Rattle.urlpattern_meaning.proofs.PartTrees.{IsNotCustom}
 use Rattle.urlpattern_syntax.specs.Parts.{PartView}
 use Rattle.urlpattern_engine.proofs.EngineLaws.{taken_first}
 use Rattle.urlpattern_engine.specs.PatternRegexps.{pattern_engine}
-use Rattle.urlpattern_laws.proofs.OutcomesExist.{init_outcome, inits_have_values}
+use Rattle.urlpattern_laws.proofs.InitOutcomesExist.{init_outcome, inits_have_values}
 use Rattle.urlpattern_laws.proofs.OutcomesOne.{first_ways_decide, init_refusal_one, pattern_or_refusal}
 use Rattle.urlpattern_laws.specs.Outcomes.{TakesOrRefusesGenerated}
 use Rattle.urlpattern_laws.proofs.laws.inits_have_one_outcome.Goals as goal

@@ -5,7 +5,7 @@ use Rattle.std.specs.Iterator.Adapters.{zip_first, zip_second}
 use Rattle.std.specs.Option.{option_or}
 use Rattle.std.specs.Slice.Iter.{iter_rest}
 use Rattle.std.specs.Str.{chars}
-use Rattle.urlpattern_matches.proofs.GroupLemmas.{chars-test, groups-end, named-more}
+use Rattle.urlpattern_matches.proofs.MatchGroupLemmas.{chars-test, groups-end, named-more}
 use Rattle.urlpattern_matches.specs.ResultViews.{group_of}
 use Rattle.urlpattern_syntax.specs.Text.{option_text, text_of}
 use Rattle.urlpattern_matches.proofs.captures.group_named.Goals as goal

@@ -1,4 +1,4 @@
-use Rattle.urlpattern_steps.proofs.GroupLemmas.{copies_set}
+use Rattle.urlpattern_steps.proofs.StepGroupLemmas.{copies_set}
 use Rattle.urlpattern_steps.proofs.reading.close_copies.Goals as goal
 
 pub returns-clause-group : goal.returns-clause-group

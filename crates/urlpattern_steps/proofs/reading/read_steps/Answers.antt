@@ -3,13 +3,13 @@ use Rattle.std.specs.Prelude.{IfSome, IsSomeAnd, is_some}
 use Rattle.std.proofs.lemmas.Bool.{false≢true}
 use Rattle.std.specs.Str.{chars}
 use Rattle.urlpattern_steps.specs.declared.step.Step.{Step}
-use Rattle.urlpattern_steps.specs.declared.tokens.Token.TheVariants.{Open, Close, FirstSegment, Step as One, MaybeStep}
+use Rattle.urlpattern_steps.specs.declared.step_tokens.StepToken.TheVariants.{Open, Close, FirstSegment, Step as One, MaybeStep}
 use Rattle.urlpattern_steps.specs.declared.step.Group.{Group}
 use Rattle.urlpattern_steps.specs.declared.step.Step.TheVariants.{Maybe}
 use Rattle.urlpattern_meaning.specs.GeneratedTexts.{IsGenerated}
-use Rattle.urlpattern_steps.specs.ReadSteps.{BeginsWithRegexpToken, EndsSegments, IsGroup}
-use Rattle.urlpattern_steps.proofs.ReadingLemmas.{IsBegun, begun, begun-close, begun-ends, begun-more, begun-open, segments-spell, spells-once, spells-maybe}
-use Rattle.urlpattern_steps.proofs.TokenLemmas.{none_of}
+use Rattle.urlpattern_steps.specs.ReadSteps.{BeginsWithRegexpToken, EndsSegments, IsStepGroup}
+use Rattle.urlpattern_steps.proofs.StepReadingLemmas.{IsBegun, begun, begun-close, begun-ends, begun-more, begun-open, segments-spell, spells-once, spells-maybe}
+use Rattle.urlpattern_steps.proofs.StepTokenLemmas.{none_of}
 use Rattle.urlpattern_steps.proofs.LeftLemmas.{GoesOn, IsLeft, came, ended, left_after}
 use Rattle.urlpattern_steps.proofs.reading.read_steps.Goals as goal
 use Rattle.urlpattern_steps.proofs.reading.read_steps.Goals.{else-is_none-via-then-is_none+else-is_end, else-is_none-via-else-is_none}
@@ -160,7 +160,7 @@ returns-then-not-branch-clause-none c = λ generated.
     (came c.loop-token.opened (chars c.loop-token.rest.now) c.loop-token.steps.items c.in-Some-read_token.token (chars c.in-Some-read_token.remaining.now) (c.loop-token.invariant.to_read generated)
     c.in-Some-read_token.ensures.token c.in-Some-read_token.ensures.reads) in
     let same : goes_on.0 ≡ c.in-Some-opened-2.first = cc (goes_on.2, c.in-Some-opened-2.is) in
-    let is_group = subst (λ n. IsGroup c.in-Close.times (drop n c.loop-token.steps.items) goes_on.1) same goes_on.3 in
+    let is_group = subst (λ n. IsStepGroup c.in-Close.times (drop n c.loop-token.steps.items) goes_on.1) same goes_on.3 in
     false≢true (sym c.if-not-branch.true ∙ c.in_ok-close_group-in-Close.ensures.any goes_on.1 is_group)
 
 outside : (opened : Option ℕ) (is_none : Bool) → is_some opened ≡ not is_none → is_none ≡ false → ¬ (opened ≡ None)

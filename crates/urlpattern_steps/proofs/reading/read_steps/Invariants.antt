@@ -4,7 +4,7 @@ use denote.Shadow.{shadow}
 use Rattle.std.specs.Str.{chars}
 use Rattle.urlpattern_meaning.specs.GeneratedTexts.{IsGenerated}
 use Rattle.urlpattern_steps.proofs.LeftLemmas.{IsLeft}
-use Rattle.urlpattern_steps.proofs.ReadingLemmas.{IsBegun}
+use Rattle.urlpattern_steps.proofs.StepReadingLemmas.{IsBegun}
 use Rattle.urlpattern_steps.proofs.reading.read_steps.Given as goal
 
 abbrev pub invariant-loop-token : goal.invariant-loop-token

@@ -1,6 +1,6 @@
 use Rattle.std.proofs.Common.{ap, rules, sym, ◌∙◌}
 use Rattle.std.specs.Str.{IsUtf8}
-use Rattle.urlpat_explain.proofs.PlaceLemmas.{place-of}
+use Rattle.urlpat_explain.proofs.ComponentPlaceLemmas.{place-of}
 use Rattle.urlpat_explain.specs.Explained.{explained_view}
 use Rattle.urlpattern_components.specs.Eight.{at}
 use Rattle.urlpattern_syntax.specs.Text.{option_text}

@@ -3,7 +3,7 @@ use Rattle.urlpattern.proofs.UnreachedLemmas.{all_now}
 use Rattle.urlpattern.specs.Unreached.{HaveAllParts}
 use Rattle.urlpattern_pattern.specs.UrlPatterns.{UrlPattern}
 use Rattle.urlpattern_compare.specs.Comparing.{AreUnreachable}
-use Rattle.urlpattern_compare.specs.declared.pattern.PatternParts.{PatternParts}
+use Rattle.urlpattern_compare.specs.declared.pattern_parts.PatternParts.{PatternParts}
 use Rattle.urlpattern.proofs.list.UrlPatternList.unreachable.Goals as goal
 
 pub returns-clause-found : goal.returns-clause-found

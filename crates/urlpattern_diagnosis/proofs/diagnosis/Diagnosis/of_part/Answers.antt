@@ -1,7 +1,7 @@
 use Rattle.std.proofs.Common.{sym, subst, inl, inr}
 use Rattle.std.proofs.lemmas.Result.{IfOk-weaker}
 use Rattle.std.specs.Prelude.{IfSome}
-use Rattle.urlpattern_diagnosis.specs.Places.{IsFaultMoved, IsPlaceOf}
+use Rattle.urlpattern_diagnosis.specs.PatternOffsets.{IsFaultMoved, IsPlaceOf}
 use Rattle.urlpattern_diagnosis.proofs.diagnosis.Diagnosis.of_part.Goals as goal
 use Rattle.urlpattern_diagnosis.proofs.diagnosis.Diagnosis.of_part.Goals.{in-Some, in-None}
 

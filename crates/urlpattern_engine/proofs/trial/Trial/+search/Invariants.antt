@@ -1,5 +1,5 @@
 use Rattle.std.proofs.Common.{◌≡◌, ◌+◌, ◌*◌, ◌≤◌}
-use Rattle.urlpattern_engine.specs.Trials.{IsPlace, IsState, found_in}
+use Rattle.urlpattern_engine.specs.Trials.{IsTextPlace, IsState, found_from}
 use Rattle.urlpattern_engine.proofs.trial.Trial.+search.Given as goal
 
 abbrev pub decreases-end : goal.decreases-end
@@ -11,8 +11,8 @@ decreases-tried l = 2 * l.depth
 abbrev pub invariant-end-states : goal.invariant-end-states
 invariant-end-states l = record {
   is_state : IsState l.self l.id;
-  is_place : IsPlace l.self l.place;
-  same : found_in l.self l.cells l.id l.place ≡ found_in l.self l.fn.cells l.fn.state l.fn.at;
+  is_place : IsTextPlace l.self l.place;
+  same : found_from l.self l.cells l.id l.place ≡ found_from l.self l.fn.cells l.fn.state l.fn.at;
   fewer : l.budget ≤ l.fn.budget;
 }
 

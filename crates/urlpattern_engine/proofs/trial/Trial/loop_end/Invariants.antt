@@ -1,11 +1,11 @@
 use Rattle.std.proofs.Common.{◌≡◌, ◌-◌, length}
-use Rattle.urlpattern_engine.specs.Trials.{IsPlace, run_in}
+use Rattle.urlpattern_engine.specs.Trials.{IsTextPlace, run_in}
 use Rattle.urlpattern_engine.proofs.trial.Trial.loop_end.Given as goal
 
 abbrev pub invariant-bytes : goal.invariant-bytes
 invariant-bytes l = record {
   same : run_in l.self l.id l.fn.at ≡ run_in l.self l.id l.place;
-  within : IsPlace l.self l.place;
+  within : IsTextPlace l.self l.place;
 }
 
 abbrev pub decreases-bytes : goal.decreases-bytes

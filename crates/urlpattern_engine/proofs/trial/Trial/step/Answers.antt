@@ -1,6 +1,6 @@
 use Rattle.std.proofs.Common.{◌+◌, ◌∙◌, sym, ap, arith}
 use Rattle.regex_vm.proofs.NfaLemmas.{below_within, resting_unless}
-use Rattle.urlpattern_engine.specs.Trials.{found_in}
+use Rattle.urlpattern_engine.specs.Trials.{found_from}
 use Rattle.urlpattern_engine.proofs.TrialLemmas.{found_by_write, found_here, none_by_byte, none_by_look, nothing_found, run_by_byte, run_by_look, same_found}
 use Rattle.urlpattern_engine.proofs.trial.Trial.step.Goals as goal
 
@@ -12,7 +12,7 @@ returns-in-Save c =
       is_state = below_within trial.nfa.now save.next c.args.id save.ensures.sound.1;
       is_place = c.requires.place;
       same =
-          ap (λ cells. found_in trial cells save.next c.args.at) c.write.ensures
+          ap (λ cells. found_from trial cells save.next c.args.at) c.write.ensures
           ∙ found_by_write trial c.args.id c.args.at save.slot save.next (sym save.ensures.is) c.args.cells.now;
     }
 

@@ -1,7 +1,7 @@
 use Rattle.std.proofs.Common.{◌≡◌, ◌∙◌, sym}
 use Rattle.std.proofs.lemmas.Slice.Eq.{slice_eq-Decides}
 use Rattle.std.specs.Cmp.{booleans_Decides}
-use Rattle.urlpattern_index.proofs.SegmentLemmas.{same_flag}
+use Rattle.urlpattern_index.proofs.PathSegmentLemmas.{same_flag}
 use Rattle.urlpattern_index.proofs.form.Form.is_same.Goals as goal
 
 pub returns : goal.returns

@@ -1,6 +1,6 @@
 use Rattle.std.proofs.Common.{◌<◌, ◌+◌, ◌∙◌, ap, drop, get_or, arith, sym, false, length}
 use Rattle.std.proofs.lemmas.List.{get_or_default}
-use Rattle.urlpattern_index.proofs.SegmentLemmas.{mixed_segments-next}
+use Rattle.urlpattern_index.proofs.PathSegmentLemmas.{mixed_segments-next}
 use Rattle.urlpattern_index.specs.Keys.{mixed, mixed_segments}
 use Rattle.urlpattern_index.proofs.form.Form.key_of.Goals as goal
 

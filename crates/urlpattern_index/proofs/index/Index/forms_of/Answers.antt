@@ -1,6 +1,6 @@
 use Rattle.std.proofs.Common.{◌≤◌, ◌∙◌, ap, arith, length, map, sym}
 use Rattle.std.proofs.lemmas.List.{length-map}
-use Rattle.urlpattern_index.proofs.GroupLemmas.{group-at, group-past, groups_view}
+use Rattle.urlpattern_index.proofs.IndexGroupLemmas.{group-at, group-past, groups_view}
 use Rattle.urlpattern_index.specs.Keys.{form_view, group}
 use Rattle.urlpattern_index.specs.Listed.{Listing}
 use Rattle.urlpattern_index.proofs.index.Index.forms_of.Goals as goal

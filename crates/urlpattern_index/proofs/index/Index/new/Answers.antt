@@ -1,5 +1,5 @@
 use Rattle.std.proofs.Common.{refl, rules}
-use Rattle.urlpattern_index.proofs.GroupLemmas.{empty-groups}
+use Rattle.urlpattern_index.proofs.IndexGroupLemmas.{empty-groups}
 use Rattle.urlpattern_index.proofs.index.Index.new.Goals as goal
 
 pub returns : goal.returns

@@ -3,7 +3,7 @@ use Rattle.std.proofs.lemmas.Bool.Decides.{nat_tests}
 use Rattle.std.proofs.lemmas.Grind.{common_steps}
 use Rattle.std.proofs.lemmas.List.{length-map}
 use Rattle.std.specs.Prelude.{Contains}
-use Rattle.urlpattern_index.proofs.GroupLemmas.{appends, grown, groups-grown, groups-same, groups_view, listing-same, has-form, on-err}
+use Rattle.urlpattern_index.proofs.IndexGroupLemmas.{appends, grown, groups-grown, groups-same, groups_view, listing-same, has-form, on-err}
 use Rattle.urlpattern_index.proofs.NumberLemmas.{numbers-push}
 use Rattle.urlpattern_index.specs.FixedTexts.{fixed_texts}
 use Rattle.urlpattern_index.specs.Keys.{FormView, form_view, group, group_of_form}

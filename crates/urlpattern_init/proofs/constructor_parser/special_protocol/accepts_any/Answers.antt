@@ -3,7 +3,7 @@ use Rattle.std.proofs.lemmas.Bool.{both_ways}
 use Rattle.std.specs.Str.{chars}
 use Rattle.urlpattern_matcher.specs.Matchers.{matcher_view}
 use Rattle.urlpattern_meaning.specs.Matching.{IsMatched}
-use Rattle.urlpattern_init.proofs.SchemeLemmas.{none_all, none_more}
+use Rattle.urlpattern_init.proofs.SpecialSchemeLemmas.{none_all, none_more}
 use Rattle.urlpattern_init.proofs.constructor_parser.special_protocol.accepts_any.Goals as goal
 
 pub loop-text-preserved : goal.loop-text-preserved

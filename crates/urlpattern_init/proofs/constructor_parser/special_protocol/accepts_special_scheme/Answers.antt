@@ -4,7 +4,7 @@ use Rattle.std.specs.Str.{chars}
 use Rattle.urlpattern_canonical.specs.Canonical.{special_schemes}
 use Rattle.urlpattern_matcher.specs.Matchers.{matcher_view}
 use Rattle.urlpattern_meaning.specs.Matching.{IsMatched}
-use Rattle.urlpattern_init.proofs.SchemeLemmas.{lent, only_among, schemes_answer, schemes_shown}
+use Rattle.urlpattern_init.proofs.SpecialSchemeLemmas.{lent, only_among, schemes_answer, schemes_shown}
 use Rattle.urlpattern_init.proofs.constructor_parser.special_protocol.accepts_special_scheme.Goals as goal
 
 pub returns-clause-answer : goal.returns-clause-answer

@@ -6,7 +6,7 @@ use Rattle.urlpattern_syntax.specs.Options.{options_view}
 use Rattle.urlpattern_syntax.specs.Parts.{part_view}
 use Rattle.urlpattern_init.specs.SpecialProtocol.{protocol_encoding}
 use Rattle.urlpattern_meaning.proofs.Encodings.{reads_weaker, refuses_weaker}
-use Rattle.urlpattern_init.proofs.SchemeLemmas.{chars_flags, known_from, known_special, special_from}
+use Rattle.urlpattern_init.proofs.SpecialSchemeLemmas.{chars_flags, known_from, known_special, special_from}
 use Rattle.urlpattern_init.proofs.constructor_parser.special_protocol.is_special_protocol.Goals as goal
 
 pub returns-clause-special : goal.returns-clause-special

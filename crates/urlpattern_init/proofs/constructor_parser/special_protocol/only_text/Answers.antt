@@ -1,7 +1,7 @@
 use Rattle.std.proofs.Common.{rules, sym, ◌∙◌, ◌≡◌}
 use Rattle.std.specs.Str.{chars}
 use Rattle.urlpattern_matcher.specs.Matchers.{inner_view, matcher_view}
-use Rattle.urlpattern_init.proofs.SchemeLemmas.{literal_only}
+use Rattle.urlpattern_init.proofs.SpecialSchemeLemmas.{literal_only}
 use Rattle.urlpattern_meaning.specs.Matching.{Literal}
 use Rattle.urlpattern_syntax.proofs.StringTexts.{is_empty-text, nothing_from_is_empty}
 use Rattle.urlpattern_syntax.specs.Text.{text_of}

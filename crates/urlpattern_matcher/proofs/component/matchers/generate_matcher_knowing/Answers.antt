@@ -3,7 +3,7 @@ use Rattle.std.proofs.lemmas.List.{length-map}
 use Rattle.std.specs.Str.{chars}
 use Rattle.urlpattern_matcher.specs.Components.{IsEngineOf}
 use Rattle.urlpattern_matcher.specs.Matchers.{matcher_view}
-use Rattle.urlpattern_matcher.proofs.Peeling.{made-of, many-by_engine}
+use Rattle.urlpattern_matcher.proofs.PeeledMatchers.{made-of, many-by_engine}
 use Rattle.urlpattern_printing.proofs.OutcomeLemmas.{if_ok-map}
 use Rattle.urlpattern_syntax.specs.Options.{options_view}
 use Rattle.urlpattern_syntax.specs.Parts.{part_view}

@@ -4,4 +4,4 @@ use Rattle.urlpattern_matcher.proofs.component.matchers.literal_matcher.Goals as
 
 pub returns : goal.returns
 returns g c =
-    rw (text-nil c.new.result c.new.ensures.bytes, text-nil c.new-2.result c.new-2.ensures.bytes, c.in_ok-joined.ensures) refl
+    rw (text-nil c.new.result c.new.ensures.bytes, text-nil c.new-2.result c.new-2.ensures.bytes, c.in_ok-concatenated.ensures) refl

@@ -1,4 +1,4 @@
-use Rattle.urlpattern_matcher.proofs.Peeling.{peels-both}
+use Rattle.urlpattern_matcher.proofs.PeeledMatchers.{peels-both}
 use Rattle.urlpattern_matcher.proofs.component.matchers.peel.Goals as goal
 
 pub returns : goal.returns

@@ -3,7 +3,7 @@ use Rattle.std.specs.Str.{chars}
 use Rattle.std.proofs.lemmas.List.{nil_from_length}
 use Rattle.urlpattern_syntax.proofs.TextLemmas.{chars_nothing}
 use Rattle.urlpattern_syntax.specs.Parts.{part_view}
-use Rattle.urlpattern_matcher.proofs.Peeling.{begins-nothing, begins-other, front-none, front-some}
+use Rattle.urlpattern_matcher.proofs.PeeledMatchers.{begins-nothing, begins-other, front-none, front-some}
 use Rattle.urlpattern_matcher.proofs.component.matchers.peel_front.Goals as goal
 use Rattle.urlpattern_matcher.proofs.component.matchers.peel_front.Goals.{in_default-via-in-Some+else-is_plain, in_default-via-in_default}
 

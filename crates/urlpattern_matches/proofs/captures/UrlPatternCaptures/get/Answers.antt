@@ -1,6 +1,6 @@
 use Rattle.std.proofs.Common.{ap, ◌∙◌}
 use Rattle.std.specs.Option.{option_flatten}
-use Rattle.urlpattern_matches.proofs.GroupLemmas.{flattened-text}
+use Rattle.urlpattern_matches.proofs.MatchGroupLemmas.{flattened-text}
 use Rattle.urlpattern_syntax.specs.Text.{option_text}
 use Rattle.urlpattern_matches.proofs.captures.UrlPatternCaptures.get.Goals as goal
 

@@ -1,4 +1,4 @@
-use Rattle.urlpattern_matches.proofs.GroupLemmas.{group-captured}
+use Rattle.urlpattern_matches.proofs.MatchGroupLemmas.{group-captured}
 use Rattle.urlpattern_matches.proofs.result.UrlPatternComponentResult.get.Goals as goal
 
 pub returns : goal.returns

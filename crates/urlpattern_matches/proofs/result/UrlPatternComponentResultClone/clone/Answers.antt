@@ -1,6 +1,6 @@
 use Rattle.std.proofs.Common.{rules}
 use Rattle.urlpattern_matches.specs.ResultViews.{IsSameEntry}
-use Rattle.urlpattern_matches.proofs.CopyLemmas.{zip-mono}
+use Rattle.urlpattern_matches.proofs.CopiedResults.{zip-mono}
 use Rattle.urlpattern_matches.proofs.result.UrlPatternComponentResultClone.clone.Goals as goal
 
 pub returns : goal.returns

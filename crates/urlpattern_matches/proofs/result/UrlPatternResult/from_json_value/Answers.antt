@@ -2,7 +2,7 @@ use Rattle.std.proofs.Common.{sym, ap, rules, subst, Some, ◌∙◌}
 use Rattle.serde_json.specs.View.{view}
 use Rattle.urlpattern_inputs.specs.ReadResults.{IsUnread}
 use Rattle.urlpattern_inputs.specs.Trees.{member_read}
-use Rattle.urlpattern_inputs.specs.declared.reading.Unread.{Unread}
+use Rattle.urlpattern_inputs.specs.declared.json_reading.Unread.{Unread}
 use Rattle.urlpattern_inputs.proofs.EachLemmas.{read_each-none, read_each-seen}
 use Rattle.urlpattern_matches.specs.ResultJson.{component_result_read, plain_result_view}
 use Rattle.urlpattern_components.specs.Eight.{at, each, name_text}

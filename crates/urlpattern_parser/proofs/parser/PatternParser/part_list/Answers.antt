@@ -48,7 +48,7 @@ loop-next-preserved-in-Ok g c =
       knows = c.in-Ok.ensures.knows;
       few = omega (arith, less, number, most, few);
       read = piece_read (parser_options c.args.self.now) (parser_encoding g.F.Fn c.args.self.now) (reader_text c.args.reader.now) old new list c.loop-next.invariant.read
-          piece (part_list_view c.add.new.self) takes number c.in-Ok.ensures.ok;
+          piece (part_list_view c.add_piece.new.self) takes number c.in-Ok.ensures.ok;
     }
 
 pub loop-next-preserved : goal.loop-next-preserved

@@ -11,8 +11,8 @@ use Rattle.urlpattern_pattern.proofs.pattern.UrlPattern.captures.Goals as goal
 pub returns-clause-matched : goal.returns-clause-matched
 returns-clause-matched g c =
     found-of_texts g.R.RegExp.answer (pattern_view c.args.self.now) (λ (found : UrlPatternCaptures). pattern_captures_view found) (Url c.args.url.now)
-    (borrowed_texts c.url_texts.result) (Ok c.in_ok-captures_of_texts.field-0) (ap Ok (sym c.url_texts.ensures)) c.in_ok-captures_of_texts.ensures.matched
+    (borrowed_texts c.url_texts.result) (Ok c.in_ok-match_of_texts.field-0) (ap Ok (sym c.url_texts.ensures)) c.in_ok-match_of_texts.ensures.matched
 
 pub returns-clause-groups : goal.returns-clause-groups
 returns-clause-groups g c =
-    rw (sym c.url_texts.ensures) c.in_ok-captures_of_texts.ensures.groups
+    rw (sym c.url_texts.ensures) c.in_ok-match_of_texts.ensures.groups

@@ -10,8 +10,8 @@ pub returns-clause-matched : goal.returns-clause-matched
 returns-clause-matched g c =
     let answer = g.R.RegExp.answer in
     let pattern = pattern_view c.args.self.now in
-    subst (λ (texts : Texts). MatchOption c.in_ok-captures_of_texts.field-0 (IsRefused answer pattern texts) (λ captures. IsMatchOf answer pattern texts (pattern_captures_view captures)))
-    c.input_texts.ensures c.in_ok-captures_of_texts.ensures.matched
+    subst (λ (texts : Texts). MatchOption c.in_ok-match_of_texts.field-0 (IsRefused answer pattern texts) (λ captures. IsMatchOf answer pattern texts (pattern_captures_view captures)))
+    c.input_texts.ensures c.in_ok-match_of_texts.ensures.matched
 
 pub returns-clause-groups : goal.returns-clause-groups
-returns-clause-groups g c = rw (sym c.input_texts.ensures) c.in_ok-captures_of_texts.ensures.groups
+returns-clause-groups g c = rw (sym c.input_texts.ensures) c.in_ok-match_of_texts.ensures.groups

@@ -2,7 +2,7 @@ use Rattle.urlpattern_components.specs.declared.eight.ComponentName.TheVariants.
 use Rattle.std.proofs.Common.{subst}
 use Rattle.urlpattern_matches.specs.GroupTexts.{borrowed_texts}
 use Rattle.urlpattern_pattern.proofs.Results.{if_none}
-use Rattle.urlpattern_pattern.specs.Calls.{AreLooks, AskWithCause}
+use Rattle.urlpattern_pattern.specs.MatchCalls.{AreLooks, AskWithCause}
 use Rattle.urlpattern_pattern.specs.Match.{IsRefused}
 use Rattle.urlpattern_pattern.specs.Patterns.{pattern_view}
 use Rattle.urlpattern_components.proofs.EightLemmas.{by_name}

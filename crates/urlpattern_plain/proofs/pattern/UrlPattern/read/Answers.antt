@@ -2,7 +2,7 @@ use Rattle.std.proofs.Common.{sym, ap, rules, Some, ◌∙◌}
 use Rattle.serde_json.specs.View.{view}
 use Rattle.urlpattern_inputs.specs.Trees.{member_read}
 use Rattle.urlpattern_inputs.proofs.EachLemmas.{passed_on, read_each-fails, read_each-seen}
-use Rattle.urlpattern_plain.specs.Json.{component_read, pattern_read}
+use Rattle.urlpattern_plain.specs.PatternJson.{component_read, pattern_read}
 use Rattle.urlpattern_plain.specs.Values.{plain_component_view, plain_pattern_view}
 use Rattle.urlpattern_plain.proofs.PatternLemmas.{pattern_fails, pattern_from}
 use Rattle.urlpattern_components.specs.Eight.{at, each, name_text}

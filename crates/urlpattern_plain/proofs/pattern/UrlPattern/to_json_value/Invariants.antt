@@ -1,7 +1,7 @@
 use Rattle.std.proofs.Common.{◌≡◌, Some, take}
 use Rattle.serde_json.specs.View.{members_view}
 use Rattle.urlpattern_inputs.proofs.TreeLemmas.{with_each}
-use Rattle.urlpattern_plain.specs.Json.{component_tree}
+use Rattle.urlpattern_plain.specs.PatternJson.{component_tree}
 use Rattle.urlpattern_plain.specs.Values.{plain_pattern_view}
 use Rattle.urlpattern_components.specs.Eight.{at}
 use Rattle.urlpattern_plain.proofs.pattern.UrlPattern.to_json_value.Given as goal

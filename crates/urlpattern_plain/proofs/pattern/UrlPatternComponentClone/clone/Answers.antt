@@ -1,6 +1,6 @@
 use Rattle.std.proofs.Common.{◌≡◌, rules}
 use Rattle.urlpattern_plain.specs.Values.{plain_matcher_view}
-use Rattle.urlpattern_plain.proofs.CopyLemmas.{same_bytes}
+use Rattle.urlpattern_plain.proofs.CopiedPatterns.{same_bytes}
 use Rattle.urlpattern_plain.proofs.pattern.UrlPatternComponentClone.clone.Goals as goal
 
 pub returns : goal.returns

@@ -1,5 +1,5 @@
 use Rattle.urlpattern_printing.proofs.RegexpTexts.{bare-repeated, bare-single}
-use Rattle.urlpattern_printing.specs.PartTexts.{matched_text}
+use Rattle.urlpattern_printing.specs.WrittenParts.{matched_text}
 use Rattle.urlpattern_printing.proofs.regexp_text.PartRegexp.write_bare.Goals as goal
 
 pub write_to-requires : goal.write_to-requires

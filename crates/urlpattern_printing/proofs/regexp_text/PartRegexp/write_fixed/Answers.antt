@@ -1,5 +1,5 @@
 use Rattle.urlpattern_printing.proofs.RegexpTexts.{fixed-modified}
-use Rattle.urlpattern_printing.specs.PartTexts.{escaped_value}
+use Rattle.urlpattern_printing.specs.WrittenParts.{escaped_value}
 use Rattle.urlpattern_printing.proofs.regexp_text.PartRegexp.write_fixed.Goals as goal
 
 pub write_to-requires : goal.write_to-requires

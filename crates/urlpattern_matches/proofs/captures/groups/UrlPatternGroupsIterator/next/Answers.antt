@@ -1,6 +1,6 @@
 use Rattle.std.proofs.Common.{ap, length, ◌∙◌}
 use Rattle.std.specs.Slice.Iter.{iter_rest}
-use Rattle.urlpattern_matches.proofs.GroupLemmas.{zip-none}
+use Rattle.urlpattern_matches.proofs.MatchGroupLemmas.{zip-none}
 use Rattle.urlpattern_matches.specs.GroupTexts.{texts_of}
 use Rattle.urlpattern_syntax.specs.Text.{option_text}
 use Rattle.urlpattern_matches.proofs.captures.groups.UrlPatternGroupsIterator.next.Goals as goal

@@ -12,7 +12,7 @@ use Rattle.urlpattern_syntax.specs.Reading.{FirstFails, capture_part, name_or}
 use Rattle.urlpattern_syntax.specs.RegexpText.{group_names}
 use Rattle.urlpattern_syntax.specs.Text.{option_text, text_of}
 use Rattle.urlpattern_parser.proofs.GivenNameLemmas.{knows_same, names_pending, names_with}
-use Rattle.urlpattern_parser.proofs.GroupLemmas.{adds_group, capture_view, name_fails, prefix_fails, suffix_fails}
+use Rattle.urlpattern_parser.proofs.GroupPieceLemmas.{adds_group, capture_view, name_fails, prefix_fails, suffix_fails}
 use Rattle.urlpattern_syntax.proofs.ReadingLemmas.{MemoryOr-weaker}
 use Rattle.urlpattern_parser.proofs.parser.part_list.PartList.add_group.Goals as goal
 

@@ -20,10 +20,10 @@ returns-in_ok-number-in-None-clause-knows c =
     let list = c.args.self.now in
     rw c.in-None.is (knows_number (group_names (map part_view list.parts.items)) list.given_names list.next_numeric_name c.requires.knows (omega (arith, c.requires.room)))
 
-pub returns-in_ok-add-in-Some-clause-knows : goal.returns-in_ok-add-in-Some-clause-knows
-returns-in_ok-add-in-Some-clause-knows c =
+pub returns-in_ok-add_name-in-Some-clause-knows : goal.returns-in_ok-add_name-in-Some-clause-knows
+returns-in_ok-add_name-in-Some-clause-knows c =
     let list = c.args.self.now in
     let name = c.in-Some.name in
     let given : IsGiven (chars name.now) = subst (λ found. IsNameGiven (option_text found)) c.in-Some.is c.requires.named in
     let utf8 : IsUtf8 name.now = search rules in
-    rw c.in-Some.is (knows_name (group_names (map part_view list.parts.items)) list.given_names list.next_numeric_name c.requires.knows c.add.new.self name utf8 given c.in_ok-add-in-Some.ensures)
+    rw c.in-Some.is (knows_name (group_names (map part_view list.parts.items)) list.given_names list.next_numeric_name c.requires.knows c.add_name.new.self name utf8 given c.in_ok-add_name-in-Some.ensures)

@@ -4,7 +4,7 @@ use Rattle.urlpattern_syntax.specs.declared.tokenizer.Token.{Token}
 use Rattle.urlpattern_syntax.specs.declared.tokenizer.TokenType.TheVariants.{Asterisk, Name, Regexp}
 use Rattle.urlpattern_syntax.proofs.TokenWords.{BeginsWithToken}
 use Rattle.urlpattern_syntax.specs.Parsing.{BeginsWithPlaceholder}
-use Rattle.urlpattern_syntax.specs.Pieces.{Placeholder, Matched as matched}
+use Rattle.urlpattern_syntax.specs.Pieces.{Placeholder, PlaceholderKindView as matched}
 use Rattle.urlpattern_syntax.specs.Tokens.{token_view}
 use Rattle.urlpattern_syntax.proofs.PieceLemmas.{asterisk_left, named, named_regexp, unnamed_regexp, wildcard}
 use Rattle.urlpattern_parser.proofs.ReaderLemmas.{takes_then, takes_weaker}

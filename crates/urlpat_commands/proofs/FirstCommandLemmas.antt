@@ -1,0 +1,78 @@
+-- Lemmas on the patterns of the command `first`, and on its JSON.
+use Rattle.std.proofs.Common.{◌≡◌, ℕ, Bool, ◌<◌, ◌+◌, List, [], ◌∷◌, ◌++◌, map, length, take, get_or, refl, ap, ◌∙◌, sym, subst, inl, inr, codes, false}
+use Rattle.std.proofs.lemmas.Grind.{take_at_read}
+use Rattle.std.proofs.lemmas.List.{take-map}
+use Rattle.std.proofs.lemmas.Option.{slice_get-map, slice_get_read}
+use Rattle.std.specs.List.{AllZip}
+use Rattle.std.specs.Prelude.{MatchOption, Option, None, Some, String, option_map, string_bytes}
+use Rattle.std.specs.declared.alloc.Global.{Global}
+use Rattle.urlpat_commands.specs.CommandAnswers.{ArePatterns, IsFirstMatchText, IsFirstTextBy, IsUnmatchedByAll, IsUnmatchedByEach, RefusesOneOf}
+use Rattle.urlpat_matching.specs.PatternWords.{IsPatternOf, RefusesPatternOf}
+use Rattle.serde_json.specs.Data.{Data, no_members, number, put, unsigned}
+use Rattle.serde_json.specs.Written.{has_float}
+use Rattle.urlpat_commands.specs.FirstJson.{first_tree}
+use Rattle.urlpat_matching.proofs.MatchJsonLemmas.{put-none}
+use Rattle.urlpat_lines.specs.declared.flags.Flags.{Flags}
+use Rattle.urlpattern.specs.Errors.{MemoryOr}
+use Rattle.urlpattern.specs.Patterns.{PatternView, pattern_view}
+use Rattle.urlpattern.specs.FirstMatch.{patterns_view}
+use Rattle.urlpattern.specs.UrlPattern.{UrlPattern}
+use Rattle.urlpattern_engine.specs.declared.pattern_regexp.PatternRegexp.{PatternRegexp}
+use Rattle.urlpattern_syntax.specs.declared.error.Error.{Error}
+
+-- ---- patterns in order
+
+all_zip-push : {X Y : Type 0} (R : X → Y → Type 0) (xs : List X) (ys : List Y) (x : X) (y : Y) → AllZip R xs ys → R x y → AllZip R (xs ++ x ∷ []) (ys ++ y ∷ [])
+all_zip-push R [] [] x y are is = (is, tt)
+all_zip-push R [] (z ∷ ys) x y are is = absurd are
+all_zip-push R (z ∷ xs) [] x y are is = absurd are
+all_zip-push R (z ∷ xs) (w ∷ ys) x y are is = (are.0, all_zip-push R xs ys x y are.1 is)
+
+map-push : {X Y : Type 0} (f : X → Y) (xs : List X) (x : X) → map f (xs ++ x ∷ []) ≡ map f xs ++ f x ∷ []
+map-push f [] x = refl
+map-push f (y ∷ xs) x = ap (λ rest. f y ∷ rest) (map-push f xs x)
+
+take-more : {X : Type 0} (xs : List X) (i : ℕ) (x : X) → i < length xs → x ≡ get_or xs i x → take (i + 1) xs ≡ take i xs ++ x ∷ []
+take-more xs i x within is = (take_at_read xs i x within).1 ∙ ap (λ y. take i xs ++ y ∷ []) (sym is)
+
+module _ (ignores : Bool) (base : Option (List ℕ)) (words : List (String Global)) (index : ℕ) (word : String Global) (within : index < length words) (is_word : word ≡ get_or words index word) where
+  -- The next argument is compiled.
+  pub patterns-more : (list next : List (UrlPattern PatternRegexp)) (pattern : UrlPattern PatternRegexp) → next ≡ list ++ pattern ∷ []
+      → ArePatterns ignores (map (λ w. string_bytes w) (take index words)) base (patterns_view list) → IsPatternOf ignores (string_bytes word) base (pattern_view pattern)
+      → ArePatterns ignores (map (λ w. string_bytes w) (take (index + 1) words)) base (patterns_view next)
+  patterns-more list next pattern is_next are is =
+      let texts = ap (map (λ w. string_bytes w)) (take-more words index word within is_word) ∙ map-push (λ w. string_bytes w) (take index words) word in
+      let views = ap (λ patterns. patterns_view patterns) is_next ∙ map-push (λ p. pattern_view p) list pattern in
+      subst (λ (ts : List (List ℕ)). ArePatterns ignores ts base (patterns_view next)) (sym texts)
+      (subst (λ (vs : List (PatternView PatternRegexp)). ArePatterns ignores (map (λ w. string_bytes w) (take index words) ++ string_bytes word ∷ []) base vs) (sym views)
+      (all_zip-push (λ text view. IsPatternOf ignores text base view) (map (λ w. string_bytes w) (take index words)) (patterns_view list) (string_bytes word) (pattern_view pattern) are is))
+
+  -- The next argument is rejected.
+  pub refuses-one : (list : List (UrlPattern PatternRegexp)) (error : Error) → ArePatterns ignores (map (λ w. string_bytes w) (take index words)) base (patterns_view list)
+      → MemoryOr (RefusesPatternOf ignores (string_bytes word) base) error → MemoryOr (RefusesOneOf ignores (map (λ w. string_bytes w) words) base) error
+  refuses-one list error are (inl memory) = inl memory
+  refuses-one list error are (inr refused) = inr (record {
+    index = index;
+    text = string_bytes word;
+    earlier = patterns_view list;
+    is_there = slice_get-map (λ w. string_bytes w) words index ∙ ap (option_map (λ w. string_bytes w)) (slice_get_read words (length words) index word refl within is_word);
+    are_compiled = subst (λ (ts : List (List ℕ)). ArePatterns ignores ts base (patterns_view list)) (sym (take-map (λ w. string_bytes w) index words)) are;
+    refuses = refused;
+  })
+
+-- ---- the first match
+
+-- The outcome of compiled patterns is that of their texts.
+pub first_found_by : (flags : Flags) (patterns : List (List ℕ)) (input : List ℕ) (base : Option (List ℕ)) (compiled : List (PatternView PatternRegexp)) (found : Option (String Global)) → ArePatterns flags.ignore_case patterns base compiled
+    → MatchOption found (IsUnmatchedByAll compiled input base) (λ text. IsFirstTextBy flags.json compiled input base (string_bytes text))
+    → MatchOption found (IsUnmatchedByEach flags.ignore_case patterns input base) (λ text. IsFirstMatchText flags patterns input base (string_bytes text))
+first_found_by flags patterns input base compiled None are answer = (compiled, are, answer)
+first_found_by flags patterns input base compiled (Some text) are answer = (compiled, are, answer)
+
+-- ---- JSON
+
+-- The JSON of the first match has no float if that of the match has none.
+pub first-none : (index : ℕ) (found : Data) → has_float found ≡ false → has_float (first_tree index found) ≡ false
+first-none index found none =
+    put-none (codes "match") found (put (codes "index") (number (unsigned index)) no_members) none
+    (put-none (codes "index") (number (unsigned index)) no_members refl refl)

@@ -1,0 +1,241 @@
+-- The output for the arguments of the program, and its failures. Arguments and texts are bytes.
+use Rattle.std.specs.Prelude.{◌≡◌, ◌≢◌, ◌⊎◌, All, ◌++◌, ℕ, Bool, true, false, List, [], ◌∷◌, map, codes, Option, None, Some, Result, Ok, Err, String, string_bytes, encode_utf8_all, slice_get, take, MatchOption}
+use Rattle.std.specs.List.{AllZip}
+use Rattle.std.specs.Str.{chars}
+use Rattle.std.specs.declared.alloc.Global.{Global}
+use Rattle.std.specs.Io.KnownBytes.{Appends}
+use Rattle.url.specs.Parts.{Parts}
+use Rattle.urlpat_matching.specs.declared.exit_status.Failure.{Failure}
+use Rattle.urlpat_matching.specs.declared.exit_status.Failure.TheVariants as failures
+use Rattle.urlpat_commands.specs.declared.command.Printed.{Printed}
+use Rattle.urlpat_matching.specs.declared.exit_status.TheConstants.{DONE, NO_MATCH}
+use Rattle.urlpat_matching.specs.GroupLines.{AreLines, all_named_results}
+use Rattle.urlpattern_canonical.specs.BaseUrls.{IsUrlOf, base_view}
+use Rattle.urlpat_matching.specs.MatchTexts.{IsMatchText, IsUnmatched, IsUnmatchedByAllUnder}
+use Rattle.urlpat_matching.specs.PatternWords.{IsPatternOf, RefusesPatternOf, base_of}
+use Rattle.urlpat_lines.specs.Help.{IsHelp}
+use Rattle.urlpat_lines.specs.declared.flags.Flags.{Flags}
+use Rattle.urlpat_commands.specs.FirstJson.{IsFirstJson}
+use Rattle.urlpat_commands.specs.Kinds.{IsKind, NamesOptions}
+use Rattle.urlpat_commands.specs.Report.{component_lines, first_line, no_match_text}
+use Rattle.urlpattern.specs.Dialect.{HasMeaningOf}
+use Rattle.urlpattern.specs.Errors.{ErrorView, MemoryOr}
+use Rattle.urlpattern.specs.FirstMatch.{IsFirstMatch}
+use Rattle.urlpattern.specs.Laws.{Answered, listed}
+use Rattle.urlpattern.specs.ResultViews.{ResultView}
+use Rattle.urlpattern.specs.Options.{OptionsView}
+use Rattle.urlpattern.specs.Parts.{PartView}
+use Rattle.urlpattern.specs.Patterns.{PatternView}
+use Rattle.urlpattern.specs.Printing.{Keeps, printed}
+use Rattle.urlpattern.specs.Reading.{Encoding, Reads, Refuses, encoding_of}
+use Rattle.urlpattern.specs.RegexpText.{group_names, regexp_text}
+use Rattle.urlpattern.specs.RoundTrip.{IsPrintable, ReadsBack}
+use Rattle.urlpattern_engine.specs.PatternRegexps.{pattern_answer}
+use Rattle.urlpattern_engine.specs.declared.pattern_regexp.PatternRegexp.{PatternRegexp}
+use Rattle.urlpattern_components.specs.declared.eight.ComponentName.{ComponentName}
+use Rattle.urlpattern_init.specs.declared.init.UrlPatternMatchInput.TheVariants as match_inputs
+use Rattle.urlpattern_syntax.specs.declared.error.Error.{Error}
+use Rattle.urlpattern_syntax.specs.declared.error.Error.TheVariants as errors
+use Rattle.urlpattern_syntax.specs.declared.parser.PartType.TheVariants.{Regexp}
+
+-- ---- compiled components
+
+-- The result for each text is a copy of it, or that memory ran out.
+abbrev pub CopiesBytes : (bytes : List ℕ) → Result (String Global) Error → Type 0
+CopiesBytes bytes (Ok copy) = string_bytes copy ≡ bytes
+CopiesBytes bytes (Err error) = error ≡ errors.OutOfMemory
+
+-- The encoding that keeps each text.
+abbrev pub kept : Encoding
+kept = encoding_of CopiesBytes
+
+-- The text shows what the pattern is compiled to under the options with this name, with fixed texts
+-- kept as they are: the names of its parts, a regular expression with their meaning, and a pattern
+-- that reads back.
+pub record IsComponentText (kind pattern text : List ℕ) : Type 0 where
+  pub options : OptionsView
+  pub parts : List PartView
+  pub is_named : NamesOptions kind options
+  pub reads : Reads (chars pattern) options kept parts
+  pub means : All (λ part. part.kind ≢ Regexp) parts → HasMeaningOf (regexp_text options parts) options parts
+  pub reads_back : (answers : Answered) → IsPrintable options parts → Keeps (listed answers) parts
+      → ReadsBack (printed options parts) options (listed answers) parts
+  pub is_text : text ≡ component_lines (map encode_utf8_all (group_names parts)) (encode_utf8_all (regexp_text options parts)) (encode_utf8_all (printed options parts))
+
+-- The pattern is rejected with this error under the options with this name.
+pub record RefusesComponentText (kind pattern : List ℕ) (error : ErrorView) : Type 0 where
+  pub options : OptionsView
+  pub is_named : NamesOptions kind options
+  pub refuses : Refuses (chars pattern) options kept error
+
+-- The reason why there is no text: no options have this name, the pattern is rejected, or memory
+-- ran out.
+abbrev pub FailsComponent : (kind pattern : List ℕ) → Failure → Type 0
+FailsComponent kind pattern failures.Usage = ¬ IsKind kind
+FailsComponent kind pattern (failures.Refused error) = MemoryOr (RefusesComponentText kind pattern) error
+
+-- ---- the captures of the first match
+
+-- The constructor strings with this base URL are compiled to the patterns, in order.
+abbrev pub ArePatterns : (ignores : Bool) → (texts : List (List ℕ)) → (base : Option (List ℕ)) → List (PatternView PatternRegexp) → Type 0
+ArePatterns ignores texts base patterns = AllZip (λ text pattern. IsPatternOf ignores text base pattern) texts patterns
+
+-- A constructor string is rejected with this error, and the ones before it are compiled.
+pub record RefusesOneOf (ignores : Bool) (texts : List (List ℕ)) (base : Option (List ℕ)) (error : ErrorView) : Type 0 where
+  pub index : ℕ
+  pub text : List ℕ
+  pub earlier : List (PatternView PatternRegexp)
+  pub is_there : slice_get texts index ≡ Some text
+  pub are_compiled : ArePatterns ignores (take index texts) base earlier
+  pub refuses : RefusesPatternOf ignores text base error
+
+-- The text has the index of the first pattern that matches, and its captures.
+abbrev pub ShowsFirst : (json : Bool) → (index : ℕ) → (ComponentName → ResultView) → (text : List ℕ) → Type 0
+ShowsFirst true index result text = IsFirstJson index result text
+ShowsFirst false index result text = (lines : List ℕ) × AreLines (all_named_results result) lines × (text ≡ first_line index ++ lines)
+
+-- A pattern of the list is the first that matches the input, a URL under this base URL, and the
+-- text has its index and its captures.
+pub record IsFirstTextBy (json : Bool) (compiled : List (PatternView PatternRegexp)) (input : List ℕ) (base : Option (List ℕ)) (text : List ℕ) : Type 0 where
+  pub url : Parts
+  pub index : ℕ
+  pub result : ComponentName → ResultView
+  pub is_url : IsUrlOf input base url
+  pub is_first : IsFirstMatch pattern_answer compiled (match_inputs.Url url) (Some (index, result))
+  pub shows : ShowsFirst json index result text
+
+-- The pattern texts compile to patterns, and the text has the first match of the input.
+abbrev pub IsFirstMatchText : Flags → (patterns : List (List ℕ)) → (input : List ℕ) → (base : Option (List ℕ)) → (text : List ℕ) → Type 0
+IsFirstMatchText flags patterns input base text =
+    (compiled : List (PatternView PatternRegexp)) × ArePatterns flags.ignore_case patterns base compiled × IsFirstTextBy flags.json compiled input base text
+
+-- No pattern of the list matches the input.
+abbrev pub IsUnmatchedByAll : (compiled : List (PatternView PatternRegexp)) → (input : List ℕ) → (base : Option (List ℕ)) → Type 0
+IsUnmatchedByAll compiled input base = IsUnmatchedByAllUnder compiled input (base_view base)
+
+-- The pattern texts compile to patterns, none of which matches the input.
+abbrev pub IsUnmatchedByEach : (ignores : Bool) → (patterns : List (List ℕ)) → (input : List ℕ) → (base : Option (List ℕ)) → Type 0
+IsUnmatchedByEach ignores patterns input base =
+    (compiled : List (PatternView PatternRegexp)) × ArePatterns ignores patterns base compiled × IsUnmatchedByAll compiled input base
+
+-- The text of the first match by pattern texts. `None`: there is no match.
+abbrev pub FindsFirst : Flags → (patterns : List (List ℕ)) → (input : List ℕ) → (base : Option (List ℕ)) → Option (String Global) → Type 0
+FindsFirst flags patterns input base found =
+    MatchOption found (IsUnmatchedByEach flags.ignore_case patterns input base) (λ text. IsFirstMatchText flags patterns input base (string_bytes text))
+
+-- The text of the first match by compiled patterns. `None`: there is no match.
+abbrev pub FindsFirstBy : (json : Bool) → List (PatternView PatternRegexp) → (input : List ℕ) → (base : Option (List ℕ)) → Option (String Global) → Type 0
+FindsFirstBy json compiled input base found =
+    MatchOption found (IsUnmatchedByAll compiled input base) (λ text. IsFirstTextBy json compiled input base (string_bytes text))
+
+-- ---- the arguments of `component`
+
+-- The output and the exit status of `component`.
+abbrev pub IsComponentAnswer : (words : List (List ℕ)) → (text : List ℕ) → (status : ℕ) → Type 0
+IsComponentAnswer (kind ∷ pattern ∷ []) text status = IsComponentText kind pattern text × (status ≡ 0)
+IsComponentAnswer words text status = ⊥
+
+-- The reason why `component` has no output.
+abbrev pub IsComponentFailure : (words : List (List ℕ)) → Failure → Type 0
+IsComponentFailure (kind ∷ pattern ∷ []) failure = FailsComponent kind pattern failure
+IsComponentFailure words failure = failure ≡ failures.Usage
+
+-- ---- the arguments of `match`
+
+-- The output is a match, with status 0, or that there is none, with status 1.
+abbrev pub AnswersMatch : (json : Bool) → (Matched Unmatched : Type 0) → (text : List ℕ) → (status : ℕ) → Type 0
+AnswersMatch json Matched Unmatched text status = (Matched × (status ≡ 0)) ⊎ (Unmatched × (text ≡ no_match_text json) × (status ≡ 1))
+
+-- The reason is a rejection of this kind, or that memory ran out.
+abbrev pub IsRefusal : (Refuses : ErrorView → Type 0) → Failure → Type 0
+IsRefusal Refuses failures.Usage = ⊥
+IsRefusal Refuses (failures.Refused error) = MemoryOr Refuses error
+
+-- The output and the exit status of `match`.
+abbrev pub IsMatchAnswer : Flags → (words : List (List ℕ)) → (text : List ℕ) → (status : ℕ) → Type 0
+IsMatchAnswer flags (pattern ∷ base ∷ input ∷ []) text status =
+    AnswersMatch flags.json (IsMatchText flags pattern input (base_of base) text)
+    (IsUnmatched flags.ignore_case pattern input (base_of base)) text status
+IsMatchAnswer flags words text status = ⊥
+
+-- The reason why `match` has no output.
+abbrev pub IsMatchFailure : (ignores : Bool) → (words : List (List ℕ)) → Failure → Type 0
+IsMatchFailure ignores (pattern ∷ base ∷ input ∷ []) failure = IsRefusal (RefusesPatternOf ignores pattern (base_of base)) failure
+IsMatchFailure ignores words failure = failure ≡ failures.Usage
+
+-- ---- the arguments of `first`
+
+-- The output and the exit status of `first`.
+abbrev pub IsFirstAnswer : Flags → (words : List (List ℕ)) → (text : List ℕ) → (status : ℕ) → Type 0
+IsFirstAnswer flags (base ∷ input ∷ pattern ∷ patterns) text status =
+    AnswersMatch flags.json (IsFirstMatchText flags (pattern ∷ patterns) input (base_of base) text)
+    (IsUnmatchedByEach flags.ignore_case (pattern ∷ patterns) input (base_of base)) text status
+IsFirstAnswer flags words text status = ⊥
+
+-- The reason why `first` has no output.
+abbrev pub IsFirstFailure : (ignores : Bool) → (words : List (List ℕ)) → Failure → Type 0
+IsFirstFailure ignores (base ∷ input ∷ pattern ∷ patterns) failure = IsRefusal (RefusesOneOf ignores (pattern ∷ patterns) (base_of base)) failure
+IsFirstFailure ignores words failure = failure ≡ failures.Usage
+
+-- ---- the short form: a pattern and an input, without a base URL
+
+-- The output and the exit status of the short form.
+abbrev pub IsShortAnswer : Flags → (pattern : List ℕ) → (words : List (List ℕ)) → (text : List ℕ) → (status : ℕ) → Type 0
+IsShortAnswer flags pattern (input ∷ []) text status =
+    AnswersMatch flags.json (IsMatchText flags pattern input None text) (IsUnmatched flags.ignore_case pattern input None) text status
+IsShortAnswer flags pattern words text status = ⊥
+
+-- The reason why the short form has no output.
+abbrev pub IsShortFailure : (ignores : Bool) → (pattern : List ℕ) → (words : List (List ℕ)) → Failure → Type 0
+IsShortFailure ignores pattern (input ∷ []) failure = IsRefusal (RefusesPatternOf ignores pattern None) failure
+IsShortFailure ignores pattern words failure = failure ≡ failures.Usage
+
+-- ---- commands
+
+-- The commands of this crate, without `filter` and the short form.
+abbrev pub IsCommand : List ℕ → Type 0
+IsCommand word = (word ≡ codes "component") ⊎ (word ≡ codes "match") ⊎ (word ≡ codes "first")
+
+-- The output for the arguments, and the exit status: 0, or 1 if the input does not match.
+abbrev pub IsCommandAnswer : Flags → (words : List (List ℕ)) → (text : List ℕ) → (status : ℕ) → Type 0
+IsCommandAnswer flags [] text status = ⊥
+IsCommandAnswer flags (command ∷ words) text status =
+    ((command ≡ codes "component") × IsComponentAnswer words text status)
+    ⊎ ((command ≡ codes "match") × IsMatchAnswer flags words text status)
+    ⊎ ((command ≡ codes "first") × IsFirstAnswer flags words text status)
+    ⊎ ((¬ IsCommand command) × IsShortAnswer flags command words text status)
+
+-- The reason why there is no output: the arguments are invalid, a text is rejected, or memory ran
+-- out.
+abbrev pub IsFailure : Flags → (words : List (List ℕ)) → Failure → Type 0
+IsFailure flags [] failure = failure ≡ failures.Usage
+IsFailure flags (command ∷ words) failure =
+    ((command ≡ codes "component") × IsComponentFailure words failure)
+    ⊎ ((command ≡ codes "match") × IsMatchFailure flags.ignore_case words failure)
+    ⊎ ((command ≡ codes "first") × IsFirstFailure flags.ignore_case words failure)
+    ⊎ ((¬ IsCommand command) × IsShortFailure flags.ignore_case command words failure)
+
+-- ---- runs of the program
+
+-- The output for the arguments, with this exit status: the help text that they ask for, or the
+-- output of a command.
+abbrev pub IsProgramAnswer : Flags → (words : List (List ℕ)) → (text : List ℕ) → (status : ℕ) → Type 0
+IsProgramAnswer flags words text status = (IsHelp words text × (status ≡ 0)) ⊎ IsCommandAnswer flags words text status
+
+-- The output for the arguments is printed, with this exit status.
+abbrev pub Prints : Flags → (words : List (List ℕ)) → (status : ℕ) → (old new : Option (List ℕ)) → Type 0
+Prints flags words status old new = (text : List ℕ) × IsProgramAnswer flags words text status × Appends old new text
+
+-- The arguments have an output, which may be printed in part or not at all.
+abbrev pub AreAnswered : Flags → (words : List (List ℕ)) → Type 0
+AreAnswered flags words = (text : List ℕ) × (status : ℕ) × IsProgramAnswer flags words text status
+
+-- The arguments have no output, and `IsSo` holds.
+abbrev pub FailsWhere : Flags → (words : List (List ℕ)) → (IsSo : Type 0) → Type 0
+FailsWhere flags words IsSo = (failure : Failure) × IsFailure flags words failure × IsSo
+
+-- The output is the text that was found, or that there is none.
+abbrev pub IsPrintedOf : (json : Bool) → Option (String Global) → Printed → Type 0
+IsPrintedOf json found printed =
+    MatchOption found ((string_bytes printed.text ≡ no_match_text json) × (printed.status ≡ NO_MATCH))
+    (λ text. (printed.text ≡ text) × (printed.status ≡ DONE))

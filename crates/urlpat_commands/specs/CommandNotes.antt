@@ -1,0 +1,57 @@
+-- Notes on standard error, and errors that are explained.
+use Rattle.std.specs.Prelude.{◌≡◌, ◌⊎◌, ◌++◌, ℕ, true, List, [], ◌∷◌, codes, None, Option, Some, String, string_bytes}
+use Rattle.std.specs.Io.KnownBytes.{Appends}
+use Rattle.std.specs.declared.alloc.Global.{Global}
+use Rattle.urlpat_commands.specs.CommandAnswers.{IsCommand}
+use Rattle.urlpat_lines.specs.declared.flags.Flags.{Flags}
+use Rattle.urlpattern_canonical.specs.BaseUrls.{IsRefusedText}
+use Rattle.urlpat_matching.specs.PatternWords.{base_of}
+
+-- `url` rejects the input of `match`.
+abbrev pub HasRefusedMatchInput : (words : List (List ℕ)) → Type 0
+HasRefusedMatchInput (pattern ∷ base ∷ input ∷ []) = IsRefusedText input (base_of base)
+HasRefusedMatchInput words = ⊥
+
+-- `url` rejects the input of `first`.
+abbrev pub HasRefusedFirstInput : (words : List (List ℕ)) → Type 0
+HasRefusedFirstInput (base ∷ input ∷ patterns) = IsRefusedText input (base_of base)
+HasRefusedFirstInput words = ⊥
+
+-- `url` rejects the input of the short form.
+abbrev pub HasRefusedShortInput : (words : List (List ℕ)) → Type 0
+HasRefusedShortInput (input ∷ []) = IsRefusedText input None
+HasRefusedShortInput words = ⊥
+
+-- `url` rejects the input among the arguments.
+abbrev pub HasRefusedInput : (words : List (List ℕ)) → Type 0
+HasRefusedInput [] = ⊥
+HasRefusedInput (command ∷ words) =
+    ((command ≡ codes "match") × HasRefusedMatchInput words)
+    ⊎ ((command ≡ codes "first") × HasRefusedFirstInput words)
+    ⊎ ((¬ IsCommand command) × HasRefusedShortInput words)
+
+-- ---- errors that are explained
+
+-- The command among the arguments prints an error alone.
+abbrev pub AreOfCommand : (words : List (List ℕ)) → Type 0
+AreOfCommand [] = ⊥
+AreOfCommand (command ∷ words) = IsCommand command
+
+-- Errors are explained: the flags ask for it, or the command is not one that prints an error alone.
+abbrev pub ExplainsErrors : Flags → (words : List (List ℕ)) → Type 0
+ExplainsErrors flags words = (flags.explain_errors ≡ true) ⊎ ¬ AreOfCommand words
+
+-- The input is rejected, and errors are explained.
+abbrev pub HasNote : Flags → (words : List (List ℕ)) → Type 0
+HasNote flags words = ExplainsErrors flags words × HasRefusedInput words
+
+-- The bytes of a note, if there is one.
+abbrev pub note_bytes : Option (String Global) → List ℕ
+note_bytes None = []
+note_bytes (Some text) = string_bytes text
+
+-- The lines of an error are written, and possibly more after them; or memory ran out during the
+-- explanation.
+abbrev pub ReportsFirst : (lines : List ℕ) → (old new : Option (List ℕ)) → Type 0
+ReportsFirst lines old new =
+    ((more : List ℕ) × Appends old new (lines ++ more)) ⊎ Appends old new (codes "out of memory\n")

@@ -1,0 +1,161 @@
+//! Notes on standard error: what is wrong with a pattern that is rejected, and that an input is not
+//! a URL.
+
+ghost use Rattle.std.specs.Prelude.{IfOk, IfSome, IsFalse, IsTrue};
+ghost use Rattle.urlpat_lines.specs.Words.{words_view};
+ghost use Rattle.urlpat_commands.specs.CommandAnswers.{IsCommand};
+ghost use Rattle.urlpat_commands.specs.CommandNotes.{AreOfCommand, ExplainsErrors, HasRefusedFirstInput, HasRefusedInput, HasRefusedMatchInput, HasRefusedShortInput};
+
+use crate::command::options_of;
+use std::alloc::Global;
+use urlpat_lines::Flags;
+use urlpat_matching::{Failure, base_of, first_diagnosis, match_diagnosis, note_of};
+use urlpattern::error::OutOfMemory;
+use urlpattern::parser::parse_pattern_string;
+use urlpattern::{ComponentName, Diagnosis, Error, Subject};
+use urlpattern_diagnosis::{PatternOffset, fault_of};
+
+/// Whether errors are explained: the flags ask for it, or the command is not `component`, `match`
+/// or `first`.
+pub fn explains_errors(words: &[String], flags: Flags) -> bool
+    ensures explained { IsTrue result → ExplainsErrors flags (words_view words.now) }
+    ensures alone { IsFalse result → ¬ ExplainsErrors flags (words_view words.now) }
+{
+    flags.explain_errors || !are_of_command(words)
+}
+
+/// Whether the command among the arguments is `component`, `match` or `first`.
+fn are_of_command(words: &[String]) -> bool
+    ensures these { IsTrue result → AreOfCommand (words_view words.now) }
+    ensures other { IsFalse result → ¬ AreOfCommand (words_view words.now) }
+{
+    let [command, ..] = words else {
+        return false;
+    };
+    is_command(command)
+}
+
+/// Whether an argument is `component`, `match` or `first`.
+fn is_command(word: &str) -> bool
+    ensures these { IsTrue result → IsCommand word.now }
+    ensures other { IsFalse result → ¬ IsCommand word.now }
+{
+    matches!(word, "component" | "match" | "first")
+}
+
+/// A note that the input among the arguments is not a URL. `None`: it is one, or there is no input.
+pub fn input_note(alloc: Global, words: &[String]) -> Result<Option<String>, Error>
+    ensures { IfOk result (λ note. IfSome note (λ text. HasRefusedInput (words_view words.now))) }
+{
+    let [command, rest @ ..] = words else {
+        return Ok(None);
+    };
+    match command.as_str() {
+        "component" => Ok(None),
+        "match" => match_note(alloc, rest),
+        "first" => first_note(alloc, rest),
+        _ => short_note(alloc, rest),
+    }
+}
+
+/// A note that the input of the short form is not a URL.
+fn short_note(alloc: Global, words: &[String]) -> Result<Option<String>, Error>
+    ensures { IfOk result (λ note. IfSome note (λ text. HasRefusedShortInput (words_view words.now))) }
+{
+    let [input] = words else {
+        return Ok(None);
+    };
+    note_of(alloc, None, input)
+}
+
+/// A note that the input of `match` is not a URL.
+fn match_note(alloc: Global, words: &[String]) -> Result<Option<String>, Error>
+    ensures { IfOk result (λ note. IfSome note (λ text. HasRefusedMatchInput (words_view words.now))) }
+{
+    let [_, base, input] = words else {
+        return Ok(None);
+    };
+    note_of(alloc, base_of(base), input)
+}
+
+/// A note that the input of `first` is not a URL.
+fn first_note(alloc: Global, words: &[String]) -> Result<Option<String>, Error>
+    ensures { IfOk result (λ note. IfSome note (λ text. HasRefusedFirstInput (words_view words.now))) }
+{
+    let [base, input, ..] = words else {
+        return Ok(None);
+    };
+    note_of(alloc, base_of(base), input)
+}
+
+/// Diagnoses the pattern among the arguments and its base, in lines for a reader. `None`: the
+/// failure has another reason.
+pub fn diagnosis_note(
+    alloc: Global,
+    words: &[String],
+    failure: &Failure,
+) -> Result<Option<String>, OutOfMemory> {
+    match failure {
+        Failure::Usage | Failure::Refused(Error::OutOfMemory) => Ok(None),
+        Failure::Refused(error) => refusal_note(alloc, words, error),
+    }
+}
+
+/// Diagnoses the pattern among the arguments that is rejected with this error, or its base.
+fn refusal_note(
+    alloc: Global,
+    words: &[String],
+    error: &Error,
+) -> Result<Option<String>, OutOfMemory> {
+    let [command, rest @ ..] = words else {
+        return Ok(None);
+    };
+    match (command.as_str(), rest) {
+        ("component", [kind, pattern]) => component_diagnosis(alloc, kind, pattern),
+        ("match", [pattern, base, _]) => match_diagnosis(alloc, pattern, base_of(base)),
+        ("first", [base, _, patterns @ ..]) => first_diagnosis(alloc, base_of(base), patterns),
+        (pattern, [_]) => match_diagnosis(alloc, pattern, None),
+        _ => Ok(None),
+    }
+}
+
+/// Diagnoses the pattern of a component, under the options with this name.
+fn component_diagnosis(
+    alloc: Global,
+    kind: &str,
+    pattern: &str,
+) -> Result<Option<String>, OutOfMemory> {
+    let Ok(Some(options)) = options_of(alloc, kind) else {
+        return Err(OutOfMemory);
+    };
+    let unchanged = |text: &str| -> Result<String, Error> { Ok(String::from_str(alloc, text)?) };
+    let error = match parse_pattern_string(alloc, pattern, &options, unchanged) {
+        Ok(parts) => {
+            drop(parts);
+            return Ok(None);
+        }
+        Err(Error::OutOfMemory) => return Err(OutOfMemory),
+        Err(error) => error,
+    };
+    let component = ComponentName::from_name(kind);
+    let fault = fault_of(
+        alloc,
+        component,
+        pattern,
+        &options.prefix_code_point,
+        &error,
+    )?;
+    let place = PatternOffset::of(pattern, pattern, 0, 0);
+    let diagnosis = Diagnosis::of_part(
+        alloc,
+        error,
+        Subject::Whole,
+        pattern,
+        pattern,
+        fault,
+        place,
+    )?;
+    let text = format!(in alloc; "{diagnosis}\n");
+    drop(diagnosis);
+    Ok(Some(text?))
+}

@@ -1,0 +1,78 @@
+-- The arguments of `link` that give texts for the groups of a pattern. Arguments are bytes.
+use Rattle.std.specs.Prelude.{◌≡◌, ◌⊎◌, ◌<◌, ◌==◌, ℕ, Any, Bool, List, [], ◌∷◌, codes, length, slice_index}
+use Rattle.std.specs.{Borrow.Bor, List.AllZip, List.filter, Str.chars}
+use Rattle.std.specs.List.{after_first, before_first, position_or_len}
+use Rattle.urlpat_explain.specs.declared.given_words.Misgiven.{Misgiven}
+use Rattle.urlpat_explain.specs.declared.given_words.Misgiven.TheVariants as misgiven
+use Rattle.urlpat_matching.specs.Groups.{has_group}
+use Rattle.urlpattern_components.specs.declared.eight.ComponentName.{ComponentName}
+use Rattle.urlpattern_components.specs.Eight.{components, name_text}
+use Rattle.urlpattern_pattern.specs.Patterns.{PatternView}
+
+-- ---- the groups of a pattern
+
+-- The components that have a group with this name.
+abbrev pub owners : {E : Type 0} → PatternView E → (name : List ℕ) → List ComponentName
+owners pattern name = filter (has_group pattern name) components
+
+-- The component alone has a group with this name.
+abbrev pub IsOnlyOwner : {E : Type 0} → PatternView E → (name : List ℕ) → ComponentName → Type 0
+IsOnlyOwner pattern name component = owners pattern name ≡ component ∷ []
+
+-- No component alone has a group with this name.
+abbrev pub IsNobodys : {E : Type 0} → PatternView E → (name : List ℕ) → Type 0
+IsNobodys pattern name = (component : ComponentName) → ¬ IsOnlyOwner pattern name component
+
+-- ---- names
+
+-- Whether a byte is a dot.
+abbrev pub is_dot : ℕ → Bool
+is_dot c = c == slice_index (codes ".") 0
+
+-- Whether a byte is an equals sign.
+abbrev pub is_equals_sign : ℕ → Bool
+is_equals_sign c = c == slice_index (codes "=") 0
+
+-- The text has a byte for which `is` is true.
+abbrev pub HasSuch : (is : ℕ → Bool) → List ℕ → Type 0
+HasSuch is text = position_or_len is text < length text
+
+-- The text has no byte for which `is` is true.
+abbrev pub LacksSuch : (is : ℕ → Bool) → List ℕ → Type 0
+LacksSuch is text = position_or_len is text ≡ length text
+
+-- The name of a component, a dot and the name of a group; or the name of a group without a dot,
+-- which the component alone has.
+abbrev pub IsGroupNamed : {E : Type 0} → PatternView E → (word : List ℕ) → ComponentName → (name : List ℕ) → Type 0
+IsGroupNamed pattern word component name =
+    (HasSuch is_dot word × (before_first is_dot word ≡ name_text component) × (name ≡ after_first is_dot word))
+    ⊎ (LacksSuch is_dot word × IsOnlyOwner pattern (chars word) component × (name ≡ word))
+
+-- The word names no group.
+abbrev pub NamesNoGroup : {E : Type 0} → PatternView E → (word : List ℕ) → Type 0
+NamesNoGroup pattern word = (component : ComponentName) (name : List ℕ) → ¬ IsGroupNamed pattern word component name
+
+-- ---- arguments
+
+-- The text for a group: its component, its name and the text.
+abbrev pub Given : Type 0
+Given = ComponentName × Bor (List ℕ) × Bor (List ℕ)
+
+-- The argument names the group before its first equals sign, and has the text after it.
+abbrev pub WordGivesGroup : {E : Type 0} → PatternView E → (word : List ℕ) → Given → Type 0
+WordGivesGroup pattern word given =
+    HasSuch is_equals_sign word × IsGroupNamed pattern (before_first is_equals_sign word) given.0 given.1.now
+    × (given.2.now ≡ after_first is_equals_sign word)
+
+-- The argument gives no group.
+abbrev pub WordGivesNothing : {E : Type 0} → PatternView E → (word : List ℕ) → Type 0
+WordGivesNothing pattern word = (given : Given) → ¬ WordGivesGroup pattern word given
+
+-- Each argument gives one of these groups, in order.
+abbrev pub AreGiven : {E : Type 0} → PatternView E → (words : List (List ℕ)) → List Given → Type 0
+AreGiven pattern words groups = AllZip (WordGivesGroup pattern) words groups
+
+-- An argument gives no group, or memory ran out.
+abbrev pub RefusesWords : {E : Type 0} → PatternView E → (words : List (List ℕ)) → Misgiven → Type 0
+RefusesWords pattern words (misgiven.Word word) = Any (WordGivesNothing pattern) words
+RefusesWords pattern words misgiven.OutOfMemory = Unit {0}

@@ -1,0 +1,100 @@
+//! Parses the arguments of `link` that give texts for groups.
+
+ghost use Rattle.std.specs.Prelude.{◌≡◌, IfErr, IfNone, IfOk, IfSome};
+ghost use Rattle.std.specs.Str.{chars};
+ghost use Rattle.urlpat_explain.specs.GivenWords.{AreGiven, WordGivesNothing, IsOnlyOwner, WordGivesGroup, IsNobodys, IsGroupNamed, NamesNoGroup, RefusesWords};
+ghost use Rattle.urlpat_explain.specs.declared.given_words.Misgiven.TheVariants as all_misgiven;
+ghost use Rattle.urlpat_lines.specs.Words.{words_view};
+ghost use Rattle.urlpattern_pattern.specs.Patterns.{pattern_view};
+
+use std::alloc::{AllocError, Global};
+use urlpat_matching::has_group;
+use urlpattern_components::ComponentName;
+use urlpattern_engine::PatternRegexp;
+use urlpattern_generate::GivenGroup;
+use urlpattern_pattern::UrlPattern;
+
+/// The reason why arguments give no groups.
+#[derive(Drop)]
+pub enum Misgiven<'w> {
+    /// The argument is not the name of a group, `=` and a text.
+    Word(&'w str),
+    /// Memory ran out.
+    OutOfMemory,
+}
+
+impl From<AllocError> for Misgiven<'_> {
+    ghost from_gives = { λ _ error. error ≡ all_misgiven.OutOfMemory };
+
+    fn from(_error: AllocError) -> Self {
+        Misgiven::OutOfMemory
+    }
+}
+
+/// Parses arguments, each of which gives the text for a group.
+///
+/// The error is an argument that gives no group, or that memory ran out.
+pub fn given_by<'w>(
+    alloc: Global,
+    pattern: &UrlPattern<PatternRegexp>,
+    words: &'w [String],
+) -> Result<Vec<GivenGroup<'w>>, Misgiven<'w>>
+    ensures given { IfOk result (λ groups. AreGiven (pattern_view pattern.now) (words_view words.now) groups.items) }
+    ensures refused { IfErr result (RefusesWords (pattern_view pattern.now) (words_view words.now)) }
+{
+    let mut groups = Vec::with_capacity(alloc, words.len())?;
+    for word in words {
+        match word_group(pattern, word) {
+            Some(group) => {
+                if groups.push(group).is_err() {
+                    return Err(Misgiven::OutOfMemory);
+                }
+            }
+            None => return Err(Misgiven::Word(word)),
+        }
+    }
+    Ok(groups)
+}
+
+/// Parses an argument that gives the text for a group: its name, `=`, and the text. `None`: the
+/// argument has no `=`, or its name names no group.
+fn word_group<'w>(pattern: &UrlPattern<PatternRegexp>, word: &'w str) -> Option<GivenGroup<'w>>
+    ensures given { IfSome result (WordGivesGroup (pattern_view pattern.now) word.now) }
+    ensures nothing { IfNone result (WordGivesNothing (pattern_view pattern.now) word.now) }
+{
+    let (name, text) = word.split_once('=')?;
+    let (component, group) = named_group(pattern, name)?;
+    Some((component, group, text))
+}
+
+/// The group with a name: a component, a dot and the group, or the group alone if a single
+/// component has it. After a dot, any name of a group is accepted.
+fn named_group<'w>(
+    pattern: &UrlPattern<PatternRegexp>,
+    name: &'w str,
+) -> Option<(ComponentName, &'w str)>
+    ensures named { IfSome result (λ group. IsGroupNamed (pattern_view pattern.now) name.now group.0 group.1.now) }
+    ensures nothing { IfNone result (NamesNoGroup (pattern_view pattern.now) name.now) }
+{
+    match name.split_once('.') {
+        Some((component, group)) => Some((ComponentName::from_name(component)?, group)),
+        None => Some((owner(pattern, name)?, name)),
+    }
+}
+
+/// The component that alone has a group with this name.
+fn owner(pattern: &UrlPattern<PatternRegexp>, name: &str) -> Option<ComponentName>
+    ensures alone { IfSome result (IsOnlyOwner (pattern_view pattern.now) (chars name.now)) }
+    ensures none { IfNone result (IsNobodys (pattern_view pattern.now) (chars name.now)) }
+{
+    let mut found = None;
+    for component in ComponentName::all() {
+        if has_group(pattern.get(component), name) {
+            if found.is_some() {
+                return None;
+            }
+            found = Some(component);
+        }
+    }
+    found
+}

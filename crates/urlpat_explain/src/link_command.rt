@@ -1,0 +1,107 @@
+//! The command `link`: prints the URL of a pattern, given texts for its groups.
+
+ghost use Rattle.std.specs.Prelude.{◌≡◌, ◌≢◌, ◌⊎◌, ◌++◌, codes, IfErr, IfOk, OnOk};
+ghost use Rattle.std.specs.Io.KnownBytes.{Appends};
+ghost use Rattle.url.specs.Parts.{serialize};
+ghost use Rattle.urlpat_explain.specs.LinkAnswers.{HasNoLink, IsLinkBy, LacksUrl, WritesLink};
+ghost use Rattle.urlpat_explain.specs.declared.link_command.LinkError.TheVariants as all_unlinked;
+ghost use Rattle.urlpat_lines.specs.Words.{words_view};
+
+use crate::given_words::{Misgiven, given_by};
+use crate::link_reason::write_reason;
+use std::alloc::Global;
+use std::io;
+use std::io::Write;
+use url::Url;
+use urlpat_matching::{DONE, FAILED, NO_MATCH, base_of, compiled, write_refusal};
+use urlpattern_engine::PatternRegexp;
+use urlpattern_generate::NoLink;
+use urlpattern_pattern::UrlPattern;
+
+/// The usage of `link`.
+const LINK_USAGE: &str = "usage: urlpat link PATTERN BASE NAME=VALUE..\n";
+
+/// The reason why there is no URL.
+#[derive(Drop)]
+pub enum LinkError<'w> {
+    /// The argument is not the name of a group, `=` and a text.
+    Word(&'w str),
+    /// The pattern has no URL with these texts for its groups.
+    NoLink(NoLink),
+    /// Memory ran out.
+    OutOfMemory,
+}
+
+/// Runs `link` with these arguments. Returns the exit status: `NO_MATCH` if there is no URL, which
+/// is reported to `err`.
+pub fn link<Out: Write, Err: Write>(
+    alloc: Global,
+    words: &[String],
+    out: &mut Out,
+    err: &mut Err,
+) -> u8
+    ensures status { (result ≡ DONE) ⊎ (result ≡ NO_MATCH) ⊎ (result ≡ FAILED) }
+    ensures written { result ≡ DONE → WritesLink (words_view words.now) (Out.contents out.old) (Out.contents out.new) }
+    ensures refused { result ≡ NO_MATCH → HasNoLink (words_view words.now) × (out.new ≡ out.old) }
+{
+    let [pattern_word, base_word, given @ ..] = words else {
+        let _ = err.write_all(LINK_USAGE.as_bytes());
+        return FAILED;
+    };
+    let base = base_of(base_word);
+    let pattern = match compiled(alloc, pattern_word, base, false) {
+        Ok(pattern) => pattern,
+        Err(error) => return write_refusal(alloc, pattern_word, base, error, err),
+    };
+    let found = linked(alloc, &pattern, given);
+    drop(pattern);
+    match found {
+        Ok(url) => match print_url(&url, out) {
+            Ok(()) => DONE,
+            Err(_) => FAILED,
+        },
+        Err(reason) => report(&reason, err),
+    }
+}
+
+/// Reports why there is no URL. Returns the exit status.
+fn report<Err: Write>(reason: &LinkError<'_>, err: &mut Err) -> u8
+    ensures status { (result ≡ NO_MATCH) ⊎ (result ≡ FAILED) }
+    ensures known { result ≡ NO_MATCH → reason.now ≢ all_unlinked.OutOfMemory }
+{
+    let _ = write_reason(reason, err);
+    match reason {
+        LinkError::Word(_) | LinkError::NoLink(_) => NO_MATCH,
+        LinkError::OutOfMemory => FAILED,
+    }
+}
+
+/// The URL of a pattern, given arguments with texts for its groups.
+fn linked<'w>(
+    alloc: Global,
+    pattern: &UrlPattern<PatternRegexp>,
+    words: &'w [String],
+) -> Result<Url, LinkError<'w>>
+    ensures linked { IfOk result (IsLinkBy pattern.now (words_view words.now)) }
+    ensures refused { IfErr result (LacksUrl pattern.now (words_view words.now)) }
+{
+    let groups = match given_by(alloc, pattern, words) {
+        Ok(groups) => groups,
+        Err(Misgiven::Word(word)) => return Err(LinkError::Word(word)),
+        Err(Misgiven::OutOfMemory) => return Err(LinkError::OutOfMemory),
+    };
+    match pattern.link(alloc, &groups) {
+        Ok(url) => Ok(url),
+        Err(NoLink::OutOfMemory) => Err(LinkError::OutOfMemory),
+        Err(error) => Err(LinkError::NoLink(error)),
+    }
+}
+
+/// Writes a URL and a line end, and flushes the output.
+fn print_url<Out: Write>(url: &Url, out: &mut Out) -> io::Result<()>
+    ensures { OnOk result (Appends (Out.contents out.old) (Out.contents out.new) (serialize url.now ++ codes "\n")) }
+{
+    let text = url.as_str();
+    writeln!(out, "{text}")?;
+    out.flush()
+}

@@ -1,0 +1,28 @@
+//! Messages on why there is no URL.
+
+use crate::link_command::LinkError;
+use std::io;
+use std::io::Write;
+use urlpattern_generate::{GenerateError, NoLink};
+
+/// Writes why there is no URL, as a line.
+pub(crate) fn write_reason<Err: Write>(reason: &LinkError<'_>, err: &mut Err) -> io::Result<()> {
+    match reason {
+        LinkError::Word(word) => writeln!(
+            err,
+            "`{word}` gives nothing: write COMPONENT.NAME=VALUE, or NAME=VALUE where one component alone has that group"
+        ),
+        LinkError::NoLink(error) => write_refusal(error, err),
+        LinkError::OutOfMemory => err.write_all(b"out of memory\n"),
+    }
+}
+
+/// Writes why there is no URL, and which argument is missing for a group.
+fn write_refusal<Err: Write>(refusal: &NoLink, err: &mut Err) -> io::Result<()> {
+    match refusal {
+        NoLink::Component(GenerateError::Missing(component, name)) => {
+            writeln!(err, "{refusal}: give {component}.{name}=VALUE")
+        }
+        _ => writeln!(err, "{refusal}"),
+    }
+}

@@ -1,0 +1,165 @@
+//! Notes on a pattern: where its components are in the constructor string, what it inherits from
+//! the base URL, what it leaves out, and what its port is.
+
+ghost use Rattle.std.specs.Prelude.{◌≡◌, string_bytes, IfOk, OnOk};
+ghost use Rattle.urlpat_matching.specs.GroupLines.{GetsLines};
+ghost use Rattle.urlpat_explain.specs.Explained.{explained_view, GetsBytes};
+ghost use Rattle.urlpat_explain.specs.OriginNotes.{AreNotes, ArePlaces, inherited_name, left_out_name, names_line, port_note, value_notes};
+ghost use Rattle.urlpat_explain.specs.ComponentPlaces.{place_cell};
+ghost use Rattle.urlpattern_init.specs.Inheritance.{values_view};
+ghost use Rattle.urlpattern_syntax.specs.Text.{option_text};
+
+use crate::explained::Explained;
+use std::alloc::{AllocError, Global};
+use urlpattern_components::ComponentName;
+use urlpattern_diagnosis::Span;
+use urlpattern_init::UrlPatternInit;
+
+/// The note on components in the constructor string.
+const PLACES: &str = "bytes of the pattern:";
+
+/// The note on components that are inherited.
+const INHERITED: &str = "inherited from the base URL:";
+
+/// The note on components that are neither given nor inherited.
+const LEFT_OUT: &str = "left out, so that any text matches:";
+
+/// The note on a port that is empty.
+const EMPTY_PORT: &str = "the port is empty: only the default port of the protocol matches\n";
+
+/// The note on a port that is removed since it is the default one.
+const DEFAULT_PORT: &str = "the port is the default port of the protocol, which a URL leaves out\n";
+
+/// Appends the notes on a constructor string.
+pub fn push_notes(
+    alloc: Global,
+    text: &mut String,
+    explained: &Explained<'_>,
+) -> Result<(), AllocError>
+    ensures { OnOk result (GetsLines (AreNotes (explained_view explained.now)) text.old text.new) }
+{
+    let places = places_of(alloc, explained)?;
+    let notes = value_notes(alloc, explained.init, explained.values)?;
+    push_names(text, PLACES, &places)?;
+    text.push_str(&notes)?;
+    Ok(())
+}
+
+/// The components in the constructor string, each with its place.
+fn places_of(alloc: Global, explained: &Explained<'_>) -> Result<String, AllocError>
+    ensures { IfOk result (λ cells. ArePlaces (explained_view explained.now) (string_bytes cells)) }
+{
+    let mut cells = String::new(alloc);
+    for name in ComponentName::all() {
+        push_place(alloc, &mut cells, name, explained.place(name))?;
+    }
+    Ok(cells)
+}
+
+/// Appends a component and its place, if it has one.
+fn push_place(
+    alloc: Global,
+    cells: &mut String,
+    name: ComponentName,
+    place: Option<Span>,
+) -> Result<(), AllocError>
+    ensures { OnOk result (GetsBytes cells.old cells.new (place_cell name place)) }
+{
+    let Some(Span { start, end }) = place else {
+        return Ok(());
+    };
+    let name = name.as_str();
+    let cell = format!(in alloc; " {name} {start}..{end}")?;
+    cells.push_str(&cell)?;
+    Ok(())
+}
+
+/// The notes on the texts of an init, which has these values.
+fn value_notes(
+    alloc: Global,
+    init: &UrlPatternInit,
+    values: &UrlPatternInit,
+) -> Result<String, AllocError>
+    ensures { IfOk result (λ notes. string_bytes notes ≡ value_notes (values_view init.now) (values_view values.now)) }
+{
+    let mut inherited = String::new(alloc);
+    let mut left_out = String::new(alloc);
+    for name in ComponentName::all() {
+        push_inherited(&mut inherited, name, init.get(name), values.get(name))?;
+        push_left_out(&mut left_out, name, values.get(name))?;
+    }
+    let mut notes = String::new(alloc);
+    push_names(&mut notes, INHERITED, &inherited)?;
+    push_names(&mut notes, LEFT_OUT, &left_out)?;
+    push_port_note(
+        &mut notes,
+        init.get(ComponentName::Port),
+        values.get(ComponentName::Port),
+    )?;
+    Ok(notes)
+}
+
+/// Appends the name of a component, if it is inherited.
+fn push_inherited(
+    names: &mut String,
+    name: ComponentName,
+    given: Option<&str>,
+    value: Option<&str>,
+) -> Result<(), AllocError>
+    ensures { OnOk result (GetsBytes names.old names.new (inherited_name name (option_text given.entry) (option_text value.entry))) }
+{
+    if given.is_none() && value.is_some() {
+        names.push(' ')?;
+        names.push_str(name.as_str())?;
+    }
+    Ok(())
+}
+
+/// Appends the name of a component, if it is neither given nor inherited.
+fn push_left_out(
+    names: &mut String,
+    name: ComponentName,
+    value: Option<&str>,
+) -> Result<(), AllocError>
+    ensures { OnOk result (GetsBytes names.old names.new (left_out_name name (option_text value.entry))) }
+{
+    if value.is_none() {
+        names.push(' ')?;
+        names.push_str(name.as_str())?;
+    }
+    Ok(())
+}
+
+/// Appends a line with names, if there are any.
+fn push_names(notes: &mut String, lead: &str, names: &str) -> Result<(), AllocError>
+    ensures { OnOk result (GetsBytes notes.old notes.new (names_line lead.now names.now)) }
+{
+    if names.is_empty() {
+        return Ok(());
+    }
+    notes.push_str(lead)?;
+    notes.push_str(names)?;
+    notes.push('\n')
+}
+
+/// Appends the note on the port, if the constructor string has one and its value is empty.
+fn push_port_note(
+    notes: &mut String,
+    given: Option<&str>,
+    value: Option<&str>,
+) -> Result<(), AllocError>
+    ensures { OnOk result (GetsBytes notes.old notes.new (port_note (option_text given.entry) (option_text value.entry))) }
+{
+    let (Some(given), Some(value)) = (given, value) else {
+        return Ok(());
+    };
+    if !value.is_empty() {
+        return Ok(());
+    }
+    if given.is_empty() {
+        notes.push_str(EMPTY_PORT)?;
+        return Ok(());
+    }
+    notes.push_str(DEFAULT_PORT)?;
+    Ok(())
+}

@@ -1,7 +1,0 @@
-use Rattle.std.proofs.Common.{◌≡◌, ◌++◌, string_bytes, take}
-use Rattle.std.specs.List.{flat_map}
-use Rattle.urlpat_rules.specs.Coverings.{text_line}
-use Rattle.urlpat_rules.proofs.covering.push_texts.Given as goal
-
-abbrev pub invariant-loop-name : goal.invariant-loop-name
-invariant-loop-name l = string_bytes l.text ≡ string_bytes l.initial.text ++ flat_map (text_line l.texts) (take l.name-index l.name-items)

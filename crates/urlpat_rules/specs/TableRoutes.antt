@@ -1,0 +1,131 @@
+-- The first pattern of a table that matches each line, and the output for it. Arguments and texts
+-- are bytes.
+use Rattle.std.specs.Prelude.{◌≡◌, ◌≢◌, ◌⊎◌, ℕ, All, Bool, true, false, List, [], ◌∷◌, ◌++◌, codes, decimal, map, IfSome, Option, Some, String, option_copied, slice_get}
+use Rattle.std.specs.Borrow.{Bor}
+use Rattle.std.specs.List.{flat_map}
+use Rattle.std.specs.Map.{values_of}
+use Rattle.std.specs.declared.alloc.Global.{Global}
+use Rattle.bstr.specs.Text.{lines_of, without_terminator}
+use Rattle.serde_json.specs.Data.{Data, number, string, unsigned}
+use Rattle.url.specs.Parts.{Parts}
+use Rattle.urlpat_matching.specs.GroupLines.{AreLines, all_named_results}
+use Rattle.urlpattern_canonical.specs.BaseUrls.{BaseView, IsUrlUnder, base_view}
+use Rattle.urlpat_matching.specs.PatternWords.{IsPatternOf}
+use Rattle.urlpat_matching.specs.MatchTexts.{IsUnmatchedByAllUnder}
+use Rattle.urlpat_lines.specs.Words.{words_view}
+use Rattle.urlpat_matching.specs.Status.{status_of}
+use Rattle.urlpat_matching.specs.MatchJson.{IsMatchTree, json_line}
+use Rattle.urlpat_matching.specs.declared.exit_status.TheConstants.{FAILED}
+use Rattle.urlpat_lines.specs.Filters.{FiltersText}
+use Rattle.urlpat_lines.specs.LineAnswers.{selected_by}
+use Rattle.urlpat_lines.specs.declared.answers.Verdict.{Verdict}
+use Rattle.urlpat_lines.specs.declared.answers.Verdict.TheVariants.{Selected}
+use Rattle.urlpat_rules.specs.TableWords.{NameTable}
+use Rattle.urlpat_lines.specs.Tables.{EntryView, entries_view, entry_view, table_entries}
+use Rattle.urlpat_lines.specs.declared.table.Entry.{Entry}
+use Rattle.urlpat_lines.specs.declared.flags.Flags.{Flags}
+use Rattle.urlpat_lines.specs.declared.query.Shape.TheVariants.{Line}
+use Rattle.urlpattern.specs.FirstMatch.{IsFirstMatch}
+use Rattle.urlpattern.specs.PatternMaps.{entry_patterns}
+use Rattle.urlpattern.specs.Patterns.{pattern_view}
+use Rattle.urlpattern.specs.ResultViews.{ResultView}
+use Rattle.urlpattern.specs.UrlPattern.{UrlPattern}
+use Rattle.urlpattern.specs.UrlPatternMatchInput.TheVariants as match_inputs
+use Rattle.urlpattern_components.specs.declared.eight.ComponentName.{ComponentName}
+use Rattle.urlpattern_inputs.specs.Trees.{object_of}
+use Rattle.urlpattern_engine.specs.PatternRegexps.{pattern_answer}
+use Rattle.urlpattern_engine.specs.declared.pattern_regexp.PatternRegexp.{PatternRegexp}
+
+-- Patterns, each with an entry of a table.
+abbrev pub Routes : Type 0
+Routes = List (UrlPattern PatternRegexp × Entry)
+
+-- The routes have these entries, each with the pattern to which its text is compiled under the base
+-- URL.
+abbrev pub AreRoutesOf : (ignores : Bool) → (base : Option (List ℕ)) → List EntryView → Routes → Type 0
+AreRoutesOf ignores base entries routes =
+    (entries_view (values_of routes) ≡ entries) × All (λ route. IsPatternOf ignores route.1.pattern.now base (pattern_view route.0)) routes
+
+-- ---- output
+
+-- The lines of a text, without their ends.
+abbrev pub bare_lines : (text : List ℕ) → List (List ℕ)
+bare_lines text = map without_terminator (lines_of text)
+
+-- A line after a tab.
+abbrev pub cell_text : (line : List ℕ) → List ℕ
+cell_text line = codes "\t" ++ line
+
+-- The number of an entry, its name, and each line of a text, separated by tabs.
+abbrev pub row_text : EntryView → (text : List ℕ) → List ℕ
+row_text entry text = decimal entry.number ++ codes "\t" ++ entry.name ++ flat_map cell_text (bare_lines text) ++ codes "\n"
+
+-- The row of an entry, with the lines that `match` prints for each group.
+abbrev pub IsRouteRow : EntryView → (ComponentName → ResultView) → (row : List ℕ) → Type 0
+IsRouteRow entry result row = (text : List ℕ) × AreLines (all_named_results result) text × (row ≡ row_text entry text)
+
+-- The JSON of a route: the number and the name of its entry, and the match.
+abbrev pub route_tree : EntryView → (found : Data) → Data
+route_tree entry found =
+    object_of ((codes "number", Some (number (unsigned entry.number))) ∷ (codes "name", Some (string entry.name)) ∷ (codes "match", Some found) ∷ [])
+
+-- The row of an entry as JSON.
+abbrev pub IsRouteJson : EntryView → (ComponentName → ResultView) → (row : List ℕ) → Type 0
+IsRouteJson entry result row = (tree : Data) × IsMatchTree result tree × (row ≡ json_line (route_tree entry tree))
+
+-- The row of an entry, as JSON or not.
+abbrev pub IsRowShown : (json : Bool) → EntryView → (ComponentName → ResultView) → (row : List ℕ) → Type 0
+IsRowShown true entry result row = IsRouteJson entry result row
+IsRowShown false entry result row = IsRouteRow entry result row
+
+-- The text that is printed for a line that no pattern matches.
+abbrev pub unmatched_text : (json : Bool) → List ℕ
+unmatched_text true = codes "null\n"
+unmatched_text false = codes "-\n"
+
+-- ---- verdicts on lines
+
+-- A pattern is the first that matches the text, a URL under this base URL, and the row is that of
+-- its entry.
+pub record IsRouted (json : Bool) (routes : Routes) (base : BaseView) (text row : List ℕ) : Type 0 where
+  pub url : Parts
+  pub index : ℕ
+  pub result : ComponentName → ResultView
+  pub entry : Entry
+  pub is_url : IsUrlUnder text base url
+  pub is_first : IsFirstMatch pattern_answer (entry_patterns routes) (match_inputs.Url url) (Some (index, result))
+  pub is_there : slice_get (values_of routes) index ≡ Some entry
+  pub shows : IsRowShown json (entry_view entry) result row
+
+-- The verdict on a line and the output for it: the row of a match, or a mark if no pattern matches.
+abbrev pub IsLineAnswered : (json : Bool) → Routes → BaseView → (text line : List ℕ) → Verdict → (written : List ℕ) → Type 0
+IsLineAnswered json routes base text line verdict written =
+    (IsRouted json routes base text written × (verdict ≡ Selected))
+    ⊎ (IsUnmatchedByAllUnder (entry_patterns routes) text base × (written ≡ unmatched_text json) × (selected_by verdict ≡ 0))
+
+-- The output for the lines of a text is written, with exit status 1 if no line matches.
+abbrev pub RoutesText : (json : Bool) → Routes → BaseView → (text : List ℕ) → (status : ℕ) → (old new : Option (List ℕ)) → Type 0
+RoutesText json routes base text status old new =
+    (any : Bool) × (status ≡ status_of any) × FiltersText (IsLineAnswered json routes base) Line text any old new
+
+-- The output for the lines of the reader is written, by the patterns of a table, if the contents of
+-- the reader are known.
+abbrev pub RoutesBy : Flags → (table : List ℕ) → (base : Option (List ℕ)) → (status : ℕ) → (input old new : Option (List ℕ)) → Type 0
+RoutesBy flags table base status input old new =
+    (routes : Routes) × AreRoutesOf flags.ignore_case base (table_entries table) routes × IfSome input (λ text. RoutesText flags.json routes (base_view base) text status old new)
+
+-- The output for the arguments of `route` is written. `Has` says which file has which table.
+abbrev pub RoutesLines : Flags → (Has : (name table : List ℕ) → Type 0) → (words : List (List ℕ)) → (status : ℕ) → (input old new : Option (List ℕ)) → Type 0
+RoutesLines flags Has words status input old new =
+    (name : List ℕ) × (base : Option (List ℕ)) × NameTable words name base
+    × (table : List ℕ) × Has name table × RoutesBy flags table base status input old new
+
+-- ---- unless the run failed
+
+-- `RoutesBy` unless the run failed.
+abbrev pub RoutesTable : Flags → (table : List ℕ) → (base : Option (Bor (List ℕ))) → (status : ℕ) → (input old new : Option (List ℕ)) → Type 0
+RoutesTable flags table base status input old new = status ≢ FAILED → RoutesBy flags table (option_copied base) status input old new
+
+-- `RoutesLines` unless the run failed.
+abbrev pub Replies : Flags → (Has : (name table : List ℕ) → Type 0) → (words : List (String Global)) → (status : ℕ) → (input old new : Option (List ℕ)) → Type 0
+Replies flags Has words status input old new = status ≢ FAILED → RoutesLines flags Has (words_view words) status input old new

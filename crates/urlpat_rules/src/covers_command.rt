@@ -1,0 +1,155 @@
+//! The command `covers`: whether a pattern matches everything that another one matches.
+
+ghost use Rattle.std.specs.Io.KnownBytes.{Appends};
+ghost use Rattle.std.specs.Prelude.{◌≡◌, ◌≢◌, ◌⊎◌, ◌++◌, string_bytes, IfOk, IfSome, OnOk, None};
+ghost use Rattle.urlpat_lines.specs.Words.{words_view};
+ghost use Rattle.urlpat_rules.specs.PrintedCoverings.{ArePartsOf, ComparesWith, TellsCovering, TellsWhether, parting_lines, text_lines};
+
+use crate::doubt_reason::reason_text;
+use crate::text_parts::parts_of_text;
+use std::alloc::{AllocError, Global};
+use std::io::Write;
+use urlpat_matching::{DONE, FAILED, NO_MATCH, print, write_refusal};
+use urlpattern::rules::{Parting, PatternCovering, PatternParts, Reason};
+use urlpattern::{ComponentName, Eight};
+
+/// The usage of `covers`.
+const COVERS_USAGE: &str = "usage: urlpat covers PATTERN ASKED\n";
+
+/// Runs `covers` with these arguments. Returns the exit status.
+pub fn covers<Out: Write, Err: Write>(
+    alloc: Global,
+    words: &[String],
+    out: &mut Out,
+    err: &mut Err,
+) -> u8
+    ensures status { (result ≡ DONE) ⊎ (result ≡ NO_MATCH) ⊎ (result ≡ FAILED) }
+    ensures answers { result ≢ FAILED → TellsWhether (words_view words.now) result (Out.contents out.old) (Out.contents out.new) }
+{
+    let [pattern, asked] = words else {
+        let _ = err.write_all(COVERS_USAGE.as_bytes());
+        return FAILED;
+    };
+    let Some(covering) = compared(alloc, pattern, asked, err) else {
+        return FAILED;
+    };
+    let status = tell(alloc, &covering, out, err);
+    drop(covering);
+    status
+}
+
+/// Whether a pattern covers the asked one. `None`: one of them is rejected, or memory ran out,
+/// which is reported.
+fn compared<Err: Write>(
+    alloc: Global,
+    pattern: &str,
+    asked: &str,
+    err: &mut Err,
+) -> Option<PatternCovering>
+    ensures { IfSome result (ComparesWith pattern.now asked.now) }
+{
+    let parts = parts_or_report(alloc, pattern, err)?;
+    let Some(asked_parts) = parts_or_report(alloc, asked, err) else {
+        drop(parts);
+        return None;
+    };
+    let covering = parts.covers(alloc, &asked_parts);
+    drop(parts);
+    drop(asked_parts);
+    match covering {
+        Ok(covering) => Some(covering),
+        Err(_) => {
+            let _ = err.write_all(b"out of memory\n");
+            None
+        }
+    }
+}
+
+/// The parts of the pattern of a constructor string. `None`: it is rejected, or memory ran out,
+/// which is reported.
+fn parts_or_report<Err: Write>(alloc: Global, text: &str, err: &mut Err) -> Option<PatternParts>
+    ensures { IfSome result (ArePartsOf text.now None) }
+{
+    match parts_of_text(alloc, text, None) {
+        Ok(parts) => Some(parts),
+        Err(error) => {
+            write_refusal(alloc, text, None, error, err);
+            None
+        }
+    }
+}
+
+/// Writes whether a pattern covers another, or reports that it is not known. Returns the exit
+/// status.
+fn tell<Out: Write, Err: Write>(
+    alloc: Global,
+    covering: &PatternCovering,
+    out: &mut Out,
+    err: &mut Err,
+) -> u8
+    ensures status { (result ≡ DONE) ⊎ (result ≡ NO_MATCH) ⊎ (result ≡ FAILED) }
+    ensures answers { result ≢ FAILED → TellsCovering covering.now result (Out.contents out.old) (Out.contents out.new) }
+{
+    match covering {
+        PatternCovering::Covered => match print(b"covered\n", out) {
+            Ok(()) => DONE,
+            Err(_) => FAILED,
+        },
+        PatternCovering::NotCovered(parting) => tell_parting(alloc, parting, out, err),
+        PatternCovering::Unknown(component, reason) => {
+            report_unknown(*component, *reason, err);
+            FAILED
+        }
+    }
+}
+
+/// Writes the component in which two patterns differ, and texts that only the asked one matches.
+/// Returns the exit status.
+fn tell_parting<Out: Write, Err: Write>(
+    alloc: Global,
+    parting: &Parting,
+    out: &mut Out,
+    err: &mut Err,
+) -> u8
+    ensures status { (result ≡ NO_MATCH) ⊎ (result ≡ FAILED) }
+    ensures answers { result ≢ FAILED → Appends (Out.contents out.old) (Out.contents out.new) (parting_lines parting.now) }
+{
+    let Ok(text) = parting_text(alloc, parting) else {
+        let _ = err.write_all(b"out of memory\n");
+        return FAILED;
+    };
+    match print(text.as_bytes(), out) {
+        Ok(()) => NO_MATCH,
+        Err(_) => FAILED,
+    }
+}
+
+/// A line with the component in which two patterns differ, and one with the text of each component.
+fn parting_text(alloc: Global, parting: &Parting) -> Result<String, AllocError>
+    ensures { IfOk result (λ text. string_bytes text ≡ parting_lines parting.now) }
+{
+    let mut text = String::from_str(alloc, "not covered: ")?;
+    text.push_str(parting.component.as_str())?;
+    text.push('\n')?;
+    push_texts(&mut text, &parting.texts)?;
+    Ok(text)
+}
+
+/// Appends a line with the text of each component.
+fn push_texts(text: &mut String, texts: &Eight<String>) -> Result<(), AllocError>
+    ensures { OnOk result (string_bytes text.new ≡ string_bytes text.old ++ text_lines texts.now) }
+{
+    for name in ComponentName::all() {
+        text.push_str(name.as_str())?;
+        text.push('=')?;
+        text.push_str(texts.get(name))?;
+        text.push('\n')?;
+    }
+    Ok(())
+}
+
+/// Reports why it is not known whether a pattern covers another.
+fn report_unknown<Err: Write>(component: ComponentName, reason: Reason, err: &mut Err) {
+    let why = reason_text(reason);
+    let _ = writeln!(err, "not known: the {component} {why}");
+}

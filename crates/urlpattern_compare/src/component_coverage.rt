@@ -1,0 +1,224 @@
+//! Components compared by their parts.
+
+ghost use Rattle.std.specs.Prelude.{◌≡◌, ◌↔◌, [], ◌∷◌, IfNone, IfOk, IfSome, IsTrue, false};
+ghost use Rattle.urlpattern_compare.specs.Comparing.{AreSame, IsComponentCovering, IsComponentOverlap, IsExample, IsKnown, IsReasonFor, IsSettled, IsUnknownBy, TakesEachLine, anything_part, unnamed, unnamed_view};
+ghost use Rattle.urlpattern_syntax.specs.Options.{default_options, options_view};
+ghost use Rattle.urlpattern_syntax.specs.Parts.{parts_view};
+ghost use Rattle.urlpattern_syntax.specs.Text.{text_of};
+
+use crate::coverage::{Covering, Overlap, Reason, covers, has_custom, overlaps};
+use std::alloc::{AllocError, Global};
+use urlpattern_syntax::ComponentParts;
+use urlpattern_syntax::parser::{Options, Part, PartModifier, PartType};
+
+/// Returns a full wildcard alone, which matches each text without line feed.
+fn anything(alloc: Global) -> Result<ComponentParts, AllocError>
+    ensures options { IfOk result (λ component. options_view component.options ≡ default_options) }
+    ensures parts { IfOk result (λ component. parts_view component.parts.items ≡ anything_part ∷ []) }
+{
+    let mut parts = Vec::new(alloc);
+    parts.push(Part {
+        kind: PartType::FullWildcard,
+        value: String::new(alloc),
+        modifier: PartModifier::None,
+        name: String::new(alloc),
+        prefix: String::new(alloc),
+        suffix: String::new(alloc),
+    })?;
+    Ok(ComponentParts {
+        options: Options::default(alloc),
+        parts,
+    })
+}
+
+/// Returns why it is not known which texts the parts match. `None`: it is known.
+fn unknown(component: &ComponentParts) -> Option<Reason>
+    ensures known { IfNone result (IsKnown component.now) }
+    ensures reason { IfSome result (IsUnknownBy component.now) }
+{
+    if component.options.ignore_case {
+        return Some(Reason::IgnoredCase);
+    }
+    if has_custom(&component.parts) {
+        return Some(Reason::CustomExpression);
+    }
+    None
+}
+
+/// Returns why the parts cannot be compared with others. `None`: it is known which texts both
+/// match.
+fn unknown_with(component: &ComponentParts, other: &ComponentParts) -> Option<Reason>
+    ensures known { IfNone result (IsKnown component.now × IsKnown other.now) }
+    ensures reason { IfSome result (IsReasonFor component.now other.now) }
+{
+    match unknown(component) {
+        Some(reason) => Some(reason),
+        None => unknown(other),
+    }
+}
+
+/// Whether the parts are known to match each text without line feed.
+fn takes_each_line(alloc: Global, component: &ComponentParts) -> Result<bool, AllocError>
+    ensures { IfOk result (λ takes. IsTrue takes → TakesEachLine component.now) }
+{
+    match unknown(component) {
+        Some(_) => Ok(false),
+        None => covers_anything(alloc, component),
+    }
+}
+
+/// Whether the parts match each text without line feed. It is known which texts they match.
+fn covers_anything(alloc: Global, component: &ComponentParts) -> Result<bool, AllocError>
+    requires { IsKnown component.now }
+    ensures { IfOk result (λ takes. IsTrue takes → TakesEachLine component.now) }
+{
+    let anything = anything(alloc)?;
+    let covering = covers(
+        alloc,
+        &component.options,
+        &component.parts,
+        &anything.options,
+        &anything.parts,
+    )?;
+    match covering {
+        Covering::Covered => Ok(true),
+        _ => Ok(false),
+    }
+}
+
+/// Whether the parts are equal but for names, under equal options, so that they match alike.
+fn is_same(component: &ComponentParts, other: &ComponentParts) -> bool
+    ensures { IsTrue result ↔ AreSame component.now other.now }
+{
+    is_settled(component)
+        && are_same_options(&component.options, &other.options)
+        && are_same_parts(&component.parts, &other.parts)
+}
+
+/// Whether case is kept, or no part is a custom regular expression.
+fn is_settled(component: &ComponentParts) -> bool
+    ensures { IsTrue result ↔ IsSettled component.now }
+{
+    !component.options.ignore_case || !has_custom(&component.parts)
+}
+
+/// Returns whether the parts match each text without line feed that those of `asked` match, or are
+/// the same parts.
+pub(crate) fn component_covers(
+    alloc: Global,
+    component: &ComponentParts,
+    asked: &ComponentParts,
+) -> Result<Covering, AllocError>
+    ensures { IfOk result (IsComponentCovering component.now asked.now) }
+{
+    if is_same(component, asked) {
+        return Ok(Covering::Covered);
+    }
+    match unknown_with(component, asked) {
+        None => covers(
+            alloc,
+            &component.options,
+            &component.parts,
+            &asked.options,
+            &asked.parts,
+        ),
+        Some(reason) => {
+            if takes_each_line(alloc, component)? {
+                return Ok(Covering::Covered);
+            }
+            Ok(Covering::Unknown(reason))
+        }
+    }
+}
+
+/// Returns whether both components match a text without line feed.
+pub(crate) fn component_overlaps(
+    alloc: Global,
+    component: &ComponentParts,
+    other: &ComponentParts,
+) -> Result<Overlap, AllocError>
+    ensures { IfOk result (IsComponentOverlap component.now other.now) }
+{
+    match unknown_with(component, other) {
+        None => overlaps(
+            alloc,
+            &component.options,
+            &component.parts,
+            &other.options,
+            &other.parts,
+        ),
+        Some(reason) => Ok(Overlap::Unknown(reason)),
+    }
+}
+
+/// Returns a text without line feed that the parts match, if there is one.
+pub(crate) fn component_example(
+    alloc: Global,
+    component: &ComponentParts,
+) -> Result<Overlap, AllocError>
+    ensures { IfOk result (IsExample component.now) }
+{
+    match unknown(component) {
+        None => common_with_anything(alloc, component),
+        Some(reason) => Ok(Overlap::Unknown(reason)),
+    }
+}
+
+/// Returns a text without line feed that the parts match, if there is one. It is known which texts
+/// they match.
+fn common_with_anything(alloc: Global, component: &ComponentParts) -> Result<Overlap, AllocError>
+    requires { IsKnown component.now }
+    ensures { IfOk result (IsExample component.now) }
+{
+    let anything = anything(alloc)?;
+    overlaps(
+        alloc,
+        &component.options,
+        &component.parts,
+        &anything.options,
+        &anything.parts,
+    )
+}
+
+/// Whether two options are equal.
+fn are_same_options(options: &Options, others: &Options) -> bool
+    ensures { IsTrue result ↔ options_view options.now ≡ options_view others.now }
+{
+    options.delimiter_code_point == others.delimiter_code_point
+        && is_same_text(&options.prefix_code_point, &others.prefix_code_point)
+        && options.regex_syntax == others.regex_syntax
+        && options.ignore_case == others.ignore_case
+}
+
+/// Whether two lists of parts are equal but for the names of their groups.
+fn are_same_parts(parts: &[Part], others: &[Part]) -> bool
+    ensures { IsTrue result ↔ unnamed parts.now ≡ unnamed others.now }
+{
+    if parts.len() != others.len() {
+        return false;
+    }
+    for index in 0..parts.len() {
+        if !is_same_part(&parts[index], &others[index]) {
+            return false;
+        }
+    }
+    true
+}
+
+/// Whether two parts are equal but for the names of their groups.
+fn is_same_part(part: &Part, other: &Part) -> bool
+    ensures { IsTrue result ↔ unnamed_view part.now ≡ unnamed_view other.now }
+{
+    part.kind == other.kind
+        && part.modifier == other.modifier
+        && is_same_text(&part.value, &other.value)
+        && is_same_text(&part.prefix, &other.prefix)
+        && is_same_text(&part.suffix, &other.suffix)
+}
+
+/// Whether two texts are equal.
+fn is_same_text(text: &String, other: &String) -> bool
+    ensures { IsTrue result ↔ text_of text.now ≡ text_of other.now }
+{
+    text == other
+}

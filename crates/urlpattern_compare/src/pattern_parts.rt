@@ -1,0 +1,299 @@
+//! The parts of a pattern's eight components.
+
+ghost use Rattle.std.specs.Prelude.{◌≡◌, IfErr, IfOk};
+ghost use Rattle.std.specs.Str.{chars};
+ghost use Rattle.urlpattern_components.specs.Eight.{at};
+ghost use Rattle.urlpattern_syntax.specs.Text.{text_of};
+
+use crate::component_coverage::{component_covers, component_example, component_overlaps};
+use crate::coverage::{Covering, Overlap, Reason};
+use crate::order::compare_parts;
+use std::alloc::{AllocError, Global};
+use std::cmp::Ordering;
+use urlpattern_components::{ComponentName, Eight};
+use urlpattern_syntax::ComponentParts;
+
+/// The parts of a pattern's eight components.
+///
+/// The parts of the pattern of a constructor string, with `Pattern` as `UrlPattern<PatternRegexp>`:
+///
+/// ```rust parts
+/// let options = UrlPatternOptions::default();
+/// match Pattern::from_constructor_string(alloc, text, None, options)?.into_parts() {
+///     Some(parts) => Ok(parts),
+///     None => unreachable!(),
+/// }
+/// ```
+#[derive(Debug)]
+pub struct PatternParts {
+    /// The parts of each component.
+    pub components: Eight<ComponentParts>,
+}
+
+impl Drop for PatternParts {
+    /// Drops the components. Where the parts of a pattern go out of scope, the prover handles one
+    /// call in place of eight.
+    fn drop(self) {
+        let Self {
+            components: _components,
+        } = self;
+    }
+}
+
+/// Eight texts that one pattern matches and the other does not.
+///
+/// The text that the asked pattern means and the other does not:
+///
+/// ```rust parting
+/// let component = parting.component;
+/// let text = parting.texts.get(component);
+/// ```
+#[derive(Debug, Drop)]
+pub struct Parting {
+    /// A component whose text the one pattern does not match.
+    pub component: ComponentName,
+    /// The texts, which the asked pattern matches.
+    pub texts: Eight<String>,
+}
+
+/// Whether a pattern covers another.
+///
+/// ```rust covering
+/// match covering {
+///     PatternCovering::Covered => Ok(format!(in alloc; "covered")?),
+///     PatternCovering::NotCovered(parting) => {
+///         let component = parting.component;
+///         let text = parting.texts.get(component);
+///         Ok(format!(in alloc; "not covered: {component} `{text}`")?)
+///     }
+///     PatternCovering::Unknown(component, _) => Ok(format!(in alloc; "unknown: {component}")?),
+/// }
+/// ```
+#[derive(Debug, Drop)]
+pub enum PatternCovering {
+    /// The pattern matches whatever the asked one matches.
+    Covered,
+    /// The asked pattern matches these texts, and the pattern does not.
+    NotCovered(Parting),
+    /// Not known, because of this component.
+    Unknown(ComponentName, Reason),
+}
+
+/// Whether two patterns overlap.
+///
+/// ```rust overlap
+/// match overlap {
+///     PatternOverlap::Apart => Ok(format!(in alloc; "apart")?),
+///     PatternOverlap::Common(texts) => Ok(format!(in alloc; "common: {}", texts.pathname)?),
+///     PatternOverlap::Unknown(component, _) => Ok(format!(in alloc; "unknown: {component}")?),
+/// }
+/// ```
+#[derive(Debug, Drop)]
+pub enum PatternOverlap {
+    /// No eight texts match both patterns.
+    Apart,
+    /// Eight texts that match both patterns.
+    Common(Eight<String>),
+    /// Not known, because of this component.
+    Unknown(ComponentName, Reason),
+}
+
+/// The first component in which two patterns differ.
+#[derive(Debug, Drop)]
+pub(crate) enum First {
+    /// No component.
+    Nowhere,
+    /// The component, and a text.
+    At(ComponentName, Vec<char>),
+    /// No component as far as is known. Of this component nothing is known.
+    Unknown(ComponentName, Reason),
+}
+
+/// Why a component has no text.
+#[derive(Debug, Drop)]
+pub(crate) enum Lack {
+    /// No text of this component exists.
+    Nothing(ComponentName),
+    /// Not known, because of this component.
+    Unknown(ComponentName, Reason),
+    /// Memory ran out.
+    OutOfMemory,
+}
+
+impl From<AllocError> for Lack {
+    ghost use Rattle.urlpattern_compare.specs.declared.pattern_parts.Lack.TheVariants as lacking;
+
+    ghost from_gives = { λ _ lack. lack ≡ lacking.OutOfMemory };
+
+    fn from(_error: AllocError) -> Lack {
+        Lack::OutOfMemory
+    }
+}
+
+impl First {
+    ghost use Rattle.urlpattern_compare.specs.Comparing.{first_or};
+
+    /// Returns what was found so far, or else what is known of the next component.
+    fn or(self, name: ComponentName, covering: Covering) -> First
+        ensures { result ≡ first_or self name covering }
+    {
+        match (self, covering) {
+            (First::At(earlier, text), _) => First::At(earlier, text),
+            (_, Covering::NotCovered(text)) => First::At(name, text),
+            (_, Covering::Unknown(reason)) => First::Unknown(name, reason),
+            (first, Covering::Covered) => first,
+        }
+    }
+}
+
+impl PatternParts {
+    ghost use Rattle.urlpattern_compare.specs.Order.{parts_cmp};
+    ghost use Rattle.urlpattern_compare.specs.Comparing.{IsCommonText, IsFirst, IsMeantBy, IsOnlyIn, IsPatternCovering, IsPatternOverlap, IsTextWith, LacksExample, MeansEach};
+
+    /// Returns whether this pattern covers `asked`: whether its parts match every eight texts that
+    /// the parts of `asked` match. Texts with a line feed are left out.
+    ///
+    /// Components are compared one by one. A component that matches each text, with case kept,
+    /// covers any other. A component covers equal parts under equal options, whatever the names,
+    /// also with custom regular expressions or with case ignored, but not with both. Nothing is
+    /// known of other components with custom regular expressions or with case ignored, nor where
+    /// the work exceeds its bound. The texts of `NotCovered` are among the shortest, though no
+    /// clause promises that.
+    pub fn covers(&self, alloc: Global, asked: &Self) -> Result<PatternCovering, AllocError>
+        ensures { IfOk result (IsPatternCovering self.now asked.now) }
+    {
+        match self.first_parting(alloc, asked)? {
+            First::Nowhere => Ok(PatternCovering::Covered),
+            First::At(component, text) => self.parted(alloc, asked, component, &text),
+            First::Unknown(component, reason) => Ok(PatternCovering::Unknown(component, reason)),
+        }
+    }
+
+    /// Returns whether the parts of both patterns match some eight texts without line feeds, and
+    /// which.
+    ///
+    /// Nothing is known of components with custom regular expressions or with case ignored, nor
+    /// where the work exceeds its bound.
+    pub fn overlaps(&self, alloc: Global, other: &Self) -> Result<PatternOverlap, AllocError>
+        ensures { IfOk result (IsPatternOverlap self.now other.now) }
+    {
+        let text = |name: ComponentName| -> Result<String, Lack>
+            ensures { IsCommonText self.entry.now other.entry.now name result }
+        { self.common_text(alloc, other, name) };
+        match Eight::try_from_fn(text) {
+            Ok(texts) => Ok(PatternOverlap::Common(texts)),
+            Err(Lack::Nothing(_)) => Ok(PatternOverlap::Apart),
+            Err(Lack::Unknown(component, reason)) => Ok(PatternOverlap::Unknown(component, reason)),
+            Err(Lack::OutOfMemory) => Err(AllocError),
+        }
+    }
+
+    /// Compares one component of two patterns, as [`compare_parts`] does: the more specific is the
+    /// greater.
+    ///
+    /// The more specific pattern need not be covered, nor the covered one more specific: `/a{/b}?`
+    /// is greater than `/:x`, and matches the text `/a/b`, which `/:x` does not match.
+    pub fn compare_component(component: ComponentName, left: &Self, right: &Self) -> Ordering
+        ensures { result ≡ parts_cmp (at left.now.components component).parts.items (at right.now.components component).parts.items }
+    {
+        let left = left.components.get(component);
+        let right = right.components.get(component);
+        compare_parts(&left.parts, &right.parts)
+    }
+
+    /// Returns the first component in which the patterns differ.
+    fn first_parting(&self, alloc: Global, asked: &Self) -> Result<First, AllocError>
+        ensures { IfOk result (IsFirst self.now asked.now) }
+    {
+        let mut first = First::Nowhere;
+        for name in ComponentName::all() {
+            let component = self.components.get(name);
+            let covering = component_covers(alloc, component, asked.components.get(name))?;
+            first = first.or(name, covering);
+        }
+        Ok(first)
+    }
+
+    /// Returns the result for patterns that differ in this component, by this text.
+    fn parted(
+        &self,
+        alloc: Global,
+        asked: &Self,
+        component: ComponentName,
+        text: &[char],
+    ) -> Result<PatternCovering, AllocError>
+        requires { IsOnlyIn (at self.now.components component) (at asked.now.components component) text.now }
+        ensures { IfOk result (IsPatternCovering self.now asked.now) }
+    {
+        let text = string_of(alloc, text)?;
+        match asked.texts_with(alloc, component, &text) {
+            Ok(texts) => Ok(PatternCovering::NotCovered(Parting { component, texts })),
+            Err(Lack::Nothing(_)) => Ok(PatternCovering::Covered),
+            Err(Lack::Unknown(name, reason)) => Ok(PatternCovering::Unknown(name, reason)),
+            Err(Lack::OutOfMemory) => Err(AllocError),
+        }
+    }
+
+    /// Returns eight texts that the pattern matches, with this text for a component.
+    fn texts_with(
+        &self,
+        alloc: Global,
+        component: ComponentName,
+        text: &str,
+    ) -> Result<Eight<String>, Lack>
+        requires { IsMeantBy (at self.now.components component) (chars text.now) }
+        ensures meant { IfOk result (MeansEach self.now) }
+        ensures same { IfOk result (λ texts. text_of (at texts component) ≡ chars text.now) }
+        ensures lack { IfErr result (LacksExample self.now) }
+    {
+        let value = |name: ComponentName| -> Result<String, Lack>
+            ensures { IsTextWith self.entry.now component (chars text.entry.now) name result }
+        { self.text_with(alloc, name, component, text) };
+        Eight::try_from_fn(value)
+    }
+
+    /// Returns a text of a component that the pattern matches: the given text for the component in
+    /// which patterns differ.
+    fn text_with(
+        &self,
+        alloc: Global,
+        name: ComponentName,
+        parted: ComponentName,
+        text: &str,
+    ) -> Result<String, Lack>
+        ensures { IsTextWith self.now parted (chars text.now) name result }
+    {
+        if name == parted {
+            return Ok(String::from_str(alloc, text)?);
+        }
+        match component_example(alloc, self.components.get(name))? {
+            Overlap::Common(text) => Ok(string_of(alloc, &text)?),
+            Overlap::Apart => Err(Lack::Nothing(name)),
+            Overlap::Unknown(reason) => Err(Lack::Unknown(name, reason)),
+        }
+    }
+
+    /// Returns a text of a component that both patterns match.
+    fn common_text(&self, alloc: Global, other: &Self, name: ComponentName) -> Result<String, Lack>
+        ensures { IsCommonText self.now other.now name result }
+    {
+        let component = self.components.get(name);
+        let overlap = component_overlaps(alloc, component, other.components.get(name))?;
+        match overlap {
+            Overlap::Common(text) => Ok(string_of(alloc, &text)?),
+            Overlap::Apart => Err(Lack::Nothing(name)),
+            Overlap::Unknown(reason) => Err(Lack::Unknown(name, reason)),
+        }
+    }
+}
+
+/// Returns the text of these characters.
+fn string_of(alloc: Global, characters: &[char]) -> Result<String, AllocError>
+    ensures { IfOk result (λ text. text_of text ≡ characters.now) }
+{
+    let mut text = String::new(alloc);
+    for c in characters {
+        text.push(*c)?;
+    }
+    Ok(text)
+}

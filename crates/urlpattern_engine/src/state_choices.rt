@@ -1,0 +1,208 @@
+//! Choices of two states.
+
+ghost use Rattle.std.specs.Prelude.{◌≡◌, ◌⊎◌, ℕ, None, List, IsTrue, false};
+ghost use Rattle.regex_nfa.specs.declared.state.State.TheVariants as states;
+ghost use Rattle.urlpattern_engine.specs.Trials.{FollowsMove, GoesRound, IsTextPlace, IsState, NeedsByte, found_from, run_in, state_in};
+
+use crate::ahead::ByteBounds;
+use crate::trial::{StateMove, Trial};
+use regex_nfa::StateId;
+
+/// How far a loop runs before there is a choice.
+#[derive(Clone, Copy)]
+struct Passed {
+    place: usize,
+    /// Whether a match may go on with either state there.
+    is_open: bool,
+    /// Whether, as all remaining bytes tell, no match goes on with the first state there.
+    first_fails: bool,
+}
+
+impl Trial<'_> {
+    /// What follows a choice of two states at a place.
+    #[inline(always)]
+    pub(crate) fn choice(
+        &self,
+        id: StateId,
+        first: StateId,
+        second: StateId,
+        at: usize,
+    ) -> StateMove
+        requires choice { state_in self.now id ≡ states.Split first second }
+        requires states { IsState self.now first × IsState self.now second }
+        requires place { IsTextPlace self.now at }
+        ensures { (cells : List ℕ) → FollowsMove self.now (found_from self.now cells id at) cells result }
+    {
+        let Passed {
+            place,
+            is_open,
+            first_fails,
+        } = self.pass(id, first, second, at);
+        if first_fails {
+            return StateMove::OnByRest(second, place);
+        }
+        if is_open {
+            return StateMove::Choice(first, second, place);
+        }
+        if self.reads_not(first, place) {
+            return StateMove::On(second, place);
+        }
+        if self.reads_not(second, place) {
+            return StateMove::On(first, place);
+        }
+        if self.fails(second, place) {
+            return StateMove::On(first, place);
+        }
+        if self.fails(first, place) {
+            return StateMove::On(second, place);
+        }
+        StateMove::Choice(first, second, place)
+    }
+
+    /// How far the loop of a choice runs: over the bytes that its body reads, and with which its
+    /// exit cannot begin.
+    #[inline(always)]
+    fn pass(&self, id: StateId, first: StateId, second: StateId, at: usize) -> Passed
+        requires choice { state_in self.now id ≡ states.Split first second }
+        requires states { IsState self.now first × IsState self.now second }
+        requires place { IsTextPlace self.now at }
+        ensures same { run_in self.now id at ≡ run_in self.now id result.place }
+        ensures within { IsTextPlace self.now result.place }
+        ensures fails { IsTrue result.first_fails → run_in self.now first result.place ≡ None }
+    {
+        if self.reads(first) {
+            self.pass_body(id, first, second, at)
+        } else {
+            self.pass_exit(id, first, second, at)
+        }
+    }
+
+    /// `pass`, where the first state may be the body of a loop. A loop that a match can leave at
+    /// only one place is left there.
+    #[inline(always)]
+    fn pass_body(&self, id: StateId, body: StateId, exit: StateId, at: usize) -> Passed
+        requires choice { state_in self.now id ≡ states.Split body exit }
+        requires states { IsState self.now body × IsState self.now exit }
+        requires place { IsTextPlace self.now at }
+        ensures same { run_in self.now id at ≡ run_in self.now id result.place }
+        ensures within { IsTextPlace self.now result.place }
+        ensures fails { IsTrue result.first_fails → run_in self.now body result.place ≡ None }
+    {
+        let Some(inside) = self.loop_bytes(body, at, id) else {
+            return closed(at);
+        };
+        let Some(leaving) = self.first_bytes(exit) else {
+            return closed(at);
+        };
+        let place = self.loop_end(id, body, exit, inside, leaving, at);
+        if !self.is_byte_of(inside, place) {
+            return closed(place);
+        }
+        let last = self.loop_end(id, body, exit, inside, leaving, place + 1);
+        if last < self.bytes.len() {
+            return self.seen(exit, place);
+        }
+        Passed {
+            place,
+            is_open: true,
+            first_fails: self.fails(exit, last),
+        }
+    }
+
+    /// `pass`, where the second state may be the body of a loop, which the first one leaves.
+    #[inline(always)]
+    fn pass_exit(&self, id: StateId, exit: StateId, body: StateId, at: usize) -> Passed
+        requires choice { state_in self.now id ≡ states.Split exit body }
+        requires states { IsState self.now exit × IsState self.now body }
+        requires place { IsTextPlace self.now at }
+        ensures same { run_in self.now id at ≡ run_in self.now id result.place }
+        ensures within { IsTextPlace self.now result.place }
+        ensures fails { IsTrue result.first_fails → run_in self.now exit result.place ≡ None }
+    {
+        let Some(inside) = self.loop_bytes(body, at, id) else {
+            return closed(at);
+        };
+        let Some(leaving) = self.first_bytes(exit) else {
+            return closed(at);
+        };
+        let place = self.loop_end(id, body, exit, inside, leaving, at);
+        if self.is_byte_of(inside, place) {
+            self.seen(exit, place)
+        } else {
+            closed(place)
+        }
+    }
+
+    /// A place before a byte with which the exit of a loop may begin: open, unless the exit fails.
+    #[inline(always)]
+    fn seen(&self, exit: StateId, place: usize) -> Passed
+        requires { IsState self.now exit }
+        ensures place { result.place ≡ place }
+        ensures open { result.first_fails ≡ false }
+    {
+        if self.fails(exit, place) {
+            closed(place)
+        } else {
+            open(place)
+        }
+    }
+
+    /// How far a loop runs: up to the first byte that its body does not read (`inside`), or with
+    /// which its exit may begin (`leaving`).
+    #[inline(always)]
+    fn loop_end(
+        &self,
+        id: StateId,
+        body: StateId,
+        exit: StateId,
+        inside: ByteBounds,
+        leaving: ByteBounds,
+        at: usize,
+    ) -> usize
+        requires choice { (state_in self.now id ≡ states.Split body exit) ⊎ (state_in self.now id ≡ states.Split exit body) }
+        requires goes { GoesRound self.now body id inside }
+        requires leaves { NeedsByte self.now exit leaving }
+        requires place { IsTextPlace self.now at }
+        ensures same { run_in self.now id at ≡ run_in self.now id result }
+        ensures within { IsTextPlace self.now result }
+    {
+        let mut place = at;
+        'bytes: while place < self.bytes.len() {
+            let byte = self.bytes[place];
+            if !inside.contains(byte) {
+                return place;
+            }
+            if leaving.contains(byte) {
+                return place;
+            }
+            place += 1;
+        }
+        place
+    }
+}
+
+/// A place where a match may go on with either state.
+#[inline(always)]
+fn open(place: usize) -> Passed
+    ensures place { result.place ≡ place }
+    ensures open { result.first_fails ≡ false }
+{
+    Passed {
+        place,
+        is_open: true,
+        first_fails: false,
+    }
+}
+
+/// A place where the next byte, if there is one, may leave no choice.
+#[inline(always)]
+fn closed(place: usize) -> Passed
+    ensures place { result.place ≡ place }
+    ensures open { result.first_fails ≡ false }
+{
+    Passed {
+        place,
+        is_open: false,
+        first_fails: false,
+    }
+}

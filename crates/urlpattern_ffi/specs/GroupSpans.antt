@@ -1,0 +1,174 @@
+-- Captures as a text and spans of it.
+use Rattle.std.specs.Prelude.{◌≡◌, ◌⊎◌, ◌++◌, ◌+◌, ◌<◌, ◌≤◌, ℕ, List, [], ◌∷◌, length, drop, take, flat_map, slice_get, encode_utf8_all, unwrap_or, is_some, Option, None, Some, if◌then◌else◌}
+use Rattle.std.specs.Global.{Global}
+use Rattle.std.specs.declared.boxed.Box.{Box}
+use Rattle.url.specs.Parts.{Parts}
+use Rattle.urlpattern.specs.Eight.{components}
+use Rattle.urlpattern.specs.FirstMatch.{IsFirstMatch, patterns_view}
+use Rattle.urlpattern.specs.Patterns.{PatternView, pattern_view}
+use Rattle.urlpattern_ffi.specs.Calls.{IsFirstReported, IsUrlTested, IsUrlUnderBase}
+use Rattle.urlpattern_ffi.specs.KeptPatterns.{PatternList, boxed_patterns}
+use Rattle.urlpattern_ffi.specs.Mismatches.{component_number}
+use Rattle.urlpattern_ffi.specs.declared.kept.Kept.{Kept}
+use Rattle.urlpattern_ffi.specs.declared.spans.Sizes.{Sizes}
+use Rattle.urlpattern_ffi.specs.declared.spans.GroupSpan.{GroupSpan}
+use Rattle.urlpattern_ffi.specs.declared.status.Status.{Status}
+use Rattle.urlpattern_ffi.specs.declared.status.Status.TheVariants as statuses
+use Rattle.urlpattern_components.specs.declared.eight.ComponentName.{ComponentName}
+use Rattle.urlpattern_engine.specs.PatternRegexps.{pattern_answer}
+use Rattle.urlpattern_engine.specs.declared.pattern_regexp.PatternRegexp.{PatternRegexp}
+use Rattle.urlpattern_init.specs.Inheritance.{texts_of_url}
+use Rattle.urlpattern_init.specs.declared.init.UrlPatternMatchInput.TheVariants as match_inputs
+use Rattle.urlpattern_matches.specs.BorrowedMatches.{groups_view}
+use Rattle.urlpattern_matches.specs.ResultViews.{ResultView}
+use Rattle.urlpattern_matches.specs.declared.captures.UrlPatternCaptures.{UrlPatternCaptures}
+use Rattle.urlpattern_pattern.specs.Match.{AreGroupsInOrder}
+use Rattle.urlpattern_pattern.specs.UrlPatterns.{UrlPattern}
+
+-- ---- groups
+
+-- A group: its component, its number in the component, and its capture.
+abbrev pub NumberedGroup : Type 0
+NumberedGroup = ComponentName × ℕ × Option (List ℕ)
+
+-- The groups of a component, numbered from an index on.
+abbrev pub numbered : ComponentName → (from : ℕ) → List (List ℕ × Option (List ℕ)) → List NumberedGroup
+numbered component from [] = []
+numbered component from (group ∷ groups) = (component, from, group.1) ∷ numbered component (from + 1) groups
+
+-- The groups of these components, each component's numbered from 0 on.
+abbrev pub numbered_groups : (groups : ComponentName → List (List ℕ × Option (List ℕ))) → List ComponentName → List NumberedGroup
+numbered_groups groups names = flat_map (λ name. numbered name 0 (groups name)) names
+
+-- The groups of a match, in the order of the components.
+abbrev pub found_groups : UrlPatternCaptures → List NumberedGroup
+found_groups found = numbered_groups (groups_view found) components
+
+-- The groups are those of a match of the URL, in the order of the components.
+pub record AreGroupsOf (pattern : PatternView PatternRegexp) (url base : List ℕ) (groups : List NumberedGroup) : Type 0 where
+  pub parts : Parts
+  pub captures : ComponentName → List (List ℕ × Option (List ℕ))
+  pub is_url : IsUrlUnderBase url base parts
+  pub are_captures : AreGroupsInOrder pattern_answer pattern (texts_of_url parts) captures
+  pub are_groups : groups ≡ numbered_groups captures components
+
+-- ---- texts and spans
+
+-- The capture of a group in UTF-8. Empty if the group took no part.
+abbrev pub capture_bytes : Option (List ℕ) → List ℕ
+capture_bytes capture = encode_utf8_all (unwrap_or capture [])
+
+-- The captures of groups, one after the other.
+abbrev pub texts_of_groups : List NumberedGroup → List ℕ
+texts_of_groups groups = flat_map (λ group. capture_bytes group.2) groups
+
+-- The span of a group whose text begins at `start`.
+abbrev pub span_at : (start : ℕ) → NumberedGroup → GroupSpan
+span_at start group = record {
+  component = component_number group.0;
+  took_part = if is_some group.2 then 1 else 0;
+  group = group.1;
+  start = start;
+  length = length (capture_bytes group.2);
+}
+
+-- The spans of groups whose texts follow each other from `start` on.
+abbrev pub spans_from : (start : ℕ) → List NumberedGroup → List GroupSpan
+spans_from start [] = []
+spans_from start (group ∷ groups) = span_at start group ∷ spans_from (start + length (capture_bytes group.2)) groups
+
+-- The sizes before anything is written.
+abbrev pub no_sizes : Sizes
+no_sizes = record { bytes = 0; spans = 0 }
+
+-- The sizes that groups need.
+abbrev pub sizes_of : List NumberedGroup → Sizes
+sizes_of groups = record { bytes = length (texts_of_groups groups); spans = length (spans_from 0 groups) }
+
+-- ---- buffers
+
+-- If the elements fit into the list from `at` on, they are written there, and the rest is
+-- unchanged.
+abbrev pub IsPut : {A : Type 0} → (at : ℕ) → (added old new : List A) → Type 0
+IsPut at added old new = at + length added ≤ length old → new ≡ take at old ++ added ++ drop (at + length added) old
+
+-- The texts and the spans of the groups are written after the sizes `from`, as far as there is
+-- room.
+pub record ArePut (groups : List NumberedGroup) (from to : Sizes) (old new : List ℕ) (old_spans new_spans : List GroupSpan) : Type 0 where
+  pub bytes : to.bytes ≡ from.bytes + length (texts_of_groups groups)
+  pub spans : to.spans ≡ from.spans + length (spans_from from.bytes groups)
+  pub texts_put : IsPut from.bytes (texts_of_groups groups) old new
+  pub spans_put : IsPut from.spans (spans_from from.bytes groups) old_spans new_spans
+
+-- A group is written after the sizes `from`.
+abbrev pub IsGroupPut : ComponentName → (group : ℕ) → (capture : Option (List ℕ)) → (from to : Sizes) → (old new : List ℕ)
+    → (old_spans new_spans : List GroupSpan) → Type 0
+IsGroupPut component group capture from to old new old_spans new_spans = ArePut ((component, group, capture) ∷ []) from to old new old_spans new_spans
+
+-- The list begins with these elements, and the rest is unchanged.
+abbrev pub BeginsWithElements : {A : Type 0} → (elements old new : List A) → Type 0
+BeginsWithElements elements old new = (length elements ≤ length old) × (new ≡ elements ++ drop (length elements) old)
+
+-- Done: the texts and the spans of the groups are written. TooSmall: there is no room for both.
+abbrev pub AreSpansWritten : List NumberedGroup → (old new : List ℕ) → (old_spans new_spans : List GroupSpan) → (needed : Sizes) → Status → Type 0
+AreSpansWritten groups old new old_spans new_spans needed statuses.Done =
+    (needed ≡ sizes_of groups) × BeginsWithElements (texts_of_groups groups) old new × BeginsWithElements (spans_from 0 groups) old_spans new_spans
+AreSpansWritten groups old new old_spans new_spans needed statuses.TooSmall =
+    (needed ≡ sizes_of groups) × ((length old < needed.bytes) ⊎ (length old_spans < needed.spans))
+AreSpansWritten groups old new old_spans new_spans needed statuses.OutOfMemory = Unit {0}
+AreSpansWritten groups old new old_spans new_spans needed status = ⊥
+
+-- ---- matches
+
+-- The groups of the match are written, or there is no match.
+abbrev pub AreUrlCaptures : PatternView PatternRegexp → (url base : List ℕ) → (old new : List ℕ) → (old_spans new_spans : List GroupSpan) → (needed : Sizes)
+    → Status → Type 0
+AreUrlCaptures pattern url base old new old_spans new_spans needed statuses.Done =
+    (groups : List NumberedGroup) × AreGroupsOf pattern url base groups × AreSpansWritten groups old new old_spans new_spans needed statuses.Done
+AreUrlCaptures pattern url base old new old_spans new_spans needed statuses.TooSmall =
+    (groups : List NumberedGroup) × AreGroupsOf pattern url base groups × AreSpansWritten groups old new old_spans new_spans needed statuses.TooSmall
+AreUrlCaptures pattern url base old new old_spans new_spans needed statuses.OutOfMemory = Unit {0}
+AreUrlCaptures pattern url base old new old_spans new_spans needed status =
+    IsUrlTested pattern url base status × (new ≡ old) × (new_spans ≡ old_spans)
+
+-- The captures of the pattern at an index.
+abbrev pub AreCapturesReported : PatternList → (index : ℕ) → (url base : List ℕ) → (old new : List ℕ) → (old_spans new_spans : List GroupSpan)
+    → (needed : Sizes) → Status → Type 0
+AreCapturesReported patterns index url base old new old_spans new_spans needed statuses.NoPattern =
+    (slice_get patterns index ≡ None) × (new ≡ old) × (new_spans ≡ old_spans)
+AreCapturesReported patterns index url base old new old_spans new_spans needed status =
+    (pattern : UrlPattern PatternRegexp) × (slice_get patterns index ≡ Some pattern)
+    × AreUrlCaptures (pattern_view pattern) url base old new old_spans new_spans needed status
+
+-- ---- first matches
+
+-- The groups of the first pattern of the list that matches the URL, which has this index.
+pub record AreFirstGroupsOf (patterns : PatternList) (url base : List ℕ) (index : ℕ) (groups : List NumberedGroup) : Type 0 where
+  pub parts : Parts
+  pub pattern : PatternView PatternRegexp
+  pub result : ComponentName → ResultView
+  pub captures : ComponentName → List (List ℕ × Option (List ℕ))
+  pub is_url : IsUrlUnderBase url base parts
+  pub is_there : slice_get (patterns_view patterns) index ≡ Some pattern
+  pub is_first : IsFirstMatch pattern_answer (patterns_view patterns) (match_inputs.Url parts) (Some (index, result))
+  pub are_captures : AreGroupsInOrder pattern_answer pattern (texts_of_url parts) captures
+  pub are_groups : groups ≡ numbered_groups captures components
+
+-- The index of the first match and its groups are written, or there is no match.
+abbrev pub AreFirstCaptures : PatternList → (url base : List ℕ) → (old_index new_index : ℕ) → (old new : List ℕ) → (old_spans new_spans : List GroupSpan)
+    → (needed : Sizes) → Status → Type 0
+AreFirstCaptures patterns url base old_index new_index old new old_spans new_spans needed statuses.Done =
+    (groups : List NumberedGroup) × AreFirstGroupsOf patterns url base new_index groups
+    × AreSpansWritten groups old new old_spans new_spans needed statuses.Done
+AreFirstCaptures patterns url base old_index new_index old new old_spans new_spans needed statuses.TooSmall =
+    (groups : List NumberedGroup) × AreFirstGroupsOf patterns url base new_index groups
+    × AreSpansWritten groups old new old_spans new_spans needed statuses.TooSmall
+AreFirstCaptures patterns url base old_index new_index old new old_spans new_spans needed statuses.OutOfMemory = Unit {0}
+AreFirstCaptures patterns url base old_index new_index old new old_spans new_spans needed status =
+    IsFirstReported patterns url base old_index new_index status × (new ≡ old) × (new_spans ≡ old_spans)
+
+-- The first match of the patterns of a handle.
+abbrev pub AreFirstInBox : Option (Box Kept Global) → (url base : List ℕ) → (old_index new_index : ℕ) → (old new : List ℕ)
+    → (old_spans new_spans : List GroupSpan) → (needed : Sizes) → Status → Type 0
+AreFirstInBox kept url base old_index new_index old new old_spans new_spans needed status =
+    AreFirstCaptures (boxed_patterns kept) url base old_index new_index old new old_spans new_spans needed status

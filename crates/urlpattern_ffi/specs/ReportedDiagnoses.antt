@@ -1,0 +1,84 @@
+-- Diagnoses of patterns that are rejected.
+use Rattle.std.specs.Prelude.{◌≡◌, ◌+◌, ℕ, Bool, List, string_bytes}
+use Rattle.std.specs.Str.{chars}
+use Rattle.urlpattern.specs.Errors.{ErrorView, error_view}
+use Rattle.urlpattern.specs.FromString.{IsPatternOfText}
+use Rattle.urlpattern.specs.Patterns.{PatternView}
+use Rattle.urlpattern_ffi.specs.Calls.{given_base, c_options, IsNoUrl, RefusesToCompile}
+use Rattle.urlpattern_ffi.specs.Inits.{IsInitOfJson, IsInitRefused, IsNoInit}
+use Rattle.urlpattern_ffi.specs.Mismatches.{component_number}
+use Rattle.urlpattern_ffi.specs.TextBuffers.{WritesToBuffer}
+use Rattle.urlpattern_ffi.specs.declared.diagnosing.Place.{Place}
+use Rattle.urlpattern_ffi.specs.declared.status.Status.{Status}
+use Rattle.urlpattern_ffi.specs.declared.status.Status.TheVariants as statuses
+use Rattle.urlpattern_compile.specs.Compiled.{IsPatternOfInit}
+use Rattle.urlpattern_compile.specs.Diagnoses.{IsWithinText, ShowsGiven, ShowsInit}
+use Rattle.urlpattern_diagnosis.specs.declared.diagnosis.{Diagnosis.Diagnosis, Subject.Subject}
+use Rattle.urlpattern_diagnosis.specs.declared.diagnosis.Subject.TheVariants as subjects
+use Rattle.urlpattern_engine.specs.PatternRegexps.{pattern_engine}
+use Rattle.urlpattern_engine.specs.declared.pattern_regexp.PatternRegexp.{PatternRegexp}
+use Rattle.urlpattern_init.specs.declared.init.UrlPatternInit.{UrlPatternInit}
+
+-- 1 if the fault is in the base URL, 0 if it is in the pattern.
+abbrev pub subject_number : Subject → ℕ
+subject_number subjects.Base = 1
+subject_number subject = 0
+
+-- For an init, 2 plus the number of the component whose text is at fault, 1 for the base URL, or 0.
+abbrev pub init_subject_number : Subject → ℕ
+init_subject_number subjects.Whole = 0
+init_subject_number subjects.Base = 1
+init_subject_number (subjects.Component name) = 2 + component_number name
+
+-- The place of the fault, in the text with this number.
+abbrev pub place_of_diagnosis : (subject : ℕ) → Diagnosis → Place
+place_of_diagnosis subject diagnosis = record { subject = subject; start = diagnosis.fault.span.start; end = diagnosis.fault.span.end }
+
+-- The reason and the place are those of a diagnosis that shows the fault, whose error is one with
+-- which the pattern is rejected, and whose place is within its text.
+pub record IsDiagnosis (Refuses : ErrorView → Type 0) (Shows : Diagnosis → Type 0) (number : Subject → ℕ) (place : Place) (reason : List ℕ) : Type 0 where
+  pub diagnosis : Diagnosis
+  pub is_refused : Refuses (error_view diagnosis.error)
+  pub shows : Shows diagnosis
+  pub is_within : IsWithinText diagnosis
+  pub is_reason : reason ≡ string_bytes diagnosis.reason
+  pub is_place : place ≡ place_of_diagnosis (number diagnosis.subject) diagnosis
+
+-- The errors with which the constructor string is rejected.
+abbrev pub RefusesTextByOptions : (text base : List ℕ) → (ignore_case : Bool) → ErrorView → Type 0
+RefusesTextByOptions text base ignores error = RefusesToCompile text (given_base base) ignores error
+
+-- The reason and the place are those of a diagnosis of the constructor string.
+abbrev pub IsDiagnosisOfText : (text base : List ℕ) → (ignore_case : Bool) → Place → (reason : List ℕ) → Type 0
+IsDiagnosisOfText text base ignores =
+    IsDiagnosis (RefusesTextByOptions text base ignores) (ShowsGiven pattern_engine text (given_base base) (c_options ignores)) subject_number
+
+-- The diagnosis shows the fault of an init in JSON.
+abbrev pub ShowsInitOfJson : (json : List ℕ) → (ignore_case : Bool) → Diagnosis → Type 0
+ShowsInitOfJson json ignores diagnosis = (init : UrlPatternInit) × IsInitOfJson json init × ShowsInit pattern_engine init (c_options ignores) diagnosis
+
+-- The reason and the place are those of a diagnosis of an init in JSON.
+abbrev pub IsDiagnosisOfInit : (json : List ℕ) → (ignore_case : Bool) → Place → (reason : List ℕ) → Type 0
+IsDiagnosisOfInit json ignores = IsDiagnosis (IsInitRefused json ignores) (ShowsInitOfJson json ignores) init_subject_number
+
+-- Done: the reason why the pattern is rejected is written. NoMatch: it is not rejected.
+abbrev pub IsDiagnosed : (text base : List ℕ) → (ignore_case : Bool) → (old new : List ℕ) → (needed : ℕ) → Place → Status → Type 0
+IsDiagnosed text base ignores old new needed place statuses.Done =
+    WritesToBuffer (IsDiagnosisOfText text base ignores place) old new needed statuses.Done
+IsDiagnosed text base ignores old new needed place statuses.TooSmall =
+    WritesToBuffer (IsDiagnosisOfText text base ignores place) old new needed statuses.TooSmall
+IsDiagnosed text base ignores old new needed place statuses.NoMatch =
+    ((pattern : PatternView PatternRegexp) × IsPatternOfText pattern_engine (chars text) (given_base base) (c_options ignores) pattern) × (new ≡ old)
+IsDiagnosed text base ignores old new needed place status = IsNoUrl text base status × (new ≡ old)
+
+-- Done: the reason why the init is rejected is written. NoMatch: it is not rejected.
+abbrev pub IsInitDiagnosed : (json : List ℕ) → (ignore_case : Bool) → (old new : List ℕ) → (needed : ℕ) → Place → Status → Type 0
+IsInitDiagnosed json ignores old new needed place statuses.Done =
+    WritesToBuffer (IsDiagnosisOfInit json ignores place) old new needed statuses.Done
+IsInitDiagnosed json ignores old new needed place statuses.TooSmall =
+    WritesToBuffer (IsDiagnosisOfInit json ignores place) old new needed statuses.TooSmall
+IsInitDiagnosed json ignores old new needed place statuses.NoMatch =
+    ((init : UrlPatternInit) × (pattern : PatternView PatternRegexp) × IsInitOfJson json init
+    × IsPatternOfInit pattern_engine init (c_options ignores) pattern)
+    × (new ≡ old)
+IsInitDiagnosed json ignores old new needed place status = IsNoInit json status × (new ≡ old)

@@ -1,0 +1,160 @@
+//! Matches URLs.
+ghost use Rattle.std.specs.Prelude.{◌≢◌, string_bytes, IfErr, IfOk};
+ghost use Rattle.urlpattern.specs.Patterns.{pattern_view};
+ghost use Rattle.urlpattern_ffi.specs.Calls.{IsFirstReported, IsTested, IsUrlTested};
+ghost use Rattle.urlpattern_ffi.specs.KeptPatterns.{boxed_patterns};
+ghost use Rattle.urlpattern_ffi.specs.TextBuffers.{IsExecReported, IsJsonOfMatch, IsResultText, IsUrlExecuted};
+ghost use Rattle.urlpattern_ffi.specs.declared.status.Status.TheVariants as statuses;
+
+use crate::kept::{Kept, pattern_at};
+use crate::status::Status;
+use crate::text_buffers::write;
+use crate::url_inputs::url_of;
+use std::alloc::Global;
+use urlpattern::regexp::PatternRegexp;
+use urlpattern::{Error, UrlPattern, UrlPatternList, UrlPatternResult};
+
+/// Whether the pattern at an index matches a URL.
+pub fn test(
+    alloc: Global,
+    kept: &Option<Box<Kept>>,
+    index: usize,
+    url: &[u8],
+    base: &[u8],
+) -> Status
+    ensures { IsTested (boxed_patterns kept.now) index url.now base.now result }
+{
+    match pattern_at(kept, index) {
+        Some(pattern) => test_pattern(alloc, pattern, url, base),
+        None => Status::NoPattern,
+    }
+}
+
+/// Whether a pattern matches a URL.
+fn test_pattern(
+    alloc: Global,
+    pattern: &UrlPattern<PatternRegexp>,
+    url: &[u8],
+    base: &[u8],
+) -> Status
+    ensures { IsUrlTested (pattern_view pattern.now) url.now base.now result }
+{
+    let url = match url_of(alloc, url, base) {
+        Ok(url) => url,
+        Err(status) => return status,
+    };
+    match pattern.test_url(alloc, &url) {
+        Ok(true) => Status::Done,
+        Ok(false) => Status::NoMatch,
+        Err(_) => Status::OutOfMemory,
+    }
+}
+
+/// Finds the first pattern that matches a URL, and writes its index.
+pub fn first(
+    alloc: Global,
+    kept: &Option<Box<Kept>>,
+    url: &[u8],
+    base: &[u8],
+    index: &mut usize,
+) -> Status
+    ensures { IsFirstReported (boxed_patterns kept.now) url.now base.now index.old index.new result }
+{
+    match kept {
+        Some(kept) => first_in(alloc, &kept.list, url, base, index),
+        None => Status::NoPattern,
+    }
+}
+
+/// Finds the first pattern of a list that matches a URL, and writes its index.
+fn first_in(
+    alloc: Global,
+    list: &UrlPatternList<PatternRegexp>,
+    url: &[u8],
+    base: &[u8],
+    index: &mut usize,
+) -> Status
+    ensures { IsFirstReported list.now url.now base.now index.old index.new result }
+{
+    let url = match url_of(alloc, url, base) {
+        Ok(url) => url,
+        Err(status) => return status,
+    };
+    match list.first_captures(alloc, &url) {
+        Ok(Some((found, captures))) => {
+            drop(captures);
+            *index = found;
+            Status::Done
+        }
+        Ok(None) => Status::NoMatch,
+        Err(_) => Status::OutOfMemory,
+    }
+}
+
+/// Writes the match of a URL by the pattern at an index, as JSON.
+pub fn execute(
+    alloc: Global,
+    kept: &Option<Box<Kept>>,
+    index: usize,
+    url: &[u8],
+    base: &[u8],
+    buffer: &mut [u8],
+    needed: &mut usize,
+) -> Status
+    ensures { IsExecReported (boxed_patterns kept.now) index url.now base.now buffer.old buffer.new needed.new result }
+{
+    match pattern_at(kept, index) {
+        Some(pattern) => execute_pattern(alloc, pattern, url, base, buffer, needed),
+        None => Status::NoPattern,
+    }
+}
+
+/// Writes the match of a URL by a pattern, as JSON.
+fn execute_pattern(
+    alloc: Global,
+    pattern: &UrlPattern<PatternRegexp>,
+    url: &[u8],
+    base: &[u8],
+    buffer: &mut [u8],
+    needed: &mut usize,
+) -> Status
+    ensures { IsUrlExecuted (pattern_view pattern.now) url.now base.now buffer.old buffer.new needed.new result }
+{
+    match match_text(alloc, pattern, url, base) {
+        Ok(text) => write(&text, buffer, needed),
+        Err(status) => status,
+    }
+}
+
+/// The match of a URL by a pattern, as JSON.
+///
+/// The error is `NoMatch` if the pattern does not match, or else the status that says why there is
+/// no URL.
+fn match_text(
+    alloc: Global,
+    pattern: &UrlPattern<PatternRegexp>,
+    url: &[u8],
+    base: &[u8],
+) -> Result<String, Status>
+    ensures text { IfOk result (λ text. IsJsonOfMatch (pattern_view pattern.now) url.now base.now (string_bytes text)) }
+    ensures none { IfErr result (λ status. (status ≢ statuses.Done) × IsUrlTested (pattern_view pattern.now) url.now base.now status) }
+{
+    let url = url_of(alloc, url, base)?;
+    let found = match pattern.exec_url(alloc, &url) {
+        Ok(Some(found)) => found,
+        Ok(None) => return Err(Status::NoMatch),
+        Err(_) => return Err(Status::OutOfMemory),
+    };
+    match json_text(alloc, &found) {
+        Ok(text) => Ok(text),
+        Err(_) => Err(Status::OutOfMemory),
+    }
+}
+
+/// The JSON of a result, as text.
+fn json_text(alloc: Global, found: &UrlPatternResult) -> Result<String, Error>
+    ensures { IfOk result (λ text. IsResultText found.now (string_bytes text)) }
+{
+    let tree = found.to_json_value(alloc)?;
+    Ok(tree.to_string(alloc)?)
+}

@@ -1,0 +1,80 @@
+//! Texts that are written to memory that C owns.
+ghost use Rattle.std.specs.Prelude.{◌≡◌, length};
+ghost use Rattle.std.specs.Str.{chars};
+ghost use Rattle.urlpattern.specs.Patterns.{pattern_view};
+ghost use Rattle.urlpattern_ffi.specs.KeptPatterns.{boxed_patterns};
+ghost use Rattle.urlpattern_ffi.specs.TextBuffers.{group_name_at, IsComponentWritten, IsGroupNameWritten, IsWrittenTo};
+ghost use Rattle.urlpattern_syntax.specs.Text.{option_text};
+
+use crate::kept::{Kept, pattern_at};
+use crate::status::Status;
+use urlpattern::regexp::PatternRegexp;
+use urlpattern::{ComponentName, UrlPattern};
+use urlpattern_ffi_links::component_of;
+
+/// Writes a text to the start of a buffer, if it fits, and its length in bytes to `needed`.
+pub(crate) fn write(text: &str, buffer: &mut [u8], needed: &mut usize) -> Status
+    ensures written { IsWrittenTo text.now buffer.old buffer.new result }
+    ensures needed { needed.new ≡ length text.now }
+{
+    let count = text.len();
+    *needed = count;
+    if buffer.len() < count {
+        return Status::TooSmall;
+    }
+    buffer[..count].copy_from_slice(text.as_bytes());
+    Status::Done
+}
+
+/// Writes the pattern text of a component of the pattern at an index.
+pub fn write_component(
+    kept: &Option<Box<Kept>>,
+    index: usize,
+    component: u32,
+    buffer: &mut [u8],
+    needed: &mut usize,
+) -> Status
+    ensures { IsComponentWritten (boxed_patterns kept.now) index component buffer.old buffer.new needed.new result }
+{
+    let Some(pattern) = pattern_at(kept, index) else {
+        return Status::NoPattern;
+    };
+    let Some(name) = component_of(component) else {
+        return Status::NoPattern;
+    };
+    write(pattern_text(pattern, name), buffer, needed)
+}
+
+/// The pattern text of a component.
+fn pattern_text(pattern: &UrlPattern<PatternRegexp>, name: ComponentName) -> &str
+    ensures { chars result.now ≡ (pattern_view pattern.now name).pattern_string }
+{
+    &pattern.get(name).pattern_string
+}
+
+/// Writes the name of a group of the pattern at an index, given its number in a component.
+pub fn write_group_name(
+    kept: &Option<Box<Kept>>,
+    index: usize,
+    component: u32,
+    group: usize,
+    buffer: &mut [u8],
+    needed: &mut usize,
+) -> Status
+    ensures { IsGroupNameWritten (boxed_patterns kept.now) index component group buffer.old buffer.new needed.new result }
+{
+    match group_name(kept, index, component, group) {
+        Some(name) => write(name, buffer, needed),
+        None => Status::NoPattern,
+    }
+}
+
+/// The name of a group of the pattern at an index, given its number in a component.
+fn group_name(kept: &Option<Box<Kept>>, index: usize, component: u32, group: usize) -> Option<&str>
+    ensures { option_text result ≡ group_name_at (boxed_patterns kept.now) index component group }
+{
+    let pattern = pattern_at(kept, index)?;
+    let name = component_of(component)?;
+    let group = pattern.get(name).group_name_list.get(group)?;
+    Some(group.as_str())
+}

@@ -1,0 +1,177 @@
+//! Values that are already canonical.
+
+ghost use Rattle.std.specs.List.{list_all};
+ghost use Rattle.std.specs.Prelude.{◌≡◌, ◌&&◌, IsTrue, Ok, false, leb, length, not};
+ghost use Rattle.std.specs.Char.{is_ascii_digit};
+ghost use Rattle.std.specs.Str.{chars};
+ghost use Rattle.urlpattern_canonical.specs.Canonical.{canonical_protocol};
+ghost use Rattle.urlpattern_generate.specs.Manners.{canonical_for};
+ghost use Rattle.urlpattern_generate.specs.CanonicalValues.{is_dot_mark, is_host_character, is_kept_character, is_kept_host, is_kept_opaque, is_kept_path, is_kept_port, is_kept_value};
+ghost use Rattle.urlpattern_syntax.specs.Text.{lacks, line_feed};
+
+use percent_encoding::{AsciiSet, CONTROLS, ascii_set};
+use urlpattern_components::ComponentName;
+
+/// The ASCII characters that a path, a search or a hash may percent-encode.
+const ESCAPED: AsciiSet = ascii_set!(
+    CONTROLS
+        .add(b' ')
+        .add(b'"')
+        .add(b'#')
+        .add(b'\'')
+        .add(b'<')
+        .add(b'>')
+        .add(b'?')
+        .add(b'[')
+        .add(b'\\')
+        .add(b']')
+        .add(b'^')
+        .add(b'`')
+        .add(b'{')
+        .add(b'|')
+        .add(b'}')
+);
+
+/// The greatest number of digits for which every number is a port.
+const SHORT_PORT: usize = 4;
+
+/// Whether the characters of a text show that it is canonical in a component. A pathname is
+/// hierarchical or not; a hostname is an IPv6 address or not.
+pub(crate) fn keeps(component: ComponentName, hierarchical: bool, is_ipv6: bool, text: &str) -> bool
+    ensures canonical { IsTrue result → canonical_for component hierarchical is_ipv6 (chars text.now) ≡ Ok (chars text.now) }
+    ensures line { IsTrue result → IsTrue (lacks line_feed (chars text.now)) }
+{
+    if is_ipv6 {
+        return false;
+    }
+    match component {
+        ComponentName::Protocol => is_kept_protocol(text),
+        component => is_kept_value(component, hierarchical, text.as_bytes()),
+    }
+}
+
+/// Whether a protocol is empty or a common one.
+fn is_kept_protocol(text: &str) -> bool
+    ensures canonical { IsTrue result → canonical_protocol (chars text.now) ≡ Ok (chars text.now) }
+    ensures line { IsTrue result → IsTrue (lacks line_feed (chars text.now)) }
+{
+    match text {
+        "" => true,
+        "https" => true,
+        "http" => true,
+        "data" => true,
+        "mailto" => true,
+        _ => false,
+    }
+}
+
+/// Whether the characters of a value show that it is canonical in a component. A pathname is a path
+/// of segments or opaque; a hostname is not an IPv6 address.
+fn is_kept_value(component: ComponentName, hierarchical: bool, value: &[u8]) -> bool
+    ensures { result ≡ is_kept_value component hierarchical value.now }
+{
+    match component {
+        ComponentName::Hostname => is_kept_host(value),
+        ComponentName::Pathname if hierarchical => is_kept_path(value),
+        ComponentName::Pathname => is_kept_opaque(value),
+        ComponentName::Search | ComponentName::Hash => is_kept_text(value),
+        ComponentName::Port => is_kept_port(value),
+        ComponentName::Protocol | ComponentName::Username | ComponentName::Password => {
+            value.is_empty()
+        }
+    }
+}
+
+/// Whether a port has at most four digits, the first of which is not 0.
+fn is_kept_port(value: &[u8]) -> bool
+    ensures { result ≡ is_kept_port value.now }
+{
+    !matches!(value, [b'0', ..]) && is_short(value) && are_digits(value)
+}
+
+/// Whether a value has at most `SHORT_PORT` bytes.
+fn is_short(value: &[u8]) -> bool
+    ensures { result ≡ leb (length value.now) 4 }
+{
+    value.len() <= SHORT_PORT
+}
+
+/// Whether all characters of a value are digits.
+fn are_digits(value: &[u8]) -> bool
+    ensures { result ≡ list_all is_ascii_digit value.now }
+{
+    value.iter().all(|&b| b.is_ascii_digit())
+}
+
+/// Whether an opaque path percent-encodes no character of a value, and the value does not begin
+/// with a slash.
+fn is_kept_opaque(value: &[u8]) -> bool
+    ensures { result ≡ is_kept_opaque value.now }
+{
+    !matches!(value, [b'/', ..]) && is_kept_text(value)
+}
+
+/// Whether a path percent-encodes no character of a value, and no segment after a slash can be a
+/// dot segment.
+fn is_kept_path(value: &[u8]) -> bool
+    ensures { result ≡ is_kept_path false value.now }
+{
+    let mut begins = false;
+    for b in value {
+        if !goes_on(begins, *b) {
+            return false;
+        }
+        begins = *b == b'/';
+    }
+    true
+}
+
+/// Whether a path keeps a character, which is the first after a slash if `begins`.
+fn goes_on(begins: bool, b: u8) -> bool
+    ensures { result ≡ (is_kept_character b && not (begins && is_dot_mark b)) }
+{
+    is_kept_byte(b) && !(begins && matches!(b, b'.' | b'%'))
+}
+
+/// Whether a search and a hash percent-encode no character of a value.
+fn is_kept_text(value: &[u8]) -> bool
+    ensures { result ≡ list_all is_kept_character value.now }
+{
+    value.iter().all(|&b| is_kept_byte(b))
+}
+
+/// Whether no path, search or hash percent-encodes a character.
+fn is_kept_byte(b: u8) -> bool
+    ensures { result ≡ is_kept_character b }
+{
+    b.is_ascii_lowercase() || b.is_ascii_alphanumeric() || is_unescaped(b)
+}
+
+/// Whether no path, search or hash percent-encodes a character, by one test that is slower for
+/// letters and digits.
+fn is_unescaped(b: u8) -> bool
+    ensures { result ≡ is_kept_character b }
+{
+    !ESCAPED.should_percent_encode(b)
+}
+
+/// Whether a value is a host of lowercase labels without digits, and does not end with a dot.
+fn is_kept_host(value: &[u8]) -> bool
+    ensures { result ≡ is_kept_host false value.now }
+{
+    let mut dotted = false;
+    for b in value {
+        if !is_host_byte(*b) {
+            return false;
+        }
+        dotted = *b == b'.';
+    }
+    !dotted
+}
+
+/// Whether a byte is a lowercase letter, a hyphen or a dot.
+fn is_host_byte(b: u8) -> bool
+    ensures { result ≡ is_host_character b }
+{
+    b.is_ascii_lowercase() || b == b'-' || b == b'.'
+}

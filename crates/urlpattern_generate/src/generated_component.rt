@@ -1,0 +1,112 @@
+//! The text of a component.
+
+ghost use Rattle.std.specs.Prelude.{IfErr, IfOk, false};
+ghost use Rattle.std.specs.Str.{chars};
+ghost use Rattle.urlpattern_matcher.specs.Components.{IsEngineOf, engine_flags};
+ghost use Rattle.urlpattern_matcher.specs.Matchers.{matcher_view};
+ghost use Rattle.urlpattern_generate.specs.Generating.{HasText, LacksText, TellsFound};
+ghost use Rattle.urlpattern_generate.specs.Manners.{given_groups, manner_for};
+ghost use Rattle.urlpattern_generate.specs.WrittenTexts.{CannotWrite, IsWritten, cow_text};
+ghost use Rattle.urlpattern_meaning.specs.Matching.{IsMadeOf};
+ghost use Rattle.urlpattern_syntax.specs.ComponentParts.{kept_options, kept_parts};
+ghost use Rattle.urlpattern_syntax.specs.Text.{text_of};
+
+use crate::generate_error::GenerateError;
+use crate::given_groups::GivenGroup;
+use crate::substitution::Substitution;
+use std::alloc::{AllocError, Global};
+use std::borrow::CowStr;
+use urlpattern_components::ComponentName;
+use urlpattern_matcher::matcher::Matcher;
+use urlpattern_matcher::regexp::RegExp;
+use urlpattern_syntax::parts::ComponentParts;
+
+/// Generates the text of a component from its parts and its matcher. The groups capture the
+/// canonical forms of their values.
+///
+/// A group without a value does not participate if it is optional; otherwise an unnamed wildcard
+/// captures the empty text. Values for other components, and for groups that the component does not
+/// have, are ignored.
+///
+/// The error says why there is no such text, or that memory ran out.
+pub fn generate_component<R: RegExp>(
+    alloc: Global,
+    kept: &ComponentParts,
+    matcher: &Matcher<R>,
+    component: ComponentName,
+    groups: &[GivenGroup<'_>],
+) -> Result<String, GenerateError>
+    requires { IsMadeOf (IsEngineOf R.RegExp false (engine_flags (kept_options kept.now))) (kept_options kept.now) (kept_parts kept.now) (matcher_view matcher.now) }
+    ensures generated { IfOk result (λ text. HasText R.answer (matcher_view matcher.now)
+        (manner_for component (kept_options kept.now) (kept_parts kept.now) (given_groups groups.now)) (kept_parts kept.now) (text_of text)) }
+    ensures refused { IfErr result (LacksText R.answer (matcher_view matcher.now) component
+        (manner_for component (kept_options kept.now) (kept_parts kept.now) (given_groups groups.now)) (kept_parts kept.now)) }
+{
+    let writer = Substitution {
+        alloc,
+        kept,
+        component,
+        groups,
+    };
+    let text = match writer.text() {
+        Ok(text) => text.into_owned(alloc)?,
+        Err(error) => return Err(error),
+    };
+    if writer.confirms(matcher, &text)? && writer.is_canonical(&text)? {
+        Ok(text)
+    } else {
+        Err(GenerateError::ReadOtherwise(component))
+    }
+}
+
+/// Writes the text of the parts of a component, whose groups are to capture the canonical forms of
+/// their values. The text is borrowed if it is a fixed text or a value. Whether the text is
+/// canonical, and whether a matcher finds the requested captures, is not checked.
+///
+/// The error says why there is no such text, or that memory ran out.
+#[inline(always)]
+pub fn written_component<'d>(
+    alloc: Global,
+    kept: &'d ComponentParts,
+    component: ComponentName,
+    groups: &'d [GivenGroup<'d>],
+) -> Result<CowStr<'d>, GenerateError>
+    ensures written { IfOk result (λ text. IsWritten
+        (manner_for component (kept_options kept.now) (kept_parts kept.now) (given_groups groups.now)) (kept_parts kept.now) (cow_text text)) }
+    ensures refused { IfErr result (CannotWrite component
+        (manner_for component (kept_options kept.now) (kept_parts kept.now) (given_groups groups.now)) (kept_parts kept.now)) }
+{
+    let writer = Substitution {
+        alloc,
+        kept,
+        component,
+        groups,
+    };
+    writer.text()
+}
+
+/// Whether the matcher of a component finds the requested captures in a text that was written from
+/// its parts.
+#[inline(always)]
+pub fn confirms<R: RegExp>(
+    alloc: Global,
+    kept: &ComponentParts,
+    matcher: &Matcher<R>,
+    component: ComponentName,
+    text: &str,
+    groups: &[GivenGroup<'_>],
+) -> Result<bool, AllocError>
+    requires made { IsMadeOf (IsEngineOf R.RegExp false (engine_flags (kept_options kept.now))) (kept_options kept.now) (kept_parts kept.now) (matcher_view matcher.now) }
+    requires written { IsWritten
+        (manner_for component (kept_options kept.now) (kept_parts kept.now) (given_groups groups.now)) (kept_parts kept.now) (chars text.now) }
+    ensures { IfOk result (λ is. TellsFound is R.answer (matcher_view matcher.now)
+        (manner_for component (kept_options kept.now) (kept_parts kept.now) (given_groups groups.now)) (kept_parts kept.now) (chars text.now)) }
+{
+    let writer = Substitution {
+        alloc,
+        kept,
+        component,
+        groups,
+    };
+    writer.confirms(matcher, text)
+}

@@ -1,0 +1,126 @@
+//! Reads the parts of a path as segments.
+ghost use Rattle.std.specs.Prelude.{◌≡◌, ◌++◌, ℕ, List, option_map, IsTrue};
+ghost use Rattle.std.specs.Str.{chars};
+ghost use Rattle.urlpattern_index.specs.FixedTexts.{path_view};
+ghost use Rattle.urlpattern_index.specs.Keys.{mixed};
+ghost use Rattle.urlpattern_index.specs.Paths.{FitsPart};
+ghost use Rattle.urlpattern_index.specs.Segments.{AddsSegment, AreNone, AreOpen, AreSegmentsOf, IsReadTo, ReadsTo};
+ghost use Rattle.urlpattern_syntax.specs.Parts.{part_view};
+
+use crate::address::SEGMENTS;
+use crate::fixed::KnownPath;
+use crate::form::DEPTH;
+use crate::hashes::mixed;
+use arrayvec::ArrayVec;
+use urlpattern_syntax::parser::{Part, PartModifier, PartType};
+
+/// The first segments of a path.
+#[derive(Drop)]
+pub(crate) struct PathSegments {
+    /// For each segment, whether it has a fixed text; otherwise it is arbitrary.
+    pub(crate) have_texts: ArrayVec<bool, DEPTH>,
+    /// The hashes of the fixed texts, and some number for each arbitrary segment.
+    pub(crate) hashes: ArrayVec<u64, SEGMENTS>,
+    /// The hash of the segment being read. `None`: the segment is arbitrary.
+    current: Option<u64>,
+    /// Whether there are no more segments; otherwise there are some.
+    pub(crate) is_whole: bool,
+}
+
+impl PathSegments {
+    /// Creates an empty list, to which segments may be added.
+    fn new() -> PathSegments
+        ensures { AreNone result }
+    {
+        PathSegments {
+            have_texts: ArrayVec::new(),
+            hashes: ArrayVec::new(),
+            current: Some(0),
+            is_whole: false,
+        }
+    }
+
+    /// Ends the segment being read. Returns whether there was room for it.
+    fn push(&mut self) -> bool
+        requires { AreOpen self.old }
+        ensures added { IsTrue result → AddsSegment self.old self.new }
+        ensures full { ¬ IsTrue result → self.new ≡ self.old }
+    {
+        if self.have_texts.is_full() {
+            return false;
+        }
+        self.have_texts.push(self.current.is_some());
+        self.hashes.push(self.current.unwrap_or(0));
+        self.current = Some(0);
+        true
+    }
+
+    /// Reads a text. Returns whether it was read to its end, since there may be no room for its
+    /// segments.
+    fn read_text(&mut self, text: &str) -> bool
+        requires { AreOpen self.old }
+        ensures open { AreOpen self.new }
+        ensures read { (path rest : List ℕ) → IsReadTo self.old path (chars text.now ++ rest) →
+            ReadsTo result self.new path rest }
+    {
+        for c in text.chars() {
+            if c != '/' {
+                self.current = mixed_in(self.current, c);
+                continue;
+            }
+            if !self.push() {
+                return false;
+            }
+        }
+        true
+    }
+
+    /// Reads a part. Returns whether it was read to its end, since the end may be unknown.
+    fn read_part(&mut self, part: &Part, delimiter: Option<char>) -> bool
+        requires { AreOpen self.old }
+        ensures open { AreOpen self.new }
+        ensures read { (path text rest : List ℕ) → FitsPart delimiter (part_view part.now) text →
+            IsReadTo self.old path (text ++ rest) → ReadsTo result self.new path rest }
+    {
+        if part.modifier != PartModifier::None {
+            return false;
+        }
+        if part.kind == PartType::FixedText {
+            return self.read_text(&part.value);
+        }
+        if !self.read_text(&part.prefix) {
+            return false;
+        }
+        if part.kind != PartType::SegmentWildcard || delimiter != Some('/') {
+            return false;
+        }
+        self.current = None;
+        self.read_text(&part.suffix)
+    }
+}
+
+/// Reads the first segments of a path, up to the first whose end is unknown.
+pub(crate) fn read_segments(path: KnownPath<'_>) -> PathSegments
+    ensures { AreSegmentsOf (path_view path.entry) result }
+{
+    let mut segments = PathSegments::new();
+    for part in path.parts {
+        if !segments.read_part(part, path.delimiter) {
+            return segments;
+        }
+    }
+    if path.is_whole {
+        segments.is_whole = segments.push();
+    }
+    segments
+}
+
+/// Mixes another character into the hash of a segment, if the segment has a fixed text.
+fn mixed_in(hash: Option<u64>, c: char) -> Option<u64>
+    ensures { result ≡ option_map (λ hash. mixed hash c) hash }
+{
+    match hash {
+        Some(hash) => Some(mixed(hash, u64::from(c))),
+        None => None,
+    }
+}

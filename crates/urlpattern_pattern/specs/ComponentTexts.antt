@@ -1,0 +1,39 @@
+-- The text of a component of a pattern whose groups capture the given texts.
+use Rattle.std.specs.Prelude.{◌≡◌, ℕ, List, MatchOption, Option}
+use Rattle.urlpattern_compile.specs.PatternViews.{eight_view}
+use Rattle.urlpattern_components.specs.declared.eight.ComponentName.{ComponentName}
+use Rattle.urlpattern_components.specs.Eight.{at}
+use Rattle.urlpattern_generate.specs.Generating.{HasText, LacksText}
+use Rattle.urlpattern_generate.specs.Manners.{GivenView, WritingManner, manner_for}
+use Rattle.urlpattern_generate.specs.declared.generate_error.GenerateError.{GenerateError}
+use Rattle.urlpattern_generate.specs.declared.generate_error.GenerateError.TheVariants.{NoParts}
+use Rattle.urlpattern_meaning.specs.PartMeaning.{Captures}
+use Rattle.urlpattern_pattern.specs.UrlPatterns.{UrlPattern}
+use Rattle.urlpattern_compare.specs.declared.pattern_parts.PatternParts.{PatternParts}
+use Rattle.urlpattern_syntax.specs.ComponentParts.{kept_options, kept_parts}
+use Rattle.urlpattern_syntax.specs.Parts.{PartView}
+
+-- The parts of one component.
+abbrev pub parts_in : PatternParts → ComponentName → List PartView
+parts_in parts component = kept_parts (at parts.components component)
+
+-- How a component of these parts is written with these groups.
+abbrev pub manner_in : PatternParts → List GivenView → ComponentName → WritingManner
+manner_in parts groups component = manner_for component (kept_options (at parts.components component)) (parts_in parts component) groups
+
+-- The pattern has parts, and the predicate holds of them.
+abbrev pub HasParts : {E : Type 0} → UrlPattern E → (PatternParts → Type 0) → Type 0
+HasParts pattern Holds = MatchOption pattern.parts ⊥ Holds
+
+-- The text is written from the component's parts with these groups and is canonical, and the
+-- component's matcher finds these groups in it.
+abbrev pub GeneratesText : {E : Type 0} → (answer : E → List ℕ → Option Captures) → UrlPattern E → ComponentName → List GivenView → (text : List ℕ) → Type 0
+GeneratesText answer pattern component groups text =
+    HasParts pattern (λ parts. HasText answer (eight_view pattern.components component).matcher (manner_in parts groups component) (parts_in parts component) text)
+
+-- Why the component has no text with these groups: the pattern was put together by hand, or what is
+-- wrong with the groups and parts.
+abbrev pub RefusesGroups : {E : Type 0} → (answer : E → List ℕ → Option Captures) → UrlPattern E → ComponentName → List GivenView → GenerateError → Type 0
+RefusesGroups answer pattern component groups error =
+    MatchOption pattern.parts (error ≡ NoParts)
+    (λ parts. LacksText answer (eight_view pattern.components component).matcher component (manner_in parts groups component) (parts_in parts component) error)

@@ -1,0 +1,89 @@
+//! Runs of characters in a match.
+
+ghost use Rattle.std.specs.Prelude.{◌≡◌, ◌∷◌, ◌<◌, false, List, length, None, IfNone, IfSome, IsTrue};
+ghost use Rattle.std.specs.Str.{chars};
+ghost use Rattle.urlpattern_steps.specs.Failed.{HasEnded, IsFrontOfRun, IsStateOf};
+ghost use Rattle.urlpattern_steps.specs.Walk.{walk, StopAt};
+ghost use Rattle.urlpattern_meaning.specs.Matching.{is_same_character};
+ghost use Rattle.urlpattern_syntax.specs.Text.{line_feed};
+
+use crate::failed::Failed;
+use crate::step::Step;
+use crate::stops::stop_at;
+use crate::text_cuts::is_same;
+use urlpattern_syntax::text::{before, split_first};
+
+/// Whether a run before these steps can end only at `end`, and failed states are not memoized.
+pub fn has_one_end(failed: &Failed<'_, '_>, steps: &[Step], end: char) -> bool
+    ensures { IsTrue result → StopAt end steps.now }
+{
+    !failed.has_room() && stop_at(steps, end)
+}
+
+/// Returns the next character of a run, the first of the steps, and the rest. `None`: the run has
+/// ended, or its state is memoized as failed.
+#[inline(always)]
+pub fn next_of_run<'t>(
+    failed: &Failed<'_, '_>,
+    ignore_case: bool,
+    end: char,
+    steps: &[Step],
+    text: &'t str,
+) -> Option<(char, &'t str)>
+    requires { IsStateOf ignore_case failed.now steps.now (chars text.now) }
+    ensures none { IfNone result (HasEnded ignore_case end steps.now (chars text.now)) }
+    ensures cut { IfSome result (λ next. chars text.now ≡ next.0 ∷ chars next.1.now) }
+    ensures other { IfSome result (λ next. is_same_character ignore_case next.0 end ≡ false) }
+    ensures len { IfSome result (λ next. length next.1.now < length text.now) }
+{
+    if failed.contains(steps, text) {
+        return None;
+    }
+    let (c, rest) = split_first(text)?;
+    if is_same(c, end, ignore_case) {
+        None
+    } else {
+        Some((c, rest))
+    }
+}
+
+/// Returns the longest prefix for a run, the first of the steps, or a shorter one after which the
+/// state of the run is memoized as failed.
+pub fn longest_front<'t>(
+    failed: &Failed<'_, '_>,
+    ignore_case: bool,
+    steps: &[Step],
+    text: &'t str,
+) -> &'t str
+    requires { IsStateOf ignore_case failed.now steps.now (chars text.now) }
+    ensures { IsFrontOfRun ignore_case line_feed steps.now text.now result.now }
+{
+    let mut rest = text;
+    while let Some((_, remaining)) = next_of_run(failed, ignore_case, '\n', steps, rest) {
+        rest = remaining;
+    }
+    before(text, rest)
+}
+
+/// Memoizes as failed each state of a run, the first of the steps, from `text` on.
+pub fn remember_run(
+    failed: &mut Failed<'_, '_>,
+    ignore_case: bool,
+    end: char,
+    steps: &[Step],
+    text: &str,
+)
+    requires state { IsStateOf ignore_case failed.old steps.now (chars text.now) }
+    requires first { (others : List Step) × (steps.now ≡ Step.Segment end ∷ others) }
+    requires dead { walk ignore_case steps.now (chars text.now) ≡ None }
+    ensures { failed.new ≡ failed.old }
+{
+    if !failed.has_room() {
+        return;
+    }
+    let mut rest = text;
+    while let Some((_, remaining)) = next_of_run(failed, ignore_case, end, steps, rest) {
+        failed.insert(steps, rest);
+        rest = remaining;
+    }
+}

@@ -1,0 +1,278 @@
+//! Tokens of regular expressions.
+
+ghost use Rattle.std.specs.Prelude.{◌≡◌, ◌≢◌, ◌∷◌, ◌++◌, ℕ, ◌<◌, ◌≤◌, Bool, List, length, codes, IfNone, IfSome, IsTrue};
+ghost use Rattle.std.specs.Str.{chars};
+ghost use Rattle.urlpattern_steps.specs.ReadSteps.{BeginsWithCaptured, BeginsWithCharacter, BeginsWithRegexpToken, IsRead, IsRepeatOf, IsRunOf, IsStepOf, IsUnquantified, AllowsEmptyRun, FindsRun, ReadsCaptured, ReadsFirstSegments, ReadsRuns, ReadsRegexpTokens, RepeatsRuns, quantifier_of, times_text};
+ghost use Rattle.urlpattern_meaning.specs.Dialect.{Captured, IsCharacter, IsClassCharacter, Items};
+ghost use Rattle.urlpattern_syntax.specs.RegexpText.{regexp_marks};
+ghost use Rattle.urlpattern_syntax.specs.Text.{is_among};
+
+use crate::step::{Run, Step};
+use crate::text_cuts::after;
+use urlpattern_syntax::text::split_first;
+
+/// A token of an expression.
+#[derive(Clone, Copy)]
+pub enum StepToken {
+    /// `(?:`
+    Open,
+    /// `)` and the quantifier of the group.
+    Close(Times),
+    /// A literal character or a capturing group.
+    Step(Step),
+    /// A capturing group and `?`.
+    MaybeStep(Step),
+    /// `((?:`, a run and `)(?:`: the character that ends the run, and whether the run is greedy.
+    FirstSegment(char, bool),
+}
+
+/// The quantifier after a group.
+#[derive(Clone, Copy)]
+pub enum Times {
+    /// No quantifier.
+    Once,
+    /// `?`
+    Optional,
+    /// `*`
+    ZeroOrMore,
+    /// `+`
+    OneOrMore,
+}
+
+/// Returns the token that the text begins with, and the rest.
+pub fn read_token(text: &str) -> Option<(StepToken, &str)>
+    ensures token { IfSome result (λ read. BeginsWithRegexpToken (chars text.now) read.0 (chars read.1.now)) }
+    ensures reads { ReadsRegexpTokens (chars text.now) result }
+    ensures len { IfSome result (λ read. length read.1.now < length text.now) }
+{
+    if let Some(rest) = after(text, ')') {
+        let (times, remaining) = read_times(rest);
+        return Some((StepToken::Close(times), remaining));
+    }
+    if let Some(inner) = after(text, '(') {
+        return read_bracket(inner);
+    }
+    let (c, rest) = read_literal(text)?;
+    Some((StepToken::Step(Step::Literal(c)), rest))
+}
+
+/// Returns the quantifier of a group and the rest. `text` is what follows the closing parenthesis.
+fn read_times(text: &str) -> (Times, &str)
+    ensures times { chars text.now ≡ times_text result.0 ++ chars result.1.now }
+    ensures longest { result.0 ≡ Times.Once → IsUnquantified (chars result.1.now) }
+    ensures len { length result.1.now ≤ length text.now }
+{
+    match split_first(text) {
+        Some(('?', rest)) => (Times::Optional, rest),
+        Some(('*', rest)) => (Times::ZeroOrMore, rest),
+        Some(('+', rest)) => (Times::OneOrMore, rest),
+        _ => (Times::Once, text),
+    }
+}
+
+/// Returns a token that begins with `(`, and the rest. `text` is what follows the `(`.
+fn read_bracket(text: &str) -> Option<(StepToken, &str)>
+    ensures token { IfSome result (λ read. BeginsWithRegexpToken (codes "(" ++ chars text.now) read.0 (chars read.1.now)) }
+    ensures reads { ReadsRegexpTokens (codes "(" ++ chars text.now) result }
+    ensures len { IfSome result (λ read. length read.1.now < length text.now) }
+{
+    if let Some(rest) = after(text, '?') {
+        return Some((StepToken::Open, after(rest, ':')?));
+    }
+    if let Some((token, remaining)) = read_first_segment(text) {
+        return Some((token, remaining));
+    }
+    let (step, rest) = read_captured(text)?;
+    let rest = after(rest, ')')?;
+    if let Some(remaining) = after(rest, '?') {
+        return Some((StepToken::MaybeStep(step), remaining));
+    }
+    Some((StepToken::Step(step), rest))
+}
+
+/// Returns the token of the first of separated runs, and the rest. `text` is what follows the `(`.
+fn read_first_segment(text: &str) -> Option<(StepToken, &str)>
+    ensures token { IfSome result (λ read. BeginsWithRegexpToken (codes "(" ++ chars text.now) read.0 (chars read.1.now)) }
+    ensures reads { ReadsFirstSegments (codes "(" ++ chars text.now) result }
+    ensures other { (step : Step) (rest : List ℕ) → BeginsWithCaptured (chars text.now) step rest → result ≡ None }
+    ensures len { IfSome result (λ read. length read.1.now < length text.now) }
+{
+    let (single, rest) = read_run(after_open(text)?)?;
+    let rest = after_open(after(rest, ')')?)?;
+    let (end, is_greedy) = run_of(single)?;
+    Some((StepToken::FirstSegment(end, is_greedy), rest))
+}
+
+/// Returns the rest of the text after `(?:`.
+pub fn after_open(text: &str) -> Option<&str>
+    ensures cut { IfSome result (λ rest. chars text.now ≡ codes "(?:" ++ chars rest.now) }
+    ensures other { IfNone result ((rest : List ℕ) → chars text.now ≢ codes "(?:" ++ rest) }
+    ensures len { IfSome result (λ rest. length rest.now < length text.now) }
+{
+    after(after(after(text, '(')?, '?')?, ':')
+}
+
+/// Returns the rest of the text after `))*)`.
+pub fn after_segments(text: &str) -> Option<&str>
+    ensures cut { IfSome result (λ rest. chars text.now ≡ codes "))*)" ++ chars rest.now) }
+    ensures other { IfNone result ((rest : List ℕ) → chars text.now ≢ codes "))*)" ++ rest) }
+    ensures len { IfSome result (λ rest. length rest.now < length text.now) }
+{
+    after(after(after(after(text, ')')?, ')')?, '*')?, ')')
+}
+
+/// Returns the step of the body of a capturing group, and the rest.
+fn read_captured(text: &str) -> Option<(Step, &str)>
+    ensures step { IfSome result (λ read. BeginsWithCaptured (chars text.now) read.0 (chars read.1.now)) }
+    ensures reads { ReadsCaptured (chars text.now) result }
+    ensures len { IfSome result (λ read. length read.1.now < length text.now) }
+{
+    match after(text, '(') {
+        Some(rest) => read_repeated_run(rest),
+        None => read_run(text),
+    }
+}
+
+/// Returns the step of a quantified group with a run as its body, and the rest. `text` is what
+/// follows the `(`.
+fn read_repeated_run(text: &str) -> Option<(Step, &str)>
+    ensures step { IfSome result (λ read. BeginsWithCaptured (codes "(" ++ chars text.now) read.0 (chars read.1.now)) }
+    ensures reads { ReadsCaptured (codes "(" ++ chars text.now) result }
+    ensures len { IfSome result (λ read. length read.1.now < length text.now) }
+{
+    let (single, rest) = read_run(after(after(text, '?')?, ':')?)?;
+    let (times, remaining) = read_times(after(rest, ')')?);
+    Some((repeated_run(single, times)?, remaining))
+}
+
+/// The step of a repeated run, which is a run again. `None`: the step is no run, or the quantifier
+/// no repeat.
+fn repeated_run(run: Step, times: Times) -> Option<Step>
+    ensures step { IfSome result (λ step. IsRepeatOf run (quantifier_of times) step) }
+    ensures reads { RepeatsRuns run (quantifier_of times) result }
+{
+    let (end, is_greedy) = run_of(run)?;
+    let may_be_empty = may_be_empty(is_greedy, times)?;
+    Some(Step::Longest(Run { end, may_be_empty }))
+}
+
+/// The character that ends the run of a step, and whether the run is greedy. `None`: the step is
+/// neither `Segment` nor `Anything`.
+pub fn run_of(step: Step) -> Option<(char, bool)>
+    ensures run { IfSome result (λ run. (items : Items) → IsStepOf step (Captured items) → IsRunOf run.0 run.1 items) }
+    ensures reads { FindsRun step result }
+{
+    match step {
+        Step::Segment(end) => Some((end, false)),
+        Step::Anything => Some(('\n', true)),
+        _ => None,
+    }
+}
+
+/// Whether a repeated run may be empty. `None`: the quantifier is no repeat.
+fn may_be_empty(is_greedy: bool, times: Times) -> Option<bool>
+    ensures may { IfSome result (λ may_be_empty. AllowsEmptyRun is_greedy (quantifier_of times) may_be_empty) }
+    ensures reads { (may_be_empty : Bool) → AllowsEmptyRun is_greedy (quantifier_of times) may_be_empty → result ≡ Some may_be_empty }
+{
+    match times {
+        Times::ZeroOrMore => Some(true),
+        Times::OneOrMore => Some(is_greedy),
+        Times::Once | Times::Optional => None,
+    }
+}
+
+/// Returns the step of a run of characters, and the rest.
+pub fn read_run(text: &str) -> Option<(Step, &str)>
+    ensures step { IfSome result (λ read. BeginsWithCaptured (chars text.now) read.0 (chars read.1.now)) }
+    ensures reads { ReadsRuns (chars text.now) result }
+    ensures len { IfSome result (λ read. length read.1.now < length text.now) }
+{
+    match after(text, '.') {
+        Some(rest) => read_repeated_dot(rest),
+        None => read_repeated_class(after(after(text, '[')?, '^')?),
+    }
+}
+
+/// Returns the step of a quantified dot, and the rest. `text` is what follows the dot.
+fn read_repeated_dot(text: &str) -> Option<(Step, &str)>
+    ensures step { IfSome result (λ read. BeginsWithCaptured (codes "." ++ chars text.now) read.0 (chars read.1.now)) }
+    ensures reads { ReadsRuns (codes "." ++ chars text.now) result }
+    ensures len { IfSome result (λ read. length read.1.now < length text.now) }
+{
+    match after(text, '*') {
+        Some(rest) => Some((Step::Anything, rest)),
+        None => Some((Step::Segment('\n'), after_lazy_plus(text)?)),
+    }
+}
+
+/// Returns the step of a quantified class, and the rest. `text` is what follows `[^`.
+fn read_repeated_class(text: &str) -> Option<(Step, &str)>
+    ensures step { IfSome result (λ read. BeginsWithCaptured (codes "[^" ++ chars text.now) read.0 (chars read.1.now)) }
+    ensures reads { ReadsRuns (codes "[^" ++ chars text.now) result }
+    ensures len { IfSome result (λ read. length read.1.now < length text.now) }
+{
+    let (c, rest) = read_class_character(text)?;
+    Some((Step::Segment(c), after_lazy_plus(after(rest, ']')?)?))
+}
+
+/// Returns the rest of the text after `+?`.
+fn after_lazy_plus(text: &str) -> Option<&str>
+    ensures cut { IfSome result (λ rest. chars text.now ≡ codes "+?" ++ chars rest.now) }
+    ensures other { IfNone result ((rest : List ℕ) → chars text.now ≢ codes "+?" ++ rest) }
+    ensures len { IfSome result (λ rest. length rest.now < length text.now) }
+{
+    after(after(text, '+')?, '?')
+}
+
+/// Returns the literal character that the text begins with, unescaped, and the rest.
+pub fn read_literal(text: &str) -> Option<(char, &str)>
+    ensures character { IfSome result (λ read. BeginsWithCharacter IsCharacter (chars text.now) read.0 (chars read.1.now)) }
+    ensures reads { (c : ℕ) (rest : List ℕ) → BeginsWithCharacter IsCharacter (chars text.now) c rest → IsRead result c rest }
+    ensures len { IfSome result (λ read. length read.1.now < length text.now) }
+{
+    let (c, rest) = split_first(text)?;
+    if c == '\\' {
+        return read_escaped(rest);
+    }
+    if is_mark(c) { None } else { Some((c, rest)) }
+}
+
+/// Returns the character of a class, unescaped, and the rest.
+fn read_class_character(text: &str) -> Option<(char, &str)>
+    ensures character { IfSome result (λ read. BeginsWithCharacter IsClassCharacter (chars text.now) read.0 (chars read.1.now)) }
+    ensures reads { (c : ℕ) (rest : List ℕ) → BeginsWithCharacter IsClassCharacter (chars text.now) c rest → IsRead result c rest }
+    ensures len { IfSome result (λ read. length read.1.now < length text.now) }
+{
+    let (c, rest) = split_first(text)?;
+    match c {
+        '\\' => read_escaped(rest),
+        '[' => None,
+        _ => Some((c, rest)),
+    }
+}
+
+/// Returns an escaped character, a metacharacter or `/`, and the rest. `text` is what follows the
+/// backslash.
+fn read_escaped(text: &str) -> Option<(char, &str)>
+    ensures mark { IfSome result (λ read. IsTrue (is_among (regexp_marks ++ codes "/") read.0)) }
+    ensures cut { IfSome result (λ read. chars text.now ≡ read.0 ∷ chars read.1.now) }
+    ensures other { IfNone result ((c : ℕ) (rest : List ℕ) → IsTrue (is_among (regexp_marks ++ codes "/") c) → chars text.now ≢ c ∷ rest) }
+    ensures len { IfSome result (λ read. length read.1.now < length text.now) }
+{
+    let (c, rest) = split_first(text)?;
+    if is_mark(c) || c == '/' {
+        Some((c, rest))
+    } else {
+        None
+    }
+}
+
+/// Whether the character is a metacharacter of expressions.
+fn is_mark(c: char) -> bool
+    ensures { result ≡ is_among regexp_marks c }
+{
+    matches!(
+        c,
+        '.' | '+' | '*' | '?' | '^' | '$' | '{' | '}' | '(' | ')' | '[' | ']' | '|' | '\\'
+    )
+}
