@@ -23,19 +23,19 @@ use Rattle.urlpattern.specs.ResultViews.{ResultView, group_of}
 use Rattle.urlpattern.specs.MatchInput.{input_texts}
 use Rattle.urlpattern.specs.FromString.{IsPatternOfText}
 use Rattle.urlpattern.specs.LinkedUrls.{IsCapturedBy, ReturnsGiven}
-use Rattle.urlpattern.specs.ComponentTexts.{manner_in}
+use Rattle.urlpattern.specs.ComponentTexts.{settings_in}
 use Rattle.urlpattern.specs.ComponentParts.{kept_parts}
 use Rattle.urlpattern.specs.PatternParts.{PatternParts}
 use Rattle.urlpattern.specs.Canonical.{canonical_pathname}
-use Rattle.urlpattern.specs.Manners.{GivenView, begins_ipv6, canonical_for, is_slash_delimiter, text_given}
+use Rattle.urlpattern.specs.WriteSettings.{GivenView, begins_ipv6, canonical_for, is_slash_delimiter, text_given}
 use Rattle.urlpattern.specs.Patterns.{PatternView, pattern_view}
 use Rattle.urlpattern.specs.UrlPatterns.{UrlPattern}
-use Rattle.urlpattern.specs.PatternRegexps.{pattern_answer, pattern_engine}
+use Rattle.urlpattern.specs.PatternRegexps.{pattern_result, pattern_engine}
 use Rattle.urlpattern.specs.PatternRegexp.{PatternRegexp}
 use Rattle.urlpattern.specs.Inheritance.{texts_of_url}
 use Rattle.urlpattern.specs.UrlTexts.{EachIsLine}
 use Rattle.urlpattern.specs.UrlPatternMatchInput.TheVariants as inputs
-use Rattle.urlpattern.specs.Matching.{Agrees, Answers}
+use Rattle.urlpattern.specs.Matching.{Agrees, Returns}
 use Rattle.urlpattern.specs.PartMeaning.{Captures, PartsMean}
 use Rattle.urlpattern.specs.Eight.{Texts, at, name_text}
 use Rattle.urlpattern.specs.Options.{OptionsView, default_options, hostname_options, pathname_options}
@@ -86,16 +86,16 @@ user_meant url id valid lines user Hash = (_, anything_means default_options _ (
 
 module _ (pattern : PatternView PatternRegexp) (is : IsPatternOfText pattern_engine users_text None default_asked pattern) (url : Parts) (valid : IsValid url) (lines : EachIsLine (texts_of_url url)) where
   agrees : (texts : Texts) (component : ComponentName) (result : Option Captures) → input_texts (inputs.Url url) ≡ Ok texts →
-      Answers pattern_answer (pattern component).matcher (at texts component) result →
+      Returns pattern_result (pattern component).matcher (at texts component) result →
       Agrees (users_options component) (users_parts component) (at (texts_of_url url) component) result
   unfolding chars
   agrees texts component result e answers =
       let same : texts ≡ texts_of_url url = cc in
       (users_of_parts pattern is component).means (at (texts_of_url url) component) result (lines component)
-      (subst (λ (of : Texts). Answers pattern_answer (pattern component).matcher (at of component) result) same answers)
+      (subst (λ (of : Texts). Returns pattern_result (pattern component).matcher (at of component) result) same answers)
 
   -- A match is that of a user, whose id the group captures.
-  user_found : (result : ComponentName → ResultView) → IsMatch pattern_answer pattern (inputs.Url url) result →
+  user_found : (result : ComponentName → ResultView) → IsMatch pattern_result pattern (inputs.Url url) result →
       (id : List ℕ) × IsUser url id × ((result Pathname).group (chars (codes "id")) ≡ Some (Some id))
   unfolding chars
   user_found result (texts, are_texts, match) =
@@ -109,25 +109,25 @@ module _ (pattern : PatternView PatternRegexp) (is : IsPatternOfText pattern_eng
             ∙ ap (λ (captures : Captures). group_of (codes "id" ∷ []) captures (codes "id")) path.3,
       )
 
-  no_user : HasNoMatch pattern_answer pattern (inputs.Url url) → IsNoUser url
+  no_user : HasNoMatch pattern_result pattern (inputs.Url url) → IsNoUser url
   no_user (inl (inl refused)) id user = absurd (let e = refused.1 in let never : ⊥ = cc in never)
   no_user (inl (inr long)) id user = omega (arith, long)
   no_user (inr (texts, are_texts, (component, refused))) id user =
       let meant = user_meant url id valid lines user component in agrees texts component None are_texts refused meant.0 meant.1
 
   -- A URL that matches, with this capture of the group, is that of the user with this id.
-  user_captured : (id : List ℕ) → HasMatch pattern_answer pattern (inputs.Url url) →
-      ((result : ComponentName → ResultView) → IsMatch pattern_answer pattern (inputs.Url url) result → (result Pathname).group (chars (codes "id")) ≡ Some (Some id)) → IsUser url id
+  user_captured : (id : List ℕ) → HasMatch pattern_result pattern (inputs.Url url) →
+      ((result : ComponentName → ResultView) → IsMatch pattern_result pattern (inputs.Url url) result → (result Pathname).group (chars (codes "id")) ≡ Some (Some id)) → IsUser url id
   user_captured id (texts, are_texts, matched) captured =
       let result : ComponentName → ResultView = λ component. record { input = at texts component; group = group_of (pattern component).group_name_list (matched component).0 } in
-      let match : IsMatch pattern_answer pattern (inputs.Url url) result =
+      let match : IsMatch pattern_result pattern (inputs.Url url) result =
       (texts, are_texts, record { captures = λ component. (matched component).0; are_answers = λ component. (matched component).1; are_results = λ component. record { has_input = refl; has_groups = λ name. refl } }) in
       let found = user_found result match in
       let same : found.0 ≡ id = cc (found.2, captured result match) in
       subst (IsUser url) same found.1
 
   -- A capture is the id of a user.
-  pub named : (id : List ℕ) → NamesUser pattern_answer pattern url (Some id) → IsUser url id
+  pub named : (id : List ℕ) → NamesUser pattern_result pattern url (Some id) → IsUser url id
   named id (result, match, captured) =
       let found = user_found result match in
       let same : Some found.0 ≡ Some id = sym (ap option_flatten found.2) ∙ captured in
@@ -135,7 +135,7 @@ module _ (pattern : PatternView PatternRegexp) (is : IsPatternOfText pattern_eng
       subst (IsUser url) one found.1
 
   -- A URL without a capture is not that of a user.
-  pub named_none : NamesNone pattern_answer pattern url → IsNoUser url
+  pub named_none : NamesNone pattern_result pattern url → IsNoUser url
   named_none (inl unmatched) = no_user unmatched
   named_none (inr (result, match, captured)) = λ id user.
       let found = user_found result match in
@@ -171,7 +171,7 @@ given_id id =
 -- The link of the pattern with this text for the group is the URL of the user whose id is the
 -- canonical form.
 pub linked_user : (pattern : UrlPattern PatternRegexp) (groups : List GivenView) (text : List ℕ) (url : Parts) → IsPatternOfUsers pattern → IsValid url → EachIsLine (texts_of_url url) →
-    text_given groups Pathname (chars (codes "id")) ≡ Some text → HasMatch pattern_answer (pattern_view pattern) (inputs.Url url) → ReturnsGiven pattern_answer pattern groups url → IsUrlOfUser url text
+    text_given groups Pathname (chars (codes "id")) ≡ Some text → HasMatch pattern_result (pattern_view pattern) (inputs.Url url) → ReturnsGiven pattern_result pattern groups url → IsUrlOfUser url text
 unfolding chars
 linked_user pattern groups text url is valid lines given matched returns =
     let kept = is.kept.2 in
@@ -179,8 +179,8 @@ linked_user pattern groups text url is valid lines given matched returns =
     let has : list_any (bytes_eq (chars (codes "id"))) (pattern_view pattern Pathname).group_name_list ≡ true =
     subst (λ (list : List (List ℕ)). list_any (bytes_eq (chars (codes "id"))) list ≡ true) (sym names) refl in
     let got =
-    subst (λ (of : Option PatternParts). MatchOption of ⊥ (λ parts. (value : List ℕ) × ((manner_in parts groups Pathname).canonical text ≡ Ok value)
-    × IsCapturedBy pattern_answer (pattern_view pattern) url Pathname (chars (codes "id")) value)) kept.has_parts (returns Pathname (chars (codes "id")) text given has) in
+    subst (λ (of : Option PatternParts). MatchOption of ⊥ (λ parts. (value : List ℕ) × ((settings_in parts groups Pathname).canonical text ≡ Ok value)
+    × IsCapturedBy pattern_result (pattern_view pattern) url Pathname (chars (codes "id")) value)) kept.has_parts (returns Pathname (chars (codes "id")) text given has) in
     let own = kept_parts (at kept.parts.components Pathname) in
     let canonical : canonical_pathname text ≡ Ok got.0 =
     subst (λ (options : OptionsView). canonical_for Pathname (is_slash_delimiter options.delimiter) (begins_ipv6 own) text ≡ Ok got.0) (users_path pattern is.kept) got.1 in

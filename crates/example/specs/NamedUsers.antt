@@ -2,7 +2,7 @@
 use Rattle.std.specs.Prelude.{◌≡◌, ◌⊎◌, ℕ, List, codes, Option, None, Some}
 use Rattle.std.specs.Str.{chars}
 use Rattle.url.specs.Parts.{Parts}
-use Rattle.urlpattern.specs.Match.{HasNoMatch, IsMatch, IsMatchOf, IsRefused}
+use Rattle.urlpattern.specs.Match.{HasNoMatch, IsMatch, IsMatchOf, DoesNotMatch}
 use Rattle.urlpattern.specs.ResultViews.{ResultView, captured_text}
 use Rattle.urlpattern.specs.MatchInput.{pathname_alone}
 use Rattle.urlpattern.specs.Patterns.{PatternView}
@@ -38,4 +38,4 @@ PathNamesUser answer users path user = CapturesIdOfPath answer users path (Some 
 
 -- The path names no user: the pattern of users does not match it, or the group takes no part.
 abbrev pub PathNamesNone : {E : Type 0} → (answer : E → List ℕ → Option Captures) → (users : PatternView E) → (path : List ℕ) → Type 0
-PathNamesNone answer users path = IsRefused answer users (pathname_alone path) ⊎ CapturesIdOfPath answer users path None
+PathNamesNone answer users path = DoesNotMatch answer users (pathname_alone path) ⊎ CapturesIdOfPath answer users path None

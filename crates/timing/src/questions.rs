@@ -16,7 +16,7 @@ mod printing;
 mod rules;
 mod trees;
 
-use making::Maker;
+use making::RandomSource;
 use std::alloc::Global;
 use std::io;
 use std::io::Write;
@@ -73,7 +73,7 @@ enum Kind {
 
 impl Kind {
     /// The kind of the next question. Lists take longest and are the rarest.
-    fn of(maker: &mut Maker) -> Kind {
+    fn of(maker: &mut RandomSource) -> Kind {
         match maker.below(64) {
             0 => Kind::Lists,
             1..=12 => Kind::Patterns,
@@ -86,7 +86,7 @@ impl Kind {
     }
 
     /// Asks a question of this kind.
-    fn ask(self, maker: &mut Maker) -> Result<Outcome, Error> {
+    fn ask(self, maker: &mut RandomSource) -> Result<Outcome, Error> {
         match self {
             Kind::Patterns => patterns::ask(maker),
             Kind::Lists => lists::ask(maker),
@@ -172,7 +172,7 @@ impl Tallies {
     /// Asks the question of a number, and prints it if the calls do not agree. Returns whether they
     /// do.
     fn ask<O: Write>(&mut self, alloc: Global, number: u64, out: &mut O) -> io::Result<bool> {
-        let mut maker = Maker::new(alloc, number);
+        let mut maker = RandomSource::new(alloc, number);
         let kind = Kind::of(&mut maker);
         let outcome = kind.ask(&mut maker);
         if let Err(error) = &outcome {
@@ -207,7 +207,7 @@ impl Alone {
     }
 
     /// Asks a question.
-    fn ask(self, maker: &mut Maker) -> Result<Outcome, Error> {
+    fn ask(self, maker: &mut RandomSource) -> Result<Outcome, Error> {
         match self {
             Alone::Lists => lists::ask(maker),
             Alone::Rules => rules::ask(maker),
@@ -227,7 +227,7 @@ pub fn run_alone<O: Write>(
     let mut tally = Tally::default();
     for index in 0..count {
         let number = seed.wrapping_add(index);
-        let mut maker = Maker::new(alloc, number);
+        let mut maker = RandomSource::new(alloc, number);
         let outcome = alone.ask(&mut maker).unwrap_or(Outcome::Differs);
         tally.count(outcome);
         if matches!(outcome, Outcome::Differs) {

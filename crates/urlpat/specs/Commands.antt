@@ -2,11 +2,11 @@
 use Rattle.std.specs.Prelude.{◌≢◌, ◌⊎◌, ℕ, List, codes, Option, String}
 use Rattle.std.specs.declared.alloc.Global.{Global}
 use Rattle.urlpat_commands.specs.CommandAnswers.{AreAnswered, FailsWhere}
-use Rattle.urlpat_lines.specs.Words.{words_view, AreWordsAfter}
+use Rattle.urlpat_lines.specs.Words.{words_view, AreArgumentsAfter}
 use Rattle.urlpat_commands.specs.FilterLines.{AskToFilter, Does}
 use Rattle.urlpat_commands.specs.CommandNotes.{HasNote}
 use Rattle.urlpat_matching.specs.declared.exit_status.TheConstants.{FAILED}
-use Rattle.urlpat_rules.specs.PrintedCoverings.{TellsWhether}
+use Rattle.urlpat_rules.specs.PrintedCoverings.{PrintsWhether}
 use Rattle.urlpat_rules.specs.TableRoutes.{RoutesLines}
 use Rattle.urlpat_rules.specs.UnreachedLines.{Lists}
 use Rattle.urlpat_lines.specs.declared.flags.Flags.{Flags}
@@ -14,15 +14,15 @@ use Rattle.urlpat_lines.specs.declared.flags.Flags.{Flags}
 -- The arguments are those of a command that compares patterns or reads a table.
 abbrev pub AskForRules : (words : List (List ℕ)) → Type 0
 AskForRules words =
-    (rest : List (List ℕ)) × (AreWordsAfter (codes "covers") words rest ⊎ AreWordsAfter (codes "unreachable") words rest ⊎ AreWordsAfter (codes "route") words rest)
+    (rest : List (List ℕ)) × (AreArgumentsAfter (codes "covers") words rest ⊎ AreArgumentsAfter (codes "unreachable") words rest ⊎ AreArgumentsAfter (codes "route") words rest)
 
 -- A command that compares patterns or reads a table ends with the status, and its output turns
 -- `old` into `new`. `Has` says which file has which table.
 abbrev pub DoesRules : Flags → (Has : (name table : List ℕ) → Type 0) → (words : List (List ℕ)) → (status : ℕ) → (input old new : Option (List ℕ)) → Type 0
 DoesRules flags Has words status input old new =
-    ((rest : List (List ℕ)) × AreWordsAfter (codes "covers") words rest × TellsWhether rest status old new)
-    ⊎ ((rest : List (List ℕ)) × AreWordsAfter (codes "unreachable") words rest × Lists Has rest status old new)
-    ⊎ ((rest : List (List ℕ)) × AreWordsAfter (codes "route") words rest × RoutesLines flags Has rest status input old new)
+    ((rest : List (List ℕ)) × AreArgumentsAfter (codes "covers") words rest × PrintsWhether rest status old new)
+    ⊎ ((rest : List (List ℕ)) × AreArgumentsAfter (codes "unreachable") words rest × Lists Has rest status old new)
+    ⊎ ((rest : List (List ℕ)) × AreArgumentsAfter (codes "route") words rest × RoutesLines flags Has rest status input old new)
 
 -- A command of any kind ends with the status, and its output turns `old` into `new`.
 abbrev pub DoesAny : Flags → (Has : (name table : List ℕ) → Type 0) → (words : List (List ℕ)) → (status : ℕ) → (input old new : Option (List ℕ)) → Type 0

@@ -6,7 +6,7 @@ ghost use Rattle.urlpat.specs.Commands.{FailsAny, MayReport, RunsAny};
 
 use std::alloc::Global;
 use std::io::{BufRead, Write};
-use urlpat_lines::{Flags, words_after};
+use urlpat_lines::{Flags, arguments_after};
 use urlpat_matching::{DONE, FAILED, NO_MATCH};
 use urlpat_rules::{Tables, covers, list_unreachable, route};
 
@@ -28,13 +28,13 @@ pub fn run<T: Tables, In: BufRead, Out: Write, Err: Write>(
     ensures quiet { result ≢ FAILED → (err.new ≡ err.old) ⊎ MayReport flags (words_view words.now) }
     ensures fails { result ≡ FAILED → FailsAny flags (words_view words.now) (out.new ≡ out.old) }
 {
-    if let Some(rest) = words_after(words, "covers") {
+    if let Some(rest) = arguments_after(words, "covers") {
         return covers(alloc, rest, out, err);
     }
-    if let Some(rest) = words_after(words, "unreachable") {
+    if let Some(rest) = arguments_after(words, "unreachable") {
         return list_unreachable(alloc, tables, rest, out, err);
     }
-    if let Some(rest) = words_after(words, "route") {
+    if let Some(rest) = arguments_after(words, "route") {
         return route(alloc, tables, rest, flags, input, out, err);
     }
     urlpat_commands::run(alloc, words, flags, input, out, err)

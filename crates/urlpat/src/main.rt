@@ -16,7 +16,7 @@ use std::process::ExitCode;
 use std::{env, fs, io};
 use urlpat_commands::explains_errors;
 use urlpat_explain::{explain, link};
-use urlpat_lines::{Flags, take_flags, words_after};
+use urlpat_lines::{Flags, arguments_after, remove_flags};
 use urlpat_matching::{Failure, fail};
 use urlpat_rules::Tables;
 
@@ -38,7 +38,7 @@ impl Tables for HostFiles<'_> {
 fn main(rt: HostRuntime) -> ExitCode {
     ExitCode::from(match words(&rt) {
         Ok(mut words) => {
-            let mut flags = take_flags(&mut words);
+            let mut flags = remove_flags(&mut words);
             // At a terminal a person reads the errors.
             if rt.stderr().is_terminal() {
                 flags.explain_errors = true;
@@ -76,10 +76,10 @@ fn run_words<In: BufRead, Out: Write, Err: Write>(
     err: &mut Err,
 ) -> u8 {
     let alloc = rt.alloc();
-    if let Some(rest) = words_after(words, "link") {
+    if let Some(rest) = arguments_after(words, "link") {
         return link(alloc, rest, out, err);
     }
-    if let Some(rest) = words_after(words, "explain") {
+    if let Some(rest) = arguments_after(words, "explain") {
         return explain(alloc, rest, flags, out, err);
     }
     let files = HostFiles { rt };

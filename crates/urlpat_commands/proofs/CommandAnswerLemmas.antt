@@ -5,7 +5,7 @@ use Rattle.std.specs.declared.alloc.Global.{Global}
 use Rattle.urlpat_commands.specs.CommandAnswers.{AnswersMatch, IsFirstAnswer, IsFirstMatchText, IsMatchAnswer, IsMatchFailure, IsPrintedOf, IsUnmatchedByEach}
 use Rattle.urlpat_commands.specs.declared.command.Printed.{Printed}
 use Rattle.urlpat_matching.specs.MatchTexts.{IsMatchText, IsUnmatched}
-use Rattle.urlpat_matching.specs.PatternWords.{RefusesPatternOf, base_of}
+use Rattle.urlpat_matching.specs.PatternWords.{RejectsPatternOf, base_of}
 use Rattle.urlpat_matching.specs.declared.exit_status.Failure.TheVariants as failures
 use Rattle.urlpat_lines.specs.Words.{words_view}
 use Rattle.urlpat_lines.specs.declared.flags.Flags.{Flags}
@@ -38,7 +38,7 @@ module _ (flags : Flags) (words : List (String Global)) (pattern base input : St
       → IsMatchAnswer flags (words_view words) text status
   match_answers text status reported = rw are reported
 
-  pub match_fails : (error : Error) → MemoryOr (RefusesPatternOf flags.ignore_case (string_bytes pattern) (base_of (string_bytes base))) error → IsMatchFailure flags.ignore_case (words_view words) (failures.Refused error)
+  pub match_fails : (error : Error) → MemoryOr (RejectsPatternOf flags.ignore_case (string_bytes pattern) (base_of (string_bytes base))) error → IsMatchFailure flags.ignore_case (words_view words) (failures.Refused error)
   match_fails error reported = rw are reported
 
 pub first_answers : (flags : Flags) (words : List (String Global)) (base input : String Global) (patterns : List (String Global)) → words ≡ base ∷ input ∷ patterns → 0 < length patterns → (text : List ℕ) (status : ℕ)

@@ -6,8 +6,8 @@ use Rattle.std.proofs.lemmas.Option.{slice_get-map, slice_get_read}
 use Rattle.std.specs.List.{AllZip}
 use Rattle.std.specs.Prelude.{MatchOption, Option, None, Some, String, option_map, string_bytes}
 use Rattle.std.specs.declared.alloc.Global.{Global}
-use Rattle.urlpat_commands.specs.CommandAnswers.{ArePatterns, IsFirstMatchText, IsFirstTextBy, IsUnmatchedByAll, IsUnmatchedByEach, RefusesOneOf}
-use Rattle.urlpat_matching.specs.PatternWords.{IsPatternOf, RefusesPatternOf}
+use Rattle.urlpat_commands.specs.CommandAnswers.{ArePatterns, IsFirstMatchText, IsFirstTextBy, IsUnmatchedByAll, IsUnmatchedByEach, RejectsOneOf}
+use Rattle.urlpat_matching.specs.PatternWords.{IsPatternOf, RejectsPatternOf}
 use Rattle.serde_json.specs.Data.{Data, no_members, number, put, unsigned}
 use Rattle.serde_json.specs.Written.{has_float}
 use Rattle.urlpat_commands.specs.FirstJson.{first_tree}
@@ -49,7 +49,7 @@ module _ (ignores : Bool) (base : Option (List ℕ)) (words : List (String Globa
 
   -- The next argument is rejected.
   pub refuses-one : (list : List (UrlPattern PatternRegexp)) (error : Error) → ArePatterns ignores (map (λ w. string_bytes w) (take index words)) base (patterns_view list)
-      → MemoryOr (RefusesPatternOf ignores (string_bytes word) base) error → MemoryOr (RefusesOneOf ignores (map (λ w. string_bytes w) words) base) error
+      → MemoryOr (RejectsPatternOf ignores (string_bytes word) base) error → MemoryOr (RejectsOneOf ignores (map (λ w. string_bytes w) words) base) error
   refuses-one list error are (inl memory) = inl memory
   refuses-one list error are (inr refused) = inr (record {
     index = index;

@@ -12,7 +12,7 @@ use Rattle.urlpat_matching.specs.declared.exit_status.TheConstants.{DONE, NO_MAT
 use Rattle.urlpat_matching.specs.GroupLines.{AreLines, all_named_results}
 use Rattle.urlpattern_canonical.specs.BaseUrls.{IsUrlOf, base_view}
 use Rattle.urlpat_matching.specs.MatchTexts.{IsMatchText, IsUnmatched, IsUnmatchedByAllUnder}
-use Rattle.urlpat_matching.specs.PatternWords.{IsPatternOf, RefusesPatternOf, base_of}
+use Rattle.urlpat_matching.specs.PatternWords.{IsPatternOf, RejectsPatternOf, base_of}
 use Rattle.urlpat_lines.specs.Help.{IsHelp}
 use Rattle.urlpat_lines.specs.declared.flags.Flags.{Flags}
 use Rattle.urlpat_commands.specs.FirstJson.{IsFirstJson}
@@ -21,16 +21,16 @@ use Rattle.urlpat_commands.specs.Report.{component_lines, first_line, no_match_t
 use Rattle.urlpattern.specs.Dialect.{HasMeaningOf}
 use Rattle.urlpattern.specs.Errors.{ErrorView, MemoryOr}
 use Rattle.urlpattern.specs.FirstMatch.{IsFirstMatch}
-use Rattle.urlpattern.specs.Laws.{Answered, listed}
+use Rattle.urlpattern.specs.Laws.{EncodingResults, listed}
 use Rattle.urlpattern.specs.ResultViews.{ResultView}
 use Rattle.urlpattern.specs.Options.{OptionsView}
 use Rattle.urlpattern.specs.Parts.{PartView}
 use Rattle.urlpattern.specs.Patterns.{PatternView}
 use Rattle.urlpattern.specs.Printing.{Keeps, printed}
-use Rattle.urlpattern.specs.Reading.{Encoding, Reads, Refuses, encoding_of}
+use Rattle.urlpattern.specs.Reading.{Encoding, Reads, Rejects, encoding_of}
 use Rattle.urlpattern.specs.RegexpText.{group_names, regexp_text}
 use Rattle.urlpattern.specs.RoundTrip.{IsPrintable, ReadsBack}
-use Rattle.urlpattern_engine.specs.PatternRegexps.{pattern_answer}
+use Rattle.urlpattern_engine.specs.PatternRegexps.{pattern_result}
 use Rattle.urlpattern_engine.specs.declared.pattern_regexp.PatternRegexp.{PatternRegexp}
 use Rattle.urlpattern_components.specs.declared.eight.ComponentName.{ComponentName}
 use Rattle.urlpattern_init.specs.declared.init.UrlPatternMatchInput.TheVariants as match_inputs
@@ -58,21 +58,21 @@ pub record IsComponentText (kind pattern text : List ℕ) : Type 0 where
   pub is_named : NamesOptions kind options
   pub reads : Reads (chars pattern) options kept parts
   pub means : All (λ part. part.kind ≢ Regexp) parts → HasMeaningOf (regexp_text options parts) options parts
-  pub reads_back : (answers : Answered) → IsPrintable options parts → Keeps (listed answers) parts
+  pub reads_back : (answers : EncodingResults) → IsPrintable options parts → Keeps (listed answers) parts
       → ReadsBack (printed options parts) options (listed answers) parts
   pub is_text : text ≡ component_lines (map encode_utf8_all (group_names parts)) (encode_utf8_all (regexp_text options parts)) (encode_utf8_all (printed options parts))
 
 -- The pattern is rejected with this error under the options with this name.
-pub record RefusesComponentText (kind pattern : List ℕ) (error : ErrorView) : Type 0 where
+pub record RejectsComponentText (kind pattern : List ℕ) (error : ErrorView) : Type 0 where
   pub options : OptionsView
   pub is_named : NamesOptions kind options
-  pub refuses : Refuses (chars pattern) options kept error
+  pub refuses : Rejects (chars pattern) options kept error
 
 -- The reason why there is no text: no options have this name, the pattern is rejected, or memory
 -- ran out.
 abbrev pub FailsComponent : (kind pattern : List ℕ) → Failure → Type 0
 FailsComponent kind pattern failures.Usage = ¬ IsKind kind
-FailsComponent kind pattern (failures.Refused error) = MemoryOr (RefusesComponentText kind pattern) error
+FailsComponent kind pattern (failures.Refused error) = MemoryOr (RejectsComponentText kind pattern) error
 
 -- ---- the captures of the first match
 
@@ -81,13 +81,13 @@ abbrev pub ArePatterns : (ignores : Bool) → (texts : List (List ℕ)) → (bas
 ArePatterns ignores texts base patterns = AllZip (λ text pattern. IsPatternOf ignores text base pattern) texts patterns
 
 -- A constructor string is rejected with this error, and the ones before it are compiled.
-pub record RefusesOneOf (ignores : Bool) (texts : List (List ℕ)) (base : Option (List ℕ)) (error : ErrorView) : Type 0 where
+pub record RejectsOneOf (ignores : Bool) (texts : List (List ℕ)) (base : Option (List ℕ)) (error : ErrorView) : Type 0 where
   pub index : ℕ
   pub text : List ℕ
   pub earlier : List (PatternView PatternRegexp)
   pub is_there : slice_get texts index ≡ Some text
   pub are_compiled : ArePatterns ignores (take index texts) base earlier
-  pub refuses : RefusesPatternOf ignores text base error
+  pub refuses : RejectsPatternOf ignores text base error
 
 -- The text has the index of the first pattern that matches, and its captures.
 abbrev pub ShowsFirst : (json : Bool) → (index : ℕ) → (ComponentName → ResultView) → (text : List ℕ) → Type 0
@@ -101,7 +101,7 @@ pub record IsFirstTextBy (json : Bool) (compiled : List (PatternView PatternRege
   pub index : ℕ
   pub result : ComponentName → ResultView
   pub is_url : IsUrlOf input base url
-  pub is_first : IsFirstMatch pattern_answer compiled (match_inputs.Url url) (Some (index, result))
+  pub is_first : IsFirstMatch pattern_result compiled (match_inputs.Url url) (Some (index, result))
   pub shows : ShowsFirst json index result text
 
 -- The pattern texts compile to patterns, and the text has the first match of the input.
@@ -147,9 +147,9 @@ abbrev pub AnswersMatch : (json : Bool) → (Matched Unmatched : Type 0) → (te
 AnswersMatch json Matched Unmatched text status = (Matched × (status ≡ 0)) ⊎ (Unmatched × (text ≡ no_match_text json) × (status ≡ 1))
 
 -- The reason is a rejection of this kind, or that memory ran out.
-abbrev pub IsRefusal : (Refuses : ErrorView → Type 0) → Failure → Type 0
-IsRefusal Refuses failures.Usage = ⊥
-IsRefusal Refuses (failures.Refused error) = MemoryOr Refuses error
+abbrev pub IsRejection : (Rejects : ErrorView → Type 0) → Failure → Type 0
+IsRejection Rejects failures.Usage = ⊥
+IsRejection Rejects (failures.Refused error) = MemoryOr Rejects error
 
 -- The output and the exit status of `match`.
 abbrev pub IsMatchAnswer : Flags → (words : List (List ℕ)) → (text : List ℕ) → (status : ℕ) → Type 0
@@ -160,7 +160,7 @@ IsMatchAnswer flags words text status = ⊥
 
 -- The reason why `match` has no output.
 abbrev pub IsMatchFailure : (ignores : Bool) → (words : List (List ℕ)) → Failure → Type 0
-IsMatchFailure ignores (pattern ∷ base ∷ input ∷ []) failure = IsRefusal (RefusesPatternOf ignores pattern (base_of base)) failure
+IsMatchFailure ignores (pattern ∷ base ∷ input ∷ []) failure = IsRejection (RejectsPatternOf ignores pattern (base_of base)) failure
 IsMatchFailure ignores words failure = failure ≡ failures.Usage
 
 -- ---- the arguments of `first`
@@ -174,7 +174,7 @@ IsFirstAnswer flags words text status = ⊥
 
 -- The reason why `first` has no output.
 abbrev pub IsFirstFailure : (ignores : Bool) → (words : List (List ℕ)) → Failure → Type 0
-IsFirstFailure ignores (base ∷ input ∷ pattern ∷ patterns) failure = IsRefusal (RefusesOneOf ignores (pattern ∷ patterns) (base_of base)) failure
+IsFirstFailure ignores (base ∷ input ∷ pattern ∷ patterns) failure = IsRejection (RejectsOneOf ignores (pattern ∷ patterns) (base_of base)) failure
 IsFirstFailure ignores words failure = failure ≡ failures.Usage
 
 -- ---- the short form: a pattern and an input, without a base URL
@@ -187,7 +187,7 @@ IsShortAnswer flags pattern words text status = ⊥
 
 -- The reason why the short form has no output.
 abbrev pub IsShortFailure : (ignores : Bool) → (pattern : List ℕ) → (words : List (List ℕ)) → Failure → Type 0
-IsShortFailure ignores pattern (input ∷ []) failure = IsRefusal (RefusesPatternOf ignores pattern None) failure
+IsShortFailure ignores pattern (input ∷ []) failure = IsRejection (RejectsPatternOf ignores pattern None) failure
 IsShortFailure ignores pattern words failure = failure ≡ failures.Usage
 
 -- ---- commands

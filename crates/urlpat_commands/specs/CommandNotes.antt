@@ -4,31 +4,31 @@ use Rattle.std.specs.Io.KnownBytes.{Appends}
 use Rattle.std.specs.declared.alloc.Global.{Global}
 use Rattle.urlpat_commands.specs.CommandAnswers.{IsCommand}
 use Rattle.urlpat_lines.specs.declared.flags.Flags.{Flags}
-use Rattle.urlpattern_canonical.specs.BaseUrls.{IsRefusedText}
+use Rattle.urlpattern_canonical.specs.BaseUrls.{IsRejectedText}
 use Rattle.urlpat_matching.specs.PatternWords.{base_of}
 
 -- `url` rejects the input of `match`.
-abbrev pub HasRefusedMatchInput : (words : List (List ℕ)) → Type 0
-HasRefusedMatchInput (pattern ∷ base ∷ input ∷ []) = IsRefusedText input (base_of base)
-HasRefusedMatchInput words = ⊥
+abbrev pub HasRejectedMatchInput : (words : List (List ℕ)) → Type 0
+HasRejectedMatchInput (pattern ∷ base ∷ input ∷ []) = IsRejectedText input (base_of base)
+HasRejectedMatchInput words = ⊥
 
 -- `url` rejects the input of `first`.
-abbrev pub HasRefusedFirstInput : (words : List (List ℕ)) → Type 0
-HasRefusedFirstInput (base ∷ input ∷ patterns) = IsRefusedText input (base_of base)
-HasRefusedFirstInput words = ⊥
+abbrev pub HasRejectedFirstInput : (words : List (List ℕ)) → Type 0
+HasRejectedFirstInput (base ∷ input ∷ patterns) = IsRejectedText input (base_of base)
+HasRejectedFirstInput words = ⊥
 
 -- `url` rejects the input of the short form.
-abbrev pub HasRefusedShortInput : (words : List (List ℕ)) → Type 0
-HasRefusedShortInput (input ∷ []) = IsRefusedText input None
-HasRefusedShortInput words = ⊥
+abbrev pub HasRejectedShortInput : (words : List (List ℕ)) → Type 0
+HasRejectedShortInput (input ∷ []) = IsRejectedText input None
+HasRejectedShortInput words = ⊥
 
 -- `url` rejects the input among the arguments.
-abbrev pub HasRefusedInput : (words : List (List ℕ)) → Type 0
-HasRefusedInput [] = ⊥
-HasRefusedInput (command ∷ words) =
-    ((command ≡ codes "match") × HasRefusedMatchInput words)
-    ⊎ ((command ≡ codes "first") × HasRefusedFirstInput words)
-    ⊎ ((¬ IsCommand command) × HasRefusedShortInput words)
+abbrev pub HasRejectedInput : (words : List (List ℕ)) → Type 0
+HasRejectedInput [] = ⊥
+HasRejectedInput (command ∷ words) =
+    ((command ≡ codes "match") × HasRejectedMatchInput words)
+    ⊎ ((command ≡ codes "first") × HasRejectedFirstInput words)
+    ⊎ ((¬ IsCommand command) × HasRejectedShortInput words)
 
 -- ---- errors that are explained
 
@@ -43,7 +43,7 @@ ExplainsErrors flags words = (flags.explain_errors ≡ true) ⊎ ¬ AreOfCommand
 
 -- The input is rejected, and errors are explained.
 abbrev pub HasNote : Flags → (words : List (List ℕ)) → Type 0
-HasNote flags words = ExplainsErrors flags words × HasRefusedInput words
+HasNote flags words = ExplainsErrors flags words × HasRejectedInput words
 
 -- The bytes of a note, if there is one.
 abbrev pub note_bytes : Option (String Global) → List ℕ

@@ -17,7 +17,7 @@ use Rattle.urlpat_matching.specs.declared.exit_status.TheConstants.{FAILED}
 use Rattle.urlpat_lines.specs.Filters.{FilterAnswers, FiltersText}
 use Rattle.urlpat_lines.specs.declared.answers.Verdict.{Verdict}
 use Rattle.urlpat_lines.specs.Queries.{IsQueryOf}
-use Rattle.urlpat_lines.specs.Words.{AreWordsAfter, words_view}
+use Rattle.urlpat_lines.specs.Words.{AreArgumentsAfter, words_view}
 use Rattle.urlpat_lines.specs.declared.flags.Flags.{Flags}
 use Rattle.urlpat_lines.specs.declared.query.Query.{Query}
 use Rattle.urlpat_lines.specs.declared.query.Shape.{Shape}
@@ -25,7 +25,7 @@ use Rattle.urlpat_lines.specs.declared.query.Shape.TheVariants as shapes
 use Rattle.urlpattern.specs.Match.{IsMatch}
 use Rattle.urlpattern.specs.ResultViews.{ResultView}
 use Rattle.urlpattern.specs.Patterns.{PatternView}
-use Rattle.urlpattern_engine.specs.PatternRegexps.{pattern_answer}
+use Rattle.urlpattern_engine.specs.PatternRegexps.{pattern_result}
 use Rattle.urlpattern_engine.specs.declared.pattern_regexp.PatternRegexp.{PatternRegexp}
 use Rattle.urlpattern_init.specs.declared.init.UrlPatternMatchInput.TheVariants as match_inputs
 use Rattle.urlpattern_components.specs.Eight.{name_text}
@@ -49,7 +49,7 @@ pub record IsPieceOf (compiled : PatternView PatternRegexp) (base : BaseView) (t
   pub url : Parts
   pub result : ComponentName → ResultView
   pub is_url : IsUrlUnder text base url
-  pub is_match : IsMatch pattern_answer compiled (match_inputs.Url url) result
+  pub is_match : IsMatch pattern_result compiled (match_inputs.Url url) result
   pub is_piece : HasPiece result shape piece
 
 -- A component, and the name of a group.
@@ -99,13 +99,13 @@ FilterReplies flags words status input old new = status ≢ FAILED → FiltersLi
 
 -- The arguments are those of `filter`.
 abbrev pub AskToFilter : (words : List (List ℕ)) → Type 0
-AskToFilter words = (rest : List (List ℕ)) × AreWordsAfter (codes "filter") words rest
+AskToFilter words = (rest : List (List ℕ)) × AreArgumentsAfter (codes "filter") words rest
 
 -- The run succeeds: `filter` writes its output for the lines of the reader, or the output for the
 -- arguments is printed.
 abbrev pub Does : Flags → (words : List (List ℕ)) → (status : ℕ) → (input old new : Option (List ℕ)) → Type 0
 Does flags words status input old new =
-    ((rest : List (List ℕ)) × AreWordsAfter (codes "filter") words rest × FiltersLines flags rest status input old new) ⊎ Prints flags words status old new
+    ((rest : List (List ℕ)) × AreArgumentsAfter (codes "filter") words rest × FiltersLines flags rest status input old new) ⊎ Prints flags words status old new
 
 -- `Does` unless the run failed.
 abbrev pub RunsOne : Flags → (words : List (String Global)) → (status : ℕ) → (input old new : Option (List ℕ)) → Type 0

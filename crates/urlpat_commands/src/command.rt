@@ -18,7 +18,7 @@ use crate::first::first_groups;
 use std::alloc::{AllocError, Global};
 use std::io;
 use std::io::{BufRead, Write};
-use urlpat_lines::{Flags, help_of, words_after};
+use urlpat_lines::{Flags, arguments_after, help_of};
 use urlpat_matching::{
     DONE, FAILED, Failure, NO_BASE, NO_MATCH, fail, matched_groups, print, report,
 };
@@ -53,7 +53,7 @@ pub fn run<In: BufRead, Out: Write, Err: Write>(
         ⊎ AskToFilter (words_view words.now) }
     ensures fails { result ≡ FAILED → FailsOne flags (words_view words.now) (out.new ≡ out.old) }
 {
-    match words_after(words, "filter") {
+    match arguments_after(words, "filter") {
         Some(rest) => filter(alloc, rest, flags, input, out, err),
         None => run_once(alloc, words, flags, out, err),
     }

@@ -4,7 +4,7 @@
 ghost use Rattle.std.specs.Prelude.{IfOk, IfSome, IsFalse, IsTrue};
 ghost use Rattle.urlpat_lines.specs.Words.{words_view};
 ghost use Rattle.urlpat_commands.specs.CommandAnswers.{IsCommand};
-ghost use Rattle.urlpat_commands.specs.CommandNotes.{AreOfCommand, ExplainsErrors, HasRefusedFirstInput, HasRefusedInput, HasRefusedMatchInput, HasRefusedShortInput};
+ghost use Rattle.urlpat_commands.specs.CommandNotes.{AreOfCommand, ExplainsErrors, HasRejectedFirstInput, HasRejectedInput, HasRejectedMatchInput, HasRejectedShortInput};
 
 use crate::command::options_of;
 use std::alloc::Global;
@@ -45,7 +45,7 @@ fn is_command(word: &str) -> bool
 
 /// A note that the input among the arguments is not a URL. `None`: it is one, or there is no input.
 pub fn input_note(alloc: Global, words: &[String]) -> Result<Option<String>, Error>
-    ensures { IfOk result (λ note. IfSome note (λ text. HasRefusedInput (words_view words.now))) }
+    ensures { IfOk result (λ note. IfSome note (λ text. HasRejectedInput (words_view words.now))) }
 {
     let [command, rest @ ..] = words else {
         return Ok(None);
@@ -60,7 +60,7 @@ pub fn input_note(alloc: Global, words: &[String]) -> Result<Option<String>, Err
 
 /// A note that the input of the short form is not a URL.
 fn short_note(alloc: Global, words: &[String]) -> Result<Option<String>, Error>
-    ensures { IfOk result (λ note. IfSome note (λ text. HasRefusedShortInput (words_view words.now))) }
+    ensures { IfOk result (λ note. IfSome note (λ text. HasRejectedShortInput (words_view words.now))) }
 {
     let [input] = words else {
         return Ok(None);
@@ -70,7 +70,7 @@ fn short_note(alloc: Global, words: &[String]) -> Result<Option<String>, Error>
 
 /// A note that the input of `match` is not a URL.
 fn match_note(alloc: Global, words: &[String]) -> Result<Option<String>, Error>
-    ensures { IfOk result (λ note. IfSome note (λ text. HasRefusedMatchInput (words_view words.now))) }
+    ensures { IfOk result (λ note. IfSome note (λ text. HasRejectedMatchInput (words_view words.now))) }
 {
     let [_, base, input] = words else {
         return Ok(None);
@@ -80,7 +80,7 @@ fn match_note(alloc: Global, words: &[String]) -> Result<Option<String>, Error>
 
 /// A note that the input of `first` is not a URL.
 fn first_note(alloc: Global, words: &[String]) -> Result<Option<String>, Error>
-    ensures { IfOk result (λ note. IfSome note (λ text. HasRefusedFirstInput (words_view words.now))) }
+    ensures { IfOk result (λ note. IfSome note (λ text. HasRejectedFirstInput (words_view words.now))) }
 {
     let [base, input, ..] = words else {
         return Ok(None);

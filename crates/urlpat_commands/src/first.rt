@@ -1,7 +1,7 @@
 //! The command `first`: the first of several patterns that matches a URL, and its captures.
 
 ghost use Rattle.std.specs.Prelude.{option_copied, string_bytes, IfErr, IfOk};
-ghost use Rattle.urlpat_commands.specs.CommandAnswers.{ArePatterns, FindsFirst, FindsFirstBy, RefusesOneOf, ShowsFirst};
+ghost use Rattle.urlpat_commands.specs.CommandAnswers.{ArePatterns, FindsFirst, FindsFirstBy, RejectsOneOf, ShowsFirst};
 ghost use Rattle.urlpat_matching.specs.PatternWords.{base_of};
 ghost use Rattle.urlpat_lines.specs.Words.{words_view};
 ghost use Rattle.urlpattern.specs.BorrowedMatches.{pattern_captures_view};
@@ -28,7 +28,7 @@ pub fn first_groups(
     patterns: &[String],
 ) -> Result<Option<String>, Error>
     ensures found { IfOk result (FindsFirst flags (words_view patterns.now) input.now (base_of base.now)) }
-    ensures refused { IfErr result (MemoryOr (RefusesOneOf flags.ignore_case (words_view patterns.now) (base_of base.now))) }
+    ensures refused { IfErr result (MemoryOr (RejectsOneOf flags.ignore_case (words_view patterns.now) (base_of base.now))) }
 {
     let base = base_of(base);
     let list = compiled_list(alloc, patterns, base, flags.ignore_case)?;
@@ -47,7 +47,7 @@ fn compiled_list(
     ignore_case: bool,
 ) -> Result<UrlPatternList<PatternRegexp>, Error>
     ensures compiled { IfOk result (λ list. ArePatterns ignore_case (words_view patterns.now) (option_copied base.entry) (patterns_view list)) }
-    ensures refused { IfErr result (MemoryOr (RefusesOneOf ignore_case (words_view patterns.now) (option_copied base.entry))) }
+    ensures refused { IfErr result (MemoryOr (RejectsOneOf ignore_case (words_view patterns.now) (option_copied base.entry))) }
 {
     let mut list = UrlPatternList::new(alloc);
     for pattern in patterns {

@@ -9,11 +9,11 @@ use Rattle.urlpat_matching.specs.MatchJson.{json_line}
 use Rattle.urlpattern_matcher.specs.Components.{ComponentView}
 use Rattle.urlpattern_components.specs.Eight.{Texts, at, name_text}
 use Rattle.urlpattern_components.specs.declared.eight.{ComponentName.ComponentName, Eight.Eight}
-use Rattle.urlpattern_engine.specs.PatternRegexps.{pattern_answer}
+use Rattle.urlpattern_engine.specs.PatternRegexps.{pattern_result}
 use Rattle.urlpattern_engine.specs.declared.pattern_regexp.PatternRegexp.{PatternRegexp}
 use Rattle.urlpattern_diagnosis.specs.declared.span.Span.{Span}
 use Rattle.urlpattern_inputs.specs.Trees.{Gain, GainAll, each_member, object_of}
-use Rattle.urlpattern_meaning.specs.Matching.{Answers}
+use Rattle.urlpattern_meaning.specs.Matching.{Returns}
 use Rattle.urlpattern_meaning.specs.PartMeaning.{Captures}
 use Rattle.urlpattern_pattern.specs.Patterns.{PatternView}
 
@@ -64,7 +64,7 @@ captured_members names (Some captures) = verdict_members true (zip names capture
 -- The text of a component, and the outcome of its match.
 abbrev pub AreMatchMembers : ComponentView PatternRegexp → (text : List ℕ) → Named → Type 0
 AreMatchMembers component text members =
-    (captures : Option Captures) × Answers pattern_answer component.matcher text captures
+    (captures : Option Captures) × Returns pattern_result component.matcher text captures
     × (members ≡ (codes "input", Some (string (encode_utf8_all text))) ∷ captured_members component.group_name_list captures)
 
 -- The text of a component and the outcome of its match are inserted into an object.

@@ -4,7 +4,7 @@ use Rattle.std.specs.Io.KnownBytes.{Appends}
 use Rattle.std.specs.Str.{chars}
 use Rattle.url.specs.Parts.{Parts}
 use Rattle.urlpat_matching.specs.PatternWords.{IsPatternOf, base_of}
-use Rattle.urlpattern_canonical.specs.BaseUrls.{IsRefusedText, IsUrlOf}
+use Rattle.urlpattern_canonical.specs.BaseUrls.{IsRejectedText, IsUrlOf}
 use Rattle.urlpat_matching.specs.Status.{status_of}
 use Rattle.urlpat_explain.specs.Explained.{ExplainedView}
 use Rattle.urlpat_explain.specs.declared.explaining.{Asked.Asked, Explanation.Explanation}
@@ -15,7 +15,7 @@ use Rattle.urlpat_lines.specs.declared.flags.Flags.{Flags}
 use Rattle.urlpattern_compile.specs.Compiled.{pattern_values}
 use Rattle.urlpattern_compile.specs.FromString.{IsInitOfText}
 use Rattle.urlpattern_components.specs.Eight.{Texts, Values}
-use Rattle.urlpattern_engine.specs.PatternRegexps.{pattern_answer, pattern_engine}
+use Rattle.urlpattern_engine.specs.PatternRegexps.{pattern_result, pattern_engine}
 use Rattle.urlpattern_engine.specs.declared.pattern_regexp.PatternRegexp.{PatternRegexp}
 use Rattle.urlpattern_init.specs.Inheritance.{texts_of_url, values_view}
 use Rattle.urlpattern_init.specs.declared.init.UrlPatternInit.{UrlPatternInit}
@@ -61,14 +61,14 @@ IsShownBy json explained texts status found = IsShown json explained texts (stri
 -- The output for a pattern and a URL. The exit status says whether the pattern matches.
 abbrev pub IsShownOf : (json : Bool) → ExplainedView → Parts → Explanation → Type 0
 IsShownOf json explained url found =
-    (matched : Bool) × TestsInput pattern_answer explained.pattern (match_inputs.Url url) matched
+    (matched : Bool) × TestsInput pattern_result explained.pattern (match_inputs.Url url) matched
     × IsShownBy json explained (Some (texts_of_url url)) (status_of matched) found
 
 -- The output for a pattern and an input, whose texts are shown if it is a URL.
 abbrev pub IsExplained : (json : Bool) → ExplainedView → (base input : Option (List ℕ)) → Explanation → Type 0
 IsExplained json explained base None found = IsShownBy json explained None 0 found
 IsExplained json explained base (Some input) found =
-    (IsRefusedText input base × IsShownBy json explained None 1 found)
+    (IsRejectedText input base × IsShownBy json explained None 1 found)
     ⊎ ((url : Parts) × IsUrlOf input base url × IsShownOf json explained url found)
 
 -- The output for a constructor string with this init and this compiled pattern.

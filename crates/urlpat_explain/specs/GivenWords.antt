@@ -2,8 +2,8 @@
 use Rattle.std.specs.Prelude.{◌≡◌, ◌⊎◌, ◌<◌, ◌==◌, ℕ, Any, Bool, List, [], ◌∷◌, codes, length, slice_index}
 use Rattle.std.specs.{Borrow.Bor, List.AllZip, List.filter, Str.chars}
 use Rattle.std.specs.List.{after_first, before_first, position_or_len}
-use Rattle.urlpat_explain.specs.declared.given_words.Misgiven.{Misgiven}
-use Rattle.urlpat_explain.specs.declared.given_words.Misgiven.TheVariants as misgiven
+use Rattle.urlpat_explain.specs.declared.given_words.ArgumentError.{ArgumentError}
+use Rattle.urlpat_explain.specs.declared.given_words.ArgumentError.TheVariants as misgiven
 use Rattle.urlpat_matching.specs.Groups.{has_group}
 use Rattle.urlpattern_components.specs.declared.eight.ComponentName.{ComponentName}
 use Rattle.urlpattern_components.specs.Eight.{components, name_text}
@@ -20,8 +20,8 @@ abbrev pub IsOnlyOwner : {E : Type 0} → PatternView E → (name : List ℕ) �
 IsOnlyOwner pattern name component = owners pattern name ≡ component ∷ []
 
 -- No component alone has a group with this name.
-abbrev pub IsNobodys : {E : Type 0} → PatternView E → (name : List ℕ) → Type 0
-IsNobodys pattern name = (component : ComponentName) → ¬ IsOnlyOwner pattern name component
+abbrev pub HasNoSingleOwner : {E : Type 0} → PatternView E → (name : List ℕ) → Type 0
+HasNoSingleOwner pattern name = (component : ComponentName) → ¬ IsOnlyOwner pattern name component
 
 -- ---- names
 
@@ -73,6 +73,6 @@ abbrev pub AreGiven : {E : Type 0} → PatternView E → (words : List (List ℕ
 AreGiven pattern words groups = AllZip (WordGivesGroup pattern) words groups
 
 -- An argument gives no group, or memory ran out.
-abbrev pub RefusesWords : {E : Type 0} → PatternView E → (words : List (List ℕ)) → Misgiven → Type 0
-RefusesWords pattern words (misgiven.Word word) = Any (WordGivesNothing pattern) words
-RefusesWords pattern words misgiven.OutOfMemory = Unit {0}
+abbrev pub RejectsWords : {E : Type 0} → PatternView E → (words : List (List ℕ)) → ArgumentError → Type 0
+RejectsWords pattern words (misgiven.Word word) = Any (WordGivesNothing pattern) words
+RejectsWords pattern words misgiven.OutOfMemory = Unit {0}

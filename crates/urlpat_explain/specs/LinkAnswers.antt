@@ -6,10 +6,10 @@ use Rattle.urlpat_matching.specs.PatternWords.{IsPatternOf, KeepsPartsOfWord, ba
 use Rattle.urlpat_explain.specs.GivenWords.{AreGiven, Given, WordGivesNothing}
 use Rattle.urlpat_explain.specs.declared.link_command.LinkError.{LinkError}
 use Rattle.urlpat_explain.specs.declared.link_command.LinkError.TheVariants as unlinked
-use Rattle.urlpattern_engine.specs.PatternRegexps.{pattern_answer}
+use Rattle.urlpattern_engine.specs.PatternRegexps.{pattern_result}
 use Rattle.urlpattern_engine.specs.declared.pattern_regexp.PatternRegexp.{PatternRegexp}
-use Rattle.urlpattern_generate.specs.Manners.{given_groups}
-use Rattle.urlpattern_pattern.specs.LinkedUrls.{IsLink, RefusesLink}
+use Rattle.urlpattern_generate.specs.WriteSettings.{given_groups}
+use Rattle.urlpattern_pattern.specs.LinkedUrls.{IsLink, RejectsLink}
 use Rattle.urlpattern_pattern.specs.Patterns.{pattern_view}
 use Rattle.urlpattern_pattern.specs.UrlPatterns.{UrlPattern}
 use Rattle.urlpattern_generate.specs.declared.no_link.NoLink.{NoLink}
@@ -17,17 +17,17 @@ use Rattle.urlpattern_generate.specs.declared.no_link.NoLink.TheVariants as no_l
 
 -- The URL is that of the pattern with the texts for groups that the arguments give.
 abbrev pub IsLinkBy : UrlPattern PatternRegexp → (words : List (List ℕ)) → Parts → Type 0
-IsLinkBy pattern words url = (groups : List Given) × AreGiven (pattern_view pattern) words groups × IsLink pattern_answer pattern (given_groups groups) url
+IsLinkBy pattern words url = (groups : List Given) × AreGiven (pattern_view pattern) words groups × IsLink pattern_result pattern (given_groups groups) url
 
 -- The pattern has no URL with the texts for groups that the arguments give, for this reason.
-abbrev pub RefusesLinkBy : UrlPattern PatternRegexp → (words : List (List ℕ)) → NoLink → Type 0
-RefusesLinkBy pattern words error = (groups : List Given) × AreGiven (pattern_view pattern) words groups × RefusesLink pattern_answer pattern (given_groups groups) error
+abbrev pub RejectsLinkBy : UrlPattern PatternRegexp → (words : List (List ℕ)) → NoLink → Type 0
+RejectsLinkBy pattern words error = (groups : List Given) × AreGiven (pattern_view pattern) words groups × RejectsLink pattern_result pattern (given_groups groups) error
 
 -- The reason why there is no URL: an argument gives no group, the pattern has no URL, or memory ran
 -- out.
 abbrev pub LacksUrl : UrlPattern PatternRegexp → (words : List (List ℕ)) → LinkError → Type 0
 LacksUrl pattern words (unlinked.Word word) = Any (WordGivesNothing (pattern_view pattern)) words
-LacksUrl pattern words (unlinked.NoLink error) = (error ≢ no_link.OutOfMemory) × RefusesLinkBy pattern words error
+LacksUrl pattern words (unlinked.NoLink error) = (error ≢ no_link.OutOfMemory) × RejectsLinkBy pattern words error
 LacksUrl pattern words unlinked.OutOfMemory = Unit {0}
 
 -- ---- output

@@ -7,9 +7,9 @@ use Rattle.urlpat_explain.specs.declared.columns.TheConstants.{NAME_WIDTH}
 use Rattle.urlpattern_matcher.specs.Components.{ComponentView}
 use Rattle.urlpattern_components.specs.Eight.{Texts, at, components, name_text}
 use Rattle.urlpattern_components.specs.declared.eight.ComponentName.{ComponentName}
-use Rattle.urlpattern_engine.specs.PatternRegexps.{pattern_answer}
+use Rattle.urlpattern_engine.specs.PatternRegexps.{pattern_result}
 use Rattle.urlpattern_engine.specs.declared.pattern_regexp.PatternRegexp.{PatternRegexp}
-use Rattle.urlpattern_meaning.specs.Matching.{Answers}
+use Rattle.urlpattern_meaning.specs.Matching.{Returns}
 use Rattle.urlpattern_meaning.specs.PartMeaning.{Captures}
 use Rattle.urlpattern_pattern.specs.Patterns.{PatternView}
 
@@ -63,17 +63,17 @@ verdict_text names (Some captures) = codes "matches" ++ flat_map group_cell (zip
 -- The verdict of a component's matcher on a text.
 abbrev pub IsVerdict : ComponentView PatternRegexp → (text : List ℕ) → (verdict : List ℕ) → Type 0
 IsVerdict component text verdict =
-    (captures : Option Captures) × Answers pattern_answer component.matcher text captures × (verdict ≡ verdict_text component.group_name_list captures)
+    (captures : Option Captures) × Returns pattern_result component.matcher text captures × (verdict ≡ verdict_text component.group_name_list captures)
 
 -- The cells of a row before the verdict.
-abbrev pub front_cells : PatternView PatternRegexp → Texts → ComponentName → List ℕ
-front_cells pattern texts name =
+abbrev pub leading_cells : PatternView PatternRegexp → Texts → ComponentName → List ℕ
+leading_cells pattern texts name =
     column NAME_WIDTH (name_text name) ++ column (widest (pattern_cell pattern)) (pattern_cell pattern name) ++ column (widest (text_cell texts)) (text_cell texts name)
 
 -- The row of a component: its name, its pattern, its text and the verdict.
 abbrev pub IsMatchRow : PatternView PatternRegexp → Texts → ComponentName → (row : List ℕ) → Type 0
 IsMatchRow pattern texts name row =
-    (verdict : List ℕ) × IsVerdict (pattern name) (at texts name) verdict × (row ≡ front_cells pattern texts name ++ verdict ++ codes "\n")
+    (verdict : List ℕ) × IsVerdict (pattern name) (at texts name) verdict × (row ≡ leading_cells pattern texts name ++ verdict ++ codes "\n")
 
 -- The text is one piece for each component, in order.
 abbrev pub HasPieceForEach : (IsPiece : ComponentName → List ℕ → Type 0) → List ComponentName → (text : List ℕ) → Type 0

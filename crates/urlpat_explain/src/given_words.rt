@@ -2,8 +2,8 @@
 
 ghost use Rattle.std.specs.Prelude.{◌≡◌, IfErr, IfNone, IfOk, IfSome};
 ghost use Rattle.std.specs.Str.{chars};
-ghost use Rattle.urlpat_explain.specs.GivenWords.{AreGiven, WordGivesNothing, IsOnlyOwner, WordGivesGroup, IsNobodys, IsGroupNamed, NamesNoGroup, RefusesWords};
-ghost use Rattle.urlpat_explain.specs.declared.given_words.Misgiven.TheVariants as all_misgiven;
+ghost use Rattle.urlpat_explain.specs.GivenWords.{AreGiven, WordGivesNothing, IsOnlyOwner, WordGivesGroup, HasNoSingleOwner, IsGroupNamed, NamesNoGroup, RejectsWords};
+ghost use Rattle.urlpat_explain.specs.declared.given_words.ArgumentError.TheVariants as all_misgiven;
 ghost use Rattle.urlpat_lines.specs.Words.{words_view};
 ghost use Rattle.urlpattern_pattern.specs.Patterns.{pattern_view};
 
@@ -16,18 +16,18 @@ use urlpattern_pattern::UrlPattern;
 
 /// The reason why arguments give no groups.
 #[derive(Drop)]
-pub enum Misgiven<'w> {
+pub enum ArgumentError<'w> {
     /// The argument is not the name of a group, `=` and a text.
     Word(&'w str),
     /// Memory ran out.
     OutOfMemory,
 }
 
-impl From<AllocError> for Misgiven<'_> {
+impl From<AllocError> for ArgumentError<'_> {
     ghost from_gives = { λ _ error. error ≡ all_misgiven.OutOfMemory };
 
     fn from(_error: AllocError) -> Self {
-        Misgiven::OutOfMemory
+        ArgumentError::OutOfMemory
     }
 }
 
@@ -38,19 +38,19 @@ pub fn given_by<'w>(
     alloc: Global,
     pattern: &UrlPattern<PatternRegexp>,
     words: &'w [String],
-) -> Result<Vec<GivenGroup<'w>>, Misgiven<'w>>
+) -> Result<Vec<GivenGroup<'w>>, ArgumentError<'w>>
     ensures given { IfOk result (λ groups. AreGiven (pattern_view pattern.now) (words_view words.now) groups.items) }
-    ensures refused { IfErr result (RefusesWords (pattern_view pattern.now) (words_view words.now)) }
+    ensures refused { IfErr result (RejectsWords (pattern_view pattern.now) (words_view words.now)) }
 {
     let mut groups = Vec::with_capacity(alloc, words.len())?;
     for word in words {
         match word_group(pattern, word) {
             Some(group) => {
                 if groups.push(group).is_err() {
-                    return Err(Misgiven::OutOfMemory);
+                    return Err(ArgumentError::OutOfMemory);
                 }
             }
-            None => return Err(Misgiven::Word(word)),
+            None => return Err(ArgumentError::Word(word)),
         }
     }
     Ok(groups)
@@ -85,7 +85,7 @@ fn named_group<'w>(
 /// The component that alone has a group with this name.
 fn owner(pattern: &UrlPattern<PatternRegexp>, name: &str) -> Option<ComponentName>
     ensures alone { IfSome result (IsOnlyOwner (pattern_view pattern.now) (chars name.now)) }
-    ensures none { IfNone result (IsNobodys (pattern_view pattern.now) (chars name.now)) }
+    ensures none { IfNone result (HasNoSingleOwner (pattern_view pattern.now) (chars name.now)) }
 {
     let mut found = None;
     for component in ComponentName::all() {

@@ -7,7 +7,7 @@ ghost use Rattle.urlpat_explain.specs.LinkAnswers.{HasNoLink, IsLinkBy, LacksUrl
 ghost use Rattle.urlpat_explain.specs.declared.link_command.LinkError.TheVariants as all_unlinked;
 ghost use Rattle.urlpat_lines.specs.Words.{words_view};
 
-use crate::given_words::{Misgiven, given_by};
+use crate::given_words::{ArgumentError, given_by};
 use crate::link_reason::write_reason;
 use std::alloc::Global;
 use std::io;
@@ -87,8 +87,8 @@ fn linked<'w>(
 {
     let groups = match given_by(alloc, pattern, words) {
         Ok(groups) => groups,
-        Err(Misgiven::Word(word)) => return Err(LinkError::Word(word)),
-        Err(Misgiven::OutOfMemory) => return Err(LinkError::OutOfMemory),
+        Err(ArgumentError::Word(word)) => return Err(LinkError::Word(word)),
+        Err(ArgumentError::OutOfMemory) => return Err(LinkError::OutOfMemory),
     };
     match pattern.link(alloc, &groups) {
         Ok(url) => Ok(url),

@@ -5,7 +5,7 @@ use Rattle.bstr.specs.Text.{without_terminator}
 use Rattle.std.specs.Io.KnownBytes.{Appends}
 use Rattle.std.specs.Io.BufRead.{drop_through, take_through}
 use Rattle.bstr.proofs.lemmas.RecordLemmas.{records-nil, records-step}
-use Rattle.urlpat_lines.specs.LineAnswers.{AppendsAnswer, AppendsAnswerTo, AreAnswersTo, IsAnswerTo, IsRefusedLine, lines_of, selected_by}
+use Rattle.urlpat_lines.specs.LineAnswers.{AppendsAnswer, AppendsAnswerTo, AreAnswersTo, IsAnswerTo, IsRejectedLine, lines_of, selected_by}
 use Rattle.urlpat_lines.specs.Lines.{IsLineKept}
 use Rattle.urlpat_lines.specs.declared.lines.TheConstants.{LONGEST}
 use Rattle.urlpat_lines.specs.declared.answers.Verdict.{Verdict}
@@ -19,7 +19,7 @@ appends-both (Some x) (Some y) None first second p q = absurd q
 appends-both (Some x) (Some y) (Some z) first second p q = q ∙ ap (λ l. l ++ second) p ∙ append_assoc x first second
 
 -- A line that is not rejected.
-pub not-refused : (line : List ℕ) → length line ≤ LONGEST → IsUtf8 (without_terminator line) → ¬ IsRefusedLine line
+pub not-refused : (line : List ℕ) → length line ≤ LONGEST → IsUtf8 (without_terminator line) → ¬ IsRejectedLine line
 not-refused line short is (inl long) = omega (arith, short, long)
 not-refused line short is (inr other) = other is
 

@@ -44,16 +44,16 @@ AreFlagsOf (Some command) flags = MayHave (string_bytes command) flags
 
 -- A flag that the command has is removed, and found if it was there. Any other flag is left in
 -- place.
-abbrev pub TakesFlag : (may : Bool) → (flag : List ℕ) → (old new : List (String Global)) → (found : Bool) → Type 0
-TakesFlag true flag old new found =
+abbrev pub RemovesFlag : (may : Bool) → (flag : List ℕ) → (old new : List (String Global)) → (found : Bool) → Type 0
+RemovesFlag true flag old new found =
     (found ≡ list_any (λ word. bytes_eq flag (string_bytes word)) old) × (new ≡ filter (λ word. not (bytes_eq flag (string_bytes word))) old)
-TakesFlag false flag old new found = (found ≡ false) × (new ≡ old)
+RemovesFlag false flag old new found = (found ≡ false) × (new ≡ old)
 
 -- Each flag that the command among the arguments has is removed.
-abbrev pub TakesFlags : (old new : List (String Global)) → Flags → Type 0
-TakesFlags old new flags =
+abbrev pub RemovesFlags : (old new : List (String Global)) → Flags → Type 0
+RemovesFlags old new flags =
     (may : Flags) × AreFlagsOf (command_of old) may
     × (first second : List (String Global))
-    × TakesFlag may.ignore_case IGNORE_CASE.now old first flags.ignore_case
-    × TakesFlag may.json JSON.now first second flags.json
-    × TakesFlag may.explain_errors EXPLAIN_ERRORS.now second new flags.explain_errors
+    × RemovesFlag may.ignore_case IGNORE_CASE.now old first flags.ignore_case
+    × RemovesFlag may.json JSON.now first second flags.json
+    × RemovesFlag may.explain_errors EXPLAIN_ERRORS.now second new flags.explain_errors

@@ -18,8 +18,8 @@ abbrev pub AppendsAnswer : (Answers : (text line : List ℕ) → Verdict → (wr
 AppendsAnswer Answers text line old new verdict = (written : List ℕ) × (new ≡ old ++ written) × Answers text line verdict written
 
 -- A line that is rejected before any rule sees it: it is too long, or not UTF-8.
-abbrev pub IsRefusedLine : List ℕ → Type 0
-IsRefusedLine line = (LONGEST < length line) ⊎ ¬ IsUtf8 (without_terminator line)
+abbrev pub IsRejectedLine : List ℕ → Type 0
+IsRejectedLine line = (LONGEST < length line) ⊎ ¬ IsUtf8 (without_terminator line)
 
 -- The number of lines that a verdict selects.
 abbrev pub selected_by : Verdict → ℕ
@@ -31,8 +31,8 @@ module _ (Answers : (text line : List ℕ) → Verdict → (written : List ℕ) 
   -- The verdict on a line and the output for it.
   abbrev pub IsAnswerTo : (line : List ℕ) → Verdict → (written : List ℕ) → Type 0
   IsAnswerTo line verdict written =
-      (IsRefusedLine line × (verdict ≡ verdicts.Refused) × (written ≡ []))
-      ⊎ ((¬ IsRefusedLine line) × Answers (without_terminator line) line verdict written)
+      (IsRejectedLine line × (verdict ≡ verdicts.Refused) × (written ≡ []))
+      ⊎ ((¬ IsRejectedLine line) × Answers (without_terminator line) line verdict written)
 
   -- The verdicts on lines: the number of selected lines, and the output for them.
   unfoldable pub AreAnswersTo : (lines : List (List ℕ)) → (selected : ℕ) → (written : List ℕ) → Type 0

@@ -8,9 +8,9 @@ abbrev pub words_view : List (String Global) → List (List ℕ)
 words_view words = map (λ word. string_bytes word) words
 
 -- The arguments are the command and `rest`, which does not ask for help.
-abbrev pub AreWordsAfter : (command : List ℕ) → (words rest : List (List ℕ)) → Type 0
-AreWordsAfter command words rest = (words ≡ command ∷ rest) × ¬ AskForHelp rest
+abbrev pub AreArgumentsAfter : (command : List ℕ) → (words rest : List (List ℕ)) → Type 0
+AreArgumentsAfter command words rest = (words ≡ command ∷ rest) × ¬ AskForHelp rest
 
 -- The arguments are not this command with arguments that do not ask for help.
 abbrev pub HasNoneAfter : (command : List ℕ) → (words : List (List ℕ)) → Type 0
-HasNoneAfter command words = (rest : List (List ℕ)) → ¬ AreWordsAfter command words rest
+HasNoneAfter command words = (rest : List (List ℕ)) → ¬ AreArgumentsAfter command words rest

@@ -2,9 +2,9 @@
 //! are printed.
 
 ghost use Rattle.std.specs.Prelude.{◌≡◌, option_copied};
-ghost use Rattle.urlpat_lines.specs.Flags.{AreFlagsOf, MayHave, TakesFlag, TakesFlags, command_of, is_flag};
+ghost use Rattle.urlpat_lines.specs.Flags.{AreFlagsOf, MayHave, RemovesFlag, RemovesFlags, command_of, is_flag};
 
-use crate::words::take_word;
+use crate::words::remove_word;
 
 /// The flag for patterns that ignore case.
 const IGNORE_CASE: &str = "--ignore-case";
@@ -27,13 +27,13 @@ pub struct Flags {
 }
 
 /// Removes the flags that the command has from the arguments.
-pub fn take_flags(words: &mut Vec<String>) -> Flags
-    ensures { TakesFlags words.old.items words.new.items result }
+pub fn remove_flags(words: &mut Vec<String>) -> Flags
+    ensures { RemovesFlags words.old.items words.new.items result }
 {
     let may = flags_of(words);
-    let ignore_case = take_flag(words, may.ignore_case, IGNORE_CASE);
-    let json = take_flag(words, may.json, JSON);
-    let explain_errors = take_flag(words, may.explain_errors, EXPLAIN_ERRORS);
+    let ignore_case = remove_flag(words, may.ignore_case, IGNORE_CASE);
+    let json = remove_flag(words, may.json, JSON);
+    let explain_errors = remove_flag(words, may.explain_errors, EXPLAIN_ERRORS);
     Flags {
         ignore_case,
         json,
@@ -42,10 +42,10 @@ pub fn take_flags(words: &mut Vec<String>) -> Flags
 }
 
 /// Removes a flag from the arguments if the command has it, and returns whether it was there.
-fn take_flag(words: &mut Vec<String>, may: bool, flag: &str) -> bool
-    ensures { TakesFlag may flag.now words.old.items words.new.items result }
+fn remove_flag(words: &mut Vec<String>, may: bool, flag: &str) -> bool
+    ensures { RemovesFlag may flag.now words.old.items words.new.items result }
 {
-    if may { take_word(words, flag) } else { false }
+    if may { remove_word(words, flag) } else { false }
 }
 
 /// The flags that the command among the arguments has.

@@ -13,10 +13,10 @@ mod table;
 mod words;
 
 pub use answers::{LinesError, Rule, Tally, Verdict, answer_lines};
-pub use flags::{Flags, take_flags};
+pub use flags::{Flags, remove_flags};
 pub use help::{asks_for_help, help_of};
 pub use line_filter::{LineMatcher, Outcome, filter_lines, write_answers};
 pub use lines::{LONGEST, read_line, without_end};
 pub use query::{Query, Shape, query_of};
 pub use table::{Entry, NoTable, entries_of};
-pub use words::words_after;
+pub use words::arguments_after;

@@ -2,14 +2,14 @@
 
 ghost use Rattle.std.specs.Prelude.{◌≡◌, IfNone, IfSome, not, bytes_eq, string_bytes};
 ghost use Rattle.std.specs.List.{filter, list_any};
-ghost use Rattle.urlpat_lines.specs.Words.{AreWordsAfter, HasNoneAfter, words_view};
+ghost use Rattle.urlpat_lines.specs.Words.{AreArgumentsAfter, HasNoneAfter, words_view};
 
 use crate::help::asks_for_help;
 
 /// The arguments after a command. `None`: the first argument is another command, or the arguments
 /// ask for help.
-pub fn words_after<'w>(words: &'w [String], command: &str) -> Option<&'w [String]>
-    ensures after { IfSome result (λ rest. AreWordsAfter command.now (words_view words.now) (words_view rest.now)) }
+pub fn arguments_after<'w>(words: &'w [String], command: &str) -> Option<&'w [String]>
+    ensures after { IfSome result (λ rest. AreArgumentsAfter command.now (words_view words.now) (words_view rest.now)) }
     ensures other { IfNone result (HasNoneAfter command.now (words_view words.now)) }
 {
     let [first, rest @ ..] = words else {
@@ -26,7 +26,7 @@ pub fn words_after<'w>(words: &'w [String], command: &str) -> Option<&'w [String
 }
 
 /// Removes each copy of a flag from the arguments, and returns whether there was one.
-pub(crate) fn take_word(words: &mut Vec<String>, word: &str) -> bool
+pub(crate) fn remove_word(words: &mut Vec<String>, word: &str) -> bool
     ensures asked { result ≡ list_any (λ other. bytes_eq word.now (string_bytes other)) words.old.items }
     ensures left { words.new.items ≡ filter (λ other. not (bytes_eq word.now (string_bytes other))) words.old.items }
 {

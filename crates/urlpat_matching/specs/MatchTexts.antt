@@ -3,12 +3,12 @@ use Rattle.std.specs.Prelude.{◌⊎◌, ℕ, All, Bool, true, false, List, Opti
 use Rattle.std.specs.declared.alloc.Global.{Global}
 use Rattle.url.specs.Parts.{Parts}
 use Rattle.urlpat_matching.specs.GroupLines.{AreLines, all_named_results}
-use Rattle.urlpattern_canonical.specs.BaseUrls.{BaseView, IsRefusedUnder, IsUrlOf, IsUrlUnder, base_view}
+use Rattle.urlpattern_canonical.specs.BaseUrls.{BaseView, IsRejectedUnder, IsUrlOf, IsUrlUnder, base_view}
 use Rattle.urlpat_matching.specs.MatchJson.{IsMatchJson}
 use Rattle.urlpat_matching.specs.PatternWords.{IsPatternOf}
 use Rattle.urlpat_lines.specs.declared.flags.Flags.{Flags}
 use Rattle.urlpattern_components.specs.declared.eight.ComponentName.{ComponentName}
-use Rattle.urlpattern_engine.specs.PatternRegexps.{pattern_answer}
+use Rattle.urlpattern_engine.specs.PatternRegexps.{pattern_result}
 use Rattle.urlpattern_engine.specs.declared.pattern_regexp.PatternRegexp.{PatternRegexp}
 use Rattle.urlpattern_init.specs.declared.init.UrlPatternMatchInput.TheVariants as match_inputs
 use Rattle.urlpattern_matches.specs.ResultViews.{ResultView}
@@ -25,7 +25,7 @@ pub record IsMatchTextBy (json : Bool) (compiled : PatternView PatternRegexp) (i
   pub url : Parts
   pub result : ComponentName → ResultView
   pub is_url : IsUrlOf input base url
-  pub is_match : IsMatch pattern_answer compiled (match_inputs.Url url) result
+  pub is_match : IsMatch pattern_result compiled (match_inputs.Url url) result
   pub shows : ShowsMatch json result text
 
 -- The pattern text compiles to a pattern that matches the input, and the text has the captures.
@@ -36,7 +36,7 @@ IsMatchText flags pattern input base text =
 -- The pattern does not match the input: `url` rejects the input, or the pattern has no match on it.
 abbrev pub IsUnmatchedUnder : (compiled : PatternView PatternRegexp) → (input : List ℕ) → BaseView → Type 0
 IsUnmatchedUnder compiled input base =
-    IsRefusedUnder input base ⊎ ((url : Parts) × IsUrlUnder input base url × HasNoMatch pattern_answer compiled (match_inputs.Url url))
+    IsRejectedUnder input base ⊎ ((url : Parts) × IsUrlUnder input base url × HasNoMatch pattern_result compiled (match_inputs.Url url))
 
 -- The pattern does not match the input, under this base URL if there is one.
 abbrev pub IsUnmatchedBy : (compiled : PatternView PatternRegexp) → (input : List ℕ) → (base : Option (List ℕ)) → Type 0
@@ -51,7 +51,7 @@ IsUnmatched ignores pattern input base =
 -- it.
 abbrev pub IsUnmatchedByAllUnder : (compiled : List (PatternView PatternRegexp)) → (input : List ℕ) → BaseView → Type 0
 IsUnmatchedByAllUnder compiled input base =
-    IsRefusedUnder input base ⊎ ((url : Parts) × IsUrlUnder input base url × All (λ pattern. HasNoMatch pattern_answer pattern (match_inputs.Url url)) compiled)
+    IsRejectedUnder input base ⊎ ((url : Parts) × IsUrlUnder input base url × All (λ pattern. HasNoMatch pattern_result pattern (match_inputs.Url url)) compiled)
 
 -- The text of the match of a pattern text. `None`: there is no match.
 abbrev pub FindsMatch : Flags → (pattern input : List ℕ) → (base : Option (List ℕ)) → Option (String Global) → Type 0

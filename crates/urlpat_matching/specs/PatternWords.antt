@@ -1,7 +1,7 @@
 -- The pattern of an argument and its base URL. Arguments are bytes.
 use Rattle.std.specs.Prelude.{ℕ, Bool, false, if◌then◌else◌, List, bytes_eq, codes, Option, None, Some}
 use Rattle.std.specs.Str.{chars}
-use Rattle.urlpattern_compile.specs.FromString.{IsPatternOfText, RefusesPatternOfText}
+use Rattle.urlpattern_compile.specs.FromString.{IsPatternOfText, RejectsPatternOfText}
 use Rattle.urlpattern_engine.specs.PatternRegexps.{pattern_engine}
 use Rattle.urlpattern_engine.specs.declared.pattern_regexp.PatternRegexp.{PatternRegexp}
 use Rattle.urlpattern_inputs.specs.declared.options.UrlPatternOptions.{UrlPatternOptions}
@@ -34,5 +34,5 @@ KeepsPartsOfWord ignores text base pattern = KeepsPartsOfText pattern_engine (ch
 
 -- The constructor string with this base URL is rejected with this error, when it is parsed or
 -- compiled.
-abbrev pub RefusesPatternOf : (ignores : Bool) → (text : List ℕ) → (base : Option (List ℕ)) → ErrorView → Type 0
-RefusesPatternOf ignores text base error = RefusesPatternOfText pattern_engine (chars text) base (pattern_options ignores) error
+abbrev pub RejectsPatternOf : (ignores : Bool) → (text : List ℕ) → (base : Option (List ℕ)) → ErrorView → Type 0
+RejectsPatternOf ignores text base error = RejectsPatternOfText pattern_engine (chars text) base (pattern_options ignores) error

@@ -2,7 +2,7 @@
 //! a URL.
 
 ghost use Rattle.std.specs.Prelude.{◌≡◌, option_copied, IfOk, IfSome};
-ghost use Rattle.urlpattern_canonical.specs.BaseUrls.{IsRefusedText};
+ghost use Rattle.urlpattern_canonical.specs.BaseUrls.{IsRejectedText};
 
 use crate::exit_status::FAILED;
 use std::alloc::Global;
@@ -18,7 +18,7 @@ use urlpattern_syntax::error::OutOfMemory;
 
 /// A note that an input is not a URL. `None`: it is one.
 pub fn note_of(alloc: Global, base: Option<&str>, input: &str) -> Result<Option<String>, Error>
-    ensures { IfOk result (λ note. IfSome note (λ text. IsRefusedText input.now (option_copied base.entry))) }
+    ensures { IfOk result (λ note. IfSome note (λ text. IsRejectedText input.now (option_copied base.entry))) }
 {
     match find_url(alloc, input, base)? {
         Some(url) => {

@@ -5,7 +5,7 @@ ghost use Rattle.std.specs.Prelude.{◌≡◌, ◌++◌, ◌∷◌, [], map, opt
 ghost use Rattle.std.specs.Str.{chars};
 ghost use Rattle.urlpat_matching.specs.GroupLines.{AreGroupLines, AreLines, AreNames, GetsLines, group_bytes, all_named_results, group_line};
 ghost use Rattle.urlpat_matching.specs.MatchTexts.{FindsMatch, FindsMatchBy, ShowsMatch};
-ghost use Rattle.urlpat_matching.specs.PatternWords.{IsPatternOf, KeepsPartsOfWord, RefusesPatternOf, base_of};
+ghost use Rattle.urlpat_matching.specs.PatternWords.{IsPatternOf, KeepsPartsOfWord, RejectsPatternOf, base_of};
 ghost use Rattle.urlpattern_matches.specs.BorrowedMatches.{pattern_captures_view, groups_view};
 ghost use Rattle.urlpattern_components.specs.Eight.{name_text};
 ghost use Rattle.urlpattern_syntax.specs.Errors.{MemoryOr, OnlyOutOfMemory};
@@ -37,7 +37,7 @@ pub fn matched_groups(
     input: &str,
 ) -> Result<Option<String>, Error>
     ensures found { IfOk result (FindsMatch flags pattern.now input.now (base_of base.now)) }
-    ensures refused { IfErr result (MemoryOr (RefusesPatternOf flags.ignore_case pattern.now (base_of base.now))) }
+    ensures refused { IfErr result (MemoryOr (RejectsPatternOf flags.ignore_case pattern.now (base_of base.now))) }
 {
     let base = base_of(base);
     let pattern = compiled(alloc, pattern, base, flags.ignore_case)?;
@@ -64,7 +64,7 @@ pub fn compiled(
 ) -> Result<UrlPattern<PatternRegexp>, Error>
     ensures compiled { IfOk result (λ compiled. IsPatternOf ignore_case pattern.now (option_copied base.entry) (pattern_view compiled)) }
     ensures kept { IfOk result (KeepsPartsOfWord ignore_case pattern.now (option_copied base.entry)) }
-    ensures refused { IfErr result (MemoryOr (RefusesPatternOf ignore_case pattern.now (option_copied base.entry))) }
+    ensures refused { IfErr result (MemoryOr (RejectsPatternOf ignore_case pattern.now (option_copied base.entry))) }
 {
     let options = UrlPatternOptions {
         regex_syntax: RegexSyntax::Rust,

@@ -6,7 +6,7 @@ use Rattle.std.specs.Option.{option_or, option_to_list}
 use Rattle.std.specs.Prelude.{All, MatchOption, None, Option, Some, slice_get}
 use Rattle.std.specs.Prelude.{Err, Ok, OnOk, Result, if◌then◌else◌}
 use Rattle.std.specs.Result.{is_ok}
-use Rattle.urlpat_rules.specs.Doubts.{AreDoubts, HasDoubts, IsDoubtAbout, IsDoubtAt, IsParted, TellsDoubts}
+use Rattle.urlpat_rules.specs.Doubts.{AreDoubts, HasDoubts, IsDoubtAbout, IsDoubtAt, IsParted, PrintsDoubts}
 use Rattle.urlpat_rules.specs.UnreachedLines.{ArePartsOfEach}
 use Rattle.urlpat_lines.specs.Tables.{EntryView, entries_view, table_entries}
 use Rattle.urlpat_lines.specs.declared.table.Entry.{Entry}
@@ -113,14 +113,14 @@ line-pushed (Ok x) old new piece line grown is = grown ∙ ap (λ added. old ++ 
 pub has-doubts : (table : List ℕ) (base : Option (List ℕ)) (items first second : List Entry)
     (patterns shown : List PatternParts) (text : List ℕ)
     → entries_view items ≡ table_entries table → first ≡ items → second ≡ items → shown ≡ patterns
-    → ArePartsOfEach base (entries_view first) patterns → TellsDoubts shown (entries_view second) text
+    → ArePartsOfEach base (entries_view first) patterns → PrintsDoubts shown (entries_view second) text
     → 0 < length text → HasDoubts table base
 has-doubts table base items first second patterns shown text are one two same parts tells some = (
   patterns,
   subst (λ (es : List EntryView). ArePartsOfEach base es patterns) (ap entries_view one ∙ are) parts,
   text,
-  subst (λ (es : List EntryView). TellsDoubts patterns es text) (ap entries_view two ∙ are)
-      (subst (λ (ps : List PatternParts). TellsDoubts ps (entries_view second) text) same tells),
+  subst (λ (es : List EntryView). PrintsDoubts patterns es text) (ap entries_view two ∙ are)
+      (subst (λ (ps : List PatternParts). PrintsDoubts ps (entries_view second) text) same tells),
   some,
 )
 

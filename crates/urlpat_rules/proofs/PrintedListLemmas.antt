@@ -8,7 +8,7 @@ use Rattle.std.specs.Io.KnownBytes.{Appends}
 use Rattle.std.specs.declared.alloc.Global.{Global}
 use Rattle.urlpat_lines.specs.Words.{words_view}
 use Rattle.urlpat_matching.specs.Status.{status_of}
-use Rattle.urlpat_rules.specs.PrintedCoverings.{ArePartsOf, ComparesWith, TellsCovering, TellsWhether}
+use Rattle.urlpat_rules.specs.PrintedCoverings.{ArePartsOf, ComparesWith, PrintsCovering, PrintsWhether}
 use Rattle.urlpat_rules.specs.UnreachedLines.{ArePartsOfEach, AreUnreachedLines, ListsOf}
 use Rattle.urlpat_lines.specs.Tables.{EntryView, entries_view, entry_view, table_entries}
 use Rattle.urlpat_lines.specs.declared.table.Entry.{Entry}
@@ -35,9 +35,9 @@ parts-more base entries index none patterns next parts within is_next are is =
 -- ---- output
 
 pub tells-whether : (words : List (String Global)) (pattern asked : String Global) (covering : PatternCovering) (status : ℕ) (old new : Option (List ℕ)) → words ≡ pattern ∷ asked ∷ []
-    → ComparesWith (string_bytes pattern) (string_bytes asked) covering → TellsCovering covering status old new → TellsWhether (words_view words) status old new
+    → ComparesWith (string_bytes pattern) (string_bytes asked) covering → PrintsCovering covering status old new → PrintsWhether (words_view words) status old new
 tells-whether words pattern asked covering status old new are compares tells =
-    subst (λ ws. TellsWhether (words_view ws) status old new) (sym are) (covering, compares, tells)
+    subst (λ ws. PrintsWhether (words_view ws) status old new) (sym are) (covering, compares, tells)
 
 -- The output for a table's entries is that for the table.
 pub lists-of : (table : List ℕ) (base : Option (List ℕ)) (items first second : List Entry) (patterns shown : List PatternParts) (text : List ℕ) (status : ℕ) (old new : Option (List ℕ))

@@ -73,8 +73,8 @@ doubt_line entries doubt =
     ++ codes " " ++ reason_text doubt.reason ++ codes "\n"
 
 -- A line for each doubt.
-abbrev pub TellsDoubts : List PatternParts → List EntryView → (text : List ℕ) → Type 0
-TellsDoubts patterns entries text =
+abbrev pub PrintsDoubts : List PatternParts → List EntryView → (text : List ℕ) → Type 0
+PrintsDoubts patterns entries text =
     (found : List Doubt) × AreDoubts patterns (length patterns) found
     × (text ≡ flat_map (doubt_line entries) found)
 
@@ -82,7 +82,7 @@ TellsDoubts patterns entries text =
 abbrev pub HasDoubts : (table : List ℕ) → (base : Option (List ℕ)) → Type 0
 HasDoubts table base =
     (patterns : List PatternParts) × ArePartsOfEach base (table_entries table) patterns
-    × (text : List ℕ) × TellsDoubts patterns (table_entries table) text × (0 < length text)
+    × (text : List ℕ) × PrintsDoubts patterns (table_entries table) text × (0 < length text)
 
 -- The table that the arguments of `unreachable` name has patterns in doubt. `Has` says which file
 -- has which table.

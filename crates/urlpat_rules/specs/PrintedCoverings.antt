@@ -43,13 +43,13 @@ abbrev pub parting_lines : Parting → List ℕ
 parting_lines parting = codes "not covered: " ++ name_text parting.component ++ codes "\n" ++ text_lines parting.texts
 
 -- The output and the exit status. If it is not known, the run fails.
-abbrev pub TellsCovering : PatternCovering → (status : ℕ) → (old new : Option (List ℕ)) → Type 0
-TellsCovering Covered status old new = (status ≡ 0) × Appends old new (codes "covered\n")
-TellsCovering (NotCovered parting) status old new = (status ≡ 1) × Appends old new (parting_lines parting)
-TellsCovering (Unknown component reason) status old new = ⊥
+abbrev pub PrintsCovering : PatternCovering → (status : ℕ) → (old new : Option (List ℕ)) → Type 0
+PrintsCovering Covered status old new = (status ≡ 0) × Appends old new (codes "covered\n")
+PrintsCovering (NotCovered parting) status old new = (status ≡ 1) × Appends old new (parting_lines parting)
+PrintsCovering (Unknown component reason) status old new = ⊥
 
 -- The output and the exit status for the arguments of `covers`.
-abbrev pub TellsWhether : (words : List (List ℕ)) → (status : ℕ) → (old new : Option (List ℕ)) → Type 0
-TellsWhether (pattern ∷ asked ∷ []) status old new =
-    (covering : PatternCovering) × ComparesWith pattern asked covering × TellsCovering covering status old new
-TellsWhether words status old new = ⊥
+abbrev pub PrintsWhether : (words : List (List ℕ)) → (status : ℕ) → (old new : Option (List ℕ)) → Type 0
+PrintsWhether (pattern ∷ asked ∷ []) status old new =
+    (covering : PatternCovering) × ComparesWith pattern asked covering × PrintsCovering covering status old new
+PrintsWhether words status old new = ⊥

@@ -33,7 +33,7 @@ use Rattle.urlpattern.specs.UrlPattern.{UrlPattern}
 use Rattle.urlpattern.specs.UrlPatternMatchInput.TheVariants as match_inputs
 use Rattle.urlpattern_components.specs.declared.eight.ComponentName.{ComponentName}
 use Rattle.urlpattern_inputs.specs.Trees.{object_of}
-use Rattle.urlpattern_engine.specs.PatternRegexps.{pattern_answer}
+use Rattle.urlpattern_engine.specs.PatternRegexps.{pattern_result}
 use Rattle.urlpattern_engine.specs.declared.pattern_regexp.PatternRegexp.{PatternRegexp}
 
 -- Patterns, each with an entry of a table.
@@ -93,7 +93,7 @@ pub record IsRouted (json : Bool) (routes : Routes) (base : BaseView) (text row 
   pub result : ComponentName → ResultView
   pub entry : Entry
   pub is_url : IsUrlUnder text base url
-  pub is_first : IsFirstMatch pattern_answer (entry_patterns routes) (match_inputs.Url url) (Some (index, result))
+  pub is_first : IsFirstMatch pattern_result (entry_patterns routes) (match_inputs.Url url) (Some (index, result))
   pub is_there : slice_get (values_of routes) index ≡ Some entry
   pub shows : IsRowShown json (entry_view entry) result row
 

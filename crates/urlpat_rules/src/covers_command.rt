@@ -3,7 +3,7 @@
 ghost use Rattle.std.specs.Io.KnownBytes.{Appends};
 ghost use Rattle.std.specs.Prelude.{◌≡◌, ◌≢◌, ◌⊎◌, ◌++◌, string_bytes, IfOk, IfSome, OnOk, None};
 ghost use Rattle.urlpat_lines.specs.Words.{words_view};
-ghost use Rattle.urlpat_rules.specs.PrintedCoverings.{ArePartsOf, ComparesWith, TellsCovering, TellsWhether, parting_lines, text_lines};
+ghost use Rattle.urlpat_rules.specs.PrintedCoverings.{ArePartsOf, ComparesWith, PrintsCovering, PrintsWhether, parting_lines, text_lines};
 
 use crate::doubt_reason::reason_text;
 use crate::text_parts::parts_of_text;
@@ -24,7 +24,7 @@ pub fn covers<Out: Write, Err: Write>(
     err: &mut Err,
 ) -> u8
     ensures status { (result ≡ DONE) ⊎ (result ≡ NO_MATCH) ⊎ (result ≡ FAILED) }
-    ensures answers { result ≢ FAILED → TellsWhether (words_view words.now) result (Out.contents out.old) (Out.contents out.new) }
+    ensures answers { result ≢ FAILED → PrintsWhether (words_view words.now) result (Out.contents out.old) (Out.contents out.new) }
 {
     let [pattern, asked] = words else {
         let _ = err.write_all(COVERS_USAGE.as_bytes());
@@ -33,7 +33,7 @@ pub fn covers<Out: Write, Err: Write>(
     let Some(covering) = compared(alloc, pattern, asked, err) else {
         return FAILED;
     };
-    let status = tell(alloc, &covering, out, err);
+    let status = print_covering(alloc, &covering, out, err);
     drop(covering);
     status
 }
@@ -81,21 +81,21 @@ fn parts_or_report<Err: Write>(alloc: Global, text: &str, err: &mut Err) -> Opti
 
 /// Writes whether a pattern covers another, or reports that it is not known. Returns the exit
 /// status.
-fn tell<Out: Write, Err: Write>(
+fn print_covering<Out: Write, Err: Write>(
     alloc: Global,
     covering: &PatternCovering,
     out: &mut Out,
     err: &mut Err,
 ) -> u8
     ensures status { (result ≡ DONE) ⊎ (result ≡ NO_MATCH) ⊎ (result ≡ FAILED) }
-    ensures answers { result ≢ FAILED → TellsCovering covering.now result (Out.contents out.old) (Out.contents out.new) }
+    ensures answers { result ≢ FAILED → PrintsCovering covering.now result (Out.contents out.old) (Out.contents out.new) }
 {
     match covering {
         PatternCovering::Covered => match print(b"covered\n", out) {
             Ok(()) => DONE,
             Err(_) => FAILED,
         },
-        PatternCovering::NotCovered(parting) => tell_parting(alloc, parting, out, err),
+        PatternCovering::NotCovered(parting) => print_difference(alloc, parting, out, err),
         PatternCovering::Unknown(component, reason) => {
             report_unknown(*component, *reason, err);
             FAILED
@@ -105,7 +105,7 @@ fn tell<Out: Write, Err: Write>(
 
 /// Writes the component in which two patterns differ, and texts that only the asked one matches.
 /// Returns the exit status.
-fn tell_parting<Out: Write, Err: Write>(
+fn print_difference<Out: Write, Err: Write>(
     alloc: Global,
     parting: &Parting,
     out: &mut Out,
@@ -114,7 +114,7 @@ fn tell_parting<Out: Write, Err: Write>(
     ensures status { (result ≡ NO_MATCH) ⊎ (result ≡ FAILED) }
     ensures answers { result ≢ FAILED → Appends (Out.contents out.old) (Out.contents out.new) (parting_lines parting.now) }
 {
-    let Ok(text) = parting_text(alloc, parting) else {
+    let Ok(text) = difference_text(alloc, parting) else {
         let _ = err.write_all(b"out of memory\n");
         return FAILED;
     };
@@ -125,7 +125,7 @@ fn tell_parting<Out: Write, Err: Write>(
 }
 
 /// A line with the component in which two patterns differ, and one with the text of each component.
-fn parting_text(alloc: Global, parting: &Parting) -> Result<String, AllocError>
+fn difference_text(alloc: Global, parting: &Parting) -> Result<String, AllocError>
     ensures { IfOk result (λ text. string_bytes text ≡ parting_lines parting.now) }
 {
     let mut text = String::from_str(alloc, "not covered: ")?;

@@ -2,7 +2,7 @@
 
 ghost use Rattle.std.specs.Prelude.{◌≡◌, ◌++◌, length, string_bytes, IfOk, OnOk};
 ghost use Rattle.std.specs.Option.{option_to_list};
-ghost use Rattle.urlpat_rules.specs.Doubts.{AreDoubts, IsDoubtAbout, TellsDoubts, doubt_line};
+ghost use Rattle.urlpat_rules.specs.Doubts.{AreDoubts, IsDoubtAbout, PrintsDoubts, doubt_line};
 ghost use Rattle.urlpat_lines.specs.Tables.{entries_view};
 
 use crate::doubt_reason::reason_text;
@@ -32,7 +32,7 @@ pub fn doubts_text(
     patterns: &[PatternParts],
 ) -> Result<String, AllocError>
     ensures { IfOk result (λ text.
-        TellsDoubts patterns.now (entries_view entries.now) (string_bytes text)) }
+        PrintsDoubts patterns.now (entries_view entries.now) (string_bytes text)) }
 {
     let found = doubts(alloc, patterns)?;
     let mut text = String::new(alloc);

@@ -3,7 +3,7 @@
 ghost use Rattle.std.specs.Prelude.{◌≡◌, ◌≢◌, ◌⊎◌, ◌++◌, length, map, nat_lt, string_bytes, option_copied, IfOk, IfSome, OnOk};
 ghost use Rattle.urlpat_lines.specs.Words.{words_view};
 ghost use Rattle.urlpat_matching.specs.Status.{status_of};
-ghost use Rattle.urlpat_rules.specs.Doubts.{HasDoubts, LeaveDoubts, TellsDoubts};
+ghost use Rattle.urlpat_rules.specs.Doubts.{HasDoubts, LeaveDoubts, PrintsDoubts};
 ghost use Rattle.urlpat_rules.specs.UnreachedLines.{ArePartsOfEach, AreUnreachedLines, Lists, ListsOf, number_at, unreached_line};
 ghost use Rattle.urlpat_lines.specs.Tables.{entries_view};
 
@@ -40,14 +40,14 @@ pub fn list_unreachable<T: Tables, Out: Write, Err: Write>(
     let Some(table) = read_table(tables, name, err) else {
         return FAILED;
     };
-    let status = tell_unreachable(alloc, &table, base, out, err);
+    let status = print_unreachable(alloc, &table, base, out, err);
     drop(table);
     status
 }
 
 /// Writes the patterns of a table that an earlier one covers, and reports those for which it is not
 /// known. Returns the exit status.
-fn tell_unreachable<Out: Write, Err: Write>(
+fn print_unreachable<Out: Write, Err: Write>(
     alloc: Global,
     table: &[u8],
     base: Option<&str>,
@@ -91,7 +91,7 @@ fn texts_of(
     ensures unreached { IfOk result (λ texts.
         AreUnreachedLines patterns.now (entries_view entries.now) (string_bytes texts.0)) }
     ensures doubts { IfOk result (λ texts.
-        TellsDoubts patterns.now (entries_view entries.now) (string_bytes texts.1)) }
+        PrintsDoubts patterns.now (entries_view entries.now) (string_bytes texts.1)) }
 {
     let text = unreached_text(alloc, entries, patterns)?;
     let doubts = doubts_text(alloc, entries, patterns)?;

@@ -11,9 +11,9 @@ use Rattle.urlpattern_index.specs.FixedTexts.{FixedTexts, HasTexts, IsText}
 use Rattle.urlpattern_index.specs.Keys.{Hashes, form_key, hashes_of}
 use Rattle.urlpattern_index.specs.Listed.{Finds, GetsPattern, Listing}
 use Rattle.urlpattern_components.specs.declared.eight.ComponentName.TheVariants.{Hostname, Pathname, Protocol}
-use Rattle.urlpattern_meaning.specs.Matching.{Answers, IsMatched, MatcherView}
+use Rattle.urlpattern_meaning.specs.Matching.{Returns, IsMatched, MatcherView}
 use Rattle.urlpattern_meaning.specs.PartMeaning.{Captures}
-use Rattle.urlpattern_pattern.specs.Match.{IsRefused}
+use Rattle.urlpattern_pattern.specs.Match.{DoesNotMatch}
 use Rattle.urlpattern_pattern.specs.Patterns.{PatternView, pattern_view}
 use Rattle.urlpattern_pattern.specs.UrlPatterns.{UrlPattern}
 use Rattle.urlpattern.specs.PatternKeys.{AreFixed, AreIndexed, address_of}
@@ -31,13 +31,13 @@ same_or_not xs ys = same_cases xs ys (bytes_eq xs ys) refl
 module _ {E : Type 0} (answer : E → List ℕ → Option Captures) where
   -- A text is the fixed text, if there is one, or the matcher does not match it.
   text-cases : (matcher : MatcherView E) (fixed : Option (List ℕ)) (given : List ℕ) → ((text : List ℕ) → IsMatched answer matcher text → IsText fixed text)
-      → IsText fixed given ⊎ Answers answer matcher given None
+      → IsText fixed given ⊎ Returns answer matcher given None
   text-cases matcher None given are = inl tt
   text-cases matcher (Some text) given are =
       elim (same_or_not given text) [ inl same ↦ inl same | inr other ↦ inr (λ captures matches. other (are given (captures, matches))) ]
 
   -- A pattern does not match texts that lack its fixed texts.
-  fixed-refused : (pattern : PatternView E) (fixed : FixedTexts) (texts : Texts) → AreFixed answer pattern fixed → ¬ HasTexts fixed (address_of texts) → IsRefused answer pattern texts
+  fixed-refused : (pattern : PatternView E) (fixed : FixedTexts) (texts : Texts) → AreFixed answer pattern fixed → ¬ HasTexts fixed (address_of texts) → DoesNotMatch answer pattern texts
   fixed-refused pattern fixed texts are other =
       elim (text-cases (pattern Protocol).matcher fixed.protocol texts.protocol are.protocol) [
         | inr refused ↦ (Protocol, refused)
@@ -93,7 +93,7 @@ module _ {E : Type 0} (answer : E → List ℕ → Option Captures) (patterns : 
     as_many = appends.one_more ∙ ap (λ n. n + 1) are.as_many ∙ sym (length_push patterns pattern);
     refuses = λ number other is texts missed. elim (got_more patterns pattern other number is) [
       | inl earlier ↦ are.refuses number other earlier texts (λ finds. missed (appends.others (hashes_of (address_of texts)) number finds))
-      | inr last ↦ subst (λ (p : UrlPattern E). IsRefused answer (pattern_view p) texts) last.1 (fixed-refused answer (pattern_view pattern) fixed texts is_fixed
+      | inr last ↦ subst (λ (p : UrlPattern E). DoesNotMatch answer (pattern_view p) texts) last.1 (fixed-refused answer (pattern_view pattern) fixed texts is_fixed
           (λ has. missed (subst (λ n. Finds new (hashes_of (address_of texts)) n) (are.as_many ∙ sym last.0) (appends.found (address_of texts) has))))
     ];
   }

@@ -8,7 +8,7 @@ use Rattle.urlpattern_components.specs.declared.eight.ComponentName.{ComponentNa
 use Rattle.urlpattern_meaning.specs.PartMeaning.{Captures}
 use Rattle.urlpattern_pattern.proofs.MatchLaws.{refused-unmatched}
 use Rattle.urlpattern.specs.FirstMatch.{IsFirstMatch, IsFirstMatchOf}
-use Rattle.urlpattern_pattern.specs.Match.{HasMatch, HasNoMatch, IsMatchOf, IsRefused}
+use Rattle.urlpattern_pattern.specs.Match.{HasMatch, HasNoMatch, IsMatchOf, DoesNotMatch}
 use Rattle.urlpattern_matches.specs.ResultViews.{ResultView}
 use Rattle.urlpattern_matches.specs.MatchInput.{input_texts}
 use Rattle.urlpattern_pattern.specs.Patterns.{PatternView}
@@ -42,9 +42,9 @@ module _ {E : Type 0} (answer : E → List ℕ → Option Captures) (patterns : 
       → IfOk result (λ found. IsFirstMatch answer patterns input (option_map (λ first. (first.0, view first.1)) found))
   first-of_texts view texts (Ok (Some first)) are_texts ((pattern, is_there, is_match), others) = (
     (pattern, is_there, (texts, are_texts, is_match)),
-    All-weaker (λ earlier. IsRefused answer earlier texts) (λ earlier. ¬ HasMatch answer earlier input)
+    All-weaker (λ earlier. DoesNotMatch answer earlier texts) (λ earlier. ¬ HasMatch answer earlier input)
         (λ earlier refused. refused-unmatched answer earlier input texts are_texts refused) (take first.0 patterns) others,
   )
   first-of_texts view texts (Ok None) are_texts refused =
-      All-weaker (λ pattern. IsRefused answer pattern texts) (λ pattern. HasNoMatch answer pattern input) (λ pattern refused. inr (texts, are_texts, refused)) patterns refused
+      All-weaker (λ pattern. DoesNotMatch answer pattern texts) (λ pattern. HasNoMatch answer pattern input) (λ pattern refused. inr (texts, are_texts, refused)) patterns refused
   first-of_texts view texts (Err error) are_texts h = tt

@@ -7,7 +7,7 @@ use Rattle.urlpattern_matches.specs.declared.captures.UrlPatternCaptures.{UrlPat
 use Rattle.urlpattern_matches.specs.declared.result.UrlPatternResult.{UrlPatternResult}
 use Rattle.urlpattern_matches.specs.BorrowedMatches.{groups_view, pattern_captures_view}
 use Rattle.urlpattern_pattern.specs.Patterns.{PatternView, pattern_view}
-use Rattle.urlpattern_pattern.specs.Match.{AreGroupsInOrder, AreMatched, AsksAnEngine, HasMatch, HasNoMatch, IsMatch, IsMatchOf, IsRefused}
+use Rattle.urlpattern_pattern.specs.Match.{AreGroupsInOrder, AreMatched, CallsAnEngine, HasMatch, HasNoMatch, IsMatch, IsMatchOf, DoesNotMatch}
 use Rattle.urlpattern_matches.specs.ResultViews.{ResultView, result_view}
 use Rattle.urlpattern_meaning.specs.PartMeaning.{Captures}
 use Rattle.urlpattern_components.specs.Eight.{Texts}
@@ -41,8 +41,8 @@ IsFirstMatch answer patterns input None = All (λ pattern. HasNoMatch answer pat
 abbrev pub IsFirstMatchOf : {E : Type 0} → (answer : E → List ℕ → Option Captures) → List (PatternView E) → Texts → Option FirstView → Type 0
 IsFirstMatchOf {E} answer patterns texts (Some first) =
     ((pattern : PatternView E) × (slice_get patterns first.0 ≡ Some pattern) × IsMatchOf answer pattern texts first.1)
-    × All (λ earlier. IsRefused answer earlier texts) (take first.0 patterns)
-IsFirstMatchOf answer patterns texts None = All (λ pattern. IsRefused answer pattern texts) patterns
+    × All (λ earlier. DoesNotMatch answer earlier texts) (take first.0 patterns)
+IsFirstMatchOf answer patterns texts None = All (λ pattern. DoesNotMatch answer pattern texts) patterns
 
 -- `IsFirstMatchOf` for a borrowed match.
 abbrev pub IsFirstCaptured : {E : Type 0} → (answer : E → List ℕ → Option Captures) → List (PatternView E) → Texts → Option (ℕ × UrlPatternCaptures) → Type 0
@@ -55,14 +55,14 @@ HasGroupsInOrder {E} answer patterns texts found =
     × AreGroupsInOrder answer pattern texts (groups_view first.1))
 
 -- A pattern calls an engine for eight texts, and no earlier pattern matches them.
-abbrev pub AsksBeforeMatch : {E : Type 0} → (answer : E → List ℕ → Option Captures) → List (PatternView E) → Texts → Type 0
-AsksBeforeMatch {E} answer patterns texts =
+abbrev pub CallsEngineBeforeMatch : {E : Type 0} → (answer : E → List ℕ → Option Captures) → List (PatternView E) → Texts → Type 0
+CallsEngineBeforeMatch {E} answer patterns texts =
     (index : ℕ) × (pattern : PatternView E) × (slice_get patterns index ≡ Some pattern)
-    × AsksAnEngine answer pattern texts
-    × All (λ earlier. IsRefused answer earlier texts) (take index patterns)
+    × CallsAnEngine answer pattern texts
+    × All (λ earlier. DoesNotMatch answer earlier texts) (take index patterns)
 
 -- A match may be copied: an engine is called before, or a pattern matches the texts.
 abbrev pub CopiesFirstMatch : {E : Type 0} → (answer : E → List ℕ → Option Captures) → List (PatternView E) → Texts → Type 0
 CopiesFirstMatch {E} answer patterns texts =
-    AsksBeforeMatch answer patterns texts
+    CallsEngineBeforeMatch answer patterns texts
     ⊎ ((index : ℕ) × (pattern : PatternView E) × (slice_get patterns index ≡ Some pattern) × AreMatched answer pattern texts)

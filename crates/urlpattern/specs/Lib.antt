@@ -19,7 +19,7 @@ pub use Rattle.urlpattern_laws.specs.Folded
 pub use Rattle.urlpattern_laws.specs.Outcomes
 pub use Rattle.urlpattern_laws.specs.PatternLaws
 pub use Rattle.urlpattern_meaning.specs.Dialect
-pub use Rattle.urlpattern_meaning.specs.FirstAnswers
+pub use Rattle.urlpattern_meaning.specs.FirstResults
 pub use Rattle.urlpattern_meaning.specs.Laws
 pub use Rattle.urlpattern_meaning.specs.LawsOfMeaning
 pub use Rattle.urlpattern_meaning.specs.LawsOfReading
@@ -75,7 +75,7 @@ pub use Rattle.urlpattern_syntax.specs.Stops
 pub use Rattle.urlpattern_syntax.specs.Text
 pub use Rattle.urlpattern_syntax.specs.Tokens
 pub use Rattle.urlpattern_generate.specs.GenerateErrorText
-pub use Rattle.urlpattern_generate.specs.Manners
+pub use Rattle.urlpattern_generate.specs.WriteSettings
 pub use Rattle.urlpattern_generate.specs.NoLinkText
 pub use Rattle.urlpattern_engine.specs.EcmaRegexps
 pub use Rattle.urlpattern_engine.specs.PatternRegexps

@@ -9,21 +9,21 @@ use Rattle.urlpattern_matches.specs.declared.captures.UrlPatternCaptures.{UrlPat
 use Rattle.urlpattern_matches.specs.BorrowedMatches.{pattern_captures_view}
 use Rattle.urlpattern_matches.specs.GroupTexts.{borrowed_texts}
 use Rattle.urlpattern_pattern.specs.Patterns.{PatternView}
-use Rattle.urlpattern_pattern.specs.Match.{AsksAnEngine, IsMatchOf, IsRefused}
+use Rattle.urlpattern_pattern.specs.Match.{CallsAnEngine, IsMatchOf, DoesNotMatch}
 use Rattle.urlpattern_syntax.specs.declared.error.Error.{Error}
 use Rattle.urlpattern_syntax.specs.declared.error.Error.TheVariants as errors
 use Rattle.urlpattern_components.specs.Eight.{Texts}
 
 -- No pattern from one index up to another (exclusive) matches eight texts.
-abbrev pub AreRefusedBetween : {E : Type 0} → (answer : E → List ℕ → Option Captures) → List (PatternView E) → Texts → (from end : ℕ) → Type 0
-AreRefusedBetween {E} answer patterns texts from end =
-    (index : ℕ) (pattern : PatternView E) → from ≤ index → index < end → slice_get patterns index ≡ Some pattern → IsRefused answer pattern texts
+abbrev pub NoneMatchBetween : {E : Type 0} → (answer : E → List ℕ → Option Captures) → List (PatternView E) → Texts → (from end : ℕ) → Type 0
+NoneMatchBetween {E} answer patterns texts from end =
+    (index : ℕ) (pattern : PatternView E) → from ≤ index → index < end → slice_get patterns index ≡ Some pattern → DoesNotMatch answer pattern texts
 
 -- No pattern from an index up to the one that is found, or up to the end, matches eight texts with
 -- these hashes.
-abbrev pub PassesRefused : {E : Type 0} → (answer : E → List ℕ → Option Captures) → List (PatternView E) → Hashes → (from : ℕ) → (found : Option ℕ) → Type 0
-PassesRefused answer patterns hashes from found =
-    (texts : Texts) → hashes ≡ hashes_of (address_of texts) → AreRefusedBetween answer patterns texts from (unwrap_or found (length patterns))
+abbrev pub SkipsOnlyMismatches : {E : Type 0} → (answer : E → List ℕ → Option Captures) → List (PatternView E) → Hashes → (from : ℕ) → (found : Option ℕ) → Type 0
+SkipsOnlyMismatches answer patterns hashes from found =
+    (texts : Texts) → hashes ≡ hashes_of (address_of texts) → NoneMatchBetween answer patterns texts from (unwrap_or found (length patterns))
 
 -- The least index, not below `from`, whose pattern matches eight texts, and the match. `None` if no
 -- such pattern matches.
@@ -31,19 +31,19 @@ abbrev pub IsFirstMatchFrom : {E : Type 0} → (answer : E → List ℕ → Opti
 IsFirstMatchFrom {E} answer patterns texts from (Some first) =
     (from ≤ first.0)
     × ((pattern : PatternView E) × (slice_get patterns first.0 ≡ Some pattern) × IsMatchOf answer pattern texts first.1)
-    × AreRefusedBetween answer patterns texts from first.0
-IsFirstMatchFrom answer patterns texts from None = AreRefusedBetween answer patterns texts from (length patterns)
+    × NoneMatchBetween answer patterns texts from first.0
+IsFirstMatchFrom answer patterns texts from None = NoneMatchBetween answer patterns texts from (length patterns)
 
 -- `IsFirstMatchFrom` for a borrowed match.
 abbrev pub IsFirstCapturedFrom : {E : Type 0} → (answer : E → List ℕ → Option Captures) → List (PatternView E) → Texts → (from : ℕ) → Option (ℕ × UrlPatternCaptures) → Type 0
 IsFirstCapturedFrom answer patterns texts from found = IsFirstMatchFrom answer patterns texts from (first_captures_view found)
 
 -- A pattern at `from` or later calls an engine, and none of those from `from` on before it matches.
-abbrev pub AsksBeforeMatchFrom : {E : Type 0} → (answer : E → List ℕ → Option Captures) → List (PatternView E) → Texts → (from : ℕ) → Type 0
-AsksBeforeMatchFrom {E} answer patterns texts from =
+abbrev pub CallsEngineBeforeMatchFrom : {E : Type 0} → (answer : E → List ℕ → Option Captures) → List (PatternView E) → Texts → (from : ℕ) → Type 0
+CallsEngineBeforeMatchFrom {E} answer patterns texts from =
     (index : ℕ) × (pattern : PatternView E) × (from ≤ index) × (slice_get patterns index ≡ Some pattern)
-    × AsksAnEngine answer pattern texts
-    × AreRefusedBetween answer patterns texts from index
+    × CallsAnEngine answer pattern texts
+    × NoneMatchBetween answer patterns texts from index
 
 -- The remaining matches of a list: those by patterns from an index on.
 pub record MatchesLeft (E : Type 0) : Type 0 where
@@ -57,10 +57,10 @@ matches_left matches = record { patterns = patterns_view matches.list.now; texts
 
 -- Taking an item: the first of the remaining matches, after which those by later patterns
 -- remain; or an error because memory ran out, after which none remain.
-abbrev pub TakesMatch : {E : Type 0} → (answer : E → List ℕ → Option Captures) → MatchesLeft E → Option (Result (ℕ × UrlPatternCaptures) Error) → MatchesLeft E → Type 0
-TakesMatch answer old (Some (Ok first)) new =
+abbrev pub YieldsMatch : {E : Type 0} → (answer : E → List ℕ → Option Captures) → MatchesLeft E → Option (Result (ℕ × UrlPatternCaptures) Error) → MatchesLeft E → Type 0
+YieldsMatch answer old (Some (Ok first)) new =
     IsFirstMatchFrom answer old.patterns old.texts old.from (Some (first.0, pattern_captures_view first.1))
     × HasGroupsInOrder answer old.patterns old.texts (Some first) × (new ≡ record old { from = first.0 + 1 })
-TakesMatch answer old (Some (Err error)) new =
-    (error ≡ errors.OutOfMemory) × AsksBeforeMatchFrom answer old.patterns old.texts old.from × (new ≡ record old { from = length old.patterns })
-TakesMatch answer old None new = IsFirstMatchFrom answer old.patterns old.texts old.from None × (new ≡ old)
+YieldsMatch answer old (Some (Err error)) new =
+    (error ≡ errors.OutOfMemory) × CallsEngineBeforeMatchFrom answer old.patterns old.texts old.from × (new ≡ record old { from = length old.patterns })
+YieldsMatch answer old None new = IsFirstMatchFrom answer old.patterns old.texts old.from None × (new ≡ old)

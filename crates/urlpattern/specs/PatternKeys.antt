@@ -8,7 +8,7 @@ use Rattle.urlpattern_components.specs.declared.eight.ComponentName.TheVariants.
 use Rattle.urlpattern_components.specs.Eight.{Texts}
 use Rattle.urlpattern_meaning.specs.Matching.{IsMatched}
 use Rattle.urlpattern_meaning.specs.PartMeaning.{Captures}
-use Rattle.urlpattern_pattern.specs.Match.{IsRefused}
+use Rattle.urlpattern_pattern.specs.Match.{DoesNotMatch}
 use Rattle.urlpattern_pattern.specs.Patterns.{PatternView, pattern_view}
 use Rattle.urlpattern_pattern.specs.UrlPatterns.{UrlPattern}
 
@@ -27,4 +27,4 @@ address_of texts = record { protocol = texts.protocol; hostname = texts.hostname
 pub record AreIndexed {E : Type 0} (answer : E → List ℕ → Option Captures) (patterns : List (UrlPattern E)) (index : Listing) : Type 0 where
   pub as_many : length index.keys ≡ length patterns
   pub refuses : (number : ℕ) (pattern : UrlPattern E) → slice_get patterns number ≡ Some pattern →
-      (texts : Texts) → ¬ Finds index (hashes_of (address_of texts)) number → IsRefused answer (pattern_view pattern) texts
+      (texts : Texts) → ¬ Finds index (hashes_of (address_of texts)) number → DoesNotMatch answer (pattern_view pattern) texts

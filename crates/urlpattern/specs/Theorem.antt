@@ -1,17 +1,17 @@
 -- The clauses of the main theorem, some of which are those of laws. An encoding is any list of
 -- texts with their results.
 use Rattle.std.specs.Prelude.{⊤, ℕ, false, List, Option}
-use Rattle.urlpattern_matcher.specs.{Components.FlagsAgree, Components.IsEngineOf, Regexes.regex_engine, FirstWays.EachAnswersFirst}
+use Rattle.urlpattern_matcher.specs.{Components.FlagsAgree, Components.IsEngineOf, Regexes.regex_engine, FirstWays.EachReturnsFirst}
 use Rattle.urlpattern_matcher.specs.declared.regexp.RegExp.{Ghosts as Engine}
-use Rattle.urlpattern_laws.specs.LawsOfTexts.{CapturesAreAsNames, HasNumbers, MatchersCapture, TookAlone}
-use Rattle.urlpattern_laws.specs.LawsOfWays.{FirstWaysAreOfTrees, MatchersAnswerFirstOfParts}
+use Rattle.urlpattern_laws.specs.LawsOfTexts.{CapturesAreAsNames, HasNumbers, MatchersCapture, AcceptedAlone}
+use Rattle.urlpattern_laws.specs.LawsOfWays.{FirstWaysAreOfTrees, MatchersReturnFirstOfParts}
 use Rattle.urlpattern_engine.specs.PatternRegexps.{pattern_engine}
-use Rattle.urlpattern_meaning.specs.{Dialect.IsOnlyTreeOf, Dialect.Items, FirstAnswers.AnswersByFirstWay, FirstAnswers.TookText}
+use Rattle.urlpattern_meaning.specs.{Dialect.IsOnlyTreeOf, Dialect.Items, FirstResults.ReturnsByFirstWay, FirstResults.AcceptedText}
 use Rattle.urlpattern_meaning.specs.PartMeaning.{AreGenerated, Captures}
 pub use Rattle.urlpattern_meaning.specs.LawsOfMeaning.{CapturesHaveNames, FirstWayIsOne, TreesMeanTheParts}
-use Rattle.urlpattern_meaning.specs.LawsOfReading.{OfPartsThatWereRead, OutcomesAreOne, OutcomesLackOnlyAnswers, UnderEachList}
-use Rattle.urlpattern_meaning.specs.Matching.{AnswersByMeaning, IsMadeOf, MatcherView}
-use Rattle.urlpattern_meaning.specs.RoundTrip.{IsNotRefused, ReadsAsJoined, ReadsOnlyAsJoined}
+use Rattle.urlpattern_meaning.specs.LawsOfReading.{OfPartsThatWereRead, OutcomesAreOne, OutcomesLackOnlyResults, UnderEachList}
+use Rattle.urlpattern_meaning.specs.Matching.{ReturnsByMeaning, IsMadeOf, MatcherView}
+use Rattle.urlpattern_meaning.specs.RoundTrip.{IsNotRejected, ReadsAsJoined, ReadsOnlyAsJoined}
 use Rattle.urlpattern_laws.specs.PatternLaws.{TestsAgree, TestsAreOne}
 use Rattle.urlpattern_syntax.specs.{Options.OptionsView, Parts.PartView, RegexpText.regexp_text}
 
@@ -19,7 +19,7 @@ use Rattle.urlpattern_syntax.specs.{Options.OptionsView, Parts.PartView, RegexpT
 -- which the encoding has no result. It has at most one outcome if the encoding has at most one
 -- result for each text.
 abbrev pub OneReading : Type 0
-OneReading = UnderEachList (λ encoding. OutcomesLackOnlyAnswers encoding × OutcomesAreOne encoding)
+OneReading = UnderEachList (λ encoding. OutcomesLackOnlyResults encoding × OutcomesAreOne encoding)
 
 -- The regular expression of parts without custom expressions has exactly one tree.
 abbrev pub OneTree : Type 0
@@ -27,42 +27,42 @@ OneTree = (options : OptionsView) (parts : List PartView) →
     AreGenerated parts → (tree : Items) × IsOnlyTreeOf (regexp_text options parts) tree
 
 -- A matcher made from parts returns what the parts mean.
-abbrev pub MatchersAnswerByMeaning : {E : Type 0} → Engine E → Type 0
-MatchersAnswerByMeaning {E} engine =
+abbrev pub MatchersReturnTheMeaning : {E : Type 0} → Engine E → Type 0
+MatchersReturnTheMeaning {E} engine =
     (options : OptionsView) (flags : List ℕ) (parts : List PartView) (matcher : MatcherView E) →
-    IsMadeOf (IsEngineOf engine false flags) options parts matcher → AnswersByMeaning engine.answer options parts matcher
+    IsMadeOf (IsEngineOf engine false flags) options parts matcher → ReturnsByMeaning engine.answer options parts matcher
 
 -- A matcher made from parts returns the first way of their tree, if an engine that it calls does so
 -- for the tree of its expression.
-abbrev pub MatchersAnswerTheFirstWay : {E : Type 0} → Engine E → Type 0
-MatchersAnswerTheFirstWay {E} engine =
+abbrev pub MatchersReturnTheFirstWay : {E : Type 0} → Engine E → Type 0
+MatchersReturnTheFirstWay {E} engine =
     (options : OptionsView) (flags : List ℕ) (parts : List PartView) (matcher : MatcherView E) →
-    IsMadeOf (IsEngineOf engine false flags) options parts matcher → AnswersByFirstWay engine.answer options parts matcher
+    IsMadeOf (IsEngineOf engine false flags) options parts matcher → ReturnsByFirstWay engine.answer options parts matcher
 
 -- A matcher made by `regex::Regex` returns the first way, which is what the parts mean, if `regex`
 -- accepted the expression where one was needed.
-abbrev pub DefaultEngineAnswersTheFirstWay : Type 0
-DefaultEngineAnswersTheFirstWay = EachAnswersFirst regex_engine (λ options flags. TookText (λ regex. ⊤))
+abbrev pub DefaultEngineReturnsTheFirstWay : Type 0
+DefaultEngineReturnsTheFirstWay = EachReturnsFirst regex_engine (λ options flags. AcceptedText (λ regex. ⊤))
 
 -- A matcher made by `PatternRegexp` returns the first way, which is what the parts mean, without
 -- any premise on the engine.
-abbrev pub PatternEngineAnswersTheFirstWay : Type 0
-PatternEngineAnswersTheFirstWay = EachAnswersFirst pattern_engine (λ options flags inner. FlagsAgree options flags)
+abbrev pub PatternEngineReturnsTheFirstWay : Type 0
+PatternEngineReturnsTheFirstWay = EachReturnsFirst pattern_engine (λ options flags inner. FlagsAgree options flags)
 
 -- The two engines match custom parts correctly, if their expressions stand alone and capture
 -- nothing: the result is what the parts capture, one capture for each name, or `None` where they do
 -- not match.
-abbrev pub CustomPartsAreAnswered : Type 0
-CustomPartsAreAnswered =
-    MatchersCapture regex_engine (λ regexp. ⊤) (λ options flags. TookText (λ regex. ⊤)) × MatchersCapture pattern_engine HasNumbers TookAlone × CapturesAreAsNames
+abbrev pub CustomPartsAreMatched : Type 0
+CustomPartsAreMatched =
+    MatchersCapture regex_engine (λ regexp. ⊤) (λ options flags. AcceptedText (λ regex. ⊤)) × MatchersCapture pattern_engine HasNumbers AcceptedAlone × CapturesAreAsNames
 
 -- When several captures are possible, both engines return those of the first way of the parts,
 -- which tries the choices of a custom expression in the order of the grammar that reads it by
 -- itself. Without a custom part this is the first way of their tree.
-abbrev pub CustomPartsAreAnsweredByTheFirstWay : Type 0
-CustomPartsAreAnsweredByTheFirstWay =
-    MatchersAnswerFirstOfParts regex_engine (λ regexp. ⊤) (λ options flags. TookText (λ regex. ⊤))
-    × MatchersAnswerFirstOfParts pattern_engine HasNumbers TookAlone × FirstWaysAreOfTrees
+abbrev pub CustomPartsAreMatchedByTheFirstWay : Type 0
+CustomPartsAreMatchedByTheFirstWay =
+    MatchersReturnFirstOfParts regex_engine (λ regexp. ⊤) (λ options flags. AcceptedText (λ regex. ⊤))
+    × MatchersReturnFirstOfParts pattern_engine HasNumbers AcceptedAlone × FirstWaysAreOfTrees
 
 -- The printed pattern of parts that were read reads as the same parts, joined.
 abbrev pub PrintedReadsBack : Type 0
@@ -71,7 +71,7 @@ PrintedReadsBack = OfPartsThatWereRead ReadsAsJoined
 -- The printed pattern of parts that were read reads as no other parts, and is not rejected.
 abbrev pub PrintedReadsAsNothingElse : Type 0
 PrintedReadsAsNothingElse = OfPartsThatWereRead (λ text options encoding parts.
-    ReadsOnlyAsJoined text options encoding parts × IsNotRefused text options encoding parts)
+    ReadsOnlyAsJoined text options encoding parts × IsNotRejected text options encoding parts)
 
 -- A pattern has a match on an input exactly if the input has eight texts and each matcher accepts
 -- its own. No match is reported although there is one only for an input longer than those that

@@ -9,11 +9,11 @@ ghost use Rattle.std.specs.Prelude.{◌≡◌, ◌==◌, ◌++◌, ◌<◌, [], 
 ghost use Rattle.std.specs.Slice.Iter.{iter_rest};
 ghost use Rattle.urlpattern_init.specs.Inheritance.{texts_of_url};
 ghost use Rattle.urlpattern_init.specs.declared.init.UrlPatternMatchInput.TheVariants as inputs;
-ghost use Rattle.urlpattern.specs.FirstMatch.{first_captures_view, first_view, patterns_view, CopiesFirstMatch, HasGroupsInOrder, IsFirstCaptured, IsFirstMatch, AsksBeforeMatch};
+ghost use Rattle.urlpattern.specs.FirstMatch.{first_captures_view, first_view, patterns_view, CopiesFirstMatch, HasGroupsInOrder, IsFirstCaptured, IsFirstMatch, CallsEngineBeforeMatch};
 ghost use Rattle.urlpattern.specs.PatternKeys.{address_of};
 ghost use Rattle.urlpattern_index.specs.FixedTexts.{address_texts};
 ghost use Rattle.urlpattern_index.specs.Keys.{hashes_of, hashes_view};
-ghost use Rattle.urlpattern.specs.NextMatch.{matches_left, AsksBeforeMatchFrom, IsFirstCapturedFrom};
+ghost use Rattle.urlpattern.specs.NextMatch.{matches_left, CallsEngineBeforeMatchFrom, IsFirstCapturedFrom};
 ghost use Rattle.urlpattern_pattern.specs.Match.{IfUrl};
 ghost use Rattle.urlpattern_matches.specs.MatchInput.{texts_view};
 ghost use Rattle.urlpattern_pattern.specs.UrlPatterns.{UrlPattern};
@@ -232,12 +232,12 @@ impl<R: RegExp> UrlPatternList<R> {
         ensures first { IfOk result (λ found. IsFirstMatch R.answer (patterns_view self.now) (inputs.Url url.now) (first_captures_view found)) }
         ensures groups { IfOk result (HasGroupsInOrder R.answer (patterns_view self.now) (texts_of_url url.now)) }
         ensures memory { OnlyOutOfMemory result }
-        ensures asked { IfErr result (λ _. AsksBeforeMatch R.answer (patterns_view self.now) (texts_of_url url.now)) }
+        ensures asked { IfErr result (λ _. CallsEngineBeforeMatch R.answer (patterns_view self.now) (texts_of_url url.now)) }
     {
         // Most texts of the URL are made only once a pattern is tried.
         let mut hashes = AddressHashes::new();
         hashes.fill(url_address(url));
-        match self.next_asked(&hashes, 0) {
+        match self.next_candidate(&hashes, 0) {
             Some(index) => self.listed_captures(alloc, url, &hashes, index),
             None => Ok(None),
         }
@@ -261,7 +261,7 @@ impl<R: RegExp> UrlPatternList<R> {
         ensures first { IfOk result (IsFirstCapturedFrom R.answer (patterns_view self.now) (texts_of_url url.now) index) }
         ensures groups { IfOk result (HasGroupsInOrder R.answer (patterns_view self.now) (texts_of_url url.now)) }
         ensures memory { OnlyOutOfMemory result }
-        ensures asked { IfErr result (λ _. AsksBeforeMatchFrom R.answer (patterns_view self.now) (texts_of_url url.now) index) }
+        ensures asked { IfErr result (λ _. CallsEngineBeforeMatchFrom R.answer (patterns_view self.now) (texts_of_url url.now) index) }
     {
         Ok(self.first_listed(alloc, &url_texts(url), hashes, index)?)
     }
@@ -278,7 +278,7 @@ impl<R: RegExp> UrlPatternList<R> {
         ensures first { IfOk result (IsFirstCaptured R.answer (patterns_view self.now) (texts_view input.now)) }
         ensures groups { IfOk result (HasGroupsInOrder R.answer (patterns_view self.now) (texts_view input.now)) }
         ensures memory { OnlyOutOfMemory result }
-        ensures asked { IfErr result (λ _. AsksBeforeMatch R.answer (patterns_view self.now) (texts_view input.now)) }
+        ensures asked { IfErr result (λ _. CallsEngineBeforeMatch R.answer (patterns_view self.now) (texts_view input.now)) }
     {
         Ok(self.first(alloc, input_texts(input))?)
     }

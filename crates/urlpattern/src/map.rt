@@ -8,7 +8,7 @@ ghost use Rattle.std.specs.Map.Iter.{deref_pair, ShowsInOrder};
 ghost use Rattle.std.specs.Prelude.{◌≡◌, ◌==◌, ◌++◌, [], ◌∷◌, ℕ, length, option_map, slice_get, take, IfErr, IfOk, OnErr, OnOk};
 ghost use Rattle.urlpattern_init.specs.Inheritance.{texts_of_url};
 ghost use Rattle.urlpattern_init.specs.declared.init.UrlPatternMatchInput.TheVariants as inputs;
-ghost use Rattle.urlpattern.specs.FirstMatch.{AsksBeforeMatch, HasGroupsInOrder, IsFirstMatch};
+ghost use Rattle.urlpattern.specs.FirstMatch.{CallsEngineBeforeMatch, HasGroupsInOrder, IsFirstMatch};
 ghost use Rattle.urlpattern.specs.PatternMaps.{entry_patterns, first_entry_view, HasValueAt, without_value};
 ghost use Rattle.urlpattern.specs.Unreached.{AreUnreached, LacksParts};
 ghost use Rattle.urlpattern_pattern.specs.UrlPatterns.{UrlPattern};
@@ -172,7 +172,7 @@ impl<T, R: RegExp> UrlPatternMap<T, R> {
         ensures groups { IfOk result (λ found. HasGroupsInOrder R.answer (entry_patterns self.now) (texts_of_url url.now) (without_value found)) }
         ensures value { IfOk result (HasValueAt self.now) }
         ensures memory { OnlyOutOfMemory result }
-        ensures asked { IfErr result (λ _. AsksBeforeMatch R.answer (entry_patterns self.now) (texts_of_url url.now)) }
+        ensures asked { IfErr result (λ _. CallsEngineBeforeMatch R.answer (entry_patterns self.now) (texts_of_url url.now)) }
     {
         match self.patterns.first_captures(alloc, url)? {
             Some((index, captures)) => Ok(Some((index, &self.values[index], captures))),

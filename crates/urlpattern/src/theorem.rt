@@ -1,7 +1,7 @@
 //! The main theorem: how a pattern text is read, what its parts mean, what is matched and what is
 //! printed.
 
-ghost use Rattle.urlpattern.specs.Theorem.{CapturesHaveNames, CustomPartsAreAnswered, CustomPartsAreAnsweredByTheFirstWay, DefaultEngineAnswersTheFirstWay, ExecutesByMatchers, FirstWayIsOne, MatchersAnswerByMeaning, MatchersAnswerTheFirstWay, OneReading, OneTree, PatternEngineAnswersTheFirstWay, PrintedReadsAsNothingElse, PrintedReadsBack, TreesMeanTheParts};
+ghost use Rattle.urlpattern.specs.Theorem.{CapturesHaveNames, CustomPartsAreMatched, CustomPartsAreMatchedByTheFirstWay, DefaultEngineReturnsTheFirstWay, ExecutesByMatchers, FirstWayIsOne, MatchersReturnTheMeaning, MatchersReturnTheFirstWay, OneReading, OneTree, PatternEngineReturnsTheFirstWay, PrintedReadsAsNothingElse, PrintedReadsBack, TreesMeanTheParts};
 
 use crate::regexp::RegExp;
 
@@ -50,13 +50,13 @@ pub fn main_theorem<R: RegExp>()
     ensures one_tree { OneTree }
     ensures exactly { TreesMeanTheParts }
     ensures captures { CapturesHaveNames }
-    ensures matches { MatchersAnswerByMeaning R.RegExp }
-    ensures answers { MatchersAnswerTheFirstWay R.RegExp }
+    ensures matches { MatchersReturnTheMeaning R.RegExp }
+    ensures answers { MatchersReturnTheFirstWay R.RegExp }
     ensures one_answer { FirstWayIsOne }
-    ensures default_engine { DefaultEngineAnswersTheFirstWay }
-    ensures pattern_engine { PatternEngineAnswersTheFirstWay }
-    ensures custom { CustomPartsAreAnswered }
-    ensures custom_first { CustomPartsAreAnsweredByTheFirstWay }
+    ensures default_engine { DefaultEngineReturnsTheFirstWay }
+    ensures pattern_engine { PatternEngineReturnsTheFirstWay }
+    ensures custom { CustomPartsAreMatched }
+    ensures custom_first { CustomPartsAreMatchedByTheFirstWay }
     ensures reads_back { PrintedReadsBack }
     ensures nothing_else { PrintedReadsAsNothingElse }
     ensures executes { ExecutesByMatchers R.answer }

@@ -1,4 +1,4 @@
--- The machine values of a `Loose` and of a `Slot`. Assumes `Logic`.
+-- The machine values of a `BoxParts` and of a `Slot`. Assumes `Logic`.
 use Rattle.std.proofs.Common.{◌≡◌, ℕ, List, [], ◌∷◌, ◌++◌, refl, subst}
 use mathlib.Core.Bool.{true, ◌&&◌}
 use lib.Dec.{T, lit<}
@@ -25,16 +25,16 @@ use Rattle.std.specs.Box.Ownership.{box_owns}
 use Rattle.std.proofs.ResultValues.{and_tt}
 use Rattle.std.specs.Prelude.{IsSome, Option, None, Some}
 use Rattle.urlpattern_c.specs.Memory.{leads_to}
-use Rattle.urlpattern_ffi.specs.declared.kept.Kept.{Kept}
-use Rattle.urlpattern_c.specs.contracts.loose.Loose as loose
+use Rattle.urlpattern_ffi.specs.declared.pattern_box.PatternBox.{PatternBox}
+use Rattle.urlpattern_c.specs.contracts.box_parts.BoxParts as loose
 use Rattle.urlpattern_c.specs.contracts.slot.Slot as slot
 
 abbrev pub both : Val → Val → Val
 both v w = vstruct (vcons v (vcons w vnil))
 
 module _ (R Z : RattleType) (L : Laws Z) (g : Ghosts Z.Denot) where
-  abbrev pub Loose : RattleType
-  Loose = loose.the_row R Z g
+  abbrev pub BoxParts : RattleType
+  BoxParts = loose.the_row R Z g
 
   abbrev al : Al
   al = record { row = Z; laws = L; g = g; d = impl [] tnil dnil; drops = impl [] tnil dnil }
@@ -43,9 +43,9 @@ module _ (R Z : RattleType) (L : Laws Z) (g : Ghosts Z.Denot) where
   loose_good b o h fits = (and_tt (has_ty (layout Z) h) fits.0, (tt, (fits.1, tt)))
 
   module _ {M : Type 1} {𝓤 : Ura M} {𝓛 : Logic 𝓤} {K : Type 0} {Γ : List (Item 𝓤)} {G : Goal 𝓤 𝓛.H} where
-    pub loose_out : K → (d : Loose.Denot) (vs : List Val)
+    pub loose_out : K → (d : BoxParts.Denot) (vs : List Val)
         → ((b o : ℕ) (h : Val) → d.at ≡ block_ptr b o → vs ≡ both (vptr b o) h ∷ [] → Good (layout Z) h → Seq K 𝓛 (‵ (box_owns (g.dealloc_token d.alloc) R (block_ptr b o) d.value) ∷ ‵ (Z.own_val d.alloc (h ∷ [])) ∷ Γ) G)
-        → Seq K 𝓛 (‵ (Loose.own_val d vs) ∷ Γ) G
+        → Seq K 𝓛 (‵ (BoxParts.own_val d vs) ∷ Γ) G
     loose_out t d vs k =
         fsplit t $ fpick t (λ vss. fsplit t $ feq_l t (λ ev. fsplit t $ feq_l t (λ ep. fsplit t $ handle_tells al t d.alloc vss.1.0 (λ h ea fits. move t (1 ∷ []) $ drop t $ move t (1 ∷ []) $
         in_a_block t d.at (λ p. box_owns (g.dealloc_token d.alloc) R p d.value) (fst∗ 𝓤 (never 𝓤) (sem 𝓛 (g.dealloc_token d.alloc (bare (lone R.mir)) null_ptr))) (λ b o e. k b o h e
@@ -53,7 +53,7 @@ module _ (R Z : RattleType) (L : Laws Z) (g : Ghosts Z.Denot) where
         (subst (λ (ws : List Val). vs ≡ vstruct (of_list (ptr_val d.at ∷ (ws ++ []))) ∷ []) ea (subst (λ (ps : List Val). vs ≡ vstruct (of_list (ps ++ (vss.1.0 ++ []))) ∷ []) ep ev))) fits)))))
 
     pub loose_in : K → (b o : ℕ) (h : Val) (a : Z.Denot) (x : R.Denot)
-        → Step K 𝓛 (‵ (Loose.own_val (record { at = block_ptr b o; alloc = a; value = x }) (both (vptr b o) h ∷ [])) ∷ Γ) G (‵ (box_owns (g.dealloc_token a) R (block_ptr b o) x) ∷ ‵ (Z.own_val a (h ∷ [])) ∷ Γ) G
+        → Step K 𝓛 (‵ (BoxParts.own_val (record { at = block_ptr b o; alloc = a; value = x }) (both (vptr b o) h ∷ [])) ∷ Γ) G (‵ (box_owns (g.dealloc_token a) R (block_ptr b o) x) ∷ ‵ (Z.own_val a (h ∷ [])) ∷ Γ) G
     loose_in t b o h a x = step (λ s. let v : Val = both (vptr b o) h in
         nothing t $ move t (2 ∷ 0 ∷ []) $ fjoin t $ feq_i t (List Val) (vptr b o ∷ []) (vptr b o ∷ []) refl $ fjoin t $ feq_i t (List Val) (v ∷ []) (v ∷ []) refl $ fjoin t $
         fpack t (Valss (RawPtr ∷ Z ∷ [])) (within (shape (loose.the_type R Z g)) (block_ptr b o, (a, tt)) (v ∷ [])) (vptr b o ∷ [], (h ∷ [], tt)) $ fjoin t $ s)
@@ -69,7 +69,7 @@ slot_good (block_ptr b o) = (tt, (tt, tt))
 slot_good null_ptr = (tt, (record { fits = lit< tt }, tt))
 
 -- A pointer that is not null points to patterns.
-pub filled : (held : Option Kept) → IsSome held → (kept : Kept) × (held ≡ Some kept)
+pub filled : (held : Option PatternBox) → IsSome held → (kept : PatternBox) × (held ≡ Some kept)
 filled None none = absurd cc
 filled (Some kept) some = (kept, refl)
 
@@ -77,7 +77,7 @@ module _ {M : Type 1} {𝓤 : Ura M} {𝓛 : Logic 𝓤} {K : Type 0} {Γ : List
   pub slot_out : K → (d : Slot.Denot) (vs : List Val) → (vs ≡ single (ptr_val d.at) ∷ [] → Seq K 𝓛 (‵ (leads_to d.at d.held) ∷ Γ) G) → Seq K 𝓛 (‵ (Slot.own_val d vs) ∷ Γ) G
   slot_out t d vs k = fsplit t $ fpick t (λ vss. fsplit t $ feq_l t (λ ev. fsplit t $ feq_l t (λ ep. drop t $ k (subst (λ (ps : List Val). vs ≡ vstruct (of_list (ps ++ [])) ∷ []) ep ev))))
 
-  pub slot_in : K → (p : Ptr) (x : Option Kept) → Step K 𝓛 (‵ (Slot.own_val (record { at = p; held = x }) (single (ptr_val p) ∷ [])) ∷ Γ) G (‵ (leads_to p x) ∷ Γ) G
+  pub slot_in : K → (p : Ptr) (x : Option PatternBox) → Step K 𝓛 (‵ (Slot.own_val (record { at = p; held = x }) (single (ptr_val p) ∷ [])) ∷ Γ) G (‵ (leads_to p x) ∷ Γ) G
   slot_in t p x = step (λ s. let v : Val = single (ptr_val p) in
       nothing t $ feq_i t (List Val) (ptr_val p ∷ []) (ptr_val p ∷ []) refl $ fjoin t $ feq_i t (List Val) (v ∷ []) (v ∷ []) refl $ fjoin t $
       fpack t (Valss (RawPtr ∷ [])) (within (shape slot.the_type) (p, tt) (v ∷ [])) (ptr_val p ∷ [], tt) $ fjoin t $ s)

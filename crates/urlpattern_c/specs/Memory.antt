@@ -5,8 +5,8 @@ use Rattle.std.specs.Global.{Global}
 use Rattle.std.specs.contracts.impls.GlobalAllocator.TheImpl.{ghosts}
 use base.Fml.{Fml, ftrue}
 use denote.RawPtr.{Ptr}
-use Rattle.urlpattern_ffi.specs.contracts.kept.Kept.{the_row}
-use Rattle.urlpattern_ffi.specs.declared.kept.Kept.{Kept}
+use Rattle.urlpattern_ffi.specs.contracts.pattern_box.PatternBox.{the_row}
+use Rattle.urlpattern_ffi.specs.declared.pattern_box.PatternBox.{PatternBox}
 
 -- The heap of the C library.
 abbrev pub heap : Global
@@ -14,6 +14,6 @@ heap = record { memory = record { seal = tt } }
 
 -- The pointer points to the patterns and owns them, with the right to free their memory; or it is
 -- null.
-abbrev pub leads_to : Ptr → Option Kept → Fml
+abbrev pub leads_to : Ptr → Option PatternBox → Fml
 leads_to at None = ftrue
 leads_to at (Some kept) = box_owns (ghosts.dealloc_token heap) the_row at kept

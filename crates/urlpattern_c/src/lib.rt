@@ -2,11 +2,11 @@
 //! declares them.
 //!
 //! Each wraps a call of `urlpattern_ffi`, and repeats its clauses. Raw pointers stay inside of
-//! `Loose` and `Slot`.
+//! `BoxParts` and `Slot`.
 #![tactic(auto)]
 
+mod box_parts;
 mod exports;
-mod loose;
 mod patterns;
 mod slot;
 

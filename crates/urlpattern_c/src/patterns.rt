@@ -1,11 +1,11 @@
 //! The handle that C keeps.
 ghost use Rattle.std.specs.Prelude.{◌≡◌, is_some};
 
-use crate::loose::Loose;
+use crate::box_parts::BoxParts;
 use crate::slot::Slot;
 use std::alloc::Global;
 use std::mem;
-use urlpattern_ffi::Kept;
+use urlpattern_ffi::PatternBox;
 
 /// A handle to patterns in order. C makes one by writing zeros; it is then empty and owns no
 /// memory.
@@ -33,7 +33,7 @@ impl Patterns {
     }
 
     /// Takes the patterns out, if there are any. The handle is then empty.
-    pub(crate) fn take(&mut self, alloc: Global) -> Option<Box<Kept>>
+    pub(crate) fn take(&mut self, alloc: Global) -> Option<Box<PatternBox>>
         ensures taken { boxed_patterns result ≡ patterns_in self.old }
         ensures none_left { self.new.slot.held ≡ None }
     {
@@ -46,13 +46,13 @@ impl Patterns {
     }
 
     /// Puts patterns in.
-    pub(crate) fn put(&mut self, kept: Option<Box<Kept>>)
+    pub(crate) fn put(&mut self, kept: Option<Box<PatternBox>>)
         ensures { patterns_in self.new ≡ boxed_patterns kept }
     {
         *self = match kept {
             Some(kept) => Patterns {
                 is_made: true,
-                slot: Slot::of(Loose::of(kept)),
+                slot: Slot::of(BoxParts::of(kept)),
             },
             None => Patterns::empty(),
         };

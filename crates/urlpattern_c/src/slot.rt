@@ -1,21 +1,21 @@
 //! The pointer that C keeps.
 ghost use Rattle.std.specs.Prelude.{◌≡◌, IsSome, Option, None, Some};
 ghost use Rattle.std.specs.Coded.{coded_option};
-ghost use Rattle.urlpattern_ffi.specs.contracts.kept.Kept.{the_row as KeptRow};
-ghost use Rattle.urlpattern_ffi.specs.declared.kept.Kept.{Kept};
+ghost use Rattle.urlpattern_ffi.specs.contracts.pattern_box.PatternBox.{the_row as KeptRow};
+ghost use Rattle.urlpattern_ffi.specs.declared.pattern_box.PatternBox.{PatternBox};
 
-use crate::loose::Loose;
+use crate::box_parts::BoxParts;
 use std::alloc::Global;
 use std::marker::Model;
 use std::ptr;
-use urlpattern_ffi::Kept;
+use urlpattern_ffi::PatternBox;
 
 /// A pointer to patterns, or a null pointer.
 #[repr(C)]
 #[derive(Drop)]
 pub struct Slot {
     at: *mut u8,
-    pub(crate) ghost held: { Option Kept } by { coded_option KeptRow.coded },
+    pub(crate) ghost held: { Option PatternBox } by { coded_option KeptRow.coded },
 }
 
 impl Model for Slot {
@@ -34,20 +34,20 @@ impl Slot {
         }
     }
 
-    pub(crate) fn of(loose: Loose<Kept, Global>) -> Slot
+    pub(crate) fn of(loose: BoxParts<PatternBox, Global>) -> Slot
         ensures { result.held ≡ Some loose.value }
     {
-        let Loose { at, alloc: _ } = loose;
+        let BoxParts { at, alloc: _ } = loose;
         Slot { at: at as *mut u8 }
     }
 
-    pub(crate) fn into_loose(self, alloc: Global) -> Loose<Kept, Global>
+    pub(crate) fn into_loose(self, alloc: Global) -> BoxParts<PatternBox, Global>
         requires { IsSome self.held }
         ensures { self.held ≡ Some result.value }
     {
         let Slot { at } = self;
-        Loose {
-            at: at as *mut Kept,
+        BoxParts {
+            at: at as *mut PatternBox,
             alloc,
         }
     }

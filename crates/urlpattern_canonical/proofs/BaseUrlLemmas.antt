@@ -5,7 +5,7 @@ use Rattle.url.specs.declared.error.ParseError.{ParseError}
 use Rattle.url.specs.declared.Url.{Url}
 use Rattle.url.specs.Parser.{and_then, parse_url}
 use Rattle.urlpattern_canonical.proofs.CanonicalLemmas.{refused_by_url, reports-more, reports-through}
-use Rattle.urlpattern_canonical.specs.BaseUrls.{BaseView, FindsUrlUnder, IsRefusedText, base_view, longer_bytes, parsed_base, parsed_text, text_bytes}
+use Rattle.urlpattern_canonical.specs.BaseUrls.{BaseView, FindsUrlUnder, IsRejectedText, base_view, longer_bytes, parsed_base, parsed_text, text_bytes}
 use Rattle.urlpattern_canonical.specs.Canonical.{Reports}
 use Rattle.urlpattern_syntax.specs.declared.error.Error.{Error}
 use Rattle.urlpattern_syntax.specs.declared.error.Error.TheVariants as errors
@@ -18,7 +18,7 @@ found_under result text kept base same found = subst (λ (view : BaseView). IfOk
 
 -- A text is rejected if its base URL is.
 pub refused_base : (text : List ℕ) (base : Option (List ℕ)) (error : Error) (reason : ParseError) → error ≡ errors.Url reason →
-    MemoryOr (Reports (parsed_base base) (text_bytes base)) error → IsRefusedText text base
+    MemoryOr (Reports (parsed_base base) (text_bytes base)) error → IsRejectedText text base
 refused_base text base error reason is refused =
     refused_by_url (parsed_text base text) (longer_bytes text (base_view base)) error reason is
     (reports-through (parsed_base base) (parsed_text base text) (longer_bytes text (base_view base)) error

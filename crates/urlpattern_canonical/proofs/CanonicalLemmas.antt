@@ -13,8 +13,8 @@ use Rattle.url.specs.declared.error.ParseError.{ParseError}
 use Rattle.url.specs.declared.error.ParseError.TheVariants.{Overflow, OutOfMemory}
 use Rattle.url.specs.Parser.{Gives, GivesBy, IsOutOfRoom, Parsed, and_then, parse_url}
 use Rattle.url.specs.Parts.{Parts}
-use Rattle.urlpattern_canonical.specs.Asking.{IsRefusedAs, reported_as}
-use Rattle.urlpattern_canonical.specs.Canonical.{IsRefusedByUrl, IsAnswer, IsReported, Reports, after, canonical, dummy_url, long_text, path_of, pathname_of, reported_error, scheme_for_port, refused_as, without_guard}
+use Rattle.urlpattern_canonical.specs.RejectedAs.{IsRejectedAs, reported_as}
+use Rattle.urlpattern_canonical.specs.Canonical.{IsRejectedByUrl, IsResult, IsReported, Reports, after, canonical, dummy_url, long_text, path_of, pathname_of, reported_error, scheme_for_port, rejected_as, without_added_prefix}
 use Rattle.urlpattern_syntax.proofs.TextLemmas.{chars-empty}
 use Rattle.urlpattern_syntax.specs.declared.error.Error.{Error}
 use Rattle.urlpattern_syntax.specs.declared.error.Error.TheVariants as errors
@@ -30,8 +30,8 @@ reported_short bytes short = ap (λ is_short. if is_short then views.OutOfMemory
 reported_long : (bytes : ℕ) → long_text ≤ bytes → reported_error Overflow bytes ≡ views.Url Overflow
 reported_long bytes long = ap (λ is_short. if is_short then views.OutOfMemory else views.Url Overflow) (le-ltb bytes long_text long)
 
-overflow_is_no_want_of_memory : Overflow ≢ OutOfMemory
-overflow_is_no_want_of_memory same = cc
+overflow_is_not_out_of_memory : Overflow ≢ OutOfMemory
+overflow_is_not_out_of_memory same = cc
 
 -- An overflow is out of memory, or an error of any value of this length.
 overflow_reports : {T : Type 0} (whole : Parsed T) (bytes : ℕ) (error : Error) → error_view error ≡ reported_error Overflow bytes → MemoryOr (Reports whole bytes) error
@@ -39,7 +39,7 @@ overflow_reports whole bytes error is =
     let Holds : ErrorView → Type 0 = λ view. Reports whole bytes view in
     elim (cases_lt bytes long_text) [
       | inl short ↦ inl (is ∙ reported_short bytes short)
-      | inr long ↦ inr (subst Holds (sym (is ∙ reported_long bytes long)) (overflow_is_no_want_of_memory, inr (refl, long)))
+      | inr long ↦ inr (subst Holds (sym (is ∙ reported_long bytes long)) (overflow_is_not_out_of_memory, inr (refl, long)))
     ]
 
 -- An error other than an overflow and out of memory is that of the value.
@@ -67,13 +67,13 @@ reports asked whole reason bytes error step gives is =
 
 -- An error of a step that is reported as `reason` is an error of the whole.
 reports_as : {T U : Type 0} (asked : Parsed T) (whole : Parsed U) (reason other : ParseError) (bytes : ℕ) (error : Error)
-    → reason ≢ OutOfMemory → (refused_as reason asked ≡ Err reason → whole ≡ Err reason) → (asked ≡ Err other) ⊎ IsOutOfRoom other
+    → reason ≢ OutOfMemory → (rejected_as reason asked ≡ Err reason → whole ≡ Err reason) → (asked ≡ Err other) ⊎ IsOutOfRoom other
     → error_view error ≡ reported_as reason other bytes → MemoryOr (Reports whole bytes) error
 reports_as asked whole reason OutOfMemory bytes error proper step gives is = inl is
 reports_as asked whole reason Overflow bytes error proper step gives is = overflow_reports whole bytes error is
 reports_as asked whole reason other bytes error proper step gives is =
     url_reports whole reason bytes error proper
-    (step (ap (refused_as reason) (refused_by asked other (λ same. cc) (λ same. cc) gives))) is
+    (step (ap (rejected_as reason) (refused_by asked other (λ same. cc) (λ same. cc) gives))) is
 
 -- A value returned is that of `url`, seen through `view`.
 pub reported-ok : {T U : Type 0} (view : T → U) (answer : Parsed T) (asked : Parsed U) (bytes : ℕ) (result : Result T Error) (value : T)
@@ -88,17 +88,17 @@ reported-err view (Ok found) asked whole bytes result error gives reported was s
 reported-err view (Err reason) asked whole bytes result error gives reported was step =
     reports asked whole reason bytes error (step reason) gives (rw was at reported)
 
-pub refused_as-ok : {T U : Type 0} (view : T → U) (answer : Parsed T) (asked : Parsed U) (reason : ParseError) (bytes : ℕ) (result : Result T Error)
-    (value : T) → GivesBy view answer asked → IsRefusedAs reason answer bytes result → result ≡ Ok value → refused_as reason asked ≡ Ok (view value)
-refused_as-ok view (Ok found) asked reason bytes result value gives reported was =
-    ap (refused_as reason) gives ∙ ap (λ x. Ok (view x)) (let same : found ≡ value = cc in same)
-refused_as-ok view (Err other) asked reason bytes result value gives reported was = absurd (rw was at reported)
+pub rejected_as-ok : {T U : Type 0} (view : T → U) (answer : Parsed T) (asked : Parsed U) (reason : ParseError) (bytes : ℕ) (result : Result T Error)
+    (value : T) → GivesBy view answer asked → IsRejectedAs reason answer bytes result → result ≡ Ok value → rejected_as reason asked ≡ Ok (view value)
+rejected_as-ok view (Ok found) asked reason bytes result value gives reported was =
+    ap (rejected_as reason) gives ∙ ap (λ x. Ok (view x)) (let same : found ≡ value = cc in same)
+rejected_as-ok view (Err other) asked reason bytes result value gives reported was = absurd (rw was at reported)
 
-pub refused_as-err : {T U V : Type 0} (view : T → U) (answer : Parsed T) (asked : Parsed U) (whole : Parsed V) (reason : ParseError) (bytes : ℕ)
-    (result : Result T Error) (error : Error) → reason ≢ OutOfMemory → GivesBy view answer asked → IsRefusedAs reason answer bytes result
-    → result ≡ Err error → (refused_as reason asked ≡ Err reason → whole ≡ Err reason) → MemoryOr (Reports whole bytes) error
-refused_as-err view (Ok found) asked whole reason bytes result error proper gives reported was step = absurd cc
-refused_as-err view (Err other) asked whole reason bytes result error proper gives reported was step =
+pub rejected_as-err : {T U V : Type 0} (view : T → U) (answer : Parsed T) (asked : Parsed U) (whole : Parsed V) (reason : ParseError) (bytes : ℕ)
+    (result : Result T Error) (error : Error) → reason ≢ OutOfMemory → GivesBy view answer asked → IsRejectedAs reason answer bytes result
+    → result ≡ Err error → (rejected_as reason asked ≡ Err reason → whole ≡ Err reason) → MemoryOr (Reports whole bytes) error
+rejected_as-err view (Ok found) asked whole reason bytes result error proper gives reported was step = absurd cc
+rejected_as-err view (Err other) asked whole reason bytes result error proper gives reported was step =
     reports_as asked whole reason other bytes error proper step gives (rw was at reported)
 
 -- An error that a step reports is one that the whole reports.
@@ -124,8 +124,8 @@ pub reports-more : {T : Type 0} (asked : Parsed T) (few many : ℕ) (error : Err
 reports-more asked few many error more reported =
     elim reported [ inl memory ↦ inl memory | inr refused ↦ inr (reports-more_view asked few many (error_view error) more refused) ]
 
-pub answers-more : (asked : Parsed (List ℕ)) (few many : ℕ) (result : Result (String Global) Error) → few ≤ many → IsAnswer asked few result
-    → IsAnswer asked many result
+pub answers-more : (asked : Parsed (List ℕ)) (few many : ℕ) (result : Result (String Global) Error) → few ≤ many → IsResult asked few result
+    → IsResult asked many result
 answers-more asked few many (Ok text) more answer = answer
 answers-more asked few many (Err error) more answer = reports-more asked few many error more answer
 
@@ -138,7 +138,7 @@ reported_parse answer asked bytes (Err error) gives reported =
 
 -- An error of a URL is a rejection by `url`.
 pub refused_by_url : {T : Type 0} (asked : Parsed T) (bytes : ℕ) (error : Error) (reason : ParseError) → error ≡ errors.Url reason
-    → MemoryOr (Reports asked bytes) error → IsRefusedByUrl asked bytes
+    → MemoryOr (Reports asked bytes) error → IsRejectedByUrl asked bytes
 refused_by_url asked bytes error reason is reported =
     elim (rw is at reported) [
       | inl memory ↦ absurd cc
@@ -278,15 +278,15 @@ pub pathname_of-slash : (value : List ℕ) → (slice_index value 0 == slash) �
 pathname_of-slash value slash =
     ap
     (λ test. if test then path_of dummy_url value
-    else and_then (path_of dummy_url (codes "/-" ++ value)) (λ path. Ok (without_guard path)))
+    else and_then (path_of dummy_url (codes "/-" ++ value)) (λ path. Ok (without_added_prefix path)))
     slash
 
 pub pathname_of-bare : (value : List ℕ) → (slice_index value 0 == slash) ≡ false
-    → pathname_of value ≡ and_then (path_of dummy_url (codes "/-" ++ value)) (λ path. Ok (without_guard path))
+    → pathname_of value ≡ and_then (path_of dummy_url (codes "/-" ++ value)) (λ path. Ok (without_added_prefix path))
 pathname_of-bare value bare =
     ap
     (λ test. if test then path_of dummy_url value
-    else and_then (path_of dummy_url (codes "/-" ++ value)) (λ path. Ok (without_guard path)))
+    else and_then (path_of dummy_url (codes "/-" ++ value)) (λ path. Ok (without_added_prefix path)))
     bare
 
 -- ---- the scheme of a port

@@ -9,9 +9,9 @@ use Rattle.url.specs.declared.error.ParseError.{ParseError}
 use Rattle.url.specs.declared.error.ParseError.TheVariants.{OutOfMemory}
 use Rattle.url.specs.Parser.{GivesBy, Parsed}
 use Rattle.url.specs.Parts.{Parts}
-use Rattle.urlpattern_canonical.proofs.CanonicalLemmas.{after-err, after-ok, canonical-empty, canonical-err, canonical-ok, is_empty-false, is_empty-true, reports-through, reported-err, reported-ok, refused_as-err, refused_as-ok, unwrap_or-text, unwrapped-copied}
-use Rattle.urlpattern_canonical.specs.Asking.{IsRefusedAs}
-use Rattle.urlpattern_canonical.specs.Canonical.{IsAnswer, IsReported, Reports, after, canonical, canonical_port, port_bytes, port_of, scheme_for_port, refused_as}
+use Rattle.urlpattern_canonical.proofs.CanonicalLemmas.{after-err, after-ok, canonical-empty, canonical-err, canonical-ok, is_empty-false, is_empty-true, reports-through, reported-err, reported-ok, rejected_as-err, rejected_as-ok, unwrap_or-text, unwrapped-copied}
+use Rattle.urlpattern_canonical.specs.RejectedAs.{IsRejectedAs}
+use Rattle.urlpattern_canonical.specs.Canonical.{IsResult, IsReported, Reports, after, canonical, canonical_port, port_bytes, port_of, scheme_for_port, rejected_as}
 use Rattle.urlpattern_syntax.specs.declared.error.Error.{Error}
 use Rattle.urlpattern_syntax.specs.Errors.{MemoryOr}
 use Rattle.urlpattern_syntax.specs.Text.{option_text, text_of}
@@ -33,7 +33,7 @@ answered ask value {tested} answer string u is_tested some asked is_answer =
 
 -- An error that is passed on.
 handed_on : (asked : Parsed (List ℕ)) (bytes : ℕ) (result : Result (String Global) Error) (error : Error) → IsErrAnd result (λ e. e ≡ error)
-    → MemoryOr (Reports asked bytes) error → IsAnswer asked bytes result
+    → MemoryOr (Reports asked bytes) error → IsResult asked bytes result
 handed_on asked bytes (Ok text) error was reported = absurd was
 handed_on asked bytes (Err e) error was reported = subst (MemoryOr (Reports asked bytes)) (sym was) reported
 
@@ -41,7 +41,7 @@ handed_on asked bytes (Err e) error was reported = subst (MemoryOr (Reports aske
 pub refused : {T : Type 0} (ask : List ℕ → Parsed (List ℕ)) (asked : Parsed T) (value : List ℕ) {tested : Bool} (bytes : ℕ)
     (result : Result (String Global) Error) (error : Error) → IsUtf8 value → tested ≡ (length value == 0) → tested ≡ false
     → ((reason : ParseError) → asked ≡ Err reason → ask value ≡ Err reason) → MemoryOr (Reports asked bytes) error
-    → IsErrAnd result (λ e. e ≡ error) → IsAnswer (canonical ask (chars value)) bytes result
+    → IsErrAnd result (λ e. e ≡ error) → IsResult (canonical ask (chars value)) bytes result
 refused ask asked value {tested} bytes result error u is_tested some step reported was =
     handed_on (canonical ask (chars value)) bytes result error was
     (reports-through asked (canonical ask (chars value)) bytes error
@@ -61,7 +61,7 @@ module _ {T : Type 0} (url : Parsed Parts) (set : List ℕ → Parts → Parsed 
 
   pub set-refused : (result : Result (String Global) Error) (error : Error) → IsUtf8 value → tested ≡ (length value == 0) → tested ≡ false
       → url ≡ Ok old → GivesBy (λ _. new) answer (set value old) → IsReported answer (length value) reported → reported ≡ Err error
-      → IsErrAnd result (λ e. e ≡ error) → IsAnswer (canonical (λ bytes. after url (set bytes) get) (chars value)) (length value) result
+      → IsErrAnd result (λ e. e ≡ error) → IsResult (canonical (λ bytes. after url (set bytes) get) (chars value)) (length value) result
   set-refused result error u is_tested some is_old gives is_reported failed was =
       let ask : List ℕ → Parsed (List ℕ) = λ bytes. after url (set bytes) get in
       handed_on (canonical ask (chars value)) (length value) result error was
@@ -70,27 +70,27 @@ module _ {T : Type 0} (url : Parsed Parts) (set : List ℕ → Parts → Parsed 
 
 -- The canonical value with `reason` for each error of setting it.
 abbrev pub ask_as : ParseError → Parsed Parts → (List ℕ → Parts → Parsed Parts) → (Parts → List ℕ) → List ℕ → Parsed (List ℕ)
-ask_as reason url set get text = after url (λ start. refused_as reason (set text start)) get
+ask_as reason url set get text = after url (λ start. rejected_as reason (set text start)) get
 
 module _ {T : Type 0} (reason : ParseError) (url : Parsed Parts) (set : List ℕ → Parts → Parsed Parts) (get : Parts → List ℕ) (value : List ℕ)
     {tested : Bool} (bytes : ℕ) {old : Parts} (new : Parts) (answer : Parsed T) (reported : Result T Error) where
   pub set_as-answered : {found : T} (string : String Global) → IsUtf8 value → tested ≡ (length value == 0) → tested ≡ false → url ≡ Ok old
-      → GivesBy (λ _. new) answer (set value old) → IsRefusedAs reason answer bytes reported → reported ≡ Ok found → string_bytes string ≡ get new
+      → GivesBy (λ _. new) answer (set value old) → IsRejectedAs reason answer bytes reported → reported ≡ Ok found → string_bytes string ≡ get new
       → canonical (ask_as reason url set get) (chars value) ≡ Ok (text_of string)
   set_as-answered {found} string u is_tested some is_old gives is_reported was is_new =
       answered (ask_as reason url set get) value (get new) string u is_tested some
-      (after-ok url (λ start. refused_as reason (set value start)) get old new is_old
-      (refused_as-ok (λ _. new) answer (set value old) reason bytes reported found gives is_reported was)) is_new
+      (after-ok url (λ start. rejected_as reason (set value start)) get old new is_old
+      (rejected_as-ok (λ _. new) answer (set value old) reason bytes reported found gives is_reported was)) is_new
 
   pub set_as-refused : (result : Result (String Global) Error) (error : Error) → reason ≢ OutOfMemory → IsUtf8 value
       → tested ≡ (length value == 0) → tested ≡ false → url ≡ Ok old → GivesBy (λ _. new) answer (set value old)
-      → IsRefusedAs reason answer bytes reported → reported ≡ Err error → IsErrAnd result (λ e. e ≡ error)
-      → IsAnswer (canonical (ask_as reason url set get) (chars value)) bytes result
+      → IsRejectedAs reason answer bytes reported → reported ≡ Err error → IsErrAnd result (λ e. e ≡ error)
+      → IsResult (canonical (ask_as reason url set get) (chars value)) bytes result
   set_as-refused result error proper u is_tested some is_old gives is_reported failed was =
       handed_on (canonical (ask_as reason url set get) (chars value)) bytes result error was
-      (refused_as-err (λ _. new) answer (set value old) (canonical (ask_as reason url set get) (chars value)) reason bytes reported error proper gives is_reported failed
+      (rejected_as-err (λ _. new) answer (set value old) (canonical (ask_as reason url set get) (chars value)) reason bytes reported error proper gives is_reported failed
       (λ no. canonical-err (ask_as reason url set get) value reason u (is_empty-false value tested is_tested some)
-      (after-err url (λ start. refused_as reason (set value start)) get old reason is_old no)))
+      (after-err url (λ start. rejected_as reason (set value start)) get old reason is_old no)))
 
 -- ---- the scheme under which a port is set, and the longer of port and protocol
 
@@ -111,8 +111,8 @@ module _ (protocol : Option (Bor (List ℕ))) (given default : Bor (List ℕ)) w
   -- The result for the port under the scheme is the result under the protocol.
   pub port-answer : (scheme value : List ℕ) (bytes : ℕ) (result : Result (String Global) Error) → default.now ≡ [] → given ≡ unwrap_or protocol default
       → chars scheme ≡ scheme_for_port (chars given.now) → IsUtf8 scheme → bytes ≡ max (length value) (length given.now)
-      → IsAnswer (canonical (port_of scheme) (chars value)) bytes result
-      → IsAnswer (canonical_port (option_text protocol) (chars value)) (port_bytes value protocol) result
+      → IsResult (canonical (port_of scheme) (chars value)) bytes result
+      → IsResult (canonical_port (option_text protocol) (chars value)) (port_bytes value protocol) result
   port-answer scheme value bytes result empty is_given is_scheme u is_bytes answer =
-      subst (λ s. IsAnswer (canonical (port_of s) (chars value)) (port_bytes value protocol) result) (port-scheme scheme empty is_given is_scheme u)
-      (subst (λ n. IsAnswer (canonical (port_of scheme) (chars value)) n result) (port-bytes value bytes empty is_given is_bytes) answer)
+      subst (λ s. IsResult (canonical (port_of s) (chars value)) (port_bytes value protocol) result) (port-scheme scheme empty is_given is_scheme u)
+      (subst (λ n. IsResult (canonical (port_of scheme) (chars value)) n result) (port-bytes value bytes empty is_given is_bytes) answer)

@@ -3,7 +3,7 @@ use Rattle.std.specs.Prelude.{◌≡◌, ℕ, List, [], length, max, Option, Non
 use Rattle.url.specs.declared.Url.{Url}
 use Rattle.url.specs.Parser.{Parsed, and_then, parse_url}
 use Rattle.url.specs.Parts.{Parts}
-use Rattle.urlpattern_canonical.specs.Canonical.{IsRefusedByUrl}
+use Rattle.urlpattern_canonical.specs.Canonical.{IsRejectedByUrl}
 use Rattle.urlpattern_canonical.specs.declared.base_url.BaseUrl.{BaseUrl}
 
 -- The URL of an optional text.
@@ -49,17 +49,17 @@ abbrev pub longer_bytes : (text : List ℕ) → BaseView → ℕ
 longer_bytes text base = max (length text) base.bytes
 
 -- `url` rejects the text or the base URL, or the longer text may be too long.
-abbrev pub IsRefusedUnder : (text : List ℕ) → BaseView → Type 0
-IsRefusedUnder text base = IsRefusedByUrl (read_under base text) (longer_bytes text base)
+abbrev pub IsRejectedUnder : (text : List ℕ) → BaseView → Type 0
+IsRejectedUnder text base = IsRejectedByUrl (read_under base text) (longer_bytes text base)
 
 -- `url` rejects the text or the text of the base URL, or the longer may be too long.
-abbrev pub IsRefusedText : (text : List ℕ) → (base : Option (List ℕ)) → Type 0
-IsRefusedText text base = IsRefusedUnder text (base_view base)
+abbrev pub IsRejectedText : (text : List ℕ) → (base : Option (List ℕ)) → Type 0
+IsRejectedText text base = IsRejectedUnder text (base_view base)
 
 -- The URL found is that of the text under the base URL. `None`: a text is rejected or may be too
 -- long.
 abbrev pub FindsUrlUnder : (text : List ℕ) → BaseView → Option Url → Type 0
-FindsUrlUnder text base found = MatchOption found (IsRefusedUnder text base) (IsUrlUnder text base)
+FindsUrlUnder text base found = MatchOption found (IsRejectedUnder text base) (IsUrlUnder text base)
 
 -- The URL found is that of the text under the base URL of a text. `None`: a text is rejected or may
 -- be too long.

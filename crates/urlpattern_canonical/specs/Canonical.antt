@@ -40,9 +40,9 @@ abbrev pub after : Parsed Parts → (Parts → Parsed Parts) → (Parts → List
 after url set get = and_then url (λ old. and_then (set old) (λ new. Ok (get new)))
 
 -- The result with `reason` as its error.
-abbrev pub refused_as : {T : Type 0} → ParseError → Parsed T → Parsed T
-refused_as reason (Ok x) = Ok x
-refused_as reason (Err other) = Err reason
+abbrev pub rejected_as : {T : Type 0} → ParseError → Parsed T → Parsed T
+rejected_as reason (Ok x) = Ok x
+rejected_as reason (Err other) = Err reason
 
 -- The scheme of a URL that begins with the value.
 abbrev pub protocol_of : List ℕ → Parsed (List ℕ)
@@ -51,12 +51,12 @@ protocol_of value = and_then (dummy_of_scheme value) (λ url. Ok url.scheme)
 -- The `hostname` of the URL Standard's API, which has no port.
 abbrev pub hostname_of : List ℕ → Parsed (List ℕ)
 hostname_of value =
-    after dummy_url (λ url. refused_as InvalidDomainCharacter (quirks.set_host url value false)) (λ url. host_text (host_or_empty url))
+    after dummy_url (λ url. rejected_as InvalidDomainCharacter (quirks.set_host url value false)) (λ url. host_text (host_or_empty url))
 
 -- The `port` of the URL Standard's API.
 abbrev pub port_of : (scheme value : List ℕ) → Parsed (List ℕ)
 port_of scheme value =
-    after (dummy_of_scheme scheme) (λ url. refused_as InvalidPort (quirks.set_port url value)) (λ url. text_between url BeforePort AfterPort)
+    after (dummy_of_scheme scheme) (λ url. rejected_as InvalidPort (quirks.set_port url value)) (λ url. text_between url BeforePort AfterPort)
 
 -- The path of a URL after it was set to the value.
 abbrev pub path_of : Parsed Parts → List ℕ → Parsed (List ℕ)
@@ -64,15 +64,15 @@ path_of url value = after url (λ old. Ok (set_path old value)) (λ new. new.pat
 
 -- The path without an initial `/-`. The Rust crate tests for the two characters; the standard
 -- removes any two.
-abbrev pub without_guard : List ℕ → List ℕ
-without_guard path = if starts_with nat_eq path (codes "/-") then drop 2 path else path
+abbrev pub without_added_prefix : List ℕ → List ℕ
+without_added_prefix path = if starts_with nat_eq path (codes "/-") then drop 2 path else path
 
 -- The path for a value: `/-` is put before a value without an initial slash, and removed from the
 -- path if still there.
 abbrev pub pathname_of : List ℕ → Parsed (List ℕ)
 pathname_of value =
     if slice_index value 0 == slash then path_of dummy_url value
-    else and_then (path_of dummy_url (codes "/-" ++ value)) (λ path. Ok (without_guard path))
+    else and_then (path_of dummy_url (codes "/-" ++ value)) (λ path. Ok (without_added_prefix path))
 
 -- ---- canonical values
 
@@ -150,8 +150,8 @@ IsReported answer bytes result =
     MatchResult answer (λ value. result ≡ Ok value) (λ reason. IsErrAnd result (λ error. error_view error ≡ reported_error reason bytes))
 
 -- `url` rejects the value, or its longest text may be too long.
-abbrev pub IsRefusedByUrl : {T : Type 0} → Parsed T → (bytes : ℕ) → Type 0
-IsRefusedByUrl asked bytes = ((reason : ParseError) × (asked ≡ Err reason)) ⊎ (long_text ≤ bytes)
+abbrev pub IsRejectedByUrl : {T : Type 0} → Parsed T → (bytes : ℕ) → Type 0
+IsRejectedByUrl asked bytes = ((reason : ParseError) × (asked ≡ Err reason)) ⊎ (long_text ≤ bytes)
 
 -- The error is that of `url` for texts of at most `bytes` bytes. Out of memory is never an error of
 -- a URL.
@@ -161,8 +161,8 @@ Reports asked bytes error = ⊥
 
 -- The call returns the text of `url`, the error of `url` for texts of at most `bytes` bytes, or out
 -- of memory.
-abbrev pub IsAnswer : Parsed (List ℕ) → (bytes : ℕ) → Result (String Global) Error → Type 0
-IsAnswer asked bytes result = MatchResult result (λ text. asked ≡ Ok (text_of text)) (MemoryOr (Reports asked bytes))
+abbrev pub IsResult : Parsed (List ℕ) → (bytes : ℕ) → Result (String Global) Error → Type 0
+IsResult asked bytes result = MatchResult result (λ text. asked ≡ Ok (text_of text)) (MemoryOr (Reports asked bytes))
 
 -- The length of a port or of its protocol, whichever is longer, in bytes.
 abbrev pub port_bytes : (port : List ℕ) → (protocol : Option (Bor (List ℕ))) → ℕ
@@ -186,9 +186,9 @@ abbrev pub left_brace : ℕ
 left_brace = slice_index (codes "{") 0
 
 -- The number of bytes that are passed to `url`: none for a pattern.
-abbrev pub bytes_asked : ProcessType → ℕ → ℕ
-bytes_asked ProcessType.Pattern bytes = 0
-bytes_asked ProcessType.Url bytes = bytes
+abbrev pub bytes_passed : ProcessType → ℕ → ℕ
+bytes_passed ProcessType.Pattern bytes = 0
+bytes_passed ProcessType.Url bytes = bytes
 
 -- The value of an init: unchanged for a pattern, canonical for a URL.
 abbrev pub processed : ProcessType → (List ℕ → Parsed (List ℕ)) → List ℕ → Parsed (List ℕ)
@@ -261,14 +261,14 @@ processed_pathname mode protocol text =
     processed mode (λ path. if is_hierarchical protocol path then canonical_pathname path else canonical_opaque_pathname path) text
 
 -- The call returns the port of an init under a protocol, the error of `url`, or out of memory.
-abbrev pub IsPortAnswer : ProcessType → (port : List ℕ) → (protocol : Option (Bor (List ℕ))) → Result (String Global) Error → Type 0
-IsPortAnswer mode port protocol result =
-    IsAnswer (processed_port mode (option_text protocol) (chars port)) (bytes_asked mode (port_bytes port protocol)) result
+abbrev pub IsPortResult : ProcessType → (port : List ℕ) → (protocol : Option (Bor (List ℕ))) → Result (String Global) Error → Type 0
+IsPortResult mode port protocol result =
+    IsResult (processed_port mode (option_text protocol) (chars port)) (bytes_passed mode (port_bytes port protocol)) result
 
 -- The call returns the pathname of an init under a protocol, the error of `url`, or out of memory.
-abbrev pub IsPathnameAnswer : ProcessType → (pathname : List ℕ) → (protocol : Option (Bor (List ℕ))) → Result (String Global) Error → Type 0
-IsPathnameAnswer mode pathname protocol result =
-    IsAnswer (processed_pathname mode (option_text protocol) (chars pathname)) (bytes_asked mode (length pathname)) result
+abbrev pub IsPathnameResult : ProcessType → (pathname : List ℕ) → (protocol : Option (Bor (List ℕ))) → Result (String Global) Error → Type 0
+IsPathnameResult mode pathname protocol result =
+    IsResult (processed_pathname mode (option_text protocol) (chars pathname)) (bytes_passed mode (length pathname)) result
 
 -- The search of an init, without an initial question mark.
 abbrev pub processed_search : ProcessType → List ℕ → Parsed (List ℕ)

@@ -1,3 +1,3 @@
-pub mod Asking
+pub mod RejectedAs
 pub mod BaseUrls
 pub mod Canonical

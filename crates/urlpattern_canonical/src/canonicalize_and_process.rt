@@ -5,19 +5,19 @@ ghost use Rattle.std.specs.Prelude.{◌≡◌, Ok, length, IfOk};
 ghost use Rattle.std.specs.{Option.ForSome, Str.chars};
 ghost use Rattle.urlpattern_syntax.specs.Text.{text_of, option_text};
 ghost use Rattle.urlpattern_syntax.specs.Errors.{OnlyOutOfMemory};
-ghost use Rattle.urlpattern_canonical.specs.Canonical.{IsAnswer, IsPathnameAnswer, IsPortAnswer, bytes_asked, canonical_hash, canonical_hostname, canonical_opaque_pathname, canonical_password, canonical_pathname, canonical_port, canonical_protocol, canonical_search, canonical_username, dummy_url, port_bytes, processed_base, processed_hash, processed_hostname, processed_password, processed_protocol, processed_search, processed_username};
+ghost use Rattle.urlpattern_canonical.specs.Canonical.{IsResult, IsPathnameResult, IsPortResult, bytes_passed, canonical_hash, canonical_hostname, canonical_opaque_pathname, canonical_password, canonical_pathname, canonical_port, canonical_protocol, canonical_search, canonical_username, dummy_url, port_bytes, processed_base, processed_hash, processed_hostname, processed_password, processed_protocol, processed_search, processed_username};
 
 mod init_values;
 mod ipv6;
 mod marks;
-mod refusals;
+mod rejections;
 mod schemes;
 mod urls;
 mod values;
 
 pub use ipv6::canonicalize_ipv6_hostname;
 pub use marks::{begins_with_slash, without_first};
-pub use refusals::reported;
+pub use rejections::reported;
 pub use schemes::{is_special_scheme, special_scheme_default_port};
 use std::alloc::Global;
 use url::Url;
@@ -54,7 +54,7 @@ pub enum ProcessType {
 ///
 /// <https://urlpattern.spec.whatwg.org/#canonicalize-a-protocol>
 pub fn canonicalize_protocol(alloc: Global, value: &str) -> Result<String, Error>
-    ensures { IsAnswer (canonical_protocol (chars value.now)) (length value.now) result }
+    ensures { IsResult (canonical_protocol (chars value.now)) (length value.now) result }
 {
     Canonicalizer::new(alloc).protocol(value)
 }
@@ -65,7 +65,7 @@ pub fn canonicalize_protocol(alloc: Global, value: &str) -> Result<String, Error
 ///
 /// <https://urlpattern.spec.whatwg.org/#canonicalize-a-username>
 pub fn canonicalize_username(alloc: Global, value: &str) -> Result<String, Error>
-    ensures { IsAnswer (canonical_username (chars value.now)) (length value.now) result }
+    ensures { IsResult (canonical_username (chars value.now)) (length value.now) result }
 {
     Canonicalizer::new(alloc).username(value)
 }
@@ -76,7 +76,7 @@ pub fn canonicalize_username(alloc: Global, value: &str) -> Result<String, Error
 ///
 /// <https://urlpattern.spec.whatwg.org/#canonicalize-a-password>
 pub fn canonicalize_password(alloc: Global, value: &str) -> Result<String, Error>
-    ensures { IsAnswer (canonical_password (chars value.now)) (length value.now) result }
+    ensures { IsResult (canonical_password (chars value.now)) (length value.now) result }
 {
     Canonicalizer::new(alloc).password(value)
 }
@@ -87,7 +87,7 @@ pub fn canonicalize_password(alloc: Global, value: &str) -> Result<String, Error
 ///
 /// <https://urlpattern.spec.whatwg.org/#canonicalize-a-hostname>
 pub fn canonicalize_hostname(alloc: Global, value: &str) -> Result<String, Error>
-    ensures { IsAnswer (canonical_hostname (chars value.now)) (length value.now) result }
+    ensures { IsResult (canonical_hostname (chars value.now)) (length value.now) result }
 {
     Canonicalizer::new(alloc).hostname(value)
 }
@@ -102,7 +102,7 @@ pub fn canonicalize_port(
     value: &str,
     protocol: Option<&str>,
 ) -> Result<String, Error>
-    ensures { IsAnswer (canonical_port (option_text protocol.entry) (chars value.now)) (port_bytes value.now protocol.entry) result }
+    ensures { IsResult (canonical_port (option_text protocol.entry) (chars value.now)) (port_bytes value.now protocol.entry) result }
 {
     Canonicalizer::new(alloc).port(value, protocol)
 }
@@ -113,7 +113,7 @@ pub fn canonicalize_port(
 ///
 /// <https://urlpattern.spec.whatwg.org/#canonicalize-a-pathname>
 pub fn canonicalize_pathname(alloc: Global, value: &str) -> Result<String, Error>
-    ensures { IsAnswer (canonical_pathname (chars value.now)) (length value.now) result }
+    ensures { IsResult (canonical_pathname (chars value.now)) (length value.now) result }
 {
     Canonicalizer::new(alloc).pathname(value)
 }
@@ -124,7 +124,7 @@ pub fn canonicalize_pathname(alloc: Global, value: &str) -> Result<String, Error
 ///
 /// <https://urlpattern.spec.whatwg.org/#canonicalize-an-opaque-pathname>
 pub fn canonicalize_an_opaque_pathname(alloc: Global, value: &str) -> Result<String, Error>
-    ensures { IsAnswer (canonical_opaque_pathname (chars value.now)) (length value.now) result }
+    ensures { IsResult (canonical_opaque_pathname (chars value.now)) (length value.now) result }
 {
     Canonicalizer::new(alloc).opaque_pathname(value)
 }
@@ -135,7 +135,7 @@ pub fn canonicalize_an_opaque_pathname(alloc: Global, value: &str) -> Result<Str
 ///
 /// <https://urlpattern.spec.whatwg.org/#canonicalize-a-search>
 pub fn canonicalize_search(alloc: Global, value: &str) -> Result<String, Error>
-    ensures { IsAnswer (canonical_search (chars value.now)) (length value.now) result }
+    ensures { IsResult (canonical_search (chars value.now)) (length value.now) result }
 {
     Canonicalizer::new(alloc).search(value)
 }
@@ -146,7 +146,7 @@ pub fn canonicalize_search(alloc: Global, value: &str) -> Result<String, Error>
 ///
 /// <https://urlpattern.spec.whatwg.org/#canonicalize-a-hash>
 pub fn canonicalize_hash(alloc: Global, value: &str) -> Result<String, Error>
-    ensures { IsAnswer (canonical_hash (chars value.now)) (length value.now) result }
+    ensures { IsResult (canonical_hash (chars value.now)) (length value.now) result }
 {
     Canonicalizer::new(alloc).hash(value)
 }
@@ -161,7 +161,7 @@ pub fn process_protocol_init(
     value: &str,
     kind: &ProcessType,
 ) -> Result<String, Error>
-    ensures { IsAnswer (processed_protocol kind.now (chars value.now)) (bytes_asked kind.now (length value.now)) result }
+    ensures { IsResult (processed_protocol kind.now (chars value.now)) (bytes_passed kind.now (length value.now)) result }
 {
     Canonicalizer::new(alloc).process_protocol(value, kind)
 }
@@ -176,7 +176,7 @@ pub fn process_username_init(
     value: &str,
     kind: &ProcessType,
 ) -> Result<String, Error>
-    ensures { IsAnswer (processed_username kind.now (chars value.now)) (bytes_asked kind.now (length value.now)) result }
+    ensures { IsResult (processed_username kind.now (chars value.now)) (bytes_passed kind.now (length value.now)) result }
 {
     Canonicalizer::new(alloc).process_username(value, kind)
 }
@@ -191,7 +191,7 @@ pub fn process_password_init(
     value: &str,
     kind: &ProcessType,
 ) -> Result<String, Error>
-    ensures { IsAnswer (processed_password kind.now (chars value.now)) (bytes_asked kind.now (length value.now)) result }
+    ensures { IsResult (processed_password kind.now (chars value.now)) (bytes_passed kind.now (length value.now)) result }
 {
     Canonicalizer::new(alloc).process_password(value, kind)
 }
@@ -206,7 +206,7 @@ pub fn process_hostname_init(
     value: &str,
     kind: &ProcessType,
 ) -> Result<String, Error>
-    ensures { IsAnswer (processed_hostname kind.now (chars value.now)) (bytes_asked kind.now (length value.now)) result }
+    ensures { IsResult (processed_hostname kind.now (chars value.now)) (bytes_passed kind.now (length value.now)) result }
 {
     Canonicalizer::new(alloc).process_hostname(value, kind)
 }
@@ -222,7 +222,7 @@ pub fn process_port_init(
     protocol: Option<&str>,
     kind: &ProcessType,
 ) -> Result<String, Error>
-    ensures { IsPortAnswer kind.now value.now protocol.entry result }
+    ensures { IsPortResult kind.now value.now protocol.entry result }
 {
     Canonicalizer::new(alloc).process_port(value, protocol, kind)
 }
@@ -238,7 +238,7 @@ pub fn process_pathname_init(
     protocol: Option<&str>,
     kind: &ProcessType,
 ) -> Result<String, Error>
-    ensures { IsPathnameAnswer kind.now value.now protocol.entry result }
+    ensures { IsPathnameResult kind.now value.now protocol.entry result }
 {
     Canonicalizer::new(alloc).process_pathname(value, protocol, kind)
 }
@@ -249,7 +249,7 @@ pub fn process_pathname_init(
 ///
 /// <https://urlpattern.spec.whatwg.org/#process-search-for-init>
 pub fn process_search_init(alloc: Global, value: &str, kind: &ProcessType) -> Result<String, Error>
-    ensures { IsAnswer (processed_search kind.now (chars value.now)) (bytes_asked kind.now (length value.now)) result }
+    ensures { IsResult (processed_search kind.now (chars value.now)) (bytes_passed kind.now (length value.now)) result }
 {
     Canonicalizer::new(alloc).process_search(value, kind)
 }
@@ -260,7 +260,7 @@ pub fn process_search_init(alloc: Global, value: &str, kind: &ProcessType) -> Re
 ///
 /// <https://urlpattern.spec.whatwg.org/#process-hash-for-init>
 pub fn process_hash_init(alloc: Global, value: &str, kind: &ProcessType) -> Result<String, Error>
-    ensures { IsAnswer (processed_hash kind.now (chars value.now)) (bytes_asked kind.now (length value.now)) result }
+    ensures { IsResult (processed_hash kind.now (chars value.now)) (bytes_passed kind.now (length value.now)) result }
 {
     Canonicalizer::new(alloc).process_hash(value, kind)
 }

@@ -8,7 +8,7 @@ use Rattle.urlpattern_compare.specs.declared.coverage.Covering.TheVariants as co
 use Rattle.urlpattern_compare.specs.declared.coverage.Overlap.{Overlap}
 use Rattle.urlpattern_compare.specs.declared.coverage.Overlap.TheVariants as overlaps
 use Rattle.urlpattern_compare.specs.declared.coverage.Reason.TheVariants as reasons
-use Rattle.urlpattern_compare.specs.Comparing.{AreSame, IsComponentCovering, IsComponentOverlap, IsExample, IsKnown, TakesEachLine, anything_part}
+use Rattle.urlpattern_compare.specs.Comparing.{AreSame, IsComponentCovering, IsComponentOverlap, IsExample, IsKnown, MatchesEveryLine, anything_part}
 use Rattle.urlpattern_syntax.specs.declared.parts.ComponentParts.{ComponentParts}
 use Rattle.urlpattern_syntax.specs.{Options.OptionsView, Options.default_options, Options.options_view, Parts.PartView, Parts.parts_view, Text.lacks, Text.line_feed}
 
@@ -65,7 +65,7 @@ overlap_known component other (overlaps.Unknown reasons.TooMany) known other_kno
 
 -- A component that covers a full wildcard means each line.
 pub each_line : (component anything : ComponentParts) → IsKnown component → parts_view anything.parts.items ≡ anything_part ∷ [] →
-    IsCovering (options_view component.options) (parts_view component.parts.items) (options_view anything.options) (parts_view anything.parts.items) coverings.Covered → TakesEachLine component
+    IsCovering (options_view component.options) (parts_view component.parts.items) (options_view anything.options) (parts_view anything.parts.items) coverings.Covered → MatchesEveryLine component
 each_line component anything known are is = record {
   known = known;
   takes = λ text fine line. is text fine line (subst (λ parts. MeansText (options_view anything.options) parts text) (sym are) (wildcard_means (options_view anything.options) text line));

@@ -8,7 +8,7 @@ use Rattle.std.specs.List.{All, Contains}
 use Rattle.std.specs.{Str.all_scalars}
 use Rattle.std.specs.Prelude.{◌&&◌, ◌==◌, IsTrue, not}
 use Rattle.urlpattern_compare.specs.Automata.{AcceptsText, IsWhether, IsWithin, Leads, passes}
-use Rattle.urlpattern_compare.specs.Searching.{AreClasses, AreUnlike, IsCome, IsExtended, IsFollowed, IsReached, IsSeen, IsStep, IsStepBy, IsGrownBy, LeadsIn, come_first, come_next, is_in, moved, starts_of}
+use Rattle.urlpattern_compare.specs.Searching.{AreClasses, AreUnlike, IsReachable, IsExtended, IsFollowed, IsReached, IsSeen, IsStep, IsStepBy, IsGrownBy, LeadsIn, come_first, come_next, is_in, moved, starts_of}
 use Rattle.urlpattern_compare.specs.declared.parts_automaton.PartsAutomaton.{PartsAutomaton}
 use Rattle.urlpattern_compare.specs.declared.parts_automaton.Edge.{Edge}
 use Rattle.urlpattern_compare.specs.declared.search.Pair.{Pair}
@@ -34,9 +34,9 @@ step_reached one other pair next c edge plain within reached has from passed (st
     let flags = pair.states.items in
     let moves = (λ (text : List ℕ). leads_moved edges flags c text (within_width other flags within reached.width)) in
     let longer : (text : List ℕ) → next.text.items ++ text ≡ pair.text.items ++ (c ∷ text) = λ text. ap (λ t. t ++ text) text_is ∙ append_assoc pair.text.items (c ∷ []) text in
-    let come : IsCome one other edge.to (moved edges flags c) = come_next edge c has passed (subst (λ s. IsCome one other s flags) (sym from) reached.come) in
+    let come : IsReachable one other edge.to (moved edges flags c) = come_next edge c has passed (subst (λ s. IsReachable one other s flags) (sym from) reached.come) in
     record {
-      come = subst (λ f. IsCome one other next.state f) (sym states_are) (subst (λ s. IsCome one other s (moved edges flags c)) (sym state_is) come);
+      come = subst (λ f. IsReachable one other next.state f) (sym states_are) (subst (λ s. IsReachable one other s (moved edges flags c)) (sym state_is) come);
       state = λ text leads. subst (λ t. AcceptsText one t) (sym (longer text)) (reached.state (c ∷ text) (edge, has, from, passed, subst (λ s. Leads one.edges.items s text) state_is leads));
       states = λ text. (
         λ accepts. subst (λ f. LeadsIn edges f text) (sym states_are) ((moves text).1 ((reached.states (c ∷ text)).0 (subst (λ t. AcceptsText other t) (longer text) accepts))),
@@ -49,7 +49,7 @@ step_reached one other pair next c edge plain within reached has from passed (st
 -- The pairs before the first character are reached.
 pub start_reached : (one other : PartsAutomaton) (pair : Pair) → IsWithin other → Contains one.starts.items pair.state → pair.states.items ≡ starts_of other → pair.text.items ≡ [] → IsReached one other pair
 start_reached one other pair within has states_are text_is = record {
-  come = subst (λ f. IsCome one other pair.state f) (sym states_are) (come_first has);
+  come = subst (λ f. IsReachable one other pair.state f) (sym states_are) (come_first has);
   state = λ text leads. subst (λ t. AcceptsText one (t ++ text)) (sym text_is) (pair.state, has, leads);
   states = λ text. (
     λ accepts. subst (λ f. LeadsIn other.edges.items f text) (sym states_are) ((leads_starts other text within).0 (subst (λ t. AcceptsText other (t ++ text)) text_is accepts)),
@@ -62,7 +62,7 @@ start_reached one other pair within has states_are text_is = record {
 -- A copy of a pair that is reached is reached.
 pub copy_reached : (one other : PartsAutomaton) (pair copy : Pair) → IsReached one other pair → IsStep pair.state pair.states.items pair.text.items copy → IsReached one other copy
 copy_reached one other pair copy reached (state_is, states_are, text_is) = record {
-  come = subst (λ f. IsCome one other copy.state f) (sym states_are) (subst (λ s. IsCome one other s pair.states.items) (sym state_is) reached.come);
+  come = subst (λ f. IsReachable one other copy.state f) (sym states_are) (subst (λ s. IsReachable one other s pair.states.items) (sym state_is) reached.come);
   state = λ text leads. subst (λ t. AcceptsText one (t ++ text)) (sym text_is) (reached.state text (subst (λ s. Leads one.edges.items s text) state_is leads));
   states = λ text. (
     λ accepts. subst (λ f. LeadsIn other.edges.items f text) (sym states_are) ((reached.states text).0 (subst (λ t. AcceptsText other (t ++ text)) text_is accepts)),

@@ -63,12 +63,12 @@ abbrev pub IsReasonAlone : ComponentParts → Reason → Type 0
 IsReasonAlone component = IsReason (options_view component.options) (parts_view component.parts.items) default_options (anything_part ∷ [])
 
 -- The parts mean each text without line feed.
-pub record TakesEachLine (component : ComponentParts) : Type 0 where
+pub record MatchesEveryLine (component : ComponentParts) : Type 0 where
   pub known : IsKnown component
   pub takes : (text : List ℕ) → IsTrue (all_scalars text) → IsTrue (lacks line_feed text) → MeansIn component text
 
 -- The parts mean no text without line feed.
-pub record TakesNoLine (component : ComponentParts) : Type 0 where
+pub record MatchesNoLine (component : ComponentParts) : Type 0 where
   pub known : IsKnown component
   pub takes_none : (text : List ℕ) → IsTrue (all_scalars text) → IsTrue (lacks line_feed text) → ¬ MeansIn component text
 
@@ -118,7 +118,7 @@ pub record AreSame (component other : ComponentParts) : Type 0 where
 -- The component covers the asked one: it means each line, or each line that the asked one means, or
 -- both have the same parts, which may be custom regular expressions.
 abbrev pub IsComponentCovered : (component asked : ComponentParts) → Type 0
-IsComponentCovered component asked = TakesEachLine component ⊎ (MeansAllOf component asked ⊎ AreSame component asked)
+IsComponentCovered component asked = MatchesEveryLine component ⊎ (MeansAllOf component asked ⊎ AreSame component asked)
 
 -- Why it is not known whether the component covers the asked one. Equal components have no reason.
 abbrev pub IsReasonToDoubt : (component asked : ComponentParts) → Reason → Type 0
@@ -138,7 +138,7 @@ IsComponentOverlap component other (overlaps.Unknown reason) = IsReasonFor compo
 
 -- A text that the parts mean, if there is one.
 abbrev pub IsExample : ComponentParts → Overlap → Type 0
-IsExample component overlaps.Apart = TakesNoLine component
+IsExample component overlaps.Apart = MatchesNoLine component
 IsExample component (overlaps.Common text) = IsMeantBy component text.items
 IsExample component (overlaps.Unknown reason) = IsReasonAlone component reason
 
@@ -148,7 +148,7 @@ IsExample component (overlaps.Unknown reason) = IsReasonAlone component reason
 -- means no texts, as one of its components means none.
 abbrev pub IsCovered : (pattern asked : PatternParts) → Type 0
 IsCovered pattern asked =
-    ((name : ComponentName) × TakesNoLine (at asked.components name))
+    ((name : ComponentName) × MatchesNoLine (at asked.components name))
     ⊎ ((name : ComponentName) → IsComponentCovered (at pattern.components name) (at asked.components name))
 
 -- The pattern means each of eight texts without line feed.
@@ -196,7 +196,7 @@ IsLack Empty IsReasonAt (lacking.Unknown name reason) = IsReasonAt name reason
 -- Why a component of the asked pattern has no text.
 abbrev pub LacksExample : (asked : PatternParts) → Lack → Type 0
 LacksExample asked =
-    IsLack (λ name. TakesNoLine (at asked.components name)) (λ name reason. IsReasonAlone (at asked.components name) reason)
+    IsLack (λ name. MatchesNoLine (at asked.components name)) (λ name reason. IsReasonAlone (at asked.components name) reason)
 
 -- What was found so far, or else what is known of the next component.
 abbrev pub first_or : First → (name : ComponentName) → Covering → First
@@ -232,9 +232,9 @@ IsNotKnownToCover asked pattern =
     ⊎ ((name : ComponentName) × (reason : Reason) × IsReasonIn pattern asked name reason)
 
 -- Whether the pattern is known to cover the asked one.
-abbrev pub Tells : (pattern asked : PatternParts) → Bool → Type 0
-Tells pattern asked true = IsCovered pattern asked
-Tells pattern asked false = IsNotKnownToCover asked pattern
+abbrev pub DecidesCovering : (pattern asked : PatternParts) → Bool → Type 0
+DecidesCovering pattern asked true = IsCovered pattern asked
+DecidesCovering pattern asked false = IsNotKnownToCover asked pattern
 
 -- The list with a further pattern, if that is covered.
 abbrev pub with_found : List Shadowed → (pattern : ℕ) → (by : Option ℕ) → List Shadowed

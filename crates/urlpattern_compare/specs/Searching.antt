@@ -59,15 +59,15 @@ starts_of automaton = with_states (replicate automaton.states false) automaton.s
 
 -- The pairs of a state and a set of states that a search of two automata reaches: before the first
 -- character, or by a further character from a pair that is reached.
-pub data IsCome (one other : PartsAutomaton) : (state : ℕ) → (states : List Bool) → Type 0 where
-  come_first : {state : ℕ} → Contains one.starts.items state → IsCome one other state (starts_of other)
-  come_next : {states : List Bool} (edge : Edge) (c : ℕ) → Contains one.edges.items edge → IsTrue (passes edge.test c) → IsCome one other edge.from states →
-      IsCome one other edge.to (moved other.edges.items states c)
+pub data IsReachable (one other : PartsAutomaton) : (state : ℕ) → (states : List Bool) → Type 0 where
+  come_first : {state : ℕ} → Contains one.starts.items state → IsReachable one other state (starts_of other)
+  come_next : {states : List Bool} (edge : Edge) (c : ℕ) → Contains one.edges.items edge → IsTrue (passes edge.test c) → IsReachable one other edge.from states →
+      IsReachable one other edge.to (moved other.edges.items states c)
 
 -- The pair is reached by its text, which has no line feed: the text leads from a start of the first
 -- automaton to the state, and from the starts of the second to exactly the set of states.
 pub record IsReached (one other : PartsAutomaton) (pair : Pair) : Type 0 where
-  pub come : IsCome one other pair.state pair.states.items
+  pub come : IsReachable one other pair.state pair.states.items
   pub state : (text : List ℕ) → Leads one.edges.items pair.state text → LeadsFrom one.edges.items one.starts.items (pair.text.items ++ text)
   pub states : (text : List ℕ) → LeadsFrom other.edges.items other.starts.items (pair.text.items ++ text) ↔ LeadsIn other.edges.items pair.states.items text
   pub width : length pair.states.items ≡ other.states
@@ -116,7 +116,7 @@ AreUnlike (pair ∷ pairs) = (¬ IsSeen pairs pair.state pair.states.items) × A
 -- The search reaches more pairs than are permitted.
 abbrev pub HasManyPairs : (one other : PartsAutomaton) → Type 0
 HasManyPairs one other =
-    (pairs : List Pair) × All (λ pair. IsCome one other pair.state pair.states.items) pairs × AreUnlike pairs × (MOST_PAIRS < length pairs)
+    (pairs : List Pair) × All (λ pair. IsReachable one other pair.state pair.states.items) pairs × AreUnlike pairs × (MOST_PAIRS < length pairs)
 
 -- ---- results
 

@@ -1,7 +1,7 @@
 //! Components compared by their parts.
 
 ghost use Rattle.std.specs.Prelude.{◌≡◌, ◌↔◌, [], ◌∷◌, IfNone, IfOk, IfSome, IsTrue, false};
-ghost use Rattle.urlpattern_compare.specs.Comparing.{AreSame, IsComponentCovering, IsComponentOverlap, IsExample, IsKnown, IsReasonFor, IsSettled, IsUnknownBy, TakesEachLine, anything_part, unnamed, unnamed_view};
+ghost use Rattle.urlpattern_compare.specs.Comparing.{AreSame, IsComponentCovering, IsComponentOverlap, IsExample, IsKnown, IsReasonFor, IsSettled, IsUnknownBy, MatchesEveryLine, anything_part, unnamed, unnamed_view};
 ghost use Rattle.urlpattern_syntax.specs.Options.{default_options, options_view};
 ghost use Rattle.urlpattern_syntax.specs.Parts.{parts_view};
 ghost use Rattle.urlpattern_syntax.specs.Text.{text_of};
@@ -58,8 +58,8 @@ fn unknown_with(component: &ComponentParts, other: &ComponentParts) -> Option<Re
 }
 
 /// Whether the parts are known to match each text without line feed.
-fn takes_each_line(alloc: Global, component: &ComponentParts) -> Result<bool, AllocError>
-    ensures { IfOk result (λ takes. IsTrue takes → TakesEachLine component.now) }
+fn matches_every_line(alloc: Global, component: &ComponentParts) -> Result<bool, AllocError>
+    ensures { IfOk result (λ takes. IsTrue takes → MatchesEveryLine component.now) }
 {
     match unknown(component) {
         Some(_) => Ok(false),
@@ -70,7 +70,7 @@ fn takes_each_line(alloc: Global, component: &ComponentParts) -> Result<bool, Al
 /// Whether the parts match each text without line feed. It is known which texts they match.
 fn covers_anything(alloc: Global, component: &ComponentParts) -> Result<bool, AllocError>
     requires { IsKnown component.now }
-    ensures { IfOk result (λ takes. IsTrue takes → TakesEachLine component.now) }
+    ensures { IfOk result (λ takes. IsTrue takes → MatchesEveryLine component.now) }
 {
     let anything = anything(alloc)?;
     let covering = covers(
@@ -123,7 +123,7 @@ pub(crate) fn component_covers(
             &asked.parts,
         ),
         Some(reason) => {
-            if takes_each_line(alloc, component)? {
+            if matches_every_line(alloc, component)? {
                 return Ok(Covering::Covered);
             }
             Ok(Covering::Unknown(reason))

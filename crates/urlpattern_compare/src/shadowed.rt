@@ -1,7 +1,7 @@
 //! Compares the patterns of a list: which cover which.
 
 ghost use Rattle.std.specs.Prelude.{◌≡◌, map, IfOk, OnOk};
-ghost use Rattle.urlpattern_compare.specs.Comparing.{AreUnreachable, IsFirstCovering, Tells, with_found};
+ghost use Rattle.urlpattern_compare.specs.Comparing.{AreUnreachable, IsFirstCovering, DecidesCovering, with_found};
 
 use crate::pattern_parts::{PatternCovering, PatternParts};
 use std::alloc::{AllocError, Global};
@@ -41,7 +41,7 @@ fn is_known_to_cover(
     pattern: &PatternParts,
     asked: &PatternParts,
 ) -> Result<bool, AllocError>
-    ensures { IfOk result (Tells pattern.now asked.now) }
+    ensures { IfOk result (DecidesCovering pattern.now asked.now) }
 {
     let covering = pattern.covers(alloc, asked)?;
     match covering {

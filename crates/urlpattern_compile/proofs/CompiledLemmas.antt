@@ -9,7 +9,7 @@ use Rattle.std.specs.Str.{chars, IsAscii, IsUtf8}
 use Rattle.std.specs.declared.alloc.Global.{Global}
 use Rattle.std.proofs.lemmas.Str.{IsUtf8-string_bytes}
 use Rattle.urlpattern_meaning.proofs.Encodings.{Weakens, reads_weaker, refuses_weaker}
-use Rattle.urlpattern_compile.specs.Compiled.{AreCompiled, FirstRefused, HasEngine, IsComponentCompiled, IsPathKind, IsComponentRefused, IsRefusedFrom, Manner, RefusesInit, RefusesValues, after_protocol, canonical_encoding, has_default_port, is_ipv6_pattern, is_mark, is_same, manner_of, pattern_values, without_default_port}
+use Rattle.urlpattern_compile.specs.Compiled.{AreCompiled, FirstRejected, HasEngine, IsComponentCompiled, IsPathKind, IsComponentRejected, IsRejectedFrom, ParseSettings, RejectsInit, RejectsValues, after_protocol, canonical_encoding, has_default_port, is_ipv6_pattern, is_mark, is_same, settings_of, pattern_values, without_default_port}
 use Rattle.urlpattern_compile.specs.KeptComponents.{AreCompiledKeeping, EachIsKept, IsKept, IsKeptOfInit}
 use Rattle.urlpattern_compile.specs.PatternViews.{PatternView}
 use Rattle.urlpattern_components.specs.declared.eight.ComponentName.{ComponentName as Names}
@@ -88,13 +88,13 @@ there_and_empty (c ∷ text) tested e = ((λ is. absurd (false≢true (sym e ∙
 
 -- ---- components with their parts
 
-pub kept_compiled : {E : Type 0} (engine : Engine E) (manner : Manner) (made : ComponentWithParts E) → IsKept engine manner made
-    → IsComponentCompiled engine manner (component_view made.component)
-kept_compiled engine manner made kept = ((kept_parts made.kept, kept.reads, kept.is_made), kept.has_engine)
+pub kept_compiled : {E : Type 0} (engine : Engine E) (settings : ParseSettings) (made : ComponentWithParts E) → IsKept engine settings made
+    → IsComponentCompiled engine settings (component_view made.component)
+kept_compiled engine settings made kept = ((kept_parts made.kept, kept.reads, kept.is_made), kept.has_engine)
 
-pub one_compiled : {E : Type 0} (engine : Engine E) (manner : Manner) (made : ComponentWithParts E) → IsKept engine manner made
-    → (compiled : ComponentView E) × IsComponentCompiled engine manner compiled
-one_compiled engine manner made kept = (component_view made.component, kept_compiled engine manner made kept)
+pub one_compiled : {E : Type 0} (engine : Engine E) (settings : ParseSettings) (made : ComponentWithParts E) → IsKept engine settings made
+    → (compiled : ComponentView E) × IsComponentCompiled engine settings compiled
+one_compiled engine settings made kept = (component_view made.component, kept_compiled engine settings made kept)
 
 -- The components of a pattern that was compiled with its parts.
 abbrev pub made_view : {E : Type 0} → Eight (ComponentWithParts E) → PatternView E
@@ -105,7 +105,7 @@ pub kept_are_compiled : {E : Type 0} (engine : Engine E) (asked : UrlPatternOpti
 kept_are_compiled engine asked values made kept = record {
   hierarchical = kept.hierarchical;
   path_kind = kept.path_kind;
-  are_compiled = λ name. kept_compiled engine (manner_of asked values kept.hierarchical name) (at made name) (kept.are_kept name);
+  are_compiled = λ name. kept_compiled engine (settings_of asked values kept.hierarchical name) (at made name) (kept.are_kept name);
 }
 
 -- ---- errors
@@ -121,67 +121,67 @@ refused_later (Ok value) error Refuses Later same reported later = tt
 refused_later (Err passed) error Refuses Later same reported later =
     subst (MemoryOr Later) (sym same) (memory_or-map Refuses Later error later reported)
 
-pub first_refused : {E : Type 0} (engine : Engine E) (manner : Names → Manner)
+pub first_rejected : {E : Type 0} (engine : Engine E) (settings : Names → ParseSettings)
     (before after : List Names) (component : Names) (view : ErrorView)
-    → AllByRecursion (λ earlier. (compiled : ComponentView E) × IsComponentCompiled engine (manner earlier) compiled) before
-    → IsComponentRefused engine (manner component) view
-    → FirstRefused engine manner (before ++ component ∷ after) view
-first_refused engine manner [] after component view compiled refused = inl refused
-first_refused engine manner (earlier ∷ before) after component view (first, compiled) refused =
-    inr (first, first_refused engine manner before after component view compiled refused)
+    → AllByRecursion (λ earlier. (compiled : ComponentView E) × IsComponentCompiled engine (settings earlier) compiled) before
+    → IsComponentRejected engine (settings component) view
+    → FirstRejected engine settings (before ++ component ∷ after) view
+first_rejected engine settings [] after component view compiled refused = inl refused
+first_rejected engine settings (earlier ∷ before) after component view (first, compiled) refused =
+    inr (first, first_rejected engine settings before after component view compiled refused)
 
 -- An error that is passed on is the first, if all components before its own are compiled.
-pub refused_after : {E T : Type 0} (engine : Engine E) (manner : Names → Manner) (result : Result T Error)
+pub refused_after : {E T : Type 0} (engine : Engine E) (settings : Names → ParseSettings) (result : Result T Error)
     (error : Error) (before after : List Names) (component : Names)
     → IsErrAnd result (λ passed. passed ≡ error)
-    → MemoryOr (IsComponentRefused engine (manner component)) error
-    → AllByRecursion (λ earlier. (compiled : ComponentView E) × IsComponentCompiled engine (manner earlier) compiled) before
-    → IfErr result (MemoryOr (FirstRefused engine manner (before ++ component ∷ after)))
-refused_after engine manner result error before after component same reported compiled =
-    refused_later result error (IsComponentRefused engine (manner component))
-    (FirstRefused engine manner (before ++ component ∷ after)) same reported
-    (λ view. first_refused engine manner before after component view compiled)
+    → MemoryOr (IsComponentRejected engine (settings component)) error
+    → AllByRecursion (λ earlier. (compiled : ComponentView E) × IsComponentCompiled engine (settings earlier) compiled) before
+    → IfErr result (MemoryOr (FirstRejected engine settings (before ++ component ∷ after)))
+refused_after engine settings result error before after component same reported compiled =
+    refused_later result error (IsComponentRejected engine (settings component))
+    (FirstRejected engine settings (before ++ component ∷ after)) same reported
+    (λ view. first_rejected engine settings before after component view compiled)
 
 -- ---- a component under a stronger encoding
 
 pub kept_weaker : {E : Type 0} (engine : Engine E)
-    (strong : Encoding) (manner : Manner) → Weakens strong (canonical_encoding manner.canonical) → (text : List ℕ) (options : OptionsView) (result : Result (ComponentWithParts E) Error)
-    → text ≡ manner.text → options ≡ manner.options
+    (strong : Encoding) (settings : ParseSettings) → Weakens strong (canonical_encoding settings.canonical) → (text : List ℕ) (options : OptionsView) (result : Result (ComponentWithParts E) Error)
+    → text ≡ settings.text → options ≡ settings.options
     → IfOk result (IsCompiledKeeping engine text options strong)
     → IfOk result (λ made. HasEngine (component_view made.component))
-    → IfOk result (IsKept engine manner)
-kept_weaker engine strong manner h text options (Err error) e f compiled taken = tt
-kept_weaker engine strong manner h text options (Ok made) e f compiled taken = record {
+    → IfOk result (IsKept engine settings)
+kept_weaker engine strong settings h text options (Err error) e f compiled taken = tt
+kept_weaker engine strong settings h text options (Ok made) e f compiled taken = record {
   options_are = compiled.options_are ∙ f;
-  reads = subst (λ o. Reads manner.text o (canonical_encoding manner.canonical) (kept_parts made.kept)) f
-      (subst (λ t. Reads t options (canonical_encoding manner.canonical) (kept_parts made.kept)) e
-      (reads_weaker strong (canonical_encoding manner.canonical) h text options (kept_parts made.kept) compiled.reads));
+  reads = subst (λ o. Reads settings.text o (canonical_encoding settings.canonical) (kept_parts made.kept)) f
+      (subst (λ t. Reads t options (canonical_encoding settings.canonical) (kept_parts made.kept)) e
+      (reads_weaker strong (canonical_encoding settings.canonical) h text options (kept_parts made.kept) compiled.reads));
   is_made = subst (λ o. IsComponentOf engine o (kept_parts made.kept) (component_view made.component)) f compiled.is_made;
   has_engine = taken;
 }
 
 refused_weaker-view : {E : Type 0} (engine : Engine E)
-    (strong weak : Encoding) → Weakens strong weak → (text pattern : List ℕ) (options manner : OptionsView) (error : ErrorView)
-    → text ≡ pattern → options ≡ manner
-    → IsRefusedFrom engine text options strong error
-    → IsRefusedFrom engine pattern manner weak error
-refused_weaker-view engine strong weak h text pattern options manner error e f refused =
-    subst (λ o. IsRefusedFrom engine pattern o weak error) f
-    (subst (λ t. IsRefusedFrom engine t options weak error) e
+    (strong weak : Encoding) → Weakens strong weak → (text pattern : List ℕ) (options settings : OptionsView) (error : ErrorView)
+    → text ≡ pattern → options ≡ settings
+    → IsRejectedFrom engine text options strong error
+    → IsRejectedFrom engine pattern settings weak error
+refused_weaker-view engine strong weak h text pattern options settings error e f refused =
+    subst (λ o. IsRejectedFrom engine pattern o weak error) f
+    (subst (λ t. IsRejectedFrom engine t options weak error) e
     (elim refused [
       | inl text_refused ↦ inl (refuses_weaker strong weak h text options error text_refused)
       | inr by_engine ↦ inr (by_engine.0, (by_engine.1.0, reads_weaker strong weak h text options by_engine.1.0 by_engine.1.1, by_engine.1.2), by_engine.2, by_engine.3)
     ]))
 
 pub refused_weaker : {E T : Type 0} (engine : Engine E)
-    (strong weak : Encoding) → Weakens strong weak → (text pattern : List ℕ) (options manner : OptionsView) (result : Result T Error)
-    → text ≡ pattern → options ≡ manner
-    → IfErr result (MemoryOr (IsRefusedFrom engine text options strong))
-    → IfErr result (MemoryOr (IsRefusedFrom engine pattern manner weak))
-refused_weaker engine strong weak h text pattern options manner (Ok made) e f refused = tt
-refused_weaker engine strong weak h text pattern options manner (Err error) e f refused = elim refused [
+    (strong weak : Encoding) → Weakens strong weak → (text pattern : List ℕ) (options settings : OptionsView) (result : Result T Error)
+    → text ≡ pattern → options ≡ settings
+    → IfErr result (MemoryOr (IsRejectedFrom engine text options strong))
+    → IfErr result (MemoryOr (IsRejectedFrom engine pattern settings weak))
+refused_weaker engine strong weak h text pattern options settings (Ok made) e f refused = tt
+refused_weaker engine strong weak h text pattern options settings (Err error) e f refused = elim refused [
   | inl memory ↦ inl memory
-  | inr reported ↦ inr (refused_weaker-view engine strong weak h text pattern options manner _ e f reported)
+  | inr reported ↦ inr (refused_weaker-view engine strong weak h text pattern options settings _ e f reported)
 ]
 
 -- ---- patterns that begin as an IPv6 address does
@@ -211,7 +211,7 @@ pub are_kept : {E : Type 0} (engine : Engine E) (asked : UrlPatternOptions) (val
     (protocol : ComponentView E) (result : Result (Eight (ComponentWithParts E)) Error)
     → IsPathKind engine.answer values protocol.matcher hierarchical
     → IfOk result (λ made. component_view made.protocol.component ≡ protocol)
-    → IfOk result (EachIsKept engine (manner_of asked values hierarchical))
+    → IfOk result (EachIsKept engine (settings_of asked values hierarchical))
     → IfOk result (AreCompiledKeeping engine asked values)
 are_kept engine asked values hierarchical protocol (Err error) reports same compiled = tt
 are_kept {E} engine asked values hierarchical protocol (Ok made) reports same compiled = record {
@@ -222,13 +222,13 @@ are_kept {E} engine asked values hierarchical protocol (Ok made) reports same co
 
 pub refused_behind : {E T : Type 0} (engine : Engine E) (asked : UrlPatternOptions) (values : Values) (hierarchical : Bool)
     (protocol : ComponentView E) (result : Result T Error)
-    → IsComponentCompiled engine (manner_of asked values hierarchical Protocol) protocol
+    → IsComponentCompiled engine (settings_of asked values hierarchical Protocol) protocol
     → IsPathKind engine.answer values protocol.matcher hierarchical
-    → IfErr result (MemoryOr (FirstRefused engine (manner_of asked values hierarchical) after_protocol))
-    → IfErr result (MemoryOr (RefusesValues engine asked values))
+    → IfErr result (MemoryOr (FirstRejected engine (settings_of asked values hierarchical) after_protocol))
+    → IfErr result (MemoryOr (RejectsValues engine asked values))
 refused_behind engine asked values hierarchical protocol (Ok found) compiled reports refused = tt
 refused_behind engine asked values hierarchical protocol (Err error) compiled reports refused =
-    memory_or-map (FirstRefused engine (manner_of asked values hierarchical) after_protocol) (RefusesValues engine asked values) error
+    memory_or-map (FirstRejected engine (settings_of asked values hierarchical) after_protocol) (RejectsValues engine asked values) error
     (λ view first. inr (record { protocol = protocol; hierarchical = hierarchical; is_compiled = compiled; path_kind = reports; refused = first })) refused
 
 -- ---- the pattern of an init
@@ -242,8 +242,8 @@ is_kept engine init asked values (Ok made) are compiled = (values, are, compiled
 
 pub is_refused : {E T : Type 0} (engine : Engine E) (init : UrlPatternInit) (asked : UrlPatternOptions) (values : Values)
     (result : Result T Error) → pattern_values init ≡ Ok values
-    → IfErr result (MemoryOr (RefusesValues engine asked values))
-    → IfErr result (MemoryOr (RefusesInit engine init asked))
+    → IfErr result (MemoryOr (RejectsValues engine asked values))
+    → IfErr result (MemoryOr (RejectsInit engine init asked))
 is_refused engine init asked values (Ok found) are refused = tt
 is_refused engine init asked values (Err error) are refused =
-    memory_or-map (RefusesValues engine asked values) (RefusesInit engine init asked) error (λ view reported. (values, are, reported)) refused
+    memory_or-map (RejectsValues engine asked values) (RejectsInit engine init asked) error (λ view reported. (values, are, reported)) refused

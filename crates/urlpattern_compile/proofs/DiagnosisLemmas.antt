@@ -13,14 +13,14 @@ use Rattle.urlpattern_diagnosis.specs.declared.diagnosis.Subject.{Subject}
 use Rattle.urlpattern_diagnosis.specs.declared.diagnosis.Subject.TheVariants as subjects
 use Rattle.urlpattern_diagnosis.specs.declared.fault.Fault.{Fault}
 use Rattle.urlpattern_inputs.specs.declared.options.UrlPatternOptions.{UrlPatternOptions}
-use Rattle.urlpattern_compile.specs.Compiled.{FirstRefused, IsComponentCompiled, IsComponentRefused, IsPathKind, IsPatternOfInit, Manner, RefusesValues, after_protocol, manner_of}
-use Rattle.urlpattern_compile.specs.Diagnoses.{IsOf, IsPartOfRefused, IsRefusalOf, RefusesComponent, ShowsAll, ShowsColon, ShowsFault, ShowsInit, ShowsPattern, ShowsProtocol, ShowsRefusal, ShowsText, error_of}
-use Rattle.urlpattern_compile.specs.FromString.{IsInitOfText, IsPatternOfText, RefusesSplit}
+use Rattle.urlpattern_compile.specs.Compiled.{FirstRejected, IsComponentCompiled, IsComponentRejected, IsPathKind, IsPatternOfInit, ParseSettings, RejectsValues, after_protocol, settings_of}
+use Rattle.urlpattern_compile.specs.Diagnoses.{IsOf, IsPartOfRejected, IsRejectionOf, RejectsComponent, ShowsAll, ShowsColon, ShowsFault, ShowsInit, ShowsPattern, ShowsProtocol, ShowsRejection, ShowsText, error_of}
+use Rattle.urlpattern_compile.specs.FromString.{IsInitOfText, IsPatternOfText, RejectsSplit}
 use Rattle.urlpattern_compile.specs.PatternViews.{PatternView}
 use Rattle.urlpattern_constructor.specs.Split.{HasProtocol}
 use Rattle.urlpattern_init.specs.declared.init.UrlPatternInit.{UrlPatternInit}
 use Rattle.urlpattern_components.specs.declared.eight.ComponentName.{ComponentName}
-use Rattle.urlpattern_compile.specs.declared.refusal.Refusal.{Refusal}
+use Rattle.urlpattern_compile.specs.declared.rejection.Rejection.{Rejection}
 use Rattle.urlpattern_components.specs.declared.eight.ComponentName.TheVariants.{Protocol}
 use Rattle.urlpattern_syntax.specs.declared.error.Error.{Error}
 use Rattle.urlpattern_syntax.specs.declared.error.OutOfMemory.{OutOfMemory}
@@ -34,47 +34,47 @@ is_other P error other (inr h) same = subst (λ (x : Error). P (error_view x)) (
 
 module _ {E : Type 0} (engine : Engine E) (asked : UrlPatternOptions) (values : Values) where
   -- The protocol is rejected.
-  pub protocol_refused : (error : Error) → IsComponentRefused engine (manner_of asked values false Protocol) (error_view error) →
-      IsRefusalOf engine asked values (record { component = Protocol; hierarchical = false; error = error })
+  pub protocol_refused : (error : Error) → IsComponentRejected engine (settings_of asked values false Protocol) (error_view error) →
+      IsRejectionOf engine asked values (record { component = Protocol; hierarchical = false; error = error })
   protocol_refused error h = (inl h, (refl, h))
 
   -- A component after the protocol is rejected.
-  pub later_refused : (hierarchical : Bool) (protocol : ComponentView E) → IsComponentCompiled engine (manner_of asked values hierarchical Protocol) protocol →
-      IsPathKind engine.answer values protocol.matcher hierarchical → (result : Result (Option Refusal) OutOfMemory) →
-      IfOk result (λ found. IfSome found (λ refusal. FirstRefused engine (manner_of asked values hierarchical) after_protocol (error_of refusal))) →
-      IfOk result (λ found. IfSome found (RefusesComponent engine (manner_of asked values hierarchical) hierarchical)) →
-      IfOk result (λ found. IfSome found (IsRefusalOf engine asked values))
+  pub later_refused : (hierarchical : Bool) (protocol : ComponentView E) → IsComponentCompiled engine (settings_of asked values hierarchical Protocol) protocol →
+      IsPathKind engine.answer values protocol.matcher hierarchical → (result : Result (Option Rejection) OutOfMemory) →
+      IfOk result (λ found. IfSome found (λ rejection. FirstRejected engine (settings_of asked values hierarchical) after_protocol (error_of rejection))) →
+      IfOk result (λ found. IfSome found (RejectsComponent engine (settings_of asked values hierarchical) hierarchical)) →
+      IfOk result (λ found. IfSome found (IsRejectionOf engine asked values))
   later_refused hierarchical protocol compiled kind (Err memory) first refused = tt
   later_refused hierarchical protocol compiled kind (Ok None) first refused = tt
-  later_refused hierarchical protocol compiled kind (Ok (Some refusal)) first refused = (
+  later_refused hierarchical protocol compiled kind (Ok (Some rejection)) first refused = (
     inr (record { protocol = protocol; hierarchical = hierarchical; is_compiled = compiled; path_kind = kind; refused = first }),
-    (refl, subst (λ (path : Bool). IsComponentRefused engine (manner_of asked values path refusal.component) (error_of refusal)) (sym refused.0) refused.1),
+    (refl, subst (λ (path : Bool). IsComponentRejected engine (settings_of asked values path rejection.component) (error_of rejection)) (sym refused.0) refused.1),
   )
 
-  module _ (refusal : Refusal) (result : Result Diagnosis OutOfMemory) (is : IsRefusalOf engine asked values refusal) (same : IfOk result (λ (diagnosis : Diagnosis). diagnosis.error ≡ refusal.error)) where
+  module _ (rejection : Rejection) (result : Result Diagnosis OutOfMemory) (is : IsRejectionOf engine asked values rejection) (same : IfOk result (λ (diagnosis : Diagnosis). diagnosis.error ≡ rejection.error)) where
     -- The values are rejected with the error of the diagnosis.
-    pub refused_so : IfOk result (λ (diagnosis : Diagnosis). RefusesValues engine asked values (error_view diagnosis.error))
+    pub refused_so : IfOk result (λ (diagnosis : Diagnosis). RejectsValues engine asked values (error_view diagnosis.error))
     refused_so = by_result result same
       where
-        by_result : (result : Result Diagnosis OutOfMemory) → IfOk result (λ (diagnosis : Diagnosis). diagnosis.error ≡ refusal.error) → IfOk result (λ (diagnosis : Diagnosis). RefusesValues engine asked values (error_view diagnosis.error))
+        by_result : (result : Result Diagnosis OutOfMemory) → IfOk result (λ (diagnosis : Diagnosis). diagnosis.error ≡ rejection.error) → IfOk result (λ (diagnosis : Diagnosis). RejectsValues engine asked values (error_view diagnosis.error))
         by_result (Err memory) same = tt
-        by_result (Ok diagnosis) same = subst (λ (error : Error). RefusesValues engine asked values (error_view error)) (sym same) is.0
+        by_result (Ok diagnosis) same = subst (λ (error : Error). RejectsValues engine asked values (error_view error)) (sym same) is.0
 
 -- The diagnosis shows the component.
-pub shown_so : {E : Type 0} (engine : Engine E) (asked : UrlPatternOptions) (values : Values) (refusal : Refusal) (result : Result Diagnosis OutOfMemory) → IsRefusalOf engine asked values refusal →
-    IfOk result (λ (diagnosis : Diagnosis). diagnosis.error ≡ refusal.error) → IfOk result (λ (diagnosis : Diagnosis). diagnosis.subject ≡ subjects.Component refusal.component) →
-    IfOk result (ShowsPattern refusal.component (manner_of asked values refusal.hierarchical refusal.component)) → IfOk result (λ (diagnosis : Diagnosis). ShowsRefusal engine asked values diagnosis.subject diagnosis)
-shown_so engine asked values refusal (Err memory) is same subject shows = tt
-shown_so engine asked values refusal (Ok diagnosis) is same subject shows =
-    subst (λ (what : Subject). ShowsRefusal engine asked values what diagnosis) (sym subject) (record {
-      hierarchical = refusal.hierarchical;
-      is_refused = subst (λ (error : Error). IsComponentRefused engine (manner_of asked values refusal.hierarchical refusal.component) (error_view error)) (sym same) is.1.1;
+pub shown_so : {E : Type 0} (engine : Engine E) (asked : UrlPatternOptions) (values : Values) (rejection : Rejection) (result : Result Diagnosis OutOfMemory) → IsRejectionOf engine asked values rejection →
+    IfOk result (λ (diagnosis : Diagnosis). diagnosis.error ≡ rejection.error) → IfOk result (λ (diagnosis : Diagnosis). diagnosis.subject ≡ subjects.Component rejection.component) →
+    IfOk result (ShowsPattern rejection.component (settings_of asked values rejection.hierarchical rejection.component)) → IfOk result (λ (diagnosis : Diagnosis). ShowsRejection engine asked values diagnosis.subject diagnosis)
+shown_so engine asked values rejection (Err memory) is same subject shows = tt
+shown_so engine asked values rejection (Ok diagnosis) is same subject shows =
+    subst (λ (what : Subject). ShowsRejection engine asked values what diagnosis) (sym subject) (record {
+      hierarchical = rejection.hierarchical;
+      is_refused = subst (λ (error : Error). IsComponentRejected engine (settings_of asked values rejection.hierarchical rejection.component) (error_view error)) (sym same) is.1.1;
       shows_pattern = shows;
     })
 
 -- The diagnosis shows the fault of a pattern, or a rejected part.
 pub shows_fault : (component : ComponentName) (bytes pattern point prefix : List ℕ) (error : Error) (diagnosis : Diagnosis) (fault : Fault) → diagnosis.error ≡ error → string_bytes diagnosis.text ≡ bytes → point ≡ prefix →
-    IsFaultOf (Some component) pattern point error fault ⊎ IsPartOfRefused pattern error fault → IsFaultMoved bytes pattern fault diagnosis.fault → ShowsFault component pattern prefix diagnosis
+    IsFaultOf (Some component) pattern point error fault ⊎ IsPartOfRejected pattern error fault → IsFaultMoved bytes pattern fault diagnosis.fault → ShowsFault component pattern prefix diagnosis
 shows_fault component bytes pattern point prefix error diagnosis fault same text e (inl h) moved = (
   fault,
   inl (subst (λ (x : List ℕ). IsFaultOf (Some component) pattern x diagnosis.error fault) e (subst (λ (x : Error). IsFaultOf (Some component) pattern point x fault) (sym same) h)),
@@ -82,7 +82,7 @@ shows_fault component bytes pattern point prefix error diagnosis fault same text
 )
 shows_fault component bytes pattern point prefix error diagnosis fault same text e (inr h) moved = (
   fault,
-  inr (subst (λ (x : Error). IsPartOfRefused pattern x fault) (sym same) h),
+  inr (subst (λ (x : Error). IsPartOfRejected pattern x fault) (sym same) h),
   subst (λ (x : List ℕ). IsFaultMoved x pattern fault diagnosis.fault) (sym text) moved,
 )
 
@@ -114,14 +114,14 @@ all_more P [] x all h = (h, tt)
 all_more P (y ∷ xs) x all h = (all.0, all_more P xs x all.1 h)
 
 -- A component is compiled in its manner.
-abbrev pub IsCompiledBy : {E : Type 0} → Engine E → (manner : ComponentName → Manner) → ComponentName → Type 0
-IsCompiledBy {E} engine manner component = (compiled : ComponentView E) × IsComponentCompiled engine (manner component) compiled
+abbrev pub IsCompiledBy : {E : Type 0} → Engine E → (settings : ComponentName → ParseSettings) → ComponentName → Type 0
+IsCompiledBy {E} engine settings component = (compiled : ComponentView E) × IsComponentCompiled engine (settings component) compiled
 
 -- ---- constructor strings
 
 module _ {E : Type 0} (engine : Engine E) (bytes : List ℕ) (base : Option (List ℕ)) (asked : UrlPatternOptions) where
   -- The diagnosis shows the pattern of the protocol.
-  pub protocol_shown : (what : Subject) (diagnosis : Diagnosis) → string_bytes diagnosis.text ≡ bytes → RefusesSplit (chars bytes) base (error_view diagnosis.error) → ShowsProtocol (chars bytes) what diagnosis →
+  pub protocol_shown : (what : Subject) (diagnosis : Diagnosis) → string_bytes diagnosis.text ≡ bytes → RejectsSplit (chars bytes) base (error_view diagnosis.error) → ShowsProtocol (chars bytes) what diagnosis →
       ShowsText engine bytes base asked what diagnosis
   protocol_shown subjects.Base diagnosis text refused shows = absurd shows
   protocol_shown subjects.Whole diagnosis text refused shows = (text, inl (refused, shows))
@@ -129,7 +129,7 @@ module _ {E : Type 0} (engine : Engine E) (bytes : List ℕ) (base : Option (Lis
 
   module _ (init : UrlPatternInit) (is : IsInitOfText engine (chars bytes) base init) where
     by_subject : (what : Subject) (diagnosis : Diagnosis) → diagnosis.subject ≡ what → string_bytes diagnosis.text ≡ bytes → ShowsInit engine init asked diagnosis → ShowsText engine bytes base asked what diagnosis
-    by_subject subjects.Base diagnosis e text shows = absurd (subst (λ (what : Subject). ShowsRefusal engine asked shows.0 what diagnosis) e shows.2)
+    by_subject subjects.Base diagnosis e text shows = absurd (subst (λ (what : Subject). ShowsRejection engine asked shows.0 what diagnosis) e shows.2)
     by_subject subjects.Whole diagnosis e text shows = (text, inr (init, is, shows))
     by_subject (subjects.Component component) diagnosis e text shows = (text, inr (init, is, shows))
 

@@ -9,15 +9,15 @@ use Rattle.urlpattern_init.specs.declared.init.UrlPatternInit.{UrlPatternInit}
 use Rattle.urlpattern_components.specs.declared.eight.ComponentName.{ComponentName}
 use Rattle.urlpattern_components.specs.declared.eight.ComponentName.TheVariants.{Protocol, Username, Password, Hostname, Port, Pathname, Search, Hash}
 use Rattle.urlpattern_inputs.specs.declared.options.UrlPatternOptions.{UrlPatternOptions}
-use Rattle.urlpattern_canonical.specs.Canonical.{IsAnswer, canonical_hash, canonical_hostname, canonical_ipv6_hostname, canonical_opaque_pathname, canonical_password, canonical_pathname, canonical_port, canonical_protocol, canonical_search, canonical_username, default_port, is_special, without_first}
+use Rattle.urlpattern_canonical.specs.Canonical.{IsResult, canonical_hash, canonical_hostname, canonical_ipv6_hostname, canonical_opaque_pathname, canonical_password, canonical_pathname, canonical_port, canonical_protocol, canonical_search, canonical_username, default_port, is_special, without_first}
 use Rattle.urlpattern_matcher.specs.Components.{ComponentView, IsCompiledFrom}
 use Rattle.urlpattern_matcher.specs.declared.regexp.RegExp.{Ghosts as Engine}
 use Rattle.urlpattern_canonical.specs.declared.canonicalize_and_process.ProcessType.TheVariants.{Pattern}
-use Rattle.urlpattern_meaning.specs.{FirstAnswers.TookText, Matching.MatcherView, PartMeaning.Captures}
+use Rattle.urlpattern_meaning.specs.{FirstResults.AcceptedText, Matching.MatcherView, PartMeaning.Captures}
 use Rattle.urlpattern_syntax.specs.Errors.{ErrorView, ErrorView as views}
 use Rattle.urlpattern_syntax.specs.Options.{OptionsView, default_options, hostname_options, pathname_options}
 use Rattle.urlpattern_syntax.specs.Parts.{PartView}
-use Rattle.urlpattern_syntax.specs.Reading.{Encoding, Reads, Refuses, encoding_of}
+use Rattle.urlpattern_syntax.specs.Reading.{Encoding, Reads, Rejects, encoding_of}
 use Rattle.urlpattern_syntax.specs.Text.{begins_with}
 use Rattle.urlpattern_components.specs.Eight.{Values, at}
 
@@ -45,7 +45,7 @@ pattern_values init = and_then (init_values Pattern init) (λ values. Ok (withou
 -- ---- how a component's pattern is parsed
 
 -- A pattern text, the options under which it is parsed, and the canonical value of a fixed text.
-pub record Manner : Type 0 where
+pub record ParseSettings : Type 0 where
   pub text : List ℕ
   pub options : OptionsView
   pub canonical : List ℕ → Parsed (List ℕ)
@@ -91,14 +91,14 @@ rules_of asked values hierarchical Search = (with_case asked default_options, ca
 rules_of asked values hierarchical Hash = (with_case asked default_options, canonical_hash)
 
 -- How a component's pattern is parsed, given the values to compile.
-abbrev pub manner_of : UrlPatternOptions → Values → (hierarchical : Bool) → ComponentName → Manner
-manner_of asked values hierarchical component =
+abbrev pub settings_of : UrlPatternOptions → Values → (hierarchical : Bool) → ComponentName → ParseSettings
+settings_of asked values hierarchical component =
     let rules = rules_of asked values hierarchical component in
     record { text = pattern_of values component; options = rules.0; canonical = rules.1 }
 
 -- The encoding of fixed texts by `canonical`.
 abbrev pub canonical_encoding : (List ℕ → Parsed (List ℕ)) → Encoding
-canonical_encoding canonical = encoding_of (λ bytes returned. IsAnswer (canonical (chars bytes)) (length bytes) returned)
+canonical_encoding canonical = encoding_of (λ bytes returned. IsResult (canonical (chars bytes)) (length bytes) returned)
 
 -- ---- components
 
@@ -106,26 +106,26 @@ canonical_encoding canonical = encoding_of (λ bytes returned. IsAnswer (canonic
 -- needs one.
 pub record HasEngine {E : Type 0} (compiled : ComponentView E) : Type 0 where
   pub whole : IsOk compiled.regexp
-  pub of_matcher : TookText (λ value. ⊤) compiled.matcher.inner
+  pub of_matcher : AcceptedText (λ value. ⊤) compiled.matcher.inner
 
 -- The text is rejected with this error, or the engine rejects one of its regular expressions.
-abbrev pub IsRefusedFrom : {E : Type 0} → Engine E → (text : List ℕ) → OptionsView → Encoding → ErrorView → Type 0
-IsRefusedFrom {E} engine text options encoding error =
-    Refuses text options encoding error
+abbrev pub IsRejectedFrom : {E : Type 0} → Engine E → (text : List ℕ) → OptionsView → Encoding → ErrorView → Type 0
+IsRejectedFrom {E} engine text options encoding error =
+    Rejects text options encoding error
     ⊎ ((compiled : ComponentView E) × IsCompiledFrom engine text options encoding compiled × (¬ HasEngine compiled) × (error ≡ views.RegExp))
 
 -- The pattern text is parsed to these parts.
-abbrev pub ReadsAs : Manner → List PartView → Type 0
-ReadsAs manner parts = Reads manner.text manner.options (canonical_encoding manner.canonical) parts
+abbrev pub ReadsAs : ParseSettings → List PartView → Type 0
+ReadsAs settings parts = Reads settings.text settings.options (canonical_encoding settings.canonical) parts
 
 -- The component is compiled in this manner, and the engine accepted what it needs.
-abbrev pub IsComponentCompiled : {E : Type 0} → Engine E → Manner → ComponentView E → Type 0
-IsComponentCompiled engine manner compiled =
-    IsCompiledFrom engine manner.text manner.options (canonical_encoding manner.canonical) compiled × HasEngine compiled
+abbrev pub IsComponentCompiled : {E : Type 0} → Engine E → ParseSettings → ComponentView E → Type 0
+IsComponentCompiled engine settings compiled =
+    IsCompiledFrom engine settings.text settings.options (canonical_encoding settings.canonical) compiled × HasEngine compiled
 
 -- The component, parsed in this manner, is rejected with this error.
-abbrev pub IsComponentRefused : {E : Type 0} → Engine E → Manner → ErrorView → Type 0
-IsComponentRefused engine manner = IsRefusedFrom engine manner.text manner.options (canonical_encoding manner.canonical)
+abbrev pub IsComponentRejected : {E : Type 0} → Engine E → ParseSettings → ErrorView → Type 0
+IsComponentRejected engine settings = IsRejectedFrom engine settings.text settings.options (canonical_encoding settings.canonical)
 
 -- ---- whole patterns
 
@@ -140,15 +140,15 @@ abbrev pub IsPathKind : {E : Type 0} → (answer : E → List ℕ → Option Cap
 IsPathKind answer values protocol hierarchical = IsTrue hierarchical ↔ HasHierarchicalPath answer values protocol
 
 -- Each component is compiled in its manner.
-abbrev pub EachIsCompiled : {E : Type 0} → Engine E → (manner : ComponentName → Manner) → PatternView E → Type 0
-EachIsCompiled engine manner pattern = (component : ComponentName) → IsComponentCompiled engine (manner component) (pattern component)
+abbrev pub EachIsCompiled : {E : Type 0} → Engine E → (settings : ComponentName → ParseSettings) → PatternView E → Type 0
+EachIsCompiled engine settings pattern = (component : ComponentName) → IsComponentCompiled engine (settings component) (pattern component)
 
 -- The values are compiled to this pattern: the pathname is hierarchical or not, and each component
 -- is compiled accordingly.
 pub record AreCompiled {E : Type 0} (engine : Engine E) (asked : UrlPatternOptions) (values : Values) (pattern : PatternView E) : Type 0 where
   pub hierarchical : Bool
   pub path_kind : IsPathKind engine.answer values (pattern Protocol).matcher hierarchical
-  pub are_compiled : EachIsCompiled engine (manner_of asked values hierarchical) pattern
+  pub are_compiled : EachIsCompiled engine (settings_of asked values hierarchical) pattern
 
 -- The init is compiled to this pattern.
 abbrev pub IsPatternOfInit : {E : Type 0} → Engine E → UrlPatternInit → UrlPatternOptions → PatternView E → Type 0
@@ -162,26 +162,26 @@ abbrev pub after_protocol : List ComponentName
 after_protocol = Hostname ∷ Pathname ∷ Username ∷ Password ∷ Port ∷ Search ∷ Hash ∷ []
 
 -- A component of the list is rejected with this error, and all before it are compiled.
-abbrev pub FirstRefused : {E : Type 0} → Engine E → (manner : ComponentName → Manner) → List ComponentName → ErrorView → Type 0
-FirstRefused engine manner [] error = ⊥
-FirstRefused {E} engine manner (component ∷ components) error =
-    IsComponentRefused engine (manner component) error
-    ⊎ (((compiled : ComponentView E) × IsComponentCompiled engine (manner component) compiled) × FirstRefused engine manner components error)
+abbrev pub FirstRejected : {E : Type 0} → Engine E → (settings : ComponentName → ParseSettings) → List ComponentName → ErrorView → Type 0
+FirstRejected engine settings [] error = ⊥
+FirstRejected {E} engine settings (component ∷ components) error =
+    IsComponentRejected engine (settings component) error
+    ⊎ (((compiled : ComponentView E) × IsComponentCompiled engine (settings component) compiled) × FirstRejected engine settings components error)
 
 -- The protocol is compiled, and a component after it is rejected with this error.
-pub record RefusesAfterProtocol {E : Type 0} (engine : Engine E) (asked : UrlPatternOptions) (values : Values) (error : ErrorView) : Type 0 where
+pub record RejectsAfterProtocol {E : Type 0} (engine : Engine E) (asked : UrlPatternOptions) (values : Values) (error : ErrorView) : Type 0 where
   pub protocol : ComponentView E
   pub hierarchical : Bool
-  pub is_compiled : IsComponentCompiled engine (manner_of asked values hierarchical Protocol) protocol
+  pub is_compiled : IsComponentCompiled engine (settings_of asked values hierarchical Protocol) protocol
   pub path_kind : IsPathKind engine.answer values protocol.matcher hierarchical
-  pub refused : FirstRefused engine (manner_of asked values hierarchical) after_protocol error
+  pub refused : FirstRejected engine (settings_of asked values hierarchical) after_protocol error
 
 -- The values are rejected with this error, that of the first rejected component.
-abbrev pub RefusesValues : {E : Type 0} → Engine E → UrlPatternOptions → Values → ErrorView → Type 0
-RefusesValues engine asked values error =
-    IsComponentRefused engine (manner_of asked values false Protocol) error ⊎ RefusesAfterProtocol engine asked values error
+abbrev pub RejectsValues : {E : Type 0} → Engine E → UrlPatternOptions → Values → ErrorView → Type 0
+RejectsValues engine asked values error =
+    IsComponentRejected engine (settings_of asked values false Protocol) error ⊎ RejectsAfterProtocol engine asked values error
 
 -- The init is rejected with this error.
-abbrev pub RefusesInit : {E : Type 0} → Engine E → UrlPatternInit → UrlPatternOptions → ErrorView → Type 0
-RefusesInit engine init asked error =
-    (values : Values) × (pattern_values init ≡ Ok values) × RefusesValues engine asked values error
+abbrev pub RejectsInit : {E : Type 0} → Engine E → UrlPatternInit → UrlPatternOptions → ErrorView → Type 0
+RejectsInit engine init asked error =
+    (values : Values) × (pattern_values init ≡ Ok values) × RejectsValues engine asked values error

@@ -6,7 +6,7 @@ use Rattle.urlpattern_matcher.specs.declared.component.ComponentWithParts.{Compo
 use Rattle.urlpattern_matcher.specs.declared.regexp.RegExp.{Ghosts as Engine}
 use Rattle.urlpattern_init.specs.Inheritance.{values_view}
 use Rattle.urlpattern_compile.specs.declared.compile.Compiler.{Compiler}
-use Rattle.urlpattern_compile.specs.Compiled.{IsRefusedFrom, Manner, manner_of}
+use Rattle.urlpattern_compile.specs.Compiled.{IsRejectedFrom, ParseSettings, settings_of}
 use Rattle.urlpattern_components.specs.declared.eight.ComponentName.{ComponentName}
 use Rattle.urlpattern_components.specs.Eight.{Values}
 use Rattle.urlpattern_syntax.specs.declared.parser.Options.{Options}
@@ -19,13 +19,13 @@ abbrev pub compiled_values : Compiler → Values
 compiled_values compiler = values_view compiler.values.now
 
 -- How a compiler parses a component's pattern.
-abbrev pub manner_by : Compiler → (hierarchical : Bool) → ComponentName → Manner
-manner_by compiler = manner_of compiler.options.now (compiled_values compiler)
+abbrev pub settings_by : Compiler → (hierarchical : Bool) → ComponentName → ParseSettings
+settings_by compiler = settings_of compiler.options.now (compiled_values compiler)
 
 -- The component, with its parts, is compiled from a pattern text, if there is one.
 abbrev pub IsCompiledWith : {E : Type 0} → Engine E → Option (Bor (List ℕ)) → Options → Encoding → ComponentWithParts E → Type 0
 IsCompiledWith engine pattern options encoding made = IsCompiledKeeping engine (pattern_text pattern) (options_view options) encoding made
 
 -- A pattern text, if there is one, is rejected with this error.
-abbrev pub IsRefusedWith : {E : Type 0} → Engine E → Option (Bor (List ℕ)) → Options → Encoding → ErrorView → Type 0
-IsRefusedWith engine pattern options encoding error = IsRefusedFrom engine (pattern_text pattern) (options_view options) encoding error
+abbrev pub IsRejectedWith : {E : Type 0} → Engine E → Option (Bor (List ℕ)) → Options → Encoding → ErrorView → Type 0
+IsRejectedWith engine pattern options encoding error = IsRejectedFrom engine (pattern_text pattern) (options_view options) encoding error

@@ -5,12 +5,12 @@ use Rattle.url.specs.Parts.{Parts}
 use Rattle.urlpattern_canonical.specs.BaseUrls.{parsed_base, text_bytes}
 use Rattle.urlpattern_canonical.specs.Canonical.{Reports}
 use Rattle.urlpattern_matcher.specs.declared.regexp.RegExp.{Ghosts as Engine}
-use Rattle.urlpattern_init.specs.ConstructorString.{HasProtocolOrBase, RefusesString, SplitsInto}
+use Rattle.urlpattern_init.specs.ConstructorString.{HasProtocolOrBase, RejectsString, SplitsInto}
 use Rattle.urlpattern_init.specs.{Inheritance.values_view, SpecialProtocol.IsSpecialTo}
 use Rattle.urlpattern_init.specs.declared.init.UrlPatternInit.{UrlPatternInit}
 use Rattle.urlpattern_inputs.specs.declared.options.UrlPatternOptions.{UrlPatternOptions}
 use Rattle.urlpattern_compile.specs.PatternViews.{PatternView}
-use Rattle.urlpattern_compile.specs.{Compiled.IsPatternOfInit, Compiled.RefusesInit}
+use Rattle.urlpattern_compile.specs.{Compiled.IsPatternOfInit, Compiled.RejectsInit}
 use Rattle.urlpattern_syntax.specs.Errors.{ErrorView}
 
 -- ---- inits
@@ -23,13 +23,13 @@ pub record IsInitOfText {E : Type 0} (engine : Engine E) (text : List ℕ) (base
   pub is_complete : HasProtocolOrBase init
 
 -- A constructor string whose base URL is parsed is rejected with this error.
-abbrev pub RefusesSplit : (text : List ℕ) → (base : Option (List ℕ)) → ErrorView → Type 0
-RefusesSplit text base error = (url : Option Parts) × (parsed_base base ≡ Ok url) × RefusesString text url error
+abbrev pub RejectsSplit : (text : List ℕ) → (base : Option (List ℕ)) → ErrorView → Type 0
+RejectsSplit text base error = (url : Option Parts) × (parsed_base base ≡ Ok url) × RejectsString text url error
 
 -- A constructor string is rejected with this error, its own or that of its base URL.
-abbrev pub RefusesText : (text : List ℕ) → (base : Option (List ℕ)) → ErrorView → Type 0
-RefusesText text base error =
-    Reports (parsed_base base) (text_bytes base) error ⊎ RefusesSplit text base error
+abbrev pub RejectsText : (text : List ℕ) → (base : Option (List ℕ)) → ErrorView → Type 0
+RejectsText text base error =
+    Reports (parsed_base base) (text_bytes base) error ⊎ RejectsSplit text base error
 
 -- ---- patterns
 
@@ -41,7 +41,7 @@ pub record IsPatternOfText {E : Type 0} (engine : Engine E) (text : List ℕ) (b
 
 -- The constructor string is rejected with this error, when it is parsed or when its init is
 -- compiled.
-abbrev pub RefusesPatternOfText : {E : Type 0} → Engine E → (text : List ℕ) → (base : Option (List ℕ)) → UrlPatternOptions → ErrorView → Type 0
-RefusesPatternOfText engine text base asked error =
-    RefusesText text base error
-    ⊎ ((init : UrlPatternInit) × IsInitOfText engine text base init × RefusesInit engine init asked error)
+abbrev pub RejectsPatternOfText : {E : Type 0} → Engine E → (text : List ℕ) → (base : Option (List ℕ)) → UrlPatternOptions → ErrorView → Type 0
+RejectsPatternOfText engine text base asked error =
+    RejectsText text base error
+    ⊎ ((init : UrlPatternInit) × IsInitOfText engine text base init × RejectsInit engine init asked error)

@@ -4,7 +4,7 @@ use Rattle.std.specs.Prelude.{◌≡◌, Bool, Ok}
 use Rattle.urlpattern_matcher.specs.Components.{IsComponentOf, component_view}
 use Rattle.urlpattern_matcher.specs.declared.component.ComponentWithParts.{ComponentWithParts}
 use Rattle.urlpattern_matcher.specs.declared.regexp.RegExp.{Ghosts as Engine}
-use Rattle.urlpattern_compile.specs.Compiled.{HasEngine, IsPathKind, Manner, ReadsAs, manner_of, pattern_values}
+use Rattle.urlpattern_compile.specs.Compiled.{HasEngine, IsPathKind, ParseSettings, ReadsAs, settings_of, pattern_values}
 use Rattle.urlpattern_components.specs.declared.eight.ComponentName.{ComponentName}
 use Rattle.urlpattern_components.specs.declared.eight.Eight.{Eight}
 use Rattle.urlpattern_components.specs.Eight.{Values, at}
@@ -14,22 +14,22 @@ use Rattle.urlpattern_syntax.specs.ComponentParts.{kept_options, kept_parts}
 
 -- The pattern text is parsed to the parts in this manner, under its options; the component is made
 -- of them, and the engine accepted what it needs.
-pub record IsKept {E : Type 0} (engine : Engine E) (manner : Manner) (made : ComponentWithParts E) : Type 0 where
-  pub options_are : kept_options made.kept ≡ manner.options
-  pub reads : ReadsAs manner (kept_parts made.kept)
-  pub is_made : IsComponentOf engine manner.options (kept_parts made.kept) (component_view made.component)
+pub record IsKept {E : Type 0} (engine : Engine E) (settings : ParseSettings) (made : ComponentWithParts E) : Type 0 where
+  pub options_are : kept_options made.kept ≡ settings.options
+  pub reads : ReadsAs settings (kept_parts made.kept)
+  pub is_made : IsComponentOf engine settings.options (kept_parts made.kept) (component_view made.component)
   pub has_engine : HasEngine (component_view made.component)
 
 -- Each of eight components is kept with its parts, in its manner.
-abbrev pub EachIsKept : {E : Type 0} → Engine E → (manner : ComponentName → Manner) → Eight (ComponentWithParts E) → Type 0
-EachIsKept engine manner made = (name : ComponentName) → IsKept engine (manner name) (at made name)
+abbrev pub EachIsKept : {E : Type 0} → Engine E → (settings : ComponentName → ParseSettings) → Eight (ComponentWithParts E) → Type 0
+EachIsKept engine settings made = (name : ComponentName) → IsKept engine (settings name) (at made name)
 
 -- The values are compiled to these components: the pathname is hierarchical or not, and each
 -- component is made of the parts of its text accordingly.
 pub record AreCompiledKeeping {E : Type 0} (engine : Engine E) (asked : UrlPatternOptions) (values : Values) (made : Eight (ComponentWithParts E)) : Type 0 where
   pub hierarchical : Bool
   pub path_kind : IsPathKind engine.answer values (component_view made.protocol.component).matcher hierarchical
-  pub are_kept : EachIsKept engine (manner_of asked values hierarchical) made
+  pub are_kept : EachIsKept engine (settings_of asked values hierarchical) made
 
 -- The init is compiled to these components.
 abbrev pub IsKeptOfInit : {E : Type 0} → Engine E → UrlPatternInit → UrlPatternOptions → Eight (ComponentWithParts E) → Type 0

@@ -2,13 +2,13 @@
 
 ghost use Rattle.std.specs.Prelude.{◌≡◌, ◌↔◌, ⊤, [], codes, false, length, option_copied, option_map, unwrap_or, IfErr, IfOk, IfSome, IsAscii, IsTrue, MatchBool, Some};
 ghost use Rattle.std.specs.Str.{chars};
-ghost use Rattle.urlpattern_canonical.specs.Canonical.{IsAnswer};
+ghost use Rattle.urlpattern_canonical.specs.Canonical.{IsResult};
 ghost use Rattle.urlpattern_matcher.specs.Components.{component_view, pattern_text};
 ghost use Rattle.urlpattern_matcher.specs.Matchers.{matcher_view};
-ghost use Rattle.urlpattern_meaning.specs.FirstAnswers.{TookText};
+ghost use Rattle.urlpattern_meaning.specs.FirstResults.{AcceptedText};
 ghost use Rattle.urlpattern_init.specs.{Inheritance.values_view, SpecialProtocol.IsKnownProtocol};
-ghost use Rattle.urlpattern_compile.specs.Compiled.{FirstRefused, HasEngine, IsComponentRefused, IsPathKind, RefusesInit, RefusesValues, after_protocol, canonical_in_hostname, has_default_port, is_ipv6_pattern, is_mark, is_same, pattern_of, pattern_values, without_default_port};
-ghost use Rattle.urlpattern_compile.specs.CompilerSteps.{IsCompiledWith, IsRefusedWith, compiled_values, manner_by};
+ghost use Rattle.urlpattern_compile.specs.Compiled.{FirstRejected, HasEngine, IsComponentRejected, IsPathKind, RejectsInit, RejectsValues, after_protocol, canonical_in_hostname, has_default_port, is_ipv6_pattern, is_mark, is_same, pattern_of, pattern_values, without_default_port};
+ghost use Rattle.urlpattern_compile.specs.CompilerSteps.{IsCompiledWith, IsRejectedWith, compiled_values, settings_by};
 ghost use Rattle.urlpattern_compile.specs.KeptComponents.{AreCompiledKeeping, EachIsKept, IsKept, IsKeptOfInit};
 ghost use Rattle.urlpattern_components.specs.declared.eight.ComponentName.{ComponentName};
 ghost use Rattle.urlpattern_syntax.specs.Errors.{MemoryOr, OnlyOutOfMemory};
@@ -50,7 +50,7 @@ pub fn compile_init<R: RegExp>(
 ) -> Result<Eight<ComponentWithParts<R>>, Error>
     requires { IfSome known (IsKnownProtocol R.RegExp) }
     ensures compiled { IfOk result (IsKeptOfInit R.RegExp init options) }
-    ensures refused { IfErr result (MemoryOr (RefusesInit R.RegExp init options)) }
+    ensures refused { IfErr result (MemoryOr (RejectsInit R.RegExp init options)) }
 {
     let values = pattern_values(alloc, &init);
     drop(init);
@@ -71,7 +71,7 @@ fn compile_values<R: RegExp>(
 ) -> Result<Eight<ComponentWithParts<R>>, Error>
     requires { IfSome known (IsKnownProtocol R.RegExp) }
     ensures compiled { IfOk result (AreCompiledKeeping R.RegExp options.now (values_view values.now)) }
-    ensures refused { IfErr result (MemoryOr (RefusesValues R.RegExp options.now (values_view values.now))) }
+    ensures refused { IfErr result (MemoryOr (RejectsValues R.RegExp options.now (values_view values.now))) }
 {
     let canonicalizer = Canonicalizer::shared(alloc)?;
     let compiler = Compiler {
@@ -157,7 +157,7 @@ fn compile_component<R: RegExp, F: Fn(&str) -> Result<String, Error> + Drop>(
     requires { F.IsAlwaysCallable encoding_callback }
     ensures compiled { IfOk result (IsCompiledWith R.RegExp pattern.entry options (encoding_by F.Fn encoding_callback)) }
     ensures engine { IfOk result (λ made. HasEngine (component_view made.component)) }
-    ensures refused { IfErr result (MemoryOr (IsRefusedWith R.RegExp pattern.entry options (encoding_by F.Fn encoding_callback))) }
+    ensures refused { IfErr result (MemoryOr (IsRejectedWith R.RegExp pattern.entry options (encoding_by F.Fn encoding_callback))) }
 {
     let compiled = Component::compile_with_parts(alloc, pattern, encoding_callback, options);
     if lacks_engine(&compiled) {
@@ -182,7 +182,7 @@ fn lacks_engine<R: RegExp>(compiled: &Result<ComponentWithParts<R>, Error>) -> b
 /// Whether a matcher holds an error in place of the engine that it needs.
 #[inline(always)]
 fn holds_error<R: RegExp>(matcher: &Matcher<R>) -> bool
-    ensures { MatchBool result (¬ TookText (λ value. ⊤) (matcher_view matcher.now).inner) (TookText (λ value. ⊤) (matcher_view matcher.now).inner) }
+    ensures { MatchBool result (¬ AcceptedText (λ value. ⊤) (matcher_view matcher.now).inner) (AcceptedText (λ value. ⊤) (matcher_view matcher.now).inner) }
 {
     match &matcher.inner {
         InnerMatcher::RegExp { regexp } => regexp.is_err(),
@@ -214,7 +214,7 @@ impl Compiler<'_> {
     ) -> Result<Eight<ComponentWithParts<R>>, Error>
         requires { IfSome known (IsKnownProtocol R.RegExp) }
         ensures compiled { IfOk result (AreCompiledKeeping R.RegExp self.now.options.now (compiled_values self.now)) }
-        ensures refused { IfErr result (MemoryOr (RefusesValues R.RegExp self.now.options.now (compiled_values self.now))) }
+        ensures refused { IfErr result (MemoryOr (RejectsValues R.RegExp self.now.options.now (compiled_values self.now))) }
     {
         let protocol = self.protocol(known)?;
         let hierarchical = self.is_hierarchical(&protocol.component)?;
@@ -229,8 +229,8 @@ impl Compiler<'_> {
         known: Option<(&str, ComponentWithParts<R>)>,
     ) -> Result<ComponentWithParts<R>, Error>
         requires { IfSome known (IsKnownProtocol R.RegExp) }
-        ensures compiled { IfOk result (IsKept R.RegExp (manner_by self.now false ComponentName.Protocol)) }
-        ensures refused { IfErr result (MemoryOr (IsComponentRefused R.RegExp (manner_by self.now false ComponentName.Protocol))) }
+        ensures compiled { IfOk result (IsKept R.RegExp (settings_by self.now false ComponentName.Protocol)) }
+        ensures refused { IfErr result (MemoryOr (IsComponentRejected R.RegExp (settings_by self.now false ComponentName.Protocol))) }
     {
         if let (Some((text, made)), Some(own), RegexSyntax::Rust) = (
             known,
@@ -255,10 +255,10 @@ impl Compiler<'_> {
         protocol: ComponentWithParts<R>,
         hierarchical: bool,
     ) -> Result<Eight<ComponentWithParts<R>>, Error>
-        requires { IsKept R.RegExp (manner_by self.now hierarchical ComponentName.Protocol) protocol }
+        requires { IsKept R.RegExp (settings_by self.now hierarchical ComponentName.Protocol) protocol }
         ensures protocol { IfOk result (λ made. component_view made.protocol.component ≡ component_view protocol.component) }
-        ensures compiled { IfOk result (EachIsKept R.RegExp (manner_by self.now hierarchical)) }
-        ensures refused { IfErr result (MemoryOr (FirstRefused R.RegExp (manner_by self.now hierarchical) after_protocol)) }
+        ensures compiled { IfOk result (EachIsKept R.RegExp (settings_by self.now hierarchical)) }
+        ensures refused { IfErr result (MemoryOr (FirstRejected R.RegExp (settings_by self.now hierarchical) after_protocol)) }
     {
         Ok(Eight {
             protocol,
@@ -280,12 +280,12 @@ impl Compiler<'_> {
         component: ComponentName,
         hierarchical: bool,
     ) -> Result<ComponentWithParts<R>, Error>
-        ensures compiled { IfOk result (IsKept R.RegExp (manner_by self.now hierarchical component)) }
-        ensures refused { IfErr result (MemoryOr (IsComponentRefused R.RegExp (manner_by self.now hierarchical component))) }
+        ensures compiled { IfOk result (IsKept R.RegExp (settings_by self.now hierarchical component)) }
+        ensures refused { IfErr result (MemoryOr (IsComponentRejected R.RegExp (settings_by self.now hierarchical component))) }
     {
         let options = self.options_of(component, hierarchical)?;
         let canonicalize = |text: &str| -> Result<String, Error>
-            ensures { IsAnswer ((manner_by self.entry.now hierarchical component).canonical (chars text.now)) (length text.now) result }
+            ensures { IsResult ((settings_by self.entry.now hierarchical component).canonical (chars text.now)) (length text.now) result }
         { self.canonical(component, hierarchical, text) };
         let pattern = pattern_of(self.values, component);
         compile_component(self.alloc, pattern, canonicalize, options)
@@ -293,7 +293,7 @@ impl Compiler<'_> {
 
     /// The options under which a component's pattern is parsed.
     pub fn options_of(&self, component: ComponentName, hierarchical: bool) -> Result<Options, Error>
-        ensures ok { IfOk result (λ options. options_view options ≡ (manner_by self.now hierarchical component).options) }
+        ensures ok { IfOk result (λ options. options_view options ≡ (settings_by self.now hierarchical component).options) }
         ensures memory { OnlyOutOfMemory result }
     {
         let standard = match component {
@@ -321,7 +321,7 @@ impl Compiler<'_> {
         hierarchical: bool,
         text: &str,
     ) -> Result<String, Error>
-        ensures { IsAnswer ((manner_by self.now hierarchical component).canonical (chars text.now)) (length text.now) result }
+        ensures { IsResult ((settings_by self.now hierarchical component).canonical (chars text.now)) (length text.now) result }
     {
         let values = &self.canonicalizer;
         match component {
@@ -342,7 +342,7 @@ impl Compiler<'_> {
     ///
     /// The error is that of `url`, or `OutOfMemory`.
     fn canonical_in_hostname(&self, text: &str) -> Result<String, Error>
-        ensures { IsAnswer (canonical_in_hostname (unwrap_or (compiled_values self.now).hostname []) (chars text.now)) (length text.now) result }
+        ensures { IsResult (canonical_in_hostname (unwrap_or (compiled_values self.now).hostname []) (chars text.now)) (length text.now) result }
     {
         match &self.values.hostname {
             Some(pattern) if is_ipv6_pattern(pattern) => {
@@ -357,7 +357,7 @@ impl Compiler<'_> {
         ensures path_kind { IfOk result (IsPathKind R.answer (compiled_values self.now) (component_view protocol.now).matcher) }
         ensures memory { OnlyOutOfMemory result }
     {
-        if is_there_and_empty(&self.values.protocol) || is_there_with_slash(&self.values.pathname) {
+        if is_some_and_empty(&self.values.protocol) || is_some_with_slash(&self.values.pathname) {
             return Ok(true);
         }
         accepts_special_scheme(self.alloc, &protocol.matcher)
@@ -365,7 +365,7 @@ impl Compiler<'_> {
 }
 
 /// Whether a text is present and empty.
-fn is_there_and_empty(text: &Option<String>) -> bool
+fn is_some_and_empty(text: &Option<String>) -> bool
     ensures { IsTrue result ↔ (option_map text_of text.now ≡ Some []) }
 {
     match text {
@@ -375,7 +375,7 @@ fn is_there_and_empty(text: &Option<String>) -> bool
 }
 
 /// Whether a text is present and begins with a slash.
-fn is_there_with_slash(text: &Option<String>) -> bool
+fn is_some_with_slash(text: &Option<String>) -> bool
     ensures { result ≡ begins_with (is_mark (codes "/")) (unwrap_or (option_map text_of text.now) []) }
 {
     match text {

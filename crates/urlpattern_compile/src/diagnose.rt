@@ -4,22 +4,22 @@ ghost use Rattle.std.specs.Prelude.{◌≡◌, option_copied, string_bytes, IfOk
 ghost use Rattle.std.specs.Str.{chars};
 ghost use Rattle.urlpattern_diagnosis.specs.declared.diagnosis.Subject.TheVariants as subjects;
 ghost use Rattle.urlpattern_init.specs.Inheritance.{values_view};
-ghost use Rattle.urlpattern_compile.specs.Compiled.{RefusesInit, RefusesValues};
-ghost use Rattle.urlpattern_compile.specs.CompilerSteps.{compiled_values, manner_by};
+ghost use Rattle.urlpattern_compile.specs.Compiled.{RejectsInit, RejectsValues};
+ghost use Rattle.urlpattern_compile.specs.CompilerSteps.{compiled_values, settings_by};
 ghost use Rattle.urlpattern_diagnosis.specs.Faults.{IsColonFault, IsFaultIn};
-ghost use Rattle.urlpattern_compile.specs.Diagnoses.{AcceptsInit, AcceptsPatternOfText, AcceptsValues, HasErrorOf, IfAccepted, IfRefused, IsOf, IsPartOfRefused, IsWithinText, ShowsGiven, ShowsInit, ShowsPattern, ShowsProtocol, ShowsValues};
-ghost use Rattle.urlpattern_compile.specs.FromString.{RefusesPatternOfText};
+ghost use Rattle.urlpattern_compile.specs.Diagnoses.{AcceptsInit, AcceptsPatternOfText, AcceptsValues, HasErrorOf, IfAccepted, IfRejected, IsOf, IsPartOfRejected, IsWithinText, ShowsGiven, ShowsInit, ShowsPattern, ShowsProtocol, ShowsValues};
+ghost use Rattle.urlpattern_compile.specs.FromString.{RejectsPatternOfText};
 ghost use Rattle.urlpattern_syntax.specs.Errors.{error_view};
 
 use crate::compile::{Compiler, pattern_of, pattern_values};
-use crate::refusal::{Refusal, not_memory};
+use crate::rejection::{Rejection, not_memory};
 use std::alloc::Global;
 use urlpattern_canonical::canonicalize_and_process::Canonicalizer;
 use urlpattern_canonical::parse_base;
 use urlpattern_components::{ComponentName, Eight};
 use urlpattern_diagnosis::{
     Diagnosis, Fault, PatternOffset, Subject, component_start, fault_of, fault_of_expression,
-    fault_of_host, refused_expression, refused_row,
+    fault_of_host, rejected_expression, rejected_run,
 };
 use urlpattern_init::{UrlPatternInit, protocol_of};
 use urlpattern_inputs::UrlPatternOptions;
@@ -39,9 +39,9 @@ pub fn diagnose_text<R: RegExp>(
     options: UrlPatternOptions,
 ) -> Result<Option<Diagnosis>, OutOfMemory>
     ensures accepted { IfAccepted result (AcceptsPatternOfText R.RegExp (chars pattern.now) (option_copied base_url.entry) options) }
-    ensures refused { IfRefused result (HasErrorOf (RefusesPatternOfText R.RegExp (chars pattern.now) (option_copied base_url.entry) options)) }
-    ensures shows { IfRefused result (ShowsGiven R.RegExp pattern.now (option_copied base_url.entry) options) }
-    ensures within { IfRefused result IsWithinText }
+    ensures refused { IfRejected result (HasErrorOf (RejectsPatternOfText R.RegExp (chars pattern.now) (option_copied base_url.entry) options)) }
+    ensures shows { IfRejected result (ShowsGiven R.RegExp pattern.now (option_copied base_url.entry) options) }
+    ensures within { IfRejected result IsWithinText }
 {
     let base = match parse_base(alloc, base_url) {
         Ok(base) => base,
@@ -73,9 +73,9 @@ pub fn diagnose_init<R: RegExp>(
     options: UrlPatternOptions,
 ) -> Result<Option<Diagnosis>, OutOfMemory>
     ensures accepted { IfAccepted result (AcceptsInit R.RegExp init.now options) }
-    ensures refused { IfRefused result (HasErrorOf (RefusesInit R.RegExp init.now options)) }
-    ensures shows { IfRefused result (ShowsInit R.RegExp init.now options) }
-    ensures within { IfRefused result IsWithinText }
+    ensures refused { IfRejected result (HasErrorOf (RejectsInit R.RegExp init.now options)) }
+    ensures shows { IfRejected result (ShowsInit R.RegExp init.now options) }
+    ensures within { IfRejected result IsWithinText }
 {
     init_diagnosis::<R>(alloc, init, &options, None)
 }
@@ -131,10 +131,10 @@ fn init_diagnosis<R: RegExp>(
     string: Option<&str>,
 ) -> Result<Option<Diagnosis>, OutOfMemory>
     ensures accepted { IfAccepted result (AcceptsInit R.RegExp init.now options.now) }
-    ensures refused { IfRefused result (HasErrorOf (RefusesInit R.RegExp init.now options.now)) }
-    ensures shows { IfRefused result (ShowsInit R.RegExp init.now options.now) }
-    ensures text { IfRefused result (IsOf (option_copied string.entry)) }
-    ensures within { IfRefused result IsWithinText }
+    ensures refused { IfRejected result (HasErrorOf (RejectsInit R.RegExp init.now options.now)) }
+    ensures shows { IfRejected result (ShowsInit R.RegExp init.now options.now) }
+    ensures text { IfRejected result (IsOf (option_copied string.entry)) }
+    ensures within { IfRejected result IsWithinText }
 {
     let Ok(values) = pattern_values(alloc, init) else {
         return Err(OutOfMemory);
@@ -153,10 +153,10 @@ fn values_diagnosis<R: RegExp>(
     given: PatternSource<'_>,
 ) -> Result<Option<Diagnosis>, OutOfMemory>
     ensures accepted { IfAccepted result (AcceptsValues R.RegExp options.now (values_view values.now)) }
-    ensures refused { IfRefused result (HasErrorOf (RefusesValues R.RegExp options.now (values_view values.now))) }
-    ensures shows { IfRefused result (ShowsValues R.RegExp options.now (values_view values.now)) }
-    ensures text { IfRefused result (IsOf (option_copied given.entry.string)) }
-    ensures within { IfRefused result IsWithinText }
+    ensures refused { IfRejected result (HasErrorOf (RejectsValues R.RegExp options.now (values_view values.now))) }
+    ensures shows { IfRejected result (ShowsValues R.RegExp options.now (values_view values.now)) }
+    ensures text { IfRejected result (IsOf (option_copied given.entry.string)) }
+    ensures within { IfRejected result IsWithinText }
 {
     let Ok(canonicalizer) = Canonicalizer::shared(alloc) else {
         return Err(OutOfMemory);
@@ -218,14 +218,14 @@ impl Compiler<'_> {
         error: Error,
         given: PatternSource<'_>,
     ) -> Result<Diagnosis, OutOfMemory>
-        requires { RefusesValues R.RegExp self.now.options.now (compiled_values self.now) (error_view error) }
-        ensures refused { IfOk result (HasErrorOf (RefusesValues R.RegExp self.now.options.now (compiled_values self.now))) }
+        requires { RejectsValues R.RegExp self.now.options.now (compiled_values self.now) (error_view error) }
+        ensures refused { IfOk result (HasErrorOf (RejectsValues R.RegExp self.now.options.now (compiled_values self.now))) }
         ensures shows { IfOk result (ShowsValues R.RegExp self.now.options.now (compiled_values self.now)) }
         ensures text { IfOk result (IsOf (option_copied given.entry.string)) }
         ensures within { IfOk result IsWithinText }
     {
-        match self.first_refused::<R>()? {
-            Some(refusal) => self.component_diagnosis::<R>(refusal, given),
+        match self.first_rejected::<R>()? {
+            Some(rejection) => self.component_diagnosis::<R>(rejection, given),
             None => {
                 let text = given.string.unwrap_or("");
                 Ok(Diagnosis::whole(self.alloc, error, Subject::Whole, text)?)
@@ -236,26 +236,26 @@ impl Compiler<'_> {
     /// Diagnoses a rejected component.
     fn component_diagnosis<R: RegExp>(
         &self,
-        refusal: Refusal,
+        rejection: Rejection,
         given: PatternSource<'_>,
     ) -> Result<Diagnosis, OutOfMemory>
-        ensures error { IfOk result (λ diagnosis. diagnosis.error ≡ refusal.error) }
-        ensures subject { IfOk result (λ diagnosis. diagnosis.subject ≡ subjects.Component refusal.component) }
-        ensures shows { IfOk result (ShowsPattern refusal.component (manner_by self.now refusal.hierarchical refusal.component)) }
+        ensures error { IfOk result (λ diagnosis. diagnosis.error ≡ rejection.error) }
+        ensures subject { IfOk result (λ diagnosis. diagnosis.subject ≡ subjects.Component rejection.component) }
+        ensures shows { IfOk result (ShowsPattern rejection.component (settings_by self.now rejection.hierarchical rejection.component)) }
         ensures text { IfOk result (IsOf (option_copied given.entry.string)) }
         ensures within { IfOk result IsWithinText }
     {
-        let Refusal {
+        let Rejection {
             component,
             hierarchical,
             error,
-        } = refusal;
+        } = rejection;
         let Ok(options) = self.options_of(component, hierarchical) else {
             return Err(OutOfMemory);
         };
         let pattern = pattern_of(self.values, component).unwrap_or("*");
         let point = options.prefix_code_point.as_str();
-        let refused = self.refused_part::<R>(component, hierarchical, pattern, &error)?;
+        let refused = self.rejected_part::<R>(component, hierarchical, pattern, &error)?;
         let fault = match refused {
             Some(fault) => fault,
             None => fault_of(self.alloc, Some(component), pattern, point, &error)?,
@@ -270,25 +270,25 @@ impl Compiler<'_> {
 
     /// The fault of the part of a pattern that is rejected by itself: a custom expression by the
     /// engine, or a run of characters by `url`.
-    fn refused_part<R: RegExp>(
+    fn rejected_part<R: RegExp>(
         &self,
         component: ComponentName,
         hierarchical: bool,
         pattern: &str,
         error: &Error,
     ) -> Result<Option<Fault>, OutOfMemory>
-        ensures part { IfOk result (λ found. IfSome found (IsPartOfRefused pattern.now error.now)) }
+        ensures part { IfOk result (λ found. IfSome found (IsPartOfRejected pattern.now error.now)) }
         ensures within { IfOk result (λ found. IfSome found (IsFaultIn pattern.now)) }
     {
         match error {
-            Error::RegExp(()) => self.refused_expression::<R>(pattern),
-            Error::Url(_) => self.refused_row(component, hierarchical, pattern),
+            Error::RegExp(()) => self.rejected_expression::<R>(pattern),
+            Error::Url(_) => self.rejected_run(component, hierarchical, pattern),
             _ => Ok(None),
         }
     }
 
     /// The fault of the first custom expression of a pattern that the engine rejects by itself.
-    fn refused_expression<R: RegExp>(&self, pattern: &str) -> Result<Option<Fault>, OutOfMemory>
+    fn rejected_expression<R: RegExp>(&self, pattern: &str) -> Result<Option<Fault>, OutOfMemory>
         ensures { IfOk result (λ found. IfSome found (IsFaultIn pattern.now)) }
     {
         let Ok(tokens) = tokenize(self.alloc, pattern, TokenizePolicy::Strict) else {
@@ -301,14 +301,14 @@ impl Compiler<'_> {
                 Err(RegExpError::OutOfMemory) => Err(OutOfMemory),
             }
         };
-        match refused_expression(pattern, &tokens, refuses)? {
+        match rejected_expression(pattern, &tokens, refuses)? {
             Some(body) => Ok(Some(fault_of_expression(self.alloc, pattern, body)?)),
             None => Ok(None),
         }
     }
 
     /// The fault of the first run of characters of a pattern that `url` rejects by itself.
-    fn refused_row(
+    fn rejected_run(
         &self,
         component: ComponentName,
         hierarchical: bool,
@@ -326,7 +326,7 @@ impl Compiler<'_> {
                 Err(_) => Ok(true),
             }
         };
-        match refused_row(self.alloc, pattern, &tokens, refuses)? {
+        match rejected_run(self.alloc, pattern, &tokens, refuses)? {
             Some(row) if component == ComponentName::Hostname => {
                 Ok(Some(fault_of_host(pattern, row)))
             }

@@ -2,7 +2,7 @@
 
 ghost use Rattle.std.specs.Prelude.{option_copied, IfErr, IfOk, IfSome};
 ghost use Rattle.std.specs.Str.{chars};
-ghost use Rattle.urlpattern_compile.specs.FromString.{IsInitOfText, RefusesText};
+ghost use Rattle.urlpattern_compile.specs.FromString.{IsInitOfText, RejectsText};
 ghost use Rattle.urlpattern_init.specs.SpecialProtocol.{IsKnownProtocol};
 ghost use Rattle.urlpattern_syntax.specs.Errors.{MemoryOr};
 
@@ -22,7 +22,7 @@ pub fn init_of_text<R: RegExp>(
     base_url: Option<&str>,
 ) -> Result<UrlPatternInit, Error>
     ensures constructed { IfOk result (IsInitOfText R.RegExp (chars text.now) (option_copied base_url.entry)) }
-    ensures refused { IfErr result (MemoryOr (RefusesText (chars text.now) (option_copied base_url.entry))) }
+    ensures refused { IfErr result (MemoryOr (RejectsText (chars text.now) (option_copied base_url.entry))) }
 {
     let base_url = parse_base(alloc, base_url)?;
     UrlPatternInit::parse_constructor_string::<R>(alloc, text, base_url)
@@ -40,7 +40,7 @@ pub fn init_of_text_keeping<'a, R: RegExp>(
 ) -> Result<(UrlPatternInit, Option<(&'a str, ComponentWithParts<R>)>), Error>
     ensures constructed { IfOk result (λ found. IsInitOfText R.RegExp (chars text.now) (option_copied base_url.entry) found.0) }
     ensures known { IfOk result (λ found. IfSome found.1 (IsKnownProtocol R.RegExp)) }
-    ensures refused { IfErr result (MemoryOr (RefusesText (chars text.now) (option_copied base_url.entry))) }
+    ensures refused { IfErr result (MemoryOr (RejectsText (chars text.now) (option_copied base_url.entry))) }
 {
     let base_url = parse_base(alloc, base_url)?;
     let (init, _, known) = UrlPatternInit::parse_constructor_string_keeping::<R>(

@@ -7,7 +7,7 @@
 mod compile;
 mod diagnose;
 mod from_string;
-mod refusal;
+mod rejection;
 
 pub use compile::{Compiler, compile_init, pattern_of, pattern_values};
 pub use diagnose::{diagnose_init, diagnose_text};

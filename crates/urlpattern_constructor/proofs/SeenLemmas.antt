@@ -7,7 +7,7 @@ use Rattle.std.proofs.lemmas.List.Sums.{fold-append, sum_by-append}
 use Rattle.std.proofs.lemmas.Option.{get_or_from_slice_get, slice_get_within}
 use Rattle.std.specs.List.{count_by, fold, range_with_len, sum_by}
 use Rattle.std.specs.Prelude.{codes, IsTrue, slice_get, slice_range}
-use Rattle.urlpattern_constructor.specs.Split.{EndsAt, passes_at, count_seen, depth_before, depth_after, is_balanced, is_end, is_ending, is_open, is_seen, is_sign, may_end}
+use Rattle.urlpattern_constructor.specs.Split.{EndsAt, passes_at, count_seen, depth_before, depth_after, is_balanced, is_end, is_ending, is_open, is_seen, is_non_special_pattern_char, may_end}
 use Rattle.urlpattern_constructor.specs.Splitting.{is_hostname}
 use Rattle.urlpattern_constructor.specs.declared.sections.Section.{Section}
 use Rattle.urlpattern_constructor.specs.declared.sections.Section.TheVariants.{Protocol, Authority, Username, Password, Hostname, Port, Pathname, Search, Hash}
@@ -51,11 +51,11 @@ count_by_one p xs x = sum_by-append (λ (y : ℕ). cond (p y) 1 0) xs (x ∷ [])
     one n = zero-add n
 
 -- The count after the next token.
-pub count_more : (mark : List ℕ) (tokens : List TokenView) (from depth i : ℕ) → from ≤ i → count_seen mark tokens from depth (i + 1) ≡ count_seen mark tokens from depth i + cond (is_seen tokens from depth i && passes_at (is_sign mark) tokens i) 1 0
+pub count_more : (mark : List ℕ) (tokens : List TokenView) (from depth i : ℕ) → from ≤ i → count_seen mark tokens from depth (i + 1) ≡ count_seen mark tokens from depth i + cond (is_seen tokens from depth i && passes_at (is_non_special_pattern_char mark) tokens i) 1 0
 count_more mark tokens from depth i after =
     let e : (i + 1) - from ≡ suc (i - from) = omega arith in
     let f : from + (i - from) ≡ i = omega arith in
-    let p : ℕ → Bool = λ other. is_seen tokens from depth other && passes_at (is_sign mark) tokens other in
+    let p : ℕ → Bool = λ other. is_seen tokens from depth other && passes_at (is_non_special_pattern_char mark) tokens other in
     ap (λ n. count_by p (range_with_len from n)) e
     ∙ ap (count_by p) (range_more from (i - from))
     ∙ count_by_one p (range_with_len from (i - from)) (from + (i - from))
@@ -64,7 +64,7 @@ count_more mark tokens from depth i after =
 -- ---- reading a section
 
 -- The reading has reached `index`, and the section has not ended before it.
-pub record IsOnTheWay (section : Section) (tokens : List TokenView) (from depth index reached opened closed : ℕ) : Type 0 where
+pub record HasNotEnded (section : Section) (tokens : List TokenView) (from depth index reached opened closed : ℕ) : Type 0 where
   pub after : from ≤ index
   pub depth_is : reached ≡ depth_before tokens from depth index
   pub none : (other : ℕ) → from ≤ other → other < index → ¬ IsTrue (may_end section tokens from depth other)
@@ -84,7 +84,7 @@ ending_same Search b d tokens i h = refl
 ending_same Hash b d tokens i h = refl
 
 -- The counts of the reading say whether brackets are balanced.
-pub ending_of : (section : Section) (tokens : List TokenView) (from depth index reached opened closed : ℕ) → IsOnTheWay section tokens from depth index reached opened closed → is_ending section (opened == closed) tokens index ≡ is_ending section (is_balanced tokens from depth index) tokens index
+pub ending_of : (section : Section) (tokens : List TokenView) (from depth index reached opened closed : ℕ) → HasNotEnded section tokens from depth index reached opened closed → is_ending section (opened == closed) tokens index ≡ is_ending section (is_balanced tokens from depth index) tokens index
 ending_of section tokens from depth index reached opened closed way =
     ending_same section (opened == closed) (is_balanced tokens from depth index) tokens index
     (λ h. ap (λ n. n == closed) (way.opened_is h) ∙ ap (λ n. count_seen (codes "[") tokens from depth index == n) (way.closed_is h))
@@ -97,7 +97,7 @@ walk_sees tokens from depth index reached token is goes depth_is =
     ∙ ap (λ n. not (is_open token.kind) && n == 0) (sym depth_is)
 
 -- The section ends at End.
-pub way_ends : (section : Section) (tokens : List TokenView) (from depth index reached opened closed : ℕ) (token : TokenView) → IsOnTheWay section tokens from depth index reached opened closed → slice_get tokens index ≡ Some token → is_end token.kind ≡ true → EndsAt section tokens from depth index
+pub way_ends : (section : Section) (tokens : List TokenView) (from depth index reached opened closed : ℕ) (token : TokenView) → HasNotEnded section tokens from depth index reached opened closed → slice_get tokens index ≡ Some token → is_end token.kind ≡ true → EndsAt section tokens from depth index
 way_ends section tokens from depth index reached opened closed token way is end = record {
   after = way.after;
   within = slice_get_within tokens index token is;
@@ -106,7 +106,7 @@ way_ends section tokens from depth index reached opened closed token way is end 
 }
 
 -- The section ends at a sign that is seen.
-pub way_stops : (section : Section) (tokens : List TokenView) (from depth index reached opened closed : ℕ) (token : TokenView) → IsOnTheWay section tokens from depth index reached opened closed → slice_get tokens index ≡ Some token → is_end token.kind ≡ false → (not (is_open token.kind) && reached == 0) ≡ true → is_ending section (opened == closed) tokens index ≡ true → EndsAt section tokens from depth index
+pub way_stops : (section : Section) (tokens : List TokenView) (from depth index reached opened closed : ℕ) (token : TokenView) → HasNotEnded section tokens from depth index reached opened closed → slice_get tokens index ≡ Some token → is_end token.kind ≡ false → (not (is_open token.kind) && reached == 0) ≡ true → is_ending section (opened == closed) tokens index ≡ true → EndsAt section tokens from depth index
 way_stops section tokens from depth index reached opened closed token way is goes seen ending = record {
   after = way.after;
   within = slice_get_within tokens index token is;
@@ -115,7 +115,7 @@ way_stops section tokens from depth index reached opened closed token way is goe
 }
 
 -- The reading continues after a token.
-pub way_goes : (section : Section) (tokens : List TokenView) (from depth index reached opened closed reached' opened' closed' : ℕ) (token : TokenView) → IsOnTheWay section tokens from depth index reached opened closed → slice_get tokens index ≡ Some token → is_end token.kind ≡ false → ((not (is_open token.kind) && reached == 0) && is_ending section (opened == closed) tokens index) ≡ false → reached' ≡ depth_after token.kind reached → opened' ≡ opened + cond (is_hostname section && (not (is_open token.kind) && reached == 0) && passes_at (is_sign (codes "[")) tokens index) 1 0 → closed' ≡ closed + cond (is_hostname section && (not (is_open token.kind) && reached == 0) && passes_at (is_sign (codes "]")) tokens index) 1 0 → IsOnTheWay section tokens from depth (index + 1) reached' opened' closed'
+pub way_goes : (section : Section) (tokens : List TokenView) (from depth index reached opened closed reached' opened' closed' : ℕ) (token : TokenView) → HasNotEnded section tokens from depth index reached opened closed → slice_get tokens index ≡ Some token → is_end token.kind ≡ false → ((not (is_open token.kind) && reached == 0) && is_ending section (opened == closed) tokens index) ≡ false → reached' ≡ depth_after token.kind reached → opened' ≡ opened + cond (is_hostname section && (not (is_open token.kind) && reached == 0) && passes_at (is_non_special_pattern_char (codes "[")) tokens index) 1 0 → closed' ≡ closed + cond (is_hostname section && (not (is_open token.kind) && reached == 0) && passes_at (is_non_special_pattern_char (codes "]")) tokens index) 1 0 → HasNotEnded section tokens from depth (index + 1) reached' opened' closed'
 way_goes section tokens from depth index reached opened closed reached' opened' closed' token way is goes passes depth_more_is opened_more closed_more = record {
   after = let h = way.after in omega arith;
   depth_is = depth_more_is ∙ ap (depth_after token.kind) way.depth_is ∙ sym (depth_more tokens from depth index token way.after is);
@@ -137,11 +137,11 @@ way_goes section tokens from depth index reached opened closed reached' opened' 
     none_yet other after (inl e) before h = both_ways _ (ap (may_end section tokens from depth) e ∙ not_here) h
     none_yet other after (inr ne) before h = way.none other after (omega arith) h
 
-    counted : (mark : List ℕ) (n : ℕ) → IsTrue (is_hostname section) → n ≡ count_seen mark tokens from depth index → n + cond (is_hostname section && (not (is_open token.kind) && reached == 0) && passes_at (is_sign mark) tokens index) 1 0 ≡ count_seen mark tokens from depth (index + 1)
+    counted : (mark : List ℕ) (n : ℕ) → IsTrue (is_hostname section) → n ≡ count_seen mark tokens from depth index → n + cond (is_hostname section && (not (is_open token.kind) && reached == 0) && passes_at (is_non_special_pattern_char mark) tokens index) 1 0 ≡ count_seen mark tokens from depth (index + 1)
     counted mark n hostname so_far =
-        ap (λ b. n + cond (b && (not (is_open token.kind) && reached == 0) && passes_at (is_sign mark) tokens index) 1 0) hostname
-        ∙ ap (λ b. n + cond (b && passes_at (is_sign mark) tokens index) 1 0) (sym sees)
-        ∙ ap (λ m. m + cond (is_seen tokens from depth index && passes_at (is_sign mark) tokens index) 1 0) so_far
+        ap (λ b. n + cond (b && (not (is_open token.kind) && reached == 0) && passes_at (is_non_special_pattern_char mark) tokens index) 1 0) hostname
+        ∙ ap (λ b. n + cond (b && passes_at (is_non_special_pattern_char mark) tokens index) 1 0) (sym sees)
+        ∙ ap (λ m. m + cond (is_seen tokens from depth index && passes_at (is_non_special_pattern_char mark) tokens index) 1 0) so_far
         ∙ sym (count_more mark tokens from depth index way.after)
 
 -- A token adds at most one to the depth.

@@ -8,7 +8,7 @@ use Rattle.std.proofs.lemmas.Slice.Eq.{bytes_eq-Decides}
 use Rattle.std.specs.List.{fold}
 use Rattle.std.specs.Prelude.{codes, IsSomeAnd, IsTrue, is_some, option_map, slice_get, slice_range}
 use Rattle.std.specs.Str.{bytes_eq}
-use Rattle.urlpattern_constructor.specs.Split.{EndsAt, IsSplit, LacksProtocol, passes_at, depth_before, depth_after, ends_at, is_at_sign, is_balanced, is_character, is_colon_sign, is_end, is_ending, is_hash_sign, is_open, is_search_sign, is_seen, is_sign, is_slash_sign, may_end}
+use Rattle.urlpattern_constructor.specs.Split.{EndsAt, IsSplit, LacksProtocol, passes_at, depth_before, depth_after, ends_at, is_at_sign, is_balanced, is_character, is_colon_sign, is_end, is_ending, is_hash_sign, is_open, is_search_prefix, is_seen, is_non_special_pattern_char, is_slash_sign, may_end}
 use Rattle.urlpattern_constructor.proofs.ClosedTokens.{IsClosed}
 use Rattle.urlpattern_constructor.specs.Splitting.{may_follow}
 use Rattle.urlpattern_constructor.specs.declared.sections.Section.{Section}
@@ -43,15 +43,15 @@ character_not_end End h = absurd (false≢true h)
 character_not_end kind h = refl
 
 -- A sign is not End.
-pub sign_not_end : (mark : List ℕ) (tokens : List TokenView) (i : ℕ) → IsTrue (passes_at (is_sign mark) tokens i) → ¬ IsTrue (ends_at tokens i)
+pub sign_not_end : (mark : List ℕ) (tokens : List TokenView) (i : ℕ) → IsTrue (passes_at (is_non_special_pattern_char mark) tokens i) → ¬ IsTrue (ends_at tokens i)
 sign_not_end mark tokens i h end =
-    let found = found_at (is_sign mark) tokens i h in
+    let found = found_at (is_non_special_pattern_char mark) tokens i h in
     let character : is_character found.0.kind ≡ true = (and_parts (is_character found.0.kind) (bytes_eq found.0.value mark) found.2).0 in
     both_ways _ (at_view (λ t. is_end t.kind) tokens i found.0 found.1 ∙ character_not_end found.0.kind character) end
 
 -- More tokens follow a sign.
-pub sign_goes_on : (mark : List ℕ) (tokens : List TokenView) (i : ℕ) → IsClosed tokens → IsTrue (passes_at (is_sign mark) tokens i) → i + 1 < length tokens
-sign_goes_on mark tokens i closed h = closed.goes_on i (found_at (is_sign mark) tokens i h).3 (sign_not_end mark tokens i h)
+pub sign_goes_on : (mark : List ℕ) (tokens : List TokenView) (i : ℕ) → IsClosed tokens → IsTrue (passes_at (is_non_special_pattern_char mark) tokens i) → i + 1 < length tokens
+sign_goes_on mark tokens i closed h = closed.goes_on i (found_at (is_non_special_pattern_char mark) tokens i h).3 (sign_not_end mark tokens i h)
 
 -- ---- depth
 
@@ -79,9 +79,9 @@ depth_joined tokens from depth between place le more =
     ∙ fold-append (λ (reached : ℕ) (t : TokenView). depth_after t.kind reached) depth (slice_range tokens from between) (slice_range tokens between place)
 
 -- A sign leaves the depth as it is.
-pub depth_after_sign : (mark : List ℕ) (tokens : List TokenView) (from depth place : ℕ) → from < place → IsTrue (passes_at (is_sign mark) tokens from) → depth_before tokens from depth place ≡ depth_before tokens (from + 1) depth place
+pub depth_after_sign : (mark : List ℕ) (tokens : List TokenView) (from depth place : ℕ) → from < place → IsTrue (passes_at (is_non_special_pattern_char mark) tokens from) → depth_before tokens from depth place ≡ depth_before tokens (from + 1) depth place
 depth_after_sign mark tokens from depth place less h =
-    let found = found_at (is_sign mark) tokens from h in
+    let found = found_at (is_non_special_pattern_char mark) tokens from h in
     let character : is_character found.0.kind ≡ true = (and_parts (is_character found.0.kind) (bytes_eq found.0.value mark) found.2).0 in
     let le : from ≤ from + 1 = omega arith in
     let more : from + 1 ≤ place = omega arith in
@@ -128,7 +128,7 @@ slash_seen_before section tokens from depth end other closed ends le seen slash 
     elim (cases_Bool (ends_at tokens end)) [
       | inl is_end ↦
           let last = closed.last end ends.within is_end in
-          let within = (found_at (is_sign (codes "/")) tokens other slash).3 in
+          let within = (found_at (is_non_special_pattern_char (codes "/")) tokens other slash).3 in
           let same : end ≡ other = omega arith in
           absurd (sign_not_end (codes "/") tokens other slash (ap (ends_at tokens) (sym same) ∙ is_end))
       | inr goes ↦
@@ -139,7 +139,7 @@ slash_seen_before section tokens from depth end other closed ends le seen slash 
     ]
 
 -- A slash that is seen after a sign is seen from the sign.
-pub slash_seen_from_sign : (mark : List ℕ) (tokens : List TokenView) (sign other : ℕ) → IsTrue (passes_at (is_sign mark) tokens sign) → sign < other → IsTrue (is_seen tokens (sign + 1) 0 other) → IsTrue (is_seen tokens sign 0 other)
+pub slash_seen_from_sign : (mark : List ℕ) (tokens : List TokenView) (sign other : ℕ) → IsTrue (passes_at (is_non_special_pattern_char mark) tokens sign) → sign < other → IsTrue (is_seen tokens (sign + 1) 0 other) → IsTrue (is_seen tokens sign 0 other)
 slash_seen_from_sign mark tokens sign other is_a_sign less seen =
     seen_same tokens sign 0 (sign + 1) 0 other (depth_after_sign mark tokens sign 0 other less is_a_sign) ∙ seen
 
@@ -155,8 +155,8 @@ slash_is_seen section tokens from depth end ends slash =
 pub port_sign : (tokens : List TokenView) (from depth place : ℕ) → EndsAt Port tokens from depth place → IsTrue (may_follow Port tokens place)
 port_sign tokens from depth place ends =
     elim (stops_cases Port tokens from depth place ends) [
-      | inl may ↦ or_regroup (is_slash_sign tokens place) (is_search_sign tokens place) (is_hash_sign tokens place) (ends_at tokens place) (may_end_parts Port tokens from depth place may).1
-      | inr is_end ↦ or_last (is_slash_sign tokens place) (is_search_sign tokens place) (is_hash_sign tokens place) (ends_at tokens place) is_end
+      | inl may ↦ or_regroup (is_slash_sign tokens place) (is_search_prefix tokens place) (is_hash_sign tokens place) (ends_at tokens place) (may_end_parts Port tokens from depth place may).1
+      | inr is_end ↦ or_last (is_slash_sign tokens place) (is_search_prefix tokens place) (is_hash_sign tokens place) (ends_at tokens place) is_end
     ]
   where
     or_regroup : (a b c e : Bool) → (a || b || c) ≡ true → (a || b || c || e) ≡ true
@@ -179,7 +179,7 @@ ends_by section tokens from depth place other ends after may =
     elim (cases_lt other place) [ inl before ↦ absurd (ends.least other after before may) | inr le ↦ le ]
 
 -- A sign with which a section ends is seen.
-pub sign_is_seen : (mark : List ℕ) (section : Section) (tokens : List TokenView) (from depth end : ℕ) → EndsAt section tokens from depth end → IsTrue (passes_at (is_sign mark) tokens end) → IsTrue (is_seen tokens from depth end)
+pub sign_is_seen : (mark : List ℕ) (section : Section) (tokens : List TokenView) (from depth end : ℕ) → EndsAt section tokens from depth end → IsTrue (passes_at (is_non_special_pattern_char mark) tokens end) → IsTrue (is_seen tokens from depth end)
 sign_is_seen mark section tokens from depth end ends sign =
     elim (stops_cases section tokens from depth end ends) [
       | inl may ↦ (may_end_parts section tokens from depth end may).0
@@ -189,8 +189,8 @@ sign_is_seen mark section tokens from depth end ends sign =
 -- A token is at most one character.
 sign_conflict : (tokens : List TokenView) (i : ℕ) → IsTrue (is_colon_sign tokens i) → IsTrue (is_at_sign tokens i) → ⊥
 sign_conflict tokens i colon at_sign =
-    let one = found_at (is_sign (codes ":")) tokens i colon in
-    let two = at_view (is_sign (codes "@")) tokens i one.0 one.1 in
+    let one = found_at (is_non_special_pattern_char (codes ":")) tokens i colon in
+    let two = at_view (is_non_special_pattern_char (codes "@")) tokens i one.0 one.1 in
     let is_one : bytes_eq one.0.value (codes ":") ≡ true = (and_parts (is_character one.0.kind) (bytes_eq one.0.value (codes ":")) one.2).1 in
     let is_two : bytes_eq one.0.value (codes "@") ≡ true = (and_parts (is_character one.0.kind) (bytes_eq one.0.value (codes "@")) (sym two ∙ at_sign)).1 in
     let e : one.0.value ≡ codes ":" = (bytes_eq-Decides one.0.value (codes ":")).0 is_one in
@@ -214,7 +214,7 @@ username_before tokens from until place authority at_sign username =
 
 -- An authority may end at the sign of the hostname.
 at_sign_ends : (tokens : List TokenView) (place : ℕ) (balanced : Bool) → IsTrue (is_at_sign tokens place) → IsTrue (is_ending Authority balanced tokens place)
-at_sign_ends tokens place balanced sign = or_first (is_at_sign tokens place) (is_slash_sign tokens place) (is_search_sign tokens place) (is_hash_sign tokens place) sign
+at_sign_ends tokens place balanced sign = or_first (is_at_sign tokens place) (is_slash_sign tokens place) (is_search_prefix tokens place) (is_hash_sign tokens place) sign
   where
     or_first : (a b c d : Bool) → a ≡ true → (a || b || c || d) ≡ true
     or_first true b c d h = refl
@@ -276,7 +276,7 @@ no_slash_in_sight tokens from depth end other closed ends is_end after seen slas
     let level_there : depth_before tokens from 0 other ≡ depth_before tokens from depth other = omega arith in
     let seen_there : IsTrue (is_seen tokens from 0 other) = seen_same tokens from 0 from depth other level_there ∙ seen in
     ends.least other after (omega arith)
-    (and_from (is_seen tokens from 0 other) (is_ending Authority (is_balanced tokens from 0 other) tokens other) seen_there (or_second (is_at_sign tokens other) (is_slash_sign tokens other) (is_search_sign tokens other) (is_hash_sign tokens other) slash))
+    (and_from (is_seen tokens from 0 other) (is_ending Authority (is_balanced tokens from 0 other) tokens other) seen_there (or_second (is_at_sign tokens other) (is_slash_sign tokens other) (is_search_prefix tokens other) (is_hash_sign tokens other) slash))
   where
     or_second : (a b c d : Bool) → b ≡ true → (a || b || c || d) ≡ true
     or_second true b c d h = refl

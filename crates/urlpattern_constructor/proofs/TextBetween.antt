@@ -60,7 +60,7 @@ are_closed text tokens h = subst IsClosed (sym h.all) (record {
 -- ---- places of tokens
 
 -- The token at the position is after this beginning of the text.
-pub record StandsAfter (tokens : List TokenView) (i : ℕ) (front : List ℕ) : Type 0 where
+pub record BeginsAfter (tokens : List TokenView) (i : ℕ) (front : List ℕ) : Type 0 where
   pub index : IsSomeAnd (slice_get tokens i) (λ token. token.index ≡ byte_len front)
 
 -- A lenient token begins the text with its spelling.
@@ -79,7 +79,7 @@ front_len whole front rest place e h =
     omega arith
 
 -- A token of a cut is after a beginning of the text.
-front_of : (whole before text : List ℕ) (front : List TokenView) (i : ℕ) → whole ≡ before ++ text → IsCut (IsLenient whole) text front [] → i < length (front ++ end_of whole ∷ []) → (pre post : List ℕ) × (text ≡ pre ++ post) × StandsAfter (front ++ end_of whole ∷ []) i (before ++ pre)
+front_of : (whole before text : List ℕ) (front : List TokenView) (i : ℕ) → whole ≡ before ++ text → IsCut (IsLenient whole) text front [] → i < length (front ++ end_of whole ∷ []) → (pre post : List ℕ) × (text ≡ pre ++ post) × BeginsAfter (front ++ end_of whole ∷ []) i (before ++ pre)
 front_of whole before text [] zero e cut within = (text, [], sym (append-nil text), record { index = ap byte_len e })
 front_of whole before text [] (suc i) e cut within = absurd (omega arith)
 front_of whole before text (token ∷ front) zero e cut within =
@@ -99,7 +99,7 @@ front_of whole before text (token ∷ front) (suc i) e cut within =
     )
 
 -- Two tokens are after two beginnings of the text, the second an extension of the first.
-fronts_of : (whole before text : List ℕ) (front : List TokenView) (i j : ℕ) → whole ≡ before ++ text → IsCut (IsLenient whole) text front [] → i ≤ j → j < length (front ++ end_of whole ∷ []) → (pre mid post : List ℕ) × (text ≡ pre ++ (mid ++ post)) × StandsAfter (front ++ end_of whole ∷ []) i (before ++ pre) × StandsAfter (front ++ end_of whole ∷ []) j ((before ++ pre) ++ mid)
+fronts_of : (whole before text : List ℕ) (front : List TokenView) (i j : ℕ) → whole ≡ before ++ text → IsCut (IsLenient whole) text front [] → i ≤ j → j < length (front ++ end_of whole ∷ []) → (pre mid post : List ℕ) × (text ≡ pre ++ (mid ++ post)) × BeginsAfter (front ++ end_of whole ∷ []) i (before ++ pre) × BeginsAfter (front ++ end_of whole ∷ []) j ((before ++ pre) ++ mid)
 fronts_of whole before text [] zero zero e cut le within =
     (text, [], [], sym (append-nil text), record { index = ap byte_len e }, record { index = ap byte_len (e ∙ sym (append-nil (before ++ text))) })
 fronts_of whole before text [] i (suc j) e cut le within = absurd (omega arith)
@@ -142,7 +142,7 @@ fronts_of whole before text (token ∷ front) (suc i) (suc j) e cut le within =
       record { index = subst (λ x. IsSomeAnd (slice_get (front ++ end_of whole ∷ []) j) (λ t. t.index ≡ byte_len (x ++ found.1))) same found.5.index },
     )
 
-index_at : (tokens : List TokenView) (i n : ℕ) (front : List ℕ) → byte_len front ≡ n → StandsAfter tokens i front → IsSomeAnd (slice_get tokens i) (λ token. token.index ≡ n)
+index_at : (tokens : List TokenView) (i n : ℕ) (front : List ℕ) → byte_len front ≡ n → BeginsAfter tokens i front → IsSomeAnd (slice_get tokens i) (λ token. token.index ≡ n)
 index_at tokens i n front e h = subst (λ m. IsSomeAnd (slice_get tokens i) (λ token. token.index ≡ m)) e h.index
 
 -- The text between two lenient tokens exists.

@@ -38,24 +38,24 @@ is_character TokenType.InvalidChar = true
 is_character kind = false
 
 -- The token is this character.
-abbrev pub is_sign : (mark : List ℕ) → TokenView → Bool
-is_sign mark token = is_character token.kind && bytes_eq token.value mark
+abbrev pub is_non_special_pattern_char : (mark : List ℕ) → TokenView → Bool
+is_non_special_pattern_char mark token = is_character token.kind && bytes_eq token.value mark
 
 -- A colon, after a protocol, a username or a hostname.
 abbrev pub is_colon_sign : List TokenView → ℕ → Bool
-is_colon_sign tokens position = passes_at (is_sign (codes ":")) tokens position
+is_colon_sign tokens position = passes_at (is_non_special_pattern_char (codes ":")) tokens position
 
 -- An at sign, between a password or a username and the hostname.
 abbrev pub is_at_sign : List TokenView → ℕ → Bool
-is_at_sign tokens position = passes_at (is_sign (codes "@")) tokens position
+is_at_sign tokens position = passes_at (is_non_special_pattern_char (codes "@")) tokens position
 
 -- A slash, two of which begin an authority, and one a pathname.
 abbrev pub is_slash_sign : List TokenView → ℕ → Bool
-is_slash_sign tokens position = passes_at (is_sign (codes "/")) tokens position
+is_slash_sign tokens position = passes_at (is_non_special_pattern_char (codes "/")) tokens position
 
 -- A number sign, which begins the hash.
 abbrev pub is_hash_sign : List TokenView → ℕ → Bool
-is_hash_sign tokens position = passes_at (is_sign (codes "#")) tokens position
+is_hash_sign tokens position = passes_at (is_non_special_pattern_char (codes "#")) tokens position
 
 -- A question mark after a token of this kind is a modifier.
 abbrev pub takes_modifier : TokenType → Bool
@@ -71,9 +71,9 @@ follows_modified tokens zero = false
 follows_modified tokens (suc before) = passes_at (λ token. takes_modifier token.kind) tokens before
 
 -- The sign that begins the search: a question mark as a character, or one that is not a modifier.
-abbrev pub is_search_sign : List TokenView → ℕ → Bool
-is_search_sign tokens position =
-    passes_at (is_sign (codes "?")) tokens position
+abbrev pub is_search_prefix : List TokenView → ℕ → Bool
+is_search_prefix tokens position =
+    passes_at (is_non_special_pattern_char (codes "?")) tokens position
     || (passes_at (λ token. bytes_eq token.value (codes "?")) tokens position && not (follows_modified tokens position))
 
 -- ---- which tokens are seen
@@ -97,7 +97,7 @@ is_seen tokens from depth position =
 -- The number of tokens from one position up to another that are seen and are this character.
 abbrev pub count_seen : (mark : List ℕ) → List TokenView → (from depth position : ℕ) → ℕ
 count_seen mark tokens from depth position =
-    count_by (λ other. is_seen tokens from depth other && passes_at (is_sign mark) tokens other) (range_with_len from (position - from))
+    count_by (λ other. is_seen tokens from depth other && passes_at (is_non_special_pattern_char mark) tokens other) (range_with_len from (position - from))
 
 -- As many square brackets were opened as closed.
 abbrev pub is_balanced : List TokenView → (from depth position : ℕ) → Bool
@@ -111,13 +111,13 @@ is_balanced tokens from depth position =
 abbrev pub is_ending : Section → (balanced : Bool) → List TokenView → ℕ → Bool
 is_ending Protocol balanced tokens position = is_colon_sign tokens position
 is_ending Authority balanced tokens position =
-    is_at_sign tokens position || is_slash_sign tokens position || is_search_sign tokens position || is_hash_sign tokens position
+    is_at_sign tokens position || is_slash_sign tokens position || is_search_prefix tokens position || is_hash_sign tokens position
 is_ending Username balanced tokens position = is_colon_sign tokens position || is_at_sign tokens position
 is_ending Password balanced tokens position = is_at_sign tokens position
 is_ending Hostname balanced tokens position =
-    (balanced && is_colon_sign tokens position) || is_slash_sign tokens position || is_search_sign tokens position || is_hash_sign tokens position
-is_ending Port balanced tokens position = is_slash_sign tokens position || is_search_sign tokens position || is_hash_sign tokens position
-is_ending Pathname balanced tokens position = is_search_sign tokens position || is_hash_sign tokens position
+    (balanced && is_colon_sign tokens position) || is_slash_sign tokens position || is_search_prefix tokens position || is_hash_sign tokens position
+is_ending Port balanced tokens position = is_slash_sign tokens position || is_search_prefix tokens position || is_hash_sign tokens position
+is_ending Pathname balanced tokens position = is_search_prefix tokens position || is_hash_sign tokens position
 is_ending Search balanced tokens position = is_hash_sign tokens position
 is_ending Hash balanced tokens position = false
 
@@ -167,7 +167,7 @@ SearchFrom text tokens from depth components =
 -- End.
 abbrev pub SearchAt : (text : List ℕ) → List TokenView → (position : ℕ) → Values → Type 0
 SearchAt text tokens position components =
-    (IsTrue (is_search_sign tokens position) × SearchFrom text tokens (position + 1) 0 components)
+    (IsTrue (is_search_prefix tokens position) × SearchFrom text tokens (position + 1) 0 components)
     ⊎ (IsTrue (is_hash_sign tokens position) × (components.search ≡ Some []) × HashFrom text tokens (position + 1) components)
     ⊎ (IsTrue (ends_at tokens position) × (components.search ≡ None) × (components.hash ≡ None))
 
@@ -186,7 +186,7 @@ implied_pathname false = []
 abbrev pub PathnameAt : (text : List ℕ) → List TokenView → (special : Bool) → (position : ℕ) → Values → Type 0
 PathnameAt text tokens special position components =
     (IsTrue (is_slash_sign tokens position) × PathnameFrom text tokens position 0 components)
-    ⊎ (IsTrue (is_search_sign tokens position || is_hash_sign tokens position) × (components.pathname ≡ Some (implied_pathname special))
+    ⊎ (IsTrue (is_search_prefix tokens position || is_hash_sign tokens position) × (components.pathname ≡ Some (implied_pathname special))
     × SearchAt text tokens position components)
     ⊎ (IsTrue (ends_at tokens position) × (components.pathname ≡ None) × (components.search ≡ None) × (components.hash ≡ None))
 
@@ -238,9 +238,9 @@ pub record IsRelativeSplit (text : List ℕ) (tokens : List TokenView) (componen
   pub is_end : IsTrue (ends_at tokens until)
   pub begins :
       (IsTrue (is_hash_sign tokens 0) × (components.pathname ≡ None) × (components.search ≡ None) × HashFrom text tokens 1 components)
-      ⊎ (IsTrue (is_search_sign tokens 0) × (components.pathname ≡ None)
+      ⊎ (IsTrue (is_search_prefix tokens 0) × (components.pathname ≡ None)
       × SearchFrom text tokens 1 (depth_before tokens 0 0 until) components)
-      ⊎ (¬ IsTrue (is_hash_sign tokens 0 || is_search_sign tokens 0)
+      ⊎ (¬ IsTrue (is_hash_sign tokens 0 || is_search_prefix tokens 0)
       × PathnameFrom text tokens 0 (depth_before tokens 0 0 until) components)
   pub nothing_before : NoAuthority components
 

@@ -73,10 +73,10 @@ impl<'t, 'a> Source<'t, 'a> {
         ensures split { IsRelativeSplit (text_of_source self.now) (tokens_of self.now) (split_values result) }
         ensures turns { result.turns ≤ 2 * length self.now.tokens.now }
     {
-        if self.is_sign(0, b'#') {
+        if self.is_non_special_pattern_char(0, b'#') {
             return self.hash_from(Position { index: 1, ..end });
         }
-        if self.is_search_sign(0) {
+        if self.is_search_prefix(0) {
             return self.search_from(Position { index: 1, ..end });
         }
         self.pathname_from(Position { index: 0, ..end })
@@ -92,7 +92,7 @@ impl<'t, 'a> Source<'t, 'a> {
         ensures turns { result.turns ≤ 2 * length self.now.tokens.now }
     {
         let end = self.end_of(Section::Authority, from);
-        if self.is_sign(end.index, b'@') {
+        if self.is_non_special_pattern_char(end.index, b'@') {
             let back = Position {
                 turns: end.turns,
                 ..from
@@ -123,7 +123,7 @@ impl<'t, 'a> Source<'t, 'a> {
     {
         let end = self.end_of(Section::Username, from);
         let username = Some(self.text_between(from.index, end.index));
-        if !self.is_sign(end.index, b':') {
+        if !self.is_non_special_pattern_char(end.index, b':') {
             let Split { mut values, turns } = self.hostname_from(end.after(1), special);
             values.username = username;
             values.password = None;
@@ -161,7 +161,7 @@ impl<'t, 'a> Source<'t, 'a> {
         ensures split { PortAt (text_of_source self.now) (tokens_of self.now) special end.index (split_values result) }
         ensures turns { result.turns ≤ 2 * length self.now.tokens.now }
     {
-        if self.is_sign(end.index, b':') {
+        if self.is_non_special_pattern_char(end.index, b':') {
             let from = end.after(1);
             let end = self.end_of(Section::Port, from);
             let Split { mut values, turns } = self.pathname_at(end, special);
@@ -184,10 +184,10 @@ impl<'t, 'a> Source<'t, 'a> {
         ensures nothing { NoAuthority (split_values result) }
         ensures turns { result.turns ≤ 2 * length self.now.tokens.now }
     {
-        if self.is_sign(end.index, b'/') {
+        if self.is_non_special_pattern_char(end.index, b'/') {
             return self.pathname_from(end.after(0));
         }
-        if self.is_search_sign(end.index) || self.is_sign(end.index, b'#') {
+        if self.is_search_prefix(end.index) || self.is_non_special_pattern_char(end.index, b'#') {
             let Split { mut values, turns } = self.search_at(end);
             values.pathname = Some(implied_pathname(special));
             return Split { values, turns };
@@ -218,10 +218,10 @@ impl<'t, 'a> Source<'t, 'a> {
         ensures nothing { NoPathname (split_values result) }
         ensures turns { result.turns ≤ 2 * length self.now.tokens.now }
     {
-        if self.is_search_sign(end.index) {
+        if self.is_search_prefix(end.index) {
             return self.search_from(end.after(1));
         }
-        if self.is_sign(end.index, b'#') {
+        if self.is_non_special_pattern_char(end.index, b'#') {
             let Split { mut values, turns } = self.hash_from(end.after(1));
             values.search = Some("");
             return Split { values, turns };
@@ -252,7 +252,7 @@ impl<'t, 'a> Source<'t, 'a> {
         ensures nothing { NoSearch (split_values result) }
         ensures turns { result.turns ≤ 2 * length self.now.tokens.now }
     {
-        if self.is_sign(end.index, b'#') {
+        if self.is_non_special_pattern_char(end.index, b'#') {
             return self.hash_from(end.after(1));
         }
         Split::nothing(end.turns)

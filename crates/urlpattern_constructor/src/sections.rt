@@ -1,6 +1,6 @@
 //! The sections of a constructor string, and where each ends.
 ghost use Rattle.std.specs.Prelude.{◌≡◌, ◌+◌, ◌*◌, ◌^◌, ◌<◌, ◌≤◌, ◌∷◌, ◌&&◌, ◌==◌, not, if◌then◌else◌, [], length};
-ghost use Rattle.urlpattern_constructor.specs.Split.{EndsAt, passes_at, depth_before, depth_after, is_end, is_ending, is_open, is_sign};
+ghost use Rattle.urlpattern_constructor.specs.Split.{EndsAt, passes_at, depth_before, depth_after, is_end, is_ending, is_open, is_non_special_pattern_char};
 ghost use Rattle.urlpattern_constructor.specs.Splitting.{IsSource, is_hostname, tokens_of};
 
 use crate::tokens::Source;
@@ -89,26 +89,30 @@ impl<'t, 'a> Source<'t, 'a> {
         ensures { result ≡ is_ending section balanced (tokens_of self.now) index }
     {
         match section {
-            Section::Protocol => self.is_sign(index, b':'),
+            Section::Protocol => self.is_non_special_pattern_char(index, b':'),
             Section::Authority => {
-                self.is_sign(index, b'@')
-                    || self.is_sign(index, b'/')
-                    || self.is_search_sign(index)
-                    || self.is_sign(index, b'#')
+                self.is_non_special_pattern_char(index, b'@')
+                    || self.is_non_special_pattern_char(index, b'/')
+                    || self.is_search_prefix(index)
+                    || self.is_non_special_pattern_char(index, b'#')
             }
-            Section::Username => self.is_sign(index, b':') || self.is_sign(index, b'@'),
-            Section::Password => self.is_sign(index, b'@'),
+            Section::Username => self.is_non_special_pattern_char(index, b':')
+                || self.is_non_special_pattern_char(index, b'@'),
+            Section::Password => self.is_non_special_pattern_char(index, b'@'),
             Section::Hostname => {
-                (balanced && self.is_sign(index, b':'))
-                    || self.is_sign(index, b'/')
-                    || self.is_search_sign(index)
-                    || self.is_sign(index, b'#')
+                (balanced && self.is_non_special_pattern_char(index, b':'))
+                    || self.is_non_special_pattern_char(index, b'/')
+                    || self.is_search_prefix(index)
+                    || self.is_non_special_pattern_char(index, b'#')
             }
             Section::Port => {
-                self.is_sign(index, b'/') || self.is_search_sign(index) || self.is_sign(index, b'#')
+                self.is_non_special_pattern_char(index, b'/')
+                    || self.is_search_prefix(index)
+                    || self.is_non_special_pattern_char(index, b'#')
             }
-            Section::Pathname => self.is_search_sign(index) || self.is_sign(index, b'#'),
-            Section::Search => self.is_sign(index, b'#'),
+            Section::Pathname => self.is_search_prefix(index)
+                || self.is_non_special_pattern_char(index, b'#'),
+            Section::Search => self.is_non_special_pattern_char(index, b'#'),
             Section::Hash => false,
         }
     }
@@ -125,9 +129,12 @@ impl<'t, 'a> Source<'t, 'a> {
     ) -> usize
         requires ascii { mark < 128 }
         requires room { count + 1 < 2 ^ 64 }
-        ensures { result ≡ count + (if is_hostname section && is_seen && passes_at (is_sign (mark ∷ [])) (tokens_of self.now) index then 1 else 0) }
+        ensures { result ≡ count + (if is_hostname section && is_seen && passes_at (is_non_special_pattern_char (mark ∷ [])) (tokens_of self.now) index then 1 else 0) }
     {
-        if matches!(section, Section::Hostname) && is_seen && self.is_sign(index, mark) {
+        if matches!(section, Section::Hostname)
+            && is_seen
+            && self.is_non_special_pattern_char(index, mark)
+        {
             count + 1
         } else {
             count

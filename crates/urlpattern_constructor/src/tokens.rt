@@ -1,7 +1,7 @@
 //! A constructor string with its tokens, and the signs among them.
 ghost use Rattle.std.specs.Prelude.{◌≡◌, ◌+◌, ◌^◌, ◌<◌, ◌≤◌, ◌∷◌, [], length};
 ghost use Rattle.std.specs.Str.{bytes_eq, chars};
-ghost use Rattle.urlpattern_constructor.specs.Split.{IsTextBetween, passes_at, follows_modified, has_slashes, is_character, is_search_sign, is_sign, takes_modifier};
+ghost use Rattle.urlpattern_constructor.specs.Split.{IsTextBetween, passes_at, follows_modified, has_slashes, is_character, is_search_prefix, is_non_special_pattern_char, takes_modifier};
 ghost use Rattle.urlpattern_constructor.specs.Splitting.{IsSource, text_of_source, tokens_of};
 
 use urlpattern_syntax::tokenizer::{Token, TokenType};
@@ -15,9 +15,9 @@ pub struct Source<'t, 'a> {
 
 impl<'t, 'a> Source<'t, 'a> {
     /// Whether the token at the index is this ASCII character.
-    pub fn is_sign(&self, index: usize, mark: u8) -> bool
+    pub fn is_non_special_pattern_char(&self, index: usize, mark: u8) -> bool
         requires { mark < 128 }
-        ensures { result ≡ passes_at (is_sign (mark ∷ [])) (tokens_of self.now) index }
+        ensures { result ≡ passes_at (is_non_special_pattern_char (mark ∷ [])) (tokens_of self.now) index }
     {
         match self.tokens.get(index) {
             Some(token) => is_character(token.kind) && is_mark(token.value, mark),
@@ -28,8 +28,8 @@ impl<'t, 'a> Source<'t, 'a> {
     /// Whether the search begins after the token at the index.
     ///
     /// <https://urlpattern.spec.whatwg.org/#is-a-search-prefix>
-    pub fn is_search_sign(&self, index: usize) -> bool
-        ensures { result ≡ is_search_sign (tokens_of self.now) index }
+    pub fn is_search_prefix(&self, index: usize) -> bool
+        ensures { result ≡ is_search_prefix (tokens_of self.now) index }
     {
         match self.tokens.get(index) {
             Some(token) => {
@@ -60,7 +60,8 @@ impl<'t, 'a> Source<'t, 'a> {
         requires { index + 2 < 2 ^ 64 }
         ensures { result ≡ has_slashes (tokens_of self.now) index }
     {
-        self.is_sign(index + 1, b'/') && self.is_sign(index + 2, b'/')
+        self.is_non_special_pattern_char(index + 1, b'/')
+            && self.is_non_special_pattern_char(index + 2, b'/')
     }
 
     /// Returns the text from the token at index `from` up to the token at index `until`.

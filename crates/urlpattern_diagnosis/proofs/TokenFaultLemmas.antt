@@ -6,13 +6,13 @@ use Rattle.std.specs.Prelude.{IfNone, IfSome, MatchOption, codes, encode_utf8_al
 use Rattle.std.specs.{Borrow.Bor, Str.chars, Str.IsCharBoundary, Str.IsUtf8}
 use lib.Utf8.{scalars}
 use Rattle.urlpattern_components.specs.declared.eight.ComponentName.{ComponentName}
-use Rattle.urlpattern_diagnosis.specs.Faults.{HasTokenFault, IsAfterFront, IsAlone, IsBodyFault, IsRefusedFront, IsTokenFault}
+use Rattle.urlpattern_diagnosis.specs.Faults.{HasTokenFault, IsAfterRegexpStart, IsSingleSpan, IsBodyFault, IsRejectedStart, IsTokenFault}
 use Rattle.urlpattern_diagnosis.specs.Spans.{IsSpanAt}
 use Rattle.urlpattern_diagnosis.specs.declared.{fault.Fault.Fault, span.Span.Span}
-use Rattle.urlpattern_meaning.proofs.FrontTokens.{fault_at_one, no_fault}
+use Rattle.urlpattern_meaning.proofs.BodyStartTokens.{fault_at_one, no_fault}
 use Rattle.urlpattern_parser.specs.Bodies.{IsRefusedOf}
 use Rattle.urlpattern_syntax.specs.Text.{byte_len}
-use Rattle.urlpattern_syntax.specs.Tokens.{FaultView, IncompleteEscapeCode, InvalidRegex, IsCut, IsFault, IsFaultAt, IsRegexpFront, IsTokenOf, TokenView}
+use Rattle.urlpattern_syntax.specs.Tokens.{FaultView, IncompleteEscapeCode, InvalidRegex, IsCut, IsFault, IsFaultAt, IsRegexpStart, IsTokenOf, TokenView}
 use Rattle.urlpattern_syntax.proofs.TextLemmas.{byte_len-chars, length-le-byte_len}
 
 -- ---- ends of a text
@@ -74,13 +74,13 @@ is_none (Some x) not_some = absurd (not_some x refl)
 
 -- The `len` bytes at a place, if it is found.
 pub found_at : (bytes : List ℕ) (len place : ℕ) (found : Option ℕ) (Other : Type 0) (span : Span) (fault : Fault) → found ≡ Some place → IsSpanAt bytes place len span →
-    fault ≡ record { span = span; earlier = None } → MatchOption found Other (λ at. IsAlone (IsSpanAt bytes at len) fault)
+    fault ≡ record { span = span; earlier = None } → MatchOption found Other (λ at. IsSingleSpan (IsSpanAt bytes at len) fault)
 found_at bytes len place found Other span fault e at alone =
-    subst (λ found. MatchOption found Other (λ at. IsAlone (IsSpanAt bytes at len) fault)) (sym e) (subst (IsAlone (IsSpanAt bytes place len)) (sym alone) (at, refl))
+    subst (λ found. MatchOption found Other (λ at. IsSingleSpan (IsSpanAt bytes at len) fault)) (sym e) (subst (IsSingleSpan (IsSpanAt bytes place len)) (sym alone) (at, refl))
 
 -- The fault of a backslash at the end.
 pub escape_found : (component : Option ComponentName) (bytes : List ℕ) (place : ℕ) (reported : FaultView) (is : IsFault (chars bytes) reported place) (fault : Fault) → IsUtf8 bytes →
-    reported ≡ IncompleteEscapeCode → IsAlone (IsSpanAt bytes (length bytes - 1) 1) fault → HasTokenFault component bytes reported place fault
+    reported ≡ IncompleteEscapeCode → IsSingleSpan (IsSpanAt bytes (length bytes - 1) 1) fault → HasTokenFault component bytes reported place fault
 unfolding byte_len lib.Utf8.encode
 escape_found component bytes place reported is fault u e alone =
     let ends = ends_from bytes reported place is u in
@@ -111,16 +111,16 @@ body_faulty left rest first reported words is e cut =
 
 module _ (text reported : List ℕ) (faulty : IsFaultAt (codes "(" ++ chars text) (InvalidRegex reported)) where
   -- a body with such a fault does not end in a backslash
-  ends_open : (fault : FaultView) → IsFaultAt (codes "(" ++ chars text) fault → (fault ≡ IncompleteEscapeCode) ⊎ IsRegexpFront (chars text) → IsRegexpFront (chars text)
+  ends_open : (fault : FaultView) → IsFaultAt (codes "(" ++ chars text) fault → (fault ≡ IncompleteEscapeCode) ⊎ IsRegexpStart (chars text) → IsRegexpStart (chars text)
   ends_open fault is (inl escape) = let same = fault_at_one (codes "(" ++ chars text) fault (InvalidRegex reported) is faulty in absurd cc
   ends_open fault is (inr front) = front
 
-  pub refused_end : (fault : FaultView) (refused : Option (Bor (List ℕ) × ℕ)) → IsFaultAt (codes "(" ++ chars text) fault → IsRefusedOf text fault refused → IfNone refused (IsRegexpFront (chars text))
+  pub refused_end : (fault : FaultView) (refused : Option (Bor (List ℕ) × ℕ)) → IsFaultAt (codes "(" ++ chars text) fault → IsRefusedOf text fault refused → IfNone refused (IsRegexpStart (chars text))
   refused_end fault None is refuses = ends_open fault is refuses
   refused_end fault (Some found) is refuses = tt
 
 -- what may not be there
-pub refused_part : (text : List ℕ) (fault : FaultView) (refused : Option (Bor (List ℕ) × ℕ)) → IsRefusedOf text fault refused
-    → IfSome refused (λ found. IsAfterFront (chars text) (chars found.0.now)) × IfSome refused (λ found. IsRefusedFront (chars found.0.now) found.1) × IfSome refused (λ found. length found.0.now ≤ length text)
-refused_part text fault None refuses = (tt, tt, tt)
-refused_part text fault (Some found) refuses = refuses
+pub rejected_part : (text : List ℕ) (fault : FaultView) (refused : Option (Bor (List ℕ) × ℕ)) → IsRefusedOf text fault refused
+    → IfSome refused (λ found. IsAfterRegexpStart (chars text) (chars found.0.now)) × IfSome refused (λ found. IsRejectedStart (chars found.0.now) found.1) × IfSome refused (λ found. length found.0.now ≤ length text)
+rejected_part text fault None refuses = (tt, tt, tt)
+rejected_part text fault (Some found) refuses = refuses

@@ -11,13 +11,13 @@ use Rattle.urlpattern_syntax.specs.declared.error.Error.{Error}
 use Rattle.urlpattern_syntax.specs.declared.error.Error.TheVariants as errors
 use Rattle.urlpattern_syntax.specs.declared.error.ParserError.{ParserError}
 use Rattle.urlpattern_syntax.specs.declared.error.ParserError.TheVariants as parser_errors
-pub use Rattle.urlpattern_parser.specs.Bodies.{IsAfterFront, IsRefusedFront}
+pub use Rattle.urlpattern_parser.specs.Bodies.{IsAfterRegexpStart, IsRejectedStart}
 use Rattle.urlpattern_parser.specs.declared.parser.stop.Stop.{Stop}
 use Rattle.urlpattern_syntax.specs.declared.tokenizer.TokenType.TheVariants.{End, EscapedChar, Name, Regexp}
 use Rattle.urlpattern_syntax.specs.Stops.{IsStopOf}
 use Rattle.urlpattern_syntax.specs.declared.tokenizer.{Token.Token, TokenType.TokenType}
 use Rattle.urlpattern_syntax.specs.Text.{BeginsAt, BeginsWith, is_among}
-use Rattle.urlpattern_syntax.specs.Tokens.{AreTokens, FaultView, IncompleteEscapeCode, InvalidName, InvalidRegex, IsFault, IsRegexpFront, TokenView, token_view}
+use Rattle.urlpattern_syntax.specs.Tokens.{AreTokens, FaultView, IncompleteEscapeCode, InvalidName, InvalidRegex, IsFault, IsRegexpStart, TokenView, token_view}
 
 -- ---- tokens
 
@@ -44,12 +44,12 @@ abbrev pub IsFaultIn : (bytes : List ℕ) → Fault → Type 0
 IsFaultIn bytes fault = IsSpanIn bytes fault.span × IfSome fault.earlier (IsSpanIn bytes)
 
 -- The fault has a single span, with the property `Is`.
-abbrev pub IsAlone : (Is : Span → Type 0) → Fault → Type 0
-IsAlone Is fault = Is fault.span × (fault.earlier ≡ None)
+abbrev pub IsSingleSpan : (Is : Span → Type 0) → Fault → Type 0
+IsSingleSpan Is fault = Is fault.span × (fault.earlier ≡ None)
 
 -- The whole text is at fault.
 abbrev pub IsWholeFault : (bytes : List ℕ) → Fault → Type 0
-IsWholeFault bytes fault = IsAlone (λ span. span ≡ whole_span bytes) fault
+IsWholeFault bytes fault = IsSingleSpan (λ span. span ≡ whole_span bytes) fault
 
 -- ---- where a URL is expected
 
@@ -81,12 +81,12 @@ mistyped_colon bytes =
 -- The `;` in place of the colon after a scheme is at fault, or else the whole text.
 abbrev pub IsSignFault : (bytes : List ℕ) → Fault → Type 0
 IsSignFault bytes fault =
-    MatchOption (mistyped_colon bytes) (IsWholeFault bytes fault) (λ place. IsAlone (IsSpanAt bytes place 1) fault)
+    MatchOption (mistyped_colon bytes) (IsWholeFault bytes fault) (λ place. IsSingleSpan (IsSpanAt bytes place 1) fault)
 
 -- The place of the missing or mistyped colon after a scheme is at fault, or else the whole text.
 abbrev pub IsUrlFault : (bytes : List ℕ) → Fault → Type 0
 IsUrlFault bytes fault =
-    MatchOption (missing_colon bytes) (IsSignFault bytes fault) (λ place. IsAlone (IsSpanAt bytes place 0) fault)
+    MatchOption (missing_colon bytes) (IsSignFault bytes fault) (λ place. IsSingleSpan (IsSpanAt bytes place 0) fault)
 
 -- A character of a path, a search or a hash that no protocol has.
 abbrev pub is_path_sign : ℕ → Bool
@@ -95,7 +95,7 @@ is_path_sign c = is_among (codes "/#=") c
 -- The colon after a text with a character of a path, a search or a hash is at fault: that text is
 -- no protocol.
 abbrev pub IsColonFault : (bytes before : List ℕ) → Fault → Type 0
-IsColonFault bytes before fault = IsTrue (list_any is_path_sign before) × IsAlone (IsSpanAt bytes (length before) 1) fault
+IsColonFault bytes before fault = IsTrue (list_any is_path_sign before) × IsSingleSpan (IsSpanAt bytes (length before) 1) fault
 
 -- ---- where no token begins
 
@@ -104,9 +104,9 @@ IsColonFault bytes before fault = IsTrue (list_any is_path_sign before) × IsAlo
 -- the `(`.
 abbrev pub IsBodyFault : (bytes : List ℕ) → (place : ℕ) → (rest : List ℕ) → Fault → Type 0
 IsBodyFault bytes place rest fault =
-    (BeginsWith (is_among (codes "?)")) rest × IsAlone (IsSpanAt bytes place 2) fault)
-    ⊎ (IsRegexpFront rest × IsAlone (IsSpanAt bytes place 1) fault)
-    ⊎ ((left : List ℕ) × (start len : ℕ) × IsAfterFront rest left × IsRefusedFront left len × BeginsAt (chars bytes) left start
+    (BeginsWith (is_among (codes "?)")) rest × IsSingleSpan (IsSpanAt bytes place 2) fault)
+    ⊎ (IsRegexpStart rest × IsSingleSpan (IsSpanAt bytes place 1) fault)
+    ⊎ ((left : List ℕ) × (start len : ℕ) × IsAfterRegexpStart rest left × IsRejectedStart left len × BeginsAt (chars bytes) left start
     × IsSpanAt bytes start len fault.span × IsSomeAnd fault.earlier (IsSpanAt bytes place 1))
 
 -- Whether a character is a square bracket.
@@ -140,14 +140,14 @@ first_place (Some other) place = min other place
 abbrev pub IsNameFault : Option ComponentName → (bytes : List ℕ) → (place : ℕ) → Fault → Type 0
 IsNameFault component bytes place fault =
     MatchBool (is_of_hostname component)
-    ((bracket : Option ℕ) × IsOpenBracket bytes bracket × IsAlone (IsSpanAt bytes (first_place bracket place) 1) fault)
-    (IsAlone (IsSpanAt bytes place 1) fault)
+    ((bracket : Option ℕ) × IsOpenBracket bytes bracket × IsSingleSpan (IsSpanAt bytes (first_place bracket place) 1) fault)
+    (IsSingleSpan (IsSpanAt bytes place 1) fault)
 
 -- No token begins at the place, where `left` begins, for this reason: the fault is a backslash at
 -- the end, a name, or a custom expression.
 abbrev pub IsTokenFault : Option ComponentName → (bytes : List ℕ) → (place : ℕ) → (left : List ℕ) → FaultView → Fault → Type 0
 IsTokenFault component bytes place left IncompleteEscapeCode fault =
-    (start : ℕ) × BeginsAt (chars bytes) (codes "\\") start × IsAlone (IsSpanAt bytes start 1) fault
+    (start : ℕ) × BeginsAt (chars bytes) (codes "\\") start × IsSingleSpan (IsSpanAt bytes start 1) fault
 IsTokenFault component bytes place left InvalidName fault = IsNameFault component bytes place fault
 IsTokenFault component bytes place left (InvalidRegex reported) fault =
     (rest : List ℕ) × (left ≡ codes "(" ++ rest) × IsBodyFault bytes place rest fault

@@ -15,7 +15,7 @@ pub(crate) fn missing_words(sign: &str) -> &'static str {
 /// The reason why a pattern needs a base URL, and what to write, without the `^` and `$` of a
 /// regular expression.
 pub(crate) fn base_sentence(part: &str) -> Sentence<'_> {
-    if let Some(words) = misread_words(part) {
+    if let Some(words) = misread_message(part) {
         return Sentence {
             words,
             text: part,
@@ -38,14 +38,14 @@ pub(crate) fn base_sentence(part: &str) -> Sentence<'_> {
     Sentence {
         words: "a pattern without a protocol needs a base URL: write `#@`, or give a base",
         text: relative,
-        other: front_of_url(relative),
+        other: url_prefix(relative),
         sign: ' ',
     }
 }
 
 /// What precedes a relative URL in an absolute one: also a hostname, unless the relative URL may
 /// begin with one, since it has a dot there.
-fn front_of_url(text: &str) -> &'static str {
+fn url_prefix(text: &str) -> &'static str {
     if text.starts_with("//") {
         return "https:";
     }
@@ -63,7 +63,7 @@ fn front_of_url(text: &str) -> &'static str {
 
 /// The words for a text without a protocol that may be meant to have one, or is no URL at all.
 /// `None`: nothing suggests that.
-fn misread_words(text: &str) -> Option<&'static str> {
+fn misread_message(text: &str) -> Option<&'static str> {
     if is_quoted(text) {
         Some(
             "a pattern is written without quotes around it, and without a protocol it needs a base URL",

@@ -1,9 +1,9 @@
 //! Faults where no token begins.
 ghost use Rattle.std.specs.Prelude.{◌≡◌, ◌≤◌, ◌++◌, codes, length, List, ℕ, IfNone, IfOk, IfSome};
 ghost use Rattle.std.specs.Str.{chars};
-ghost use Rattle.urlpattern_diagnosis.specs.Faults.{IsBodyFault, IsFaultIn, IsAfterFront, IsFirstFault, IsNameFault, IsOpenBracket, IsRefusedFront, HasTokenFault, is_end_kind, is_of_hostname};
+ghost use Rattle.urlpattern_diagnosis.specs.Faults.{IsBodyFault, IsFaultIn, IsAfterRegexpStart, IsFirstFault, IsNameFault, IsOpenBracket, IsRejectedStart, HasTokenFault, is_end_kind, is_of_hostname};
 ghost use Rattle.urlpattern_syntax.specs.Text.{BeginsWith, is_among};
-ghost use Rattle.urlpattern_syntax.specs.Tokens.{IsFault, IsFaultAt, InvalidRegex, IsRegexpFront, fault_view};
+ghost use Rattle.urlpattern_syntax.specs.Tokens.{IsFault, IsFaultAt, InvalidRegex, IsRegexpStart, fault_view};
 
 use crate::fault::{Fault, span_of};
 use crate::span::Span;
@@ -125,7 +125,7 @@ fn body_fault(text: &str, place: usize, body: &str) -> Fault
         return Fault::of_span(Span::at(text, place, 2));
     }
     let open = Span::at(text, place, 1);
-    match refused_in(body) {
+    match rejected_at(body) {
         Some((left, len)) => Fault {
             span: Span::at(text, text.len() - left.len(), len),
             earlier: Some(open),
@@ -136,12 +136,12 @@ fn body_fault(text: &str, place: usize, body: &str) -> Fault
 
 /// The rest of a body from its first invalid character on, and the number of invalid bytes. `None`:
 /// the text ends before the body does.
-fn refused_in(body: &str) -> Option<(&str, usize)>
+fn rejected_at(body: &str) -> Option<(&str, usize)>
     requires faulty { (reported : List ℕ) × IsFaultAt (codes "(" ++ chars body.now) (InvalidRegex reported) }
     requires unmarked { ¬ BeginsWith (is_among (codes "?)")) (chars body.now) }
-    ensures end { IfNone result (IsRegexpFront (chars body.now)) }
-    ensures left { IfSome result (λ found. IsAfterFront (chars body.now) (chars found.0.now)) }
-    ensures refused { IfSome result (λ found. IsRefusedFront (chars found.0.now) found.1) }
+    ensures end { IfNone result (IsRegexpStart (chars body.now)) }
+    ensures left { IfSome result (λ found. IsAfterRegexpStart (chars body.now) (chars found.0.now)) }
+    ensures refused { IfSome result (λ found. IsRejectedStart (chars found.0.now) found.1) }
     ensures len { IfSome result (λ found. length found.0.now ≤ length body.now) }
 {
     match split_body(body) {

@@ -7,10 +7,10 @@ use Rattle.urlpattern_matcher.proofs.FirstMatchers.{flags_agree}
 use Rattle.urlpattern_matcher.specs.Components.{engine_flags}
 use Rattle.urlpattern_matcher.specs.Regexes.{regex_engine}
 use Rattle.urlpattern_engine.proofs.EngineLaws.{expression_as_read, expression_first, form_of, values_by_flags}
-use Rattle.urlpattern_engine.proofs.ReadAnswers.{read_by_default, regex_as_read}
+use Rattle.urlpattern_engine.proofs.GrammarResults.{read_by_default, regex_as_read}
 use Rattle.urlpattern_engine.specs.Automatons.{config_for}
-use Rattle.urlpattern_engine.specs.PatternRegexps.{IsExpressionOf, expression_answer, pattern_answer, pattern_engine}
-use Rattle.urlpattern_engine.specs.GrammarReadings.{ExpressionsAnswerAlike}
+use Rattle.urlpattern_engine.specs.PatternRegexps.{IsExpressionOf, expression_result, pattern_result, pattern_engine}
+use Rattle.urlpattern_engine.specs.GrammarReadings.{ExpressionsReturnAlike}
 use Rattle.urlpattern_engine.specs.declared.strategy.Strategy.{Strategy}
 use Rattle.urlpattern_meaning.proofs.OneMeaning.{is_tree_of}
 use Rattle.urlpattern_meaning.proofs.PartTrees.{tree_of}
@@ -18,7 +18,7 @@ use Rattle.urlpattern_syntax.specs.RegexpText.{regexp_text}
 
 module _ (ignore_case : Bool) (regexp : List ℕ) (one other : Strategy) (kept : ignore_case ≡ false) (made : IsExpressionOf ignore_case regexp one) (also : IsExpressionOf ignore_case regexp other)
     (text : List ℕ) (fine : IsTrue (all_scalars text)) where
-  expressions_alike : expression_answer ignore_case one text ≡ expression_answer ignore_case other text
+  expressions_alike : expression_result ignore_case one text ≡ expression_result ignore_case other text
   expressions_alike = elim (form_of ignore_case regexp one made) [
     | inl own ↦
         expression_first ignore_case regexp one made text kept fine own.tree own.is_tree
@@ -29,8 +29,8 @@ module _ (ignore_case : Bool) (regexp : List ℕ) (one other : Strategy) (kept :
         ∙ sym (expression_as_read ignore_case regexp other also text kept fine some)
   ]
 
-pub own_expressions : ExpressionsAnswerAlike pattern_engine
-unfolding pattern_answer
+pub own_expressions : ExpressionsReturnAlike pattern_engine
+unfolding pattern_result
 own_expressions options parts value other text (inl kept) made also fine =
     let agree = flags_agree options ∙ kept in
     let one : value.ignore_case ≡ false = made.by_flags ∙ agree in
@@ -38,13 +38,13 @@ own_expressions options parts value other text (inl kept) made also fine =
     let same : other.ignore_case ≡ value.ignore_case = two ∙ sym one in
     expressions_alike value.ignore_case (regexp_text options parts) value.strategy other.strategy one made.of_text
     (subst (λ (b : Bool). IsExpressionOf b (regexp_text options parts) other.strategy) same also.of_text) text fine
-    ∙ ap (λ (b : Bool). expression_answer b other.strategy text) (sym same)
+    ∙ ap (λ (b : Bool). expression_result b other.strategy text) (sym same)
 own_expressions options parts value other text (inr generated) made also fine =
     let is = is_tree_of options parts generated in
     values_by_flags options (engine_flags options) parts (tree_of options parts) value generated is made text
     ∙ sym (values_by_flags options (engine_flags options) parts (tree_of options parts) other generated is also text)
 
-pub expressions_of_regex : ExpressionsAnswerAlike regex_engine
+pub expressions_of_regex : ExpressionsReturnAlike regex_engine
 expressions_of_regex options parts value other text settled made also fine =
     let regexp = regexp_text options parts in
     regex_as_read false regexp value (read_by_default regexp value made) text fine

@@ -28,9 +28,9 @@ use Rattle.regex_meta.proofs.LeftmostLemmas.{Matches-of_attempt}
 use Rattle.regex_nfa.specs.declared.nfa.Nfa.{Nfa}
 use Rattle.regex_vm.specs.Found.{cell, first_match, group_cells}
 use Rattle.urlpattern_matcher.specs.Regexes.{group_texts, text_between}
-use Rattle.urlpattern_engine.specs.Automatons.{IsNfaOf, automaton_answer, match_captures, cell_texts, match_at_start, place_of, read_answer, text_cut}
+use Rattle.urlpattern_engine.specs.Automatons.{IsNfaOf, automaton_result, match_captures, cell_texts, match_at_start, place_of, read_result, text_cut}
 use Rattle.urlpattern_engine.proofs.TextParts.{text_parts}
-use Rattle.urlpattern_engine.proofs.ReadAnswers.{tree_answer, tree_as_read}
+use Rattle.urlpattern_engine.proofs.GrammarResults.{tree_answer, tree_as_read}
 use Rattle.urlpattern_meaning.specs.PartMeaning.{Captures}
 
 -- ---- a match at the start of a text
@@ -132,8 +132,8 @@ option_map_same (Some x) f g same = ap Some (same x refl)
 -- ---- the laws
 
 module _ (ignore_case : Bool) (source : List ℕ) (nfa : Nfa) (made : IsNfaOf ignore_case source nfa) (text : List ℕ) (fine : IsTrue (all_scalars text)) where
-  answers_as_tree : automaton_answer nfa text ≡ tree_answer made.tree made.names text
-  unfolding automaton_answer
+  answers_as_tree : automaton_result nfa text ≡ tree_answer made.tree made.names text
+  unfolding automaton_result
   answers_as_tree =
       let bytes = encode_utf8_all text in
       let spelled : IsUtf8 bytes = (text, (fine, refl)) in
@@ -143,12 +143,12 @@ module _ (ignore_case : Bool) (source : List ℕ) (nfa : Nfa) (made : IsNfaOf ig
       ∙ option_map_same (find_str re bytes 0) _ _ (λ m found. captures_are_texts bytes re m _ spelled (text_parts made.tree made.is_formed) found)
 
   -- An automaton returns the first match of what the grammar reads in its text.
-  pub automaton_as_read : automaton_answer nfa text ≡ read_answer ignore_case (chars source) text
+  pub automaton_as_read : automaton_result nfa text ≡ read_result ignore_case (chars source) text
   automaton_as_read = answers_as_tree ∙ tree_as_read ignore_case source made.tree made.names made.is_read text fine
 
 -- The truncated fact about an automaton is enough.
 pub automaton_as_read_once : (ignore_case : Bool) (source : List ℕ) (nfa : Nfa) → ∥ IsNfaOf ignore_case source nfa ∥₁ → (text : List ℕ) → IsTrue (all_scalars text)
-    → automaton_answer nfa text ≡ read_answer ignore_case (chars source) text
+    → automaton_result nfa text ≡ read_result ignore_case (chars source) text
 automaton_as_read_once ignore_case source nfa made text fine =
     ∥∥₁_elim made (Coded-set (coded_option (coded_list (coded_option (coded_list coded_ℕ)))) _ _)
     (λ made. automaton_as_read ignore_case source nfa made text fine)
@@ -179,8 +179,8 @@ cells_show hay m width count fits =
 -- The result for the cells of a match, or for none.
 pub answer_of_cells : (nfa : Nfa) (bytes cells : List ℕ) (width : ℕ) (texts : Captures) → IsUtf8 bytes → width ≡ nfa.slot_count - 2 → length cells ≡ width
     → true ≡ is_some (match_at_start nfa bytes) → IfSome (match_at_start nfa bytes) (λ m. cells ≡ group_cells m width)
-    → texts ≡ cell_texts bytes cells (length cells / 2) → Some texts ≡ automaton_answer nfa (chars bytes)
-unfolding automaton_answer
+    → texts ≡ cell_texts bytes cells (length cells / 2) → Some texts ≡ automaton_result nfa (chars bytes)
+unfolding automaton_result
 answer_of_cells nfa bytes cells width texts utf8 wide kept is shown read =
     rw (encodes-chars bytes utf8) (at (match_at_start nfa bytes) is shown)
   where
@@ -193,8 +193,8 @@ answer_of_cells nfa bytes cells width texts utf8 wide kept is shown read =
         (read ∙ ap (cell_texts bytes cells) count ∙ ap (λ c. cell_texts bytes c (nfa.slot_count / 2 - 1)) shown
         ∙ cells_show bytes m width (nfa.slot_count / 2 - 1) (omega arith))
 
-pub answer_of_nothing : (nfa : Nfa) (bytes : List ℕ) → IsUtf8 bytes → false ≡ is_some (match_at_start nfa bytes) → None ≡ automaton_answer nfa (chars bytes)
-unfolding automaton_answer
+pub answer_of_nothing : (nfa : Nfa) (bytes : List ℕ) → IsUtf8 bytes → false ≡ is_some (match_at_start nfa bytes) → None ≡ automaton_result nfa (chars bytes)
+unfolding automaton_result
 answer_of_nothing nfa bytes utf8 is =
     rw (encodes-chars bytes utf8) (at (match_at_start nfa bytes) is)
   where

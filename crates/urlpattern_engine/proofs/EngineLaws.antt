@@ -8,11 +8,11 @@ use lib.Utf8.{scalars}
 use Rattle.regex_syntax.specs.Grammar.{read}
 use Rattle.regex_syntax.specs.Verdict.{default_config}
 use Rattle.urlpattern_matcher.specs.Regexes.{regex_engine}
-use Rattle.urlpattern_matcher.specs.FirstWays.{AllAnswerAlike, ComponentsTakeGenerated, EachAnswersFirst, KeepsCase, MatchersTakeGenerated, ValuesAnswerAlike, ValuesAnswerByFlags, ValuesAnswerFirst}
+use Rattle.urlpattern_matcher.specs.FirstWays.{AllReturnAlike, ComponentsAcceptGenerated, EachReturnsFirst, KeepsCase, MatchersAcceptGenerated, ValuesReturnAlike, ValuesReturnByFlags, ValuesReturnFirst}
 use Rattle.urlpattern_printing.specs.Generated.{AreGenerated}
 use Rattle.urlpattern_matcher.proofs.FirstMatchers.{first_alike, made_first}
 use Rattle.urlpattern_meaning.specs.Dialect.{IsTreeOf, Items}
-use Rattle.urlpattern_meaning.specs.FirstAnswers.{AnswersFirst}
+use Rattle.urlpattern_meaning.specs.FirstResults.{ReturnsFirst}
 use Rattle.urlpattern_meaning.specs.GeneratedTexts.{IsGenerated}
 use Rattle.urlpattern_meaning.specs.Ways.{first_way, first_way_by}
 use Rattle.urlpattern_meaning.proofs.DialectUnique.{trees_are_one}
@@ -29,12 +29,12 @@ use Rattle.urlpattern_syntax.specs.Text.{text_of}
 use Rattle.urlpattern_engine.specs.declared.strategy.Strategy.{Strategy}
 use Rattle.urlpattern_engine.specs.declared.strategy.Strategy.TheVariants.{Steps, LazySteps, Automaton, Regex, LazyRegex}
 use Rattle.urlpattern_engine.specs.declared.pattern_regexp.PatternRegexp.{PatternRegexp}
-use Rattle.urlpattern_engine.specs.PatternRegexps.{IsExpressionOf, IsPatternRegexpOf, expression_answer, pattern_answer, pattern_engine}
-use Rattle.urlpattern_engine.specs.Automatons.{config_for, read_answer}
-use Rattle.urlpattern_engine.specs.GrammarReadings.{ValuesAnswerAsRead}
-use Rattle.urlpattern_meaning.proofs.FirstAnswers.{first_agrees, took_all}
+use Rattle.urlpattern_engine.specs.PatternRegexps.{IsExpressionOf, IsPatternRegexpOf, expression_result, pattern_result, pattern_engine}
+use Rattle.urlpattern_engine.specs.Automatons.{config_for, read_result}
+use Rattle.urlpattern_engine.specs.GrammarReadings.{ValuesReturnAsRead}
+use Rattle.urlpattern_meaning.proofs.FirstResults.{first_agrees, took_all}
 use Rattle.urlpattern_engine.proofs.AutomatonLemmas.{automaton_as_read}
-use Rattle.urlpattern_engine.proofs.ReadAnswers.{first_as_read, read_answer_is, read_by_default, reads_some, regex_as_read, regex_some}
+use Rattle.urlpattern_engine.proofs.GrammarResults.{first_as_read, read_answer_is, read_by_default, reads_some, regex_as_read, regex_some}
 
 -- ---- the result of a value
 
@@ -42,14 +42,14 @@ use Rattle.urlpattern_engine.proofs.ReadAnswers.{first_as_read, read_answer_is, 
 pub record AnswersByTree (ignore_case : Bool) (regexp : List ℕ) (strategy : Strategy) : Type 0 where
   pub tree : Items
   pub is_tree : IsTreeOf regexp tree
-  pub answers : (text : List ℕ) → expression_answer ignore_case strategy text ≡ first_way_by ignore_case tree text
+  pub answers : (text : List ℕ) → expression_result ignore_case strategy text ≡ first_way_by ignore_case tree text
 
 -- The result is the first match of what the grammar reads in the expression, which is not
 -- generated.
 pub record AnswersAsRead (ignore_case : Bool) (regexp : List ℕ) (strategy : Strategy) : Type 0 where
   pub is_custom : ¬ IsGenerated regexp
   pub is_read : IsSome (read (config_for ignore_case) regexp)
-  pub answers : (text : List ℕ) → IsTrue (all_scalars text) → expression_answer ignore_case strategy text ≡ read_answer ignore_case regexp text
+  pub answers : (text : List ℕ) → IsTrue (all_scalars text) → expression_result ignore_case strategy text ≡ read_result ignore_case regexp text
 
 pub form_of : (ignore_case : Bool) (regexp : List ℕ) (strategy : Strategy) → IsExpressionOf ignore_case regexp strategy
     → AnswersByTree ignore_case regexp strategy ⊎ AnswersAsRead ignore_case regexp strategy
@@ -64,7 +64,7 @@ form_of ignore_case regexp (Automaton automaton) made =
     inr (record {
       is_custom = made.2;
       is_read = subst (λ t. IsSome (read (config_for ignore_case) t)) made.0 (reads_some (config_for ignore_case) source _ _ made.1.is_read);
-      answers = λ text fine. automaton_as_read ignore_case source automaton.value.nfa made.1 text fine ∙ ap (λ t. read_answer ignore_case t text) made.0;
+      answers = λ text fine. automaton_as_read ignore_case source automaton.value.nfa made.1 text fine ∙ ap (λ t. read_result ignore_case t text) made.0;
     })
 form_of ignore_case regexp (Regex regex) made = inr (record {
   is_custom = made.1;
@@ -74,7 +74,7 @@ form_of ignore_case regexp (Regex regex) made = inr (record {
 form_of ignore_case regexp (LazyRegex own) made = inr (record {
   is_custom = made.2;
   is_read = made.1;
-  answers = λ text fine. ap (λ t. read_answer ignore_case t text) made.0;
+  answers = λ text fine. ap (λ t. read_result ignore_case t text) made.0;
 })
 
 pub text_good : (source : String Global) (regexp : List ℕ) → text_of source ≡ regexp → scalars regexp ≡ true
@@ -91,7 +91,7 @@ expression_good ignore_case regexp (LazyRegex own) made = text_good own regexp m
 module _ (ignore_case : Bool) (regexp : List ℕ) (strategy : Strategy) (made : IsExpressionOf ignore_case regexp strategy) (text : List ℕ) where
   -- A value of the regular expression of parts without custom ones returns the first match of its
   -- tree.
-  pub expression_generated : IsGenerated regexp → (tree : Items) → IsTreeOf regexp tree → expression_answer ignore_case strategy text ≡ first_way_by ignore_case tree text
+  pub expression_generated : IsGenerated regexp → (tree : Items) → IsTreeOf regexp tree → expression_result ignore_case strategy text ≡ first_way_by ignore_case tree text
   expression_generated generated tree is = elim (form_of ignore_case regexp strategy made) [
     | inl own ↦ own.answers text ∙ ap (λ t. first_way_by ignore_case t text) (trees_are_one regexp own.tree tree own.is_tree is)
     | inr read ↦ absurd (read.is_custom generated)
@@ -99,16 +99,16 @@ module _ (ignore_case : Bool) (regexp : List ℕ) (strategy : Strategy) (made : 
 
   module _ (kept : ignore_case ≡ false) (fine : IsTrue (all_scalars text)) where
     -- If case is kept, a value returns the first match of what the grammar reads.
-    pub expression_as_read : IsSome (read default_config regexp) → expression_answer ignore_case strategy text ≡ read_answer false regexp text
+    pub expression_as_read : IsSome (read default_config regexp) → expression_result ignore_case strategy text ≡ read_result false regexp text
     expression_as_read some = elim (form_of ignore_case regexp strategy made) [
       | inl own ↦
           own.answers text ∙ ap (λ b. first_way_by b own.tree text) kept
           ∙ first_as_read regexp own.tree own.is_tree (expression_good ignore_case regexp strategy made) some text fine
-      | inr read ↦ read.answers text fine ∙ ap (λ b. read_answer b regexp text) kept
+      | inr read ↦ read.answers text fine ∙ ap (λ b. read_result b regexp text) kept
     ]
 
     -- If case is kept, a value returns the first match of a tree of its text.
-    pub expression_first : (tree : Items) → IsTreeOf regexp tree → expression_answer ignore_case strategy text ≡ first_way tree text
+    pub expression_first : (tree : Items) → IsTreeOf regexp tree → expression_result ignore_case strategy text ≡ first_way tree text
     expression_first tree is = elim (form_of ignore_case regexp strategy made) [
       | inl own ↦
           own.answers text ∙ ap (λ b. first_way_by b own.tree text) kept ∙ ap (λ t. first_way t text) (trees_are_one regexp own.tree tree own.is_tree is)
@@ -120,19 +120,19 @@ module _ (ignore_case : Bool) (regexp : List ℕ) (strategy : Strategy) (made : 
 -- ---- values
 
 pub pattern_regexp_first : (regexp flags : List ℕ) (tree : Items) (value : PatternRegexp) (text : List ℕ) → ignores_case flags ≡ false → IsTreeOf regexp tree → IsPatternRegexpOf regexp flags value → IsTrue (all_scalars text)
-    → pattern_answer value text ≡ first_way tree text
-unfolding pattern_answer
+    → pattern_result value text ≡ first_way tree text
+unfolding pattern_result
 pattern_regexp_first regexp flags tree value text keeps is made fine = expression_first value.ignore_case regexp value.strategy made.of_text text (made.by_flags ∙ keeps) fine tree is
 
 -- If case is kept, a value returns the first match of the tree of its text, and follows the text.
-pub answers_first_of : (regexp flags : List ℕ) (value : PatternRegexp) → ignores_case flags ≡ false → IsPatternRegexpOf regexp flags value → AnswersFirst regexp (pattern_answer value)
+pub answers_first_of : (regexp flags : List ℕ) (value : PatternRegexp) → ignores_case flags ≡ false → IsPatternRegexpOf regexp flags value → ReturnsFirst regexp (pattern_result value)
 answers_first_of regexp flags value keeps made = λ tree text is fine. pattern_regexp_first regexp flags tree value text keeps is made fine
 
-pub values_first : ValuesAnswerFirst pattern_engine KeepsCase
+pub values_first : ValuesReturnFirst pattern_engine KeepsCase
 values_first regexp flags value keeps made = answers_first_of regexp flags value keeps made
 
-pub values_by_flags : ValuesAnswerByFlags pattern_engine
-unfolding pattern_answer
+pub values_by_flags : ValuesReturnByFlags pattern_engine
+unfolding pattern_result
 values_by_flags options flags parts tree value generated is made = λ text.
     expression_generated value.ignore_case (regexp_text options parts) value.strategy made.of_text text (options, parts, generated, refl) tree is
     ∙ ap (λ b. first_way_by b tree text) made.by_flags
@@ -141,15 +141,15 @@ values_by_flags options flags parts tree value generated is made = λ text.
 pub values_agree : ValuesAgreeWithParts pattern_engine.IsMade pattern_engine.answer
 values_agree options parts value generated made text =
     let is = is_tree_of options parts generated in
-    first_agrees options parts text (pattern_answer value text) generated record {
+    first_agrees options parts text (pattern_result value text) generated record {
       tree = tree_of options parts;
       is_tree = is;
       is_first = values_by_flags options (codes "u") parts (tree_of options parts) value generated is
           made text;
     }
 
-pub pattern_regexp_same : ValuesAnswerAlike pattern_engine regex_engine KeepsCase
-unfolding pattern_answer
+pub pattern_regexp_same : ValuesReturnAlike pattern_engine regex_engine KeepsCase
+unfolding pattern_result
 pattern_regexp_same regexp flags value regex text keeps made also fine =
     let by_case = read_by_default regexp regex also in
     expression_as_read value.ignore_case regexp value.strategy made.of_text text (made.by_flags ∙ keeps) fine (regex_some false regexp regex by_case)
@@ -161,14 +161,14 @@ if_some : {X : Type 0} (o : Option X) (P : X → Type 0) → ((x : X) → o ≡ 
 if_some None P f = tt
 if_some (Some x) P f = f x refl
 
-pub pattern_values_read : ValuesAnswerAsRead pattern_engine KeepsCase
-unfolding pattern_answer
+pub pattern_values_read : ValuesReturnAsRead pattern_engine KeepsCase
+unfolding pattern_result
 pattern_values_read regexp flags value keeps made =
     if_some (read default_config regexp) _ (λ found e text fine.
     expression_as_read value.ignore_case regexp value.strategy made.of_text text (made.by_flags ∙ keeps) fine (ap is_some e)
     ∙ read_answer_is false regexp found e text)
 
-pub regex_values_read : ValuesAnswerAsRead regex_engine (λ flags. ⊤)
+pub regex_values_read : ValuesReturnAsRead regex_engine (λ flags. ⊤)
 regex_values_read regexp flags regex any made =
     if_some (read default_config regexp) _ (λ found e text fine.
     regex_as_read false regexp regex (read_by_default regexp regex made) text fine ∙ read_answer_is false regexp found e text)
@@ -179,7 +179,7 @@ regex_values_read regexp flags regex any made =
 takes_generated : (force_eval : Bool) (flags : List ℕ) (options : OptionsView) (parts : List PartView) (error : ErrorView) → AreGenerated parts → ¬ IsEngineOf pattern_engine force_eval flags (regexp_text options parts) (Err error)
 takes_generated force_eval flags options parts error generated (of_regexp, may) = may.0 (options, parts, generated, refl)
 
-pub matcher_takes : MatchersTakeGenerated pattern_engine
+pub matcher_takes : MatchersAcceptGenerated pattern_engine
 matcher_takes options flags parts matcher made generated =
     took_all (IsEngineOf pattern_engine false flags) options parts matcher made generated (λ middle error all. takes_generated false flags options middle error all)
 
@@ -193,15 +193,15 @@ engine_taken has flags options parts (Err error) generated syntax is = elim is [
 
 -- A component of parts without custom ones has a value of the engine, and so has its matcher if it
 -- needs one.
-pub component_takes : (syntax : RegexSyntax) → ComponentsTakeGenerated (record pattern_engine { syntax_of = syntax })
+pub component_takes : (syntax : RegexSyntax) → ComponentsAcceptGenerated (record pattern_engine { syntax_of = syntax })
 component_takes syntax options parts component is generated = (
   engine_taken (has_regexp parts) (engine_flags options) options parts component.regexp generated syntax is.has_engine,
   matcher_takes options (engine_flags options) parts component.matcher is.has_matcher generated,
 )
 
-pub taken_first : EachAnswersFirst pattern_engine (λ options flags inner. FlagsAgree options flags)
+pub taken_first : EachReturnsFirst pattern_engine (λ options flags inner. FlagsAgree options flags)
 taken_first = made_first pattern_engine _ (λ value. ⊤) (λ options flags parts matcher taken. matcher_takes options flags parts matcher taken.is_made taken.generated)
     (λ options regexp flags value inner kept agree made took. values_first regexp flags value (agree ∙ kept) made)
 
-pub taken_one : AllAnswerAlike pattern_engine (λ options flags inner. FlagsAgree options flags)
+pub taken_one : AllReturnAlike pattern_engine (λ options flags inner. FlagsAgree options flags)
 taken_one = first_alike pattern_engine _ taken_first

@@ -9,9 +9,9 @@ use Rattle.regex_hir.specs.Find.{last_write}
 use Rattle.regex_hir.proofs.OptionLemmas.{option_or-None, option_or_assoc}
 use Rattle.regex.specs.Writes.{both}
 use Rattle.urlpattern_meaning.specs.PartMeaning.{Captures}
-use Rattle.urlpattern_meaning.specs.Ways.{Way, idle}
+use Rattle.urlpattern_meaning.specs.Ways.{Way, empty_way}
 use Rattle.urlpattern_meaning.proofs.WayLists.{Every, every-append, every-weaker}
-use Rattle.urlpattern_engine.proofs.WayAnswers.{Writes, at}
+use Rattle.urlpattern_engine.proofs.WayResults.{Writes, at}
 
 last-append : (xs ys : Writes) (slot : ℕ) → last_write (xs ++ ys) slot ≡ option_or (last_write ys slot) (last_write xs slot)
 last-append [] ys slot = sym (option_or-None (last_write ys slot))
@@ -80,8 +80,8 @@ module _ (hay : List ℕ) where
         (spans-around (g + length c) d own more [] (every-weaker _ _ own (λ w h. inl h.1) p.0) tt q.1)),
   )
 
-  pub shown-idle : (g n : ℕ) (text : List ℕ) → Shown g (idle n text).captures []
-  shown-idle g n text = (tt, none g n)
+  pub shown-empty_way : (g n : ℕ) (text : List ℕ) → Shown g (empty_way n text).captures []
+  shown-empty_way g n text = (tt, none g n)
     where
       none : (g n : ℕ) → Spans g (replicate n None) []
       none g zero = tt

@@ -1,12 +1,12 @@
-pub mod ReadAnswers
+pub mod GrammarResults
 pub mod TextParts
 pub mod AutomatonLemmas
-pub mod TrialLemmas
+pub mod BoundedSearchLemmas
 pub mod EngineLaws
 pub mod AlikeLaws
 pub mod LargeLemmas
-pub mod RefusalLemmas
-pub mod WayAnswers
+pub mod RejectionLemmas
+pub mod WayResults
 pub mod GroupSlots
 pub mod LoopAttempts
 pub mod TreeAttempts
@@ -15,7 +15,7 @@ pub mod AtomsRead
 pub mod ItemsRead
 pub mod TreeTextsRead
 pub mod TreesRead
-pub mod GroupsRefused
+pub mod GroupsRejected
 pub mod TreeDepths
 pub mod Bytes
 pub mod RegexWays

@@ -11,9 +11,9 @@ use Rattle.regex_hir.specs.Re.{Re, char_in, plus, Trace, Rest, rounds as trace_r
 use Rattle.regex_hir.proofs.AttemptLemmas.{more_rounds_unfold}
 use Rattle.regex_hir.proofs.TextLemmas.{char_at_from, char_at_past}
 use Rattle.urlpattern_meaning.specs.PartMeaning.{Captures}
-use Rattle.urlpattern_meaning.specs.Ways.{Way, Choice, idle, continued, one_that, is_shorter, more_rounds, looped}
+use Rattle.urlpattern_meaning.specs.Ways.{Way, Choice, empty_way, continued, one_that, is_shorter, more_rounds, looped}
 use Rattle.urlpattern_meaning.proofs.WayLists.{Every, every-weaker}
-use Rattle.urlpattern_engine.proofs.WayAnswers.{Writes, at, Gave, gave-continued, gave-idle, gave-ordered}
+use Rattle.urlpattern_engine.proofs.WayResults.{Writes, at, Gave, gave-continued, gave-empty_way, gave-ordered}
 
 no_round : (greedy : Bool) (body : Rest → Rest) (k : Rest) (j : ℕ) → trace_rounds greedy body k zero j ≡ k j
 unfolding trace_rounds
@@ -25,13 +25,13 @@ scalars_after (c ∷ before) text h = scalars_after before text (and_parts _ _ h
 
 module _ (Shown : ℕ → Captures → Writes → Type 0)
     (shown-append : (g : ℕ) (c d : Captures) (own more : Writes) → Shown g c own → Shown (g + length c) d more → Shown g (c ++ d) (own ++ more))
-    (shown-idle : (g n : ℕ) (text : List ℕ) → Shown g (idle n text).captures [])
+    (shown-empty_way : (g n : ℕ) (text : List ℕ) → Shown g (empty_way n text).captures [])
     (whole : List ℕ) (good : scalars whole ≡ true) where
   abbrev hay : List ℕ
   hay = encodes whole
 
   abbrev Shows : ℕ → List ℕ → Rest → List Way → Option Trace → Type 0
-  Shows = Gave Shown shown-append shown-idle
+  Shows = Gave Shown shown-append shown-empty_way
 
   -- An attempt tries the matches of this choice at each place of the text.
   abbrev pub Suits : ℕ → Choice → (Rest → Rest) → Type 0
@@ -60,7 +60,7 @@ module _ (Shown : ℕ → Captures → Writes → Type 0)
       by : (way : Way) (b r : Bool) (o : Option Trace) → r ≡ b → k (at (before ++ c ∷ [])) ≡ o
           → Shows g before k (cond b (record { taken = c ∷ []; captures = []; rest = rest } ∷ []) []) (cond r o None)
       by way true true None p q = inl (q, refl)
-      by way true true (Some t) p q = inr ([], t, q, refl, shown-idle g 0 [])
+      by way true true (Some t) p q = inr ([], t, q, refl, shown-empty_way g 0 [])
       by way false false o p q = refl
       by way true false o p q = absurd cc
       by way false true o p q = absurd cc
@@ -90,32 +90,32 @@ module _ (Shown : ℕ → Captures → Writes → Type 0)
     more_rounds-suit zero before text e le =
         let end : text ≡ [] = nil_from_length text (omega arith) in
         let last : length hay - at before ≡ 0 = omega (arith, ap at (sym e ∙ ap (λ t. before ++ t) end ∙ append-nil before)) in
-        subst (Shows g before k (idle 0 text ∷ [])) (sym (ap (λ n. trace_rounds greedy (attempt hay a) k n (at before)) last ∙ no_round greedy (attempt hay a) k (at before)))
-        (gave-idle Shown shown-append shown-idle g 0 before text k)
+        subst (Shows g before k (empty_way 0 text ∷ [])) (sym (ap (λ n. trace_rounds greedy (attempt hay a) k n (at before)) last ∙ no_round greedy (attempt hay a) k (at before)))
+        (gave-empty_way Shown shown-append shown-empty_way g 0 before text k)
     more_rounds-suit (suc m) before text e le =
         let next : Choice = λ rest. if is_shorter rest text then more_rounds greedy choice m rest else [] in
         let b : Rest = λ l. if nat_lt (at before) l then more l else None in
         subst (Shows g before k (more_rounds greedy choice (suc m) text)) (sym (more_rounds_unfold hay greedy a k (at before)))
-        (gave-ordered Shown shown-append shown-idle g before k greedy (continued next (choice text)) (idle 0 text ∷ []) (attempt hay a b (at before)) (k (at before))
-        (gave-continued Shown shown-append shown-idle g before k b next (choice text) (attempt hay a b (at before))
+        (gave-ordered Shown shown-append shown-empty_way g before k greedy (continued next (choice text)) (empty_way 0 text ∷ []) (attempt hay a b (at before)) (k (at before))
+        (gave-continued Shown shown-append shown-empty_way g before k b next (choice text) (attempt hay a b (at before))
         (every-weaker (λ (way : Way). (text ≡ way.taken ++ way.rest) × (way.captures ≡ [])) _ (choice text)
         (λ way p. subst (λ n. Shows n (before ++ way.taken) k (next way.rest) (b (at (before ++ way.taken)))) (omega (arith, ap length p.1))
         (further before text way.taken way.rest (more_rounds greedy choice m way.rest) more p.0 [] (λ l. None) (λ nothing. refl)
         (λ less. more_rounds-suit m (before ++ way.taken) way.rest (append_assoc before way.taken way.rest ∙ ap (λ t. before ++ t) (sym p.0) ∙ e) (omega arith))))
         (placed text))
         (suits before text e b))
-        (gave-idle Shown shown-append shown-idle g 0 before text k))
+        (gave-empty_way Shown shown-append shown-empty_way g 0 before text k))
 
     pub looped-suits : (before text : List ℕ) → before ++ text ≡ whole → Shows g before k (looped greedy choice text) (attempt hay (plus greedy a) k (at before))
     unfolding attempt
     looped-suits before text e =
-        let next : Choice = λ rest. if is_shorter rest text then more_rounds greedy choice (length rest) rest else idle 0 rest ∷ [] in
+        let next : Choice = λ rest. if is_shorter rest text then more_rounds greedy choice (length rest) rest else empty_way 0 rest ∷ [] in
         let b : Rest = λ l. if nat_lt (at before) l then more l else k l in
-        gave-continued Shown shown-append shown-idle g before k b next (choice text) (attempt hay a b (at before))
+        gave-continued Shown shown-append shown-empty_way g before k b next (choice text) (attempt hay a b (at before))
         (every-weaker (λ (way : Way). (text ≡ way.taken ++ way.rest) × (way.captures ≡ [])) _ (choice text)
         (λ way p. subst (λ n. Shows n (before ++ way.taken) k (next way.rest) (b (at (before ++ way.taken)))) (omega (arith, ap length p.1))
-        (further before text way.taken way.rest (more_rounds greedy choice (length way.rest) way.rest) more p.0 (idle 0 way.rest ∷ []) k
-        (λ nothing. gave-idle Shown shown-append shown-idle g 0 (before ++ way.taken) way.rest k)
+        (further before text way.taken way.rest (more_rounds greedy choice (length way.rest) way.rest) more p.0 (empty_way 0 way.rest ∷ []) k
+        (λ nothing. gave-empty_way Shown shown-append shown-empty_way g 0 (before ++ way.taken) way.rest k)
         (λ less. more_rounds-suit (length way.rest) (before ++ way.taken) way.rest (append_assoc before way.taken way.rest ∙ ap (λ t. before ++ t) (sym p.0) ∙ e) (omega arith))))
         (placed text))
         (suits before text e b)

@@ -20,16 +20,16 @@ use Rattle.regex.specs.Strings.{regex_names, regex_source}
 use Rattle.regex.specs.declared.string.regex.Regex.{Regex}
 use Rattle.regex.specs.Writes.{both, group_of}
 use Rattle.regex.proofs.ForCallers.{found_alike, is_match_alike}
-use Rattle.urlpattern_matcher.specs.Regexes.{IsRegexOf, group_texts, regex_answer}
+use Rattle.urlpattern_matcher.specs.Regexes.{IsRegexOf, group_texts, regex_result}
 use Rattle.urlpattern_meaning.specs.Dialect.{Follows, IsTreeOf, Items, items_text, group_count, AreItems}
-use Rattle.urlpattern_meaning.specs.FirstAnswers.{AnswersFirst}
+use Rattle.urlpattern_meaning.specs.FirstResults.{ReturnsFirst}
 use Rattle.urlpattern_meaning.specs.Ways.{first_way}
 use Rattle.urlpattern_matcher.proofs.FirstMatchers.{first_follows}
 use Rattle.urlpattern_engine.proofs.Bytes.{bytes_below}
 use Rattle.urlpattern_engine.proofs.TreeSearch.{texts_from, found_is_first}
 use Rattle.urlpattern_engine.proofs.GroupSlots.{text_at}
 use Rattle.urlpattern_engine.proofs.TreesRead.{re_of, scalars_parts}
-use Rattle.urlpattern_engine.proofs.GroupsRefused.{tree_reads}
+use Rattle.urlpattern_engine.proofs.GroupsRejected.{tree_reads}
 
 value_of : {X : Type 0} (o : Option X) (P : X → Type 0) → IsSomeAnd o P → (x : X) × (o ≡ Some x) × P x
 value_of None P p = absurd p
@@ -94,15 +94,15 @@ read_answers_first regexp tree source hir names text is utf8 of_text reads fine 
     read_finds_first tree is.1 source hir names utf8 (of_text ∙ is.0) reads text fine
 
 pub regex_answers_first : (regexp : List ℕ) (tree : Items) (regex : Regex) (text : List ℕ) → IsTreeOf regexp tree → IsRegexOf regexp regex → IsTrue (all_scalars text)
-    → regex_answer regex text ≡ first_way tree text
-unfolding regex_answer
+    → regex_result regex text ≡ first_way tree text
+unfolding regex_result
 regex_answers_first regexp tree regex text is made fine =
     read_answers_first regexp tree (regex_source regex) regex.pattern.program.hir (regex_names regex) text is (IsUtf8-string_bytes regex.pattern.source) made.of_text
     (rw (made.by_default) at made.is_read) fine
 
 -- A value returns the first match of the tree of its text, and follows the text.
-pub answers_first_of : (regexp : List ℕ) (regex : Regex) → IsRegexOf regexp regex → AnswersFirst regexp (regex_answer regex)
+pub answers_first_of : (regexp : List ℕ) (regex : Regex) → IsRegexOf regexp regex → ReturnsFirst regexp (regex_result regex)
 answers_first_of regexp regex made = λ tree text is scalars. regex_answers_first regexp tree regex text is made scalars
 
-pub regex_follows : (regexp : List ℕ) (tree : Items) (regex : Regex) → IsTreeOf regexp tree → IsRegexOf regexp regex → Follows regexp (regex_answer regex)
-regex_follows regexp tree regex is made = first_follows regexp (regex_answer regex) (answers_first_of regexp regex made) tree is
+pub regex_follows : (regexp : List ℕ) (tree : Items) (regex : Regex) → IsTreeOf regexp tree → IsRegexOf regexp regex → Follows regexp (regex_result regex)
+regex_follows regexp tree regex is made = first_follows regexp (regex_result regex) (answers_first_of regexp regex made) tree is

@@ -7,12 +7,12 @@ use Rattle.regex_hir.proofs.Utf8Lemmas.{InScalarRange-of_IsScalar}
 use Rattle.regex_syntax.specs.Sets.{members}
 use Rattle.regex_syntax.proofs.SetLemmas.{in_ranges-members}
 use Rattle.urlpattern_meaning.specs.PartMeaning.{Captures}
-use Rattle.urlpattern_meaning.specs.Dialect.{character_of, Quantifier, Once, Optional, ZeroOrMore, OneOrMore, LazyOneOrMore, Items, Nothing, Item, Atom, Literal, Dot, AnyBut, Captured, Grouped, atom_group_count, AllowsGroups, AreItems, IsAtom, IsTaken, Means, AtomMeans}
+use Rattle.urlpattern_meaning.specs.Dialect.{character_of, Quantifier, Once, Optional, ZeroOrMore, OneOrMore, LazyOneOrMore, Items, Nothing, Item, Atom, Literal, Dot, AnyBut, Captured, Grouped, atom_group_count, AllowsGroups, AreItems, IsAtom, IsQuantified, Means, AtomMeans}
 use Rattle.urlpattern_syntax.specs.Text.{line_feed}
-use Rattle.urlpattern_meaning.specs.Ways.{Way, Choice, idle, one_that, looped, quantified_ways, ways, atom_ways}
+use Rattle.urlpattern_meaning.specs.Ways.{Way, Choice, empty_way, one_that, looped, quantified_ways, ways, atom_ways}
 use Rattle.urlpattern_meaning.proofs.WayLists.{Every, every-weaker}
 use Rattle.urlpattern_meaning.proofs.WaysSound.{IsSound, AreSound, nil_of_zero, taken-count, atom-count, taken-sound, ways-sound, atom-sound}
-use Rattle.urlpattern_engine.proofs.WayAnswers.{Writes, at, Gave, gave-append, gave-continued, gave-idle, gave-capturing}
+use Rattle.urlpattern_engine.proofs.WayResults.{Writes, at, Gave, gave-append, gave-continued, gave-empty_way, gave-capturing}
 use Rattle.urlpattern_engine.proofs.LoopAttempts.{Suits, leaf, looped-suits}
 
 abbrev pub re_taken : Quantifier → Re → Re
@@ -36,7 +36,7 @@ abbrev mutual
 
 module _ (Shown : ℕ → Captures → Writes → Type 0)
     (shown-append : (g : ℕ) (c d : Captures) (own more : Writes) → Shown g c own → Shown (g + length c) d more → Shown g (c ++ d) (own ++ more))
-    (shown-idle : (g n : ℕ) (text : List ℕ) → Shown g (idle n text).captures [])
+    (shown-empty_way : (g n : ℕ) (text : List ℕ) → Shown g (empty_way n text).captures [])
     (whole : List ℕ) (good : scalars whole ≡ true)
     (shown-capturing : (g : ℕ) (before : List ℕ) (way : Way) (own : Writes) → (before ++ way.taken) ++ way.rest ≡ whole → Shown (suc g) way.captures own
     → Shown g (Some way.taken ∷ way.captures) ((2 * g, at before) ∷ (own ++ (2 * g + 1, at (before ++ way.taken)) ∷ []))) where
@@ -44,14 +44,14 @@ module _ (Shown : ℕ → Captures → Writes → Type 0)
   hay = encodes whole
 
   abbrev Fits : ℕ → Choice → (Rest → Rest) → Type 0
-  Fits = Suits Shown shown-append shown-idle whole good
+  Fits = Suits Shown shown-append shown-empty_way whole good
 
   abbrev Shows : ℕ → List ℕ → Rest → List Way → Option Trace → Type 0
-  Shows = Gave Shown shown-append shown-idle
+  Shows = Gave Shown shown-append shown-empty_way
 
   character : (g : ℕ) (passes : ℕ → Bool) → Fits g (one_that passes) (attempt hay (char_in (members passes)))
   character g passes =
-      leaf Shown shown-append shown-idle whole good g passes (members passes)
+      leaf Shown shown-append shown-empty_way whole good g passes (members passes)
       (λ c scalar. in_ranges-members passes c ∙ ap (λ b. b && passes c) (lt-ltb c 0x11_0000 (below c scalar)))
     where
       below : (c : ℕ) → IsScalar c → c < 0x11_0000
@@ -68,27 +68,27 @@ module _ (Shown : ℕ → Captures → Writes → Type 0)
   unfolding attempt
   taken-fits g Once groups choice a Is allowed sound count fits before text e k = fits before text e k
   taken-fits g Optional groups choice a Is allowed sound count fits before text e k =
-      gave-append Shown shown-append shown-idle g before k (choice text) (idle groups text ∷ []) (attempt hay a (attempt hay empty k) (at before)) (k (at before))
-      (fits before text e k) (gave-idle Shown shown-append shown-idle g groups before text k)
+      gave-append Shown shown-append shown-empty_way g before k (choice text) (empty_way groups text ∷ []) (attempt hay a (attempt hay empty k) (at before)) (k (at before))
+      (fits before text e k) (gave-empty_way Shown shown-append shown-empty_way g groups before text k)
   taken-fits g ZeroOrMore groups choice a Is allowed sound count fits before text e k =
-      gave-append Shown shown-append shown-idle g before k (looped true choice text) (idle groups text ∷ []) (attempt hay (plus true a) k (at before)) (k (at before))
-      (looped-suits Shown shown-append shown-idle whole good g true choice a fits (bare choice groups Is sound count allowed) k before text e)
-      (gave-idle Shown shown-append shown-idle g groups before text k)
+      gave-append Shown shown-append shown-empty_way g before k (looped true choice text) (empty_way groups text ∷ []) (attempt hay (plus true a) k (at before)) (k (at before))
+      (looped-suits Shown shown-append shown-empty_way whole good g true choice a fits (bare choice groups Is sound count allowed) k before text e)
+      (gave-empty_way Shown shown-append shown-empty_way g groups before text k)
   taken-fits g OneOrMore groups choice a Is allowed sound count fits before text e k =
-      looped-suits Shown shown-append shown-idle whole good g true choice a fits (bare choice groups Is sound count allowed) k before text e
+      looped-suits Shown shown-append shown-empty_way whole good g true choice a fits (bare choice groups Is sound count allowed) k before text e
   taken-fits g LazyOneOrMore groups choice a Is allowed sound count fits before text e k =
-      looped-suits Shown shown-append shown-idle whole good g false choice a fits (bare choice groups Is sound count allowed) k before text e
+      looped-suits Shown shown-append shown-empty_way whole good g false choice a fits (bare choice groups Is sound count allowed) k before text e
 
   mutual
     unfolding attempt
 
     pub items-fit : (tree : Items) → AreItems tree → (g : ℕ) → Fits g (ways tree) (attempt hay (re_items g tree))
-    items-fit Nothing h g before text e k = gave-idle Shown shown-append shown-idle g 0 before text k
+    items-fit Nothing h g before text e k = gave-empty_way Shown shown-append shown-empty_way g 0 before text k
     items-fit (Item atom quantifier items) h g before text e k =
         let groups = atom_group_count atom in
-        let Taken = IsTaken quantifier groups (AtomMeans atom) in
+        let Taken = IsQuantified quantifier groups (AtomMeans atom) in
         let b : Rest = attempt hay (re_items (g + groups) items) k in
-        gave-continued Shown shown-append shown-idle g before k b (ways items) (quantified_ways quantifier groups (atom_ways atom) text)
+        gave-continued Shown shown-append shown-empty_way g before k b (ways items) (quantified_ways quantifier groups (atom_ways atom) text)
         (attempt hay (re_taken quantifier (re_atom g atom)) b (at before))
         (every-weaker (IsSound text Taken) _ (quantified_ways quantifier groups (atom_ways atom) text)
         (λ way p. subst (λ n. Shows (g + n) (before ++ way.taken) k (ways items way.rest) (b (at (before ++ way.taken))))
@@ -102,7 +102,7 @@ module _ (Shown : ℕ → Captures → Writes → Type 0)
     atom-fits Dot h g before text e k = character g (λ d. not (d == line_feed)) before text e k
     atom-fits (AnyBut c) h g before text e k = character g (λ d. not (d == character_of c)) before text e k
     atom-fits (Captured items) h g before text e k =
-        gave-capturing Shown shown-append shown-idle g before (λ way. (before ++ way.taken) ++ way.rest ≡ whole) (shown-capturing g before) k (ways items text)
+        gave-capturing Shown shown-append shown-empty_way g before (λ way. (before ++ way.taken) ++ way.rest ≡ whole) (shown-capturing g before) k (ways items text)
         (attempt hay (re_items (suc g) items) (λ j. write (2 * g + 1) j (k j)) (at before))
         (every-weaker (IsSound text (Means items)) _ (ways items text) (λ way p. append_assoc before way.taken way.rest ∙ ap (λ t. before ++ t) (sym p.0) ∙ e) (ways-sound items h text))
         (items-fit items h (suc g) before text e (λ j. write (2 * g + 1) j (k j)))

@@ -14,7 +14,7 @@ use Rattle.urlpattern_meaning.specs.Dialect.{Quantifier, Once, Optional, ZeroOrM
 use Rattle.urlpattern_engine.proofs.ItemsRead.{repeated_as, parts, part}
 use Rattle.urlpattern_engine.proofs.TreeTextsRead.{whole, first_line, last_line}
 use Rattle.urlpattern_engine.proofs.TreesRead.{scalars-append, tree_is_read}
-use Rattle.urlpattern_engine.proofs.GroupsRefused.{within}
+use Rattle.urlpattern_engine.proofs.GroupsRejected.{within}
 
 abbrev pub quantifier_depth : Quantifier → ℕ
 quantifier_depth Once = 0

@@ -22,8 +22,8 @@ use Rattle.urlpattern_meaning.specs.Ways.{Way, ways, first_way, first_way_by}
 use Rattle.urlpattern_meaning.proofs.WayLists.{Every}
 use Rattle.urlpattern_meaning.proofs.WaysJoined.{first_of, takes_all}
 use Rattle.urlpattern_meaning.proofs.WaysSound.{IsSound, ways-sound, means-count}
-use Rattle.urlpattern_engine.proofs.WayAnswers.{at, Gave}
-use Rattle.urlpattern_engine.proofs.GroupSlots.{Shown, Spans, text_at, shown-append, shown-idle, shown-capturing}
+use Rattle.urlpattern_engine.proofs.WayResults.{at, Gave}
+use Rattle.urlpattern_engine.proofs.GroupSlots.{Shown, Spans, text_at, shown-append, shown-empty_way, shown-capturing}
 use Rattle.urlpattern_engine.proofs.TreeAttempts.{re_items, items-fit}
 
 -- The texts of n groups in a match, the first of which is g.
@@ -78,7 +78,7 @@ goes_on hay i less = cond-false (holds End hay i) (accept i) None (not_end hay i
 -- ---- the first of several matches
 
 abbrev pub Shows : List ℕ → List Way → Option Trace → Type 0
-Shows hay = Gave (Shown hay) (shown-append hay) (shown-idle hay) 1 [] (to_end hay)
+Shows hay = Gave (Shown hay) (shown-append hay) (shown-empty_way hay) 1 [] (to_end hay)
 
 abbrev pub answer : List ℕ → ℕ → Option Trace → Option Captures
 answer hay count = option_map (λ t. texts_from hay (record { start = 0; trace = t }) 1 count)
@@ -152,4 +152,4 @@ module _ (tree : Items) (h : AreItems tree) (text : List ℕ) (good : scalars te
   found_is_first =
       found_at_start hay (group_count tree) at_place inside_lines at_start later_on
       ∙ first_shown text (Means tree) (group_count tree) (means-count tree h) (ways tree text) inside_lines (ways-sound tree h text)
-      (items-fit (Shown hay) (shown-append hay) (shown-idle hay) text good (shown-capturing text good) tree h 1 [] text refl (to_end hay))
+      (items-fit (Shown hay) (shown-append hay) (shown-empty_way hay) text good (shown-capturing text good) tree h 1 [] text refl (to_end hay))

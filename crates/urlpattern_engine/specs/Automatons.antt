@@ -18,7 +18,7 @@ use Rattle.regex_syntax.specs.declared.Config.{Config}
 use Rattle.regex_syntax.specs.WellFormed.{IsWellFormed}
 use Rattle.regex_vm.specs.Found.{first_match}
 use Rattle.urlpattern_matcher.specs.Regexes.{regex_text, text_between}
-use Rattle.urlpattern_engine.specs.GrammarReadings.{re_answer}
+use Rattle.urlpattern_engine.specs.GrammarReadings.{re_result}
 use Rattle.urlpattern_meaning.specs.PartMeaning.{Captures}
 
 -- The characters between two byte positions, if these are in order and at character boundaries.
@@ -36,8 +36,8 @@ match_at_start nfa bytes = first_match nfa bytes (length bytes) 0 0
 
 -- The captures of the match at the start of the text, without group 0, the whole match. None: no
 -- match.
-unfoldable pub automaton_answer : Nfa → List ℕ → Option Captures
-automaton_answer nfa text =
+unfoldable pub automaton_result : Nfa → List ℕ → Option Captures
+automaton_result nfa text =
     let bytes = encode_utf8_all text in
     option_map (match_captures bytes (nfa.slot_count / 2 - 1)) (match_at_start nfa bytes)
 
@@ -52,9 +52,9 @@ pub record IsRegexReadAs (ignore_case : Bool) (regexp : List ℕ) (regex : Regex
   pub is_read : IsReadFromSource regex
 
 -- The captures of the first match of `regexp`, as the grammar reads it, in the text.
-abbrev pub read_answer : (ignore_case : Bool) → (regexp : List ℕ) → List ℕ → Option Captures
-read_answer ignore_case regexp text =
-    option_and_then (λ (pattern, names). re_answer pattern.value (length names) text) (read (config_for ignore_case) regexp)
+abbrev pub read_result : (ignore_case : Bool) → (regexp : List ℕ) → List ℕ → Option Captures
+read_result ignore_case regexp text =
+    option_and_then (λ (pattern, names). re_result pattern.value (length names) text) (read (config_for ignore_case) regexp)
 
 -- The names of groups, as UTF-8.
 abbrev pub names_of : List (Option (String Global)) → Names

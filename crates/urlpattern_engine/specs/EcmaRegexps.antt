@@ -2,7 +2,7 @@
 use Rattle.std.specs.Prelude.{◌≡◌, ℕ, List, Option, IfSome, IsTrue, is_some, option_and_then}
 use Rattle.urlpattern_engine.specs.declared.ecma_regexp.EcmaRegexp.{EcmaRegexp}
 use Rattle.urlpattern_matcher.specs.declared.regexp.RegExp.{Ghosts as Engine}
-use Rattle.urlpattern_matcher.specs.Regexes.{IsRegexOf, regex_answer}
+use Rattle.urlpattern_matcher.specs.Regexes.{IsRegexOf, regex_result}
 use Rattle.urlpattern_meaning.specs.PartMeaning.{Captures}
 use Rattle.urlpattern_syntax.specs.declared.parser.RegexSyntax.TheVariants.{EcmaScript}
 use Rattle.urlpattern_syntax.specs.Text.{text_of}
@@ -18,16 +18,16 @@ pub record IsEcmaRegexpOf (regexp flags : List ℕ) (ecma : EcmaRegexp) : Type 0
   pub has_read : IfSome ecma.2 (IsRegexOf regexp)
 
 -- The result of the kept `Regex`, or None if none is kept.
-abbrev pub ecma_regexp_answer : EcmaRegexp → List ℕ → Option Captures
-ecma_regexp_answer ecma text = option_and_then (λ regex. regex_answer regex text) ecma.2
+abbrev pub ecma_regexp_result : EcmaRegexp → List ℕ → Option Captures
+ecma_regexp_result ecma text = option_and_then (λ regex. regex_result regex text) ecma.2
 
 -- The ghosts of the engine, which may reject a text only with `force_eval`.
 abbrev pub ecma_engine : Engine EcmaRegexp
 ecma_engine = record {
   syntax_of = EcmaScript;
   IsMade = λ ecma regexp flags. IsEcmaRegexpOf regexp flags ecma;
-  MayRefuse = λ regexp flags force_eval. IsTrue force_eval;
-  answer = ecma_regexp_answer;
+  MayReject = λ regexp flags force_eval. IsTrue force_eval;
+  answer = ecma_regexp_result;
   text_made_of = ecma_regexp_text;
 }
 

@@ -1,6 +1,6 @@
 pub mod GrammarReadings
 pub mod Automatons
 pub mod ExpressionFaults
-pub mod Trials
+pub mod BoundedSearches
 pub mod PatternRegexps
 pub mod EcmaRegexps

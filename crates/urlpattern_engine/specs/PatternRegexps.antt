@@ -3,8 +3,8 @@ use Rattle.std.specs.Prelude.{◌≡◌, ℕ, Bool, List, Option, IsSome, string
 use Rattle.regex_syntax.specs.Grammar.{read}
 use Rattle.urlpattern_matcher.specs.declared.regexp.RegExp.{Ghosts as Engine}
 use Rattle.urlpattern_matcher.specs.Components.{ignores_case}
-use Rattle.urlpattern_matcher.specs.Regexes.{regex_answer, regex_text}
-use Rattle.urlpattern_engine.specs.Automatons.{IsNfaOf, IsRegexReadAs, automaton_answer, config_for, read_answer}
+use Rattle.urlpattern_matcher.specs.Regexes.{regex_result, regex_text}
+use Rattle.urlpattern_engine.specs.Automatons.{IsNfaOf, IsRegexReadAs, automaton_result, config_for, read_result}
 use Rattle.urlpattern_engine.specs.ExpressionFaults.{HasFault}
 use Rattle.urlpattern_engine.specs.declared.strategy.Strategy.{Strategy}
 use Rattle.urlpattern_engine.specs.declared.strategy.Strategy.TheVariants.{Steps, LazySteps, Automaton, Regex, LazyRegex}
@@ -26,12 +26,12 @@ expression_text (Regex regex) = regex_text regex.value
 expression_text (LazyRegex text) = text_of text
 
 -- The result of an expression for a text.
-abbrev pub expression_answer : (ignore_case : Bool) → Strategy → List ℕ → Option Captures
-expression_answer ignore_case (Steps own) text = walk ignore_case own.value.steps.items text
-expression_answer ignore_case (LazySteps generated) text = first_way_by ignore_case generated.tree.0 text
-expression_answer ignore_case (Automaton automaton) text = automaton_answer automaton.value.nfa text
-expression_answer ignore_case (Regex regex) text = regex_answer regex.value text
-expression_answer ignore_case (LazyRegex regexp) text = read_answer ignore_case (text_of regexp) text
+abbrev pub expression_result : (ignore_case : Bool) → Strategy → List ℕ → Option Captures
+expression_result ignore_case (Steps own) text = walk ignore_case own.value.steps.items text
+expression_result ignore_case (LazySteps generated) text = first_way_by ignore_case generated.tree.0 text
+expression_result ignore_case (Automaton automaton) text = automaton_result automaton.value.nfa text
+expression_result ignore_case (Regex regex) text = regex_result regex.value text
+expression_result ignore_case (LazyRegex regexp) text = read_result ignore_case (text_of regexp) text
 
 -- The expression was made of the text: steps of the text; or the text alone, if it is generated
 -- from parts without custom ones; or otherwise an automaton, a `Regex`, or the text alone, in which
@@ -49,8 +49,8 @@ abbrev pub pattern_regexp_text : PatternRegexp → List ℕ
 pattern_regexp_text value = expression_text value.strategy
 
 -- The result of a value for a text.
-unfoldable pub pattern_answer : PatternRegexp → List ℕ → Option Captures
-pattern_answer value text = expression_answer value.ignore_case value.strategy text
+unfoldable pub pattern_result : PatternRegexp → List ℕ → Option Captures
+pattern_result value text = expression_result value.ignore_case value.strategy text
 
 -- The value was made of the text and the flags.
 pub record IsPatternRegexpOf (regexp flags : List ℕ) (value : PatternRegexp) : Type 0 where
@@ -63,7 +63,7 @@ abbrev pub pattern_engine : Engine PatternRegexp
 pattern_engine = record {
   syntax_of = Rust;
   IsMade = λ value regexp flags. IsPatternRegexpOf regexp flags value;
-  MayRefuse = λ regexp flags force_eval. (¬ IsGenerated regexp) × HasFault (ignores_case flags) regexp;
-  answer = pattern_answer;
+  MayReject = λ regexp flags force_eval. (¬ IsGenerated regexp) × HasFault (ignores_case flags) regexp;
+  answer = pattern_result;
   text_made_of = pattern_regexp_text;
 }

@@ -3,9 +3,9 @@
 ghost use Rattle.std.specs.Prelude.{◌≡◌, ◌<◌, ◌≤◌, ◌↔◌, ℕ, Some, None, length, slice_range, IfSome, IsTrue};
 ghost use Rattle.regex_hir.specs.Looks as looks;
 ghost use Rattle.regex_nfa.specs.States.{IsSparseRange, target_in};
-ghost use Rattle.urlpattern_engine.specs.Trials.{GoesRound, HasByte, IsInSpan, IsReadableIn, IsState, NeedsByte, next_in, run_in};
+ghost use Rattle.urlpattern_engine.specs.BoundedSearches.{GoesRound, HasByte, IsInSpan, IsReadableIn, IsState, NeedsByte, next_in, run_in};
 
-use crate::trial::Trial;
+use crate::bounded_search::BoundedSearch;
 use regex_hir::Look;
 use regex_nfa::{State, StateId, holds};
 
@@ -19,7 +19,7 @@ pub(crate) struct ByteBounds {
     high: u8,
 }
 
-impl Trial<'_> {
+impl BoundedSearch<'_> {
     /// Whether a state reads a byte.
     #[inline(always)]
     pub(crate) fn reads(&self, id: StateId) -> bool

@@ -9,14 +9,14 @@ ghost use Rattle.regex_syntax.specs.Verdict.{Reads};
 ghost use Rattle.regex_syntax.specs.WellFormed.{IsWellFormed};
 ghost use Rattle.regex_vm.specs.Found.{group_cells};
 ghost use Rattle.urlpattern_meaning.specs.CaptureTexts.{captures_view};
-ghost use Rattle.urlpattern_engine.specs.Automatons.{IsNfaOf, IsRegexReadAs, config_for, automaton_answer, cell_texts, match_at_start, names_of, place_of, read_answer, text_cut};
+ghost use Rattle.urlpattern_engine.specs.Automatons.{IsNfaOf, IsRegexReadAs, config_for, automaton_result, cell_texts, match_at_start, names_of, place_of, read_result, text_cut};
 ghost use Rattle.urlpattern_engine.specs.ExpressionFaults.{HasFault, IsLarge, IsUnreadable};
 ghost use Rattle.urlpattern_syntax.specs.declared.error.RegExpError.TheVariants.{Pattern};
 ghost use Rattle.urlpattern_syntax.specs.Text.{option_text};
 
+use crate::bounded_search::{BoundedSearch, BudgetExceeded};
 use crate::large::is_large;
 use crate::strategy::AutomatonSearch;
-use crate::trial::{GivenUp, Trial};
 use regex::{Regex, RegexBuilder};
 use regex_compile::compile;
 use regex_extract::is_anchored_start;
@@ -79,7 +79,7 @@ impl Automaton {
         alloc: Global,
         text: &'t str,
     ) -> Result<Option<Vec<Option<&'t str>>>, OutOfMemory>
-        ensures { IfOk result (λ found. captures_view found ≡ automaton_answer self.now.nfa (chars text.now)) }
+        ensures { IfOk result (λ found. captures_view found ≡ automaton_result self.now.nfa (chars text.now)) }
     {
         let count = self.nfa.slot_count as usize - 2;
         match AutomatonSearch::of(text, count) {
@@ -98,16 +98,16 @@ impl Automaton {
         count: usize,
     ) -> Result<Option<Vec<Option<&'t str>>>, OutOfMemory>
         requires { (count ≡ self.now.nfa.slot_count - 2) × (count ≤ 8) }
-        ensures { IfOk result (λ found. captures_view found ≡ automaton_answer self.now.nfa (chars text.now)) }
+        ensures { IfOk result (λ found. captures_view found ≡ automaton_result self.now.nfa (chars text.now)) }
     {
-        let trial = Trial {
+        let trial = BoundedSearch {
             nfa: &self.nfa,
             bytes: text.as_bytes(),
         };
         match trial.find() {
             Ok(Some(cells)) => Ok(Some(groups(alloc, text, &cells[..count])?)),
             Ok(None) => Ok(None),
-            Err(GivenUp) => self.matches_each(alloc, text, count),
+            Err(BudgetExceeded) => self.matches_each(alloc, text, count),
         }
     }
 
@@ -121,7 +121,7 @@ impl Automaton {
         count: usize,
     ) -> Result<Option<Vec<Option<&'t str>>>, OutOfMemory>
         requires { count ≡ self.now.nfa.slot_count - 2 }
-        ensures { IfOk result (λ found. captures_view found ≡ automaton_answer self.now.nfa (chars text.now)) }
+        ensures { IfOk result (λ found. captures_view found ≡ automaton_result self.now.nfa (chars text.now)) }
     {
         let mut cells = vec![in alloc; 0usize; count]?;
         self.matches_in(alloc, text, &mut cells)
@@ -136,7 +136,7 @@ impl Automaton {
         cells: &mut [usize],
     ) -> Result<Option<Vec<Option<&'t str>>>, OutOfMemory>
         requires { length cells.old ≡ self.now.nfa.slot_count - 2 }
-        ensures { IfOk result (λ found. captures_view found ≡ automaton_answer self.now.nfa (chars text.now)) }
+        ensures { IfOk result (λ found. captures_view found ≡ automaton_result self.now.nfa (chars text.now)) }
     {
         if self.search(alloc, text.as_bytes(), cells)? {
             Ok(Some(groups(alloc, text, cells)?))
@@ -223,7 +223,7 @@ pub(crate) fn match_once<'t>(
     text: &'t str,
 ) -> Result<Option<Vec<Option<&'t str>>>, OutOfMemory>
     ensures { IfOk result (λ found.
-        captures_view found ≡ read_answer ignore_case (chars regexp.now) (chars text.now)) }
+        captures_view found ≡ read_result ignore_case (chars regexp.now) (chars text.now)) }
 {
     match regex_of(alloc, regexp, ignore_case) {
         Ok(regex) => RegExp::matches(&regex, alloc, text),

@@ -37,7 +37,7 @@ impl RegExp for EcmaRegexp {
 
     ghost IsMade = { ecma_engine.IsMade };
 
-    ghost MayRefuse = { ecma_engine.MayRefuse };
+    ghost MayReject = { ecma_engine.MayReject };
 
     ghost answer = { ecma_engine.answer };
 

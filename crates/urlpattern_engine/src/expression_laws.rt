@@ -5,9 +5,9 @@
 ghost use Rattle.std.specs.Prelude.{⊤};
 ghost use Rattle.urlpattern_matcher.specs.Components.{FlagsAgree};
 ghost use Rattle.urlpattern_matcher.specs.Regexes.{regex_engine};
-ghost use Rattle.urlpattern_matcher.specs.FirstWays.{AllAnswerAlike, ComponentsTakeGenerated, EachAnswersFirst, KeepsCase, MatchersTakeGenerated, ValuesAnswerAlike, ValuesAnswerByFlags, ValuesAnswerFirst, ValuesFollowParts, ValuesFollowTexts};
+ghost use Rattle.urlpattern_matcher.specs.FirstWays.{AllReturnAlike, ComponentsAcceptGenerated, EachReturnsFirst, KeepsCase, MatchersAcceptGenerated, ValuesReturnAlike, ValuesReturnByFlags, ValuesReturnFirst, ValuesFollowParts, ValuesFollowTexts};
 ghost use Rattle.urlpattern_engine.specs.PatternRegexps.{pattern_engine};
-ghost use Rattle.urlpattern_engine.specs.GrammarReadings.{ExpressionsAnswerAlike, ValuesAnswerAsRead};
+ghost use Rattle.urlpattern_engine.specs.GrammarReadings.{ExpressionsReturnAlike, ValuesReturnAsRead};
 ghost use Rattle.urlpattern_syntax.specs.declared.parser.RegexSyntax.{RegexSyntax};
 
 /// A value made without the flag `i` returns, for each text of characters, the first match of the
@@ -16,44 +16,44 @@ ghost use Rattle.urlpattern_syntax.specs.declared.parser.RegexSyntax.{RegexSynta
 /// for each such list, the first match compares ASCII letters by their lower case; captures keep
 /// the case of the text.
 pub fn pattern_regexps_answer_the_first_way()
-    ensures first { ValuesAnswerFirst pattern_engine KeepsCase }
+    ensures first { ValuesReturnFirst pattern_engine KeepsCase }
     ensures follows { ValuesFollowTexts pattern_engine KeepsCase }
     ensures generated { ValuesFollowParts pattern_engine KeepsCase }
-    ensures by_flags { ValuesAnswerByFlags pattern_engine }
+    ensures by_flags { ValuesReturnByFlags pattern_engine }
 {}
 
 /// A value made without the flag `i` and a `regex::Regex` of the same text return the same for each
 /// text of characters, whatever their own text is.
 pub fn pattern_regexps_answer_as_regex_does()
-    ensures { ValuesAnswerAlike pattern_engine regex_engine KeepsCase }
+    ensures { ValuesReturnAlike pattern_engine regex_engine KeepsCase }
 {}
 
 /// A value made without the flag `i` returns the first match of what the grammar of `regex` reads
 /// in the value's own text, custom or not, with the texts of the groups. A `regex::Regex` does too.
 pub fn pattern_regexps_answer_what_the_grammar_reads()
-    ensures own { ValuesAnswerAsRead pattern_engine KeepsCase }
-    ensures regex { ValuesAnswerAsRead regex_engine (λ flags. ⊤) }
+    ensures own { ValuesReturnAsRead pattern_engine KeepsCase }
+    ensures regex { ValuesReturnAsRead regex_engine (λ flags. ⊤) }
 {}
 
 /// Two values made of the regular expression of the same parts, custom or not, return the same for
 /// each text of characters, if case is kept. If case is ignored, they do unless a part is custom.
 /// Two values of `regex::Regex` do too.
 pub fn values_of_one_expression_answer_alike()
-    ensures own { ExpressionsAnswerAlike pattern_engine }
-    ensures regex { ExpressionsAnswerAlike regex_engine }
+    ensures own { ExpressionsReturnAlike pattern_engine }
+    ensures regex { ExpressionsReturnAlike regex_engine }
 {}
 
 /// The engine accepts each text that is generated from parts without custom ones: a matcher of such
 /// parts has a value if it needs one, and a component that was compiled to such parts has one.
 pub fn pattern_regexps_take_each_generated_text()
-    ensures matcher { MatchersTakeGenerated pattern_engine }
-    ensures component { (syntax : RegexSyntax) → ComponentsTakeGenerated (record pattern_engine { syntax_of = syntax }) }
+    ensures matcher { MatchersAcceptGenerated pattern_engine }
+    ensures component { (syntax : RegexSyntax) → ComponentsAcceptGenerated (record pattern_engine { syntax_of = syntax }) }
 {}
 
 /// A matcher that the engine made with the flags of its options returns the first match of the tree
 /// of the parts in backtracking order: a meaning of the parts, or `None` if they have none. There
 /// is no premise on the engine. All matchers of the same parts return the same.
 pub fn matchers_by_pattern_regexp_answer_the_first_way()
-    ensures first { EachAnswersFirst pattern_engine (λ options flags inner. FlagsAgree options flags) }
-    ensures one { AllAnswerAlike pattern_engine (λ options flags inner. FlagsAgree options flags) }
+    ensures first { EachReturnsFirst pattern_engine (λ options flags inner. FlagsAgree options flags) }
+    ensures one { AllReturnAlike pattern_engine (λ options flags inner. FlagsAgree options flags) }
 {}

@@ -9,6 +9,7 @@
 
 mod ahead;
 mod automaton;
+mod bounded_search;
 mod ecma_regexp;
 pub mod expression_laws;
 mod generated_text;
@@ -18,7 +19,6 @@ pub mod regex_laws;
 mod state_choices;
 mod steps;
 mod strategy;
-mod trial;
 
 pub use ecma_regexp::EcmaRegexp;
 pub use pattern_regexp::PatternRegexp;

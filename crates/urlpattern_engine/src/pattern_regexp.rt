@@ -58,7 +58,7 @@ impl RegExp for PatternRegexp {
 
     ghost IsMade = { pattern_engine.IsMade };
 
-    ghost MayRefuse = { pattern_engine.MayRefuse };
+    ghost MayReject = { pattern_engine.MayReject };
 
     ghost answer = { pattern_engine.answer };
 

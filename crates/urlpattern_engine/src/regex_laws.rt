@@ -3,15 +3,15 @@
 //! Each function does nothing; what its contract promises is a theorem.
 
 ghost use Rattle.std.specs.Prelude.{⊤};
-ghost use Rattle.urlpattern_matcher.specs.Regexes.{TakesGeneratedSyntax, regex_engine};
-ghost use Rattle.urlpattern_matcher.specs.FirstWays.{AllAnswerAlike, EachAnswersFirst, ValuesAnswerFirst, ValuesFollowParts, ValuesFollowTexts};
-ghost use Rattle.urlpattern_meaning.specs.FirstAnswers.{TookText};
+ghost use Rattle.urlpattern_matcher.specs.Regexes.{AcceptsGeneratedSyntax, regex_engine};
+ghost use Rattle.urlpattern_matcher.specs.FirstWays.{AllReturnAlike, EachReturnsFirst, ValuesReturnFirst, ValuesFollowParts, ValuesFollowTexts};
+ghost use Rattle.urlpattern_meaning.specs.FirstResults.{AcceptedText};
 
 /// A `regex::Regex` returns, for each text of characters, the first match of the tree of its own
 /// text in backtracking order. A `regex::Regex` therefore follows its text and, for each list of
 /// parts without custom ones, their regular expression in both syntaxes.
 pub fn regex_answers_the_first_way()
-    ensures first { ValuesAnswerFirst regex_engine (λ flags. ⊤) }
+    ensures first { ValuesReturnFirst regex_engine (λ flags. ⊤) }
     ensures follows { ValuesFollowTexts regex_engine (λ flags. ⊤) }
     ensures generated { ValuesFollowParts regex_engine (λ flags. ⊤) }
 {}
@@ -20,13 +20,13 @@ pub fn regex_answers_the_first_way()
 /// order: a meaning of the parts, or `None` if they have none. The only premise on the engine is
 /// that it accepted the text where one was needed. All matchers of the same parts return the same.
 pub fn matchers_by_regex_answer_the_first_way()
-    ensures first { EachAnswersFirst regex_engine (λ options flags. TookText (λ regex. ⊤)) }
-    ensures one { AllAnswerAlike regex_engine (λ options flags. TookText (λ regex. ⊤)) }
+    ensures first { EachReturnsFirst regex_engine (λ options flags. AcceptedText (λ regex. ⊤)) }
+    ensures one { AllReturnAlike regex_engine (λ options flags. AcceptedText (λ regex. ⊤)) }
 {}
 
 /// `regex` does not reject the regular expression of parts for its syntax, if no part is custom and
 /// there are fewer groups than `regex` can count: an error that its grammar permits means that
 /// memory ran out. The size limit is left open.
 pub fn regex_refuses_no_generated_syntax()
-    ensures { TakesGeneratedSyntax }
+    ensures { AcceptsGeneratedSyntax }
 {}

@@ -2,10 +2,10 @@
 
 ghost use Rattle.std.specs.Prelude.{◌≡◌, ◌⊎◌, ℕ, None, List, IsTrue, false};
 ghost use Rattle.regex_nfa.specs.declared.state.State.TheVariants as states;
-ghost use Rattle.urlpattern_engine.specs.Trials.{FollowsMove, GoesRound, IsTextPlace, IsState, NeedsByte, found_from, run_in, state_in};
+ghost use Rattle.urlpattern_engine.specs.BoundedSearches.{FollowsMove, GoesRound, IsTextPlace, IsState, NeedsByte, found_from, run_in, state_in};
 
 use crate::ahead::ByteBounds;
-use crate::trial::{StateMove, Trial};
+use crate::bounded_search::{BoundedSearch, StateMove};
 use regex_nfa::StateId;
 
 /// How far a loop runs before there is a choice.
@@ -18,7 +18,7 @@ struct Passed {
     first_fails: bool,
 }
 
-impl Trial<'_> {
+impl BoundedSearch<'_> {
     /// What follows a choice of two states at a place.
     #[inline(always)]
     pub(crate) fn choice(
@@ -39,22 +39,22 @@ impl Trial<'_> {
             first_fails,
         } = self.pass(id, first, second, at);
         if first_fails {
-            return StateMove::OnByRest(second, place);
+            return StateMove::ContinueByRest(second, place);
         }
         if is_open {
             return StateMove::Choice(first, second, place);
         }
         if self.reads_not(first, place) {
-            return StateMove::On(second, place);
+            return StateMove::Continue(second, place);
         }
         if self.reads_not(second, place) {
-            return StateMove::On(first, place);
+            return StateMove::Continue(first, place);
         }
         if self.fails(second, place) {
-            return StateMove::On(first, place);
+            return StateMove::Continue(first, place);
         }
         if self.fails(first, place) {
-            return StateMove::On(second, place);
+            return StateMove::Continue(second, place);
         }
         StateMove::Choice(first, second, place)
     }

@@ -7,7 +7,7 @@ ghost use Rattle.std.specs.Prelude.{◌≡◌, ◌≤◌, Err, IfOk, IsSome};
 ghost use Rattle.std.specs.Str.{chars};
 ghost use Rattle.regex_syntax.specs.Grammar.{read};
 ghost use Rattle.urlpattern_engine.specs.Automatons.{config_for};
-ghost use Rattle.urlpattern_engine.specs.PatternRegexps.{IsExpressionOf, expression_answer, expression_text};
+ghost use Rattle.urlpattern_engine.specs.PatternRegexps.{IsExpressionOf, expression_result, expression_text};
 ghost use Rattle.urlpattern_engine.specs.ExpressionFaults.{HasFault};
 ghost use Rattle.urlpattern_engine.specs.declared.strategy.AutomatonSearch.TheVariants.{Unmarked};
 ghost use Rattle.urlpattern_meaning.specs.CaptureTexts.{captures_view};
@@ -16,16 +16,16 @@ ghost use Rattle.urlpattern_syntax.specs.declared.error.RegExpError.TheVariants.
 ghost use Rattle.urlpattern_syntax.specs.Text.{text_of};
 
 use crate::automaton::{Automaton, match_once, read_expression, regex_of};
+use crate::bounded_search::FEW;
 use crate::generated_text::GeneratedText;
 use crate::large::is_large;
 use crate::steps::Steps;
-use crate::trial::FEW;
 use regex::Regex;
 use std::alloc::{AllocError, Global};
 use urlpattern_matcher::regexp::RegExp;
 use urlpattern_steps::reading::read_steps;
 use urlpattern_steps::step::Step;
-use urlpattern_steps::stops::stop_at;
+use urlpattern_steps::stops::begin_only_with;
 use urlpattern_syntax::error::{OutOfMemory, RegExpError};
 
 /// A strategy, with what it keeps of its expression.
@@ -167,7 +167,7 @@ impl Strategy {
         text: &'t str,
     ) -> Result<Option<Vec<Option<&'t str>>>, OutOfMemory>
         ensures { IfOk result (λ found.
-            captures_view found ≡ expression_answer ignore_case self.now (chars text.now)) }
+            captures_view found ≡ expression_result ignore_case self.now (chars text.now)) }
     {
         match self {
             Strategy::Steps(steps) => steps.matches(alloc, ignore_case, text),
@@ -212,7 +212,7 @@ fn compiled(alloc: Global, pattern: &str, ignore_case: bool) -> Result<Strategy,
 /// Parses an expression, and also compiles a large one, to see whether the engine accepts it.
 ///
 /// The error says whether `regex` rejects it or memory ran out.
-#[tactic(auto, using(crate::proofs::ReadAnswers::reads_some))]
+#[tactic(auto, using(crate::proofs::GrammarResults::reads_some))]
 fn check(alloc: Global, pattern: &str, ignore_case: bool) -> Result<(), RegExpError>
     ensures accepted { IfOk result (λ nothing.
         IsSome (read (config_for ignore_case) (chars pattern.now))) }
@@ -275,11 +275,11 @@ fn backtracking(steps: &[Step]) -> StepSearch {
     while let Some((step, others)) = rest.split_first() {
         match step {
             Step::Literal(_) => {}
-            Step::Maybe(_) => maybe_count = maybe_count.saturating_add(1),
-            Step::Segment(_)
-            | Step::Anything
-            | Step::Longest(_)
-            | Step::Copies(_)
+            Step::OptionalGroup(_) => maybe_count = maybe_count.saturating_add(1),
+            Step::LazyRun(_)
+            | Step::DotStar
+            | Step::GreedyRun(_)
+            | Step::RepeatedLiteral(_)
             | Step::Segments(_) => {
                 let has_choice = has_choice(step, others);
                 if is_chosen && has_choice {
@@ -303,10 +303,10 @@ fn backtracking(steps: &[Step]) -> StepSearch {
 /// Whether a step may match up to several places before the other steps.
 fn has_choice(step: &Step, others: &[Step]) -> bool {
     match step {
-        Step::Segment(end) => !stop_at(others, *end),
-        Step::Anything => !stop_at(others, '\n'),
-        Step::Longest(_) | Step::Copies(_) | Step::Segments(_) => true,
-        Step::Literal(_) | Step::Maybe(_) => false,
+        Step::LazyRun(end) => !begin_only_with(others, *end),
+        Step::DotStar => !begin_only_with(others, '\n'),
+        Step::GreedyRun(_) | Step::RepeatedLiteral(_) | Step::Segments(_) => true,
+        Step::Literal(_) | Step::OptionalGroup(_) => false,
     }
 }
 
@@ -316,7 +316,10 @@ fn begin_with_repeats(steps: &[Step]) -> bool {
     let mut is_chosen = false;
     let mut rest = steps;
     while let Some((step, others)) = rest.split_first() {
-        let is_repeat = matches!(step, Step::Longest(_) | Step::Copies(_) | Step::Segments(_));
+        let is_repeat = matches!(
+            step,
+            Step::GreedyRun(_) | Step::RepeatedLiteral(_) | Step::Segments(_)
+        );
         if is_repeat && is_chosen {
             return false;
         }
@@ -338,7 +341,7 @@ fn is_shallow(steps: &[Step]) -> bool {
 fn leave_choices(steps: &[Step]) -> bool {
     let mut rest = steps;
     while let Some((step, others)) = rest.split_first() {
-        if matches!(step, Step::Maybe(_)) || has_choice(step, others) {
+        if matches!(step, Step::OptionalGroup(_)) || has_choice(step, others) {
             return true;
         }
         rest = others;

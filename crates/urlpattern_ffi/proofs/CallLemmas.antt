@@ -3,7 +3,7 @@ use Rattle.std.proofs.Common.{◌≡◌, ◌∙◌, ℕ, Bool, List, length, ref
 use Rattle.std.specs.Str.{chars}
 use Rattle.urlpattern.specs.Errors.{ErrorView, MemoryOr, error_view}
 use Rattle.urlpattern.specs.Errors.{ErrorView as views}
-use Rattle.urlpattern.specs.FromString.{IsPatternOfText, RefusesPatternOfText}
+use Rattle.urlpattern.specs.FromString.{IsPatternOfText, RejectsPatternOfText}
 use Rattle.urlpattern.specs.Patterns.{pattern_view}
 use Rattle.std.specs.Prelude.{slice_get, Option, Some}
 use Rattle.urlpattern.specs.Eight.{components}
@@ -52,9 +52,9 @@ reported Holds Reason error memory refused (inr reason) =
     ]
 
 pub refused : (old : List (UrlPattern PatternRegexp)) (text base : List ℕ) (ignores : Bool) (error : Error)
-    → MemoryOr (RefusesPatternOfText pattern_engine (chars text) (given_base base) (c_options ignores)) error → IsAdded old text base ignores old (error_status (error_view error))
+    → MemoryOr (RejectsPatternOfText pattern_engine (chars text) (given_base base) (c_options ignores)) error → IsAdded old text base ignores old (error_status (error_view error))
 refused old text base ignores error why =
-    reported (IsAdded old text base ignores old) (RefusesPatternOfText pattern_engine (chars text) (given_base base) (c_options ignores)) error refl
+    reported (IsAdded old text base ignores old) (RejectsPatternOfText pattern_engine (chars text) (given_base base) (c_options ignores)) error refl
     (λ reason. (error_view error, reason, refl)) why
 
 -- ---- outcomes for the pattern at an index

@@ -8,7 +8,7 @@ use Rattle.urlpattern_ffi.specs.Inits.{IsInitAdded, IsInitOfJson}
 use Rattle.urlpattern_ffi.specs.KeptPatterns.{PatternList}
 use Rattle.urlpattern_ffi.specs.declared.status.Status.{Status}
 use Rattle.urlpattern_ffi.specs.declared.status.Status.TheVariants as statuses
-use Rattle.urlpattern_compile.specs.Compiled.{IsPatternOfInit, RefusesInit}
+use Rattle.urlpattern_compile.specs.Compiled.{IsPatternOfInit, RejectsInit}
 use Rattle.urlpattern_engine.specs.PatternRegexps.{pattern_engine}
 use Rattle.urlpattern_engine.specs.declared.pattern_regexp.PatternRegexp.{PatternRegexp}
 use Rattle.urlpattern_init.specs.declared.init.UrlPatternInit.{UrlPatternInit}
@@ -24,6 +24,6 @@ init_added old json ignores init pattern new statuses.OutOfMemory is compiled ke
 init_added old json ignores init pattern new status is compiled keeps pushed = absurd pushed
 
 pub init_refused : (old : PatternList) (json : List ℕ) (ignores : Bool) (init : UrlPatternInit) (error : Error)
-    → IsInitOfJson json init → MemoryOr (RefusesInit pattern_engine init (c_options ignores)) error → IsInitAdded old json ignores old (error_status (error_view error))
+    → IsInitOfJson json init → MemoryOr (RejectsInit pattern_engine init (c_options ignores)) error → IsInitAdded old json ignores old (error_status (error_view error))
 init_refused old json ignores init error is why =
-    reported (IsInitAdded old json ignores old) (RefusesInit pattern_engine init (c_options ignores)) error refl (λ reason. (inr (error_view error, (init, is, reason)), refl)) why
+    reported (IsInitAdded old json ignores old) (RejectsInit pattern_engine init (c_options ignores)) error refl (λ reason. (inr (error_view error, (init, is, reason)), refl)) why

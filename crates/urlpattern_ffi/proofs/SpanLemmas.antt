@@ -6,7 +6,7 @@ use Rattle.std.specs.List.{flat_map}
 use Rattle.std.specs.Prelude.{set, slice_get, Some}
 use Rattle.urlpattern.specs.Patterns.{PatternView, pattern_view}
 use Rattle.urlpattern_components.specs.declared.eight.ComponentName.{ComponentName}
-use Rattle.urlpattern_ffi.specs.GroupSpans.{NumberedGroup, capture_bytes, numbered, numbered_groups, span_at, spans_from, texts_of_groups, AreCapturesReported, AreFirstCaptures, AreFirstGroupsOf, AreGroupsOf, ArePut, AreUrlCaptures, AreSpansWritten, IsPut}
+use Rattle.urlpattern_ffi.specs.GroupSpans.{NumberedGroup, capture_bytes, numbered, numbered_groups, span_at, spans_from, texts_of_groups, AreCapturesReported, AreFirstCaptures, AreFirstGroupsOf, AreGroupsOf, AreWrittenAt, AreUrlCaptures, AreSpansWritten, IsWrittenAt}
 use Rattle.urlpattern_ffi.specs.declared.spans.Sizes.{Sizes}
 use Rattle.urlpattern_ffi.specs.declared.spans.GroupSpan.{GroupSpan}
 use Rattle.urlpattern_ffi.specs.KeptPatterns.{PatternList}
@@ -17,12 +17,12 @@ use Rattle.urlpattern_pattern.specs.UrlPatterns.{UrlPattern}
 
 -- ---- lists written one after the other
 
-pub put_none : {A : Type 0} (at : ℕ) (old : List A) → IsPut at [] old old
+pub put_none : {A : Type 0} (at : ℕ) (old : List A) → IsWrittenAt at [] old old
 put_none at old _ =
     sym (take-append-drop at old) ∙ ap (λ front. front ++ drop at old) (sym (append-nil (take at old)))
     ∙ ap (λ n. take at old ++ [] ++ drop n old) (sym (add-zero at))
 
-pub put_empty : {A : Type 0} (at : ℕ) (added old : List A) → length added ≡ 0 → IsPut at added old old
+pub put_empty : {A : Type 0} (at : ℕ) (added old : List A) → length added ≡ 0 → IsWrittenAt at added old old
 put_empty at [] old none = put_none at old
 put_empty at (x ∷ xs) old none = absurd (omega (arith, none))
 
@@ -30,7 +30,7 @@ pub put_one : {A : Type 0} (at : ℕ) (one : A) (old : List A) → at + 1 ≤ le
 put_one at one old fits =
     set_split old at one (omega (arith, fits)) ∙ ap (λ n. take at old ++ one ∷ drop n old) (sym (add-one at)) ∙ sym (append_assoc (take at old) (one ∷ []) (drop (at + 1) old))
 
-pub put_more : {A : Type 0} (at next : ℕ) (xs ys old mid new : List A) → length mid ≡ length old → next ≡ at + length xs → IsPut at xs old mid → IsPut next ys mid new → IsPut at (xs ++ ys) old new
+pub put_more : {A : Type 0} (at next : ℕ) (xs ys old mid new : List A) → length mid ≡ length old → next ≡ at + length xs → IsWrittenAt at xs old mid → IsWrittenAt next ys mid new → IsWrittenAt at (xs ++ ys) old new
 put_more at next xs ys old mid new same is_next first second fits =
     let both : at + length (xs ++ ys) ≡ next + length ys = ap (λ n. at + n) (length-append xs ys) ∙ sym (add_assoc at (length xs) (length ys)) ∙ ap (λ n. n + length ys) (sym is_next) in
     let room : next + length ys ≤ length old = subst (λ n. n ≤ length old) both fits in
@@ -53,7 +53,7 @@ spans-append start (group ∷ xs) ys =
     add_assoc start (length bytes) (length (texts_of_groups xs)) ∙ ap (λ n. start + n) (sym (length-append bytes (texts_of_groups xs))) in
     ap (λ spans. span_at start group ∷ spans) (spans-append next xs ys ∙ ap (λ n. spans_from next xs ++ spans_from n ys) begins)
 
-pub groups_none : (sizes : Sizes) (buffer : List ℕ) (spans : List GroupSpan) → ArePut [] sizes sizes buffer buffer spans spans
+pub groups_none : (sizes : Sizes) (buffer : List ℕ) (spans : List GroupSpan) → AreWrittenAt [] sizes sizes buffer buffer spans spans
 groups_none sizes buffer spans = record {
   bytes = sym (add-zero sizes.bytes);
   spans = sym (add-zero sizes.spans);
@@ -62,7 +62,7 @@ groups_none sizes buffer spans = record {
 }
 
 pub groups_more : (xs ys : List NumberedGroup) (a b c : Sizes) (old mid new : List ℕ) (old_spans mid_spans new_spans : List GroupSpan) → length mid ≡ length old → length mid_spans ≡ length old_spans
-    → ArePut xs a b old mid old_spans mid_spans → ArePut ys b c mid new mid_spans new_spans → ArePut (xs ++ ys) a c old new old_spans new_spans
+    → AreWrittenAt xs a b old mid old_spans mid_spans → AreWrittenAt ys b c mid new mid_spans new_spans → AreWrittenAt (xs ++ ys) a c old new old_spans new_spans
 groups_more xs ys a b c old mid new old_spans mid_spans new_spans same same_spans first second =
     let text = texts_of_groups xs in
     let texts : texts_of_groups (xs ++ ys) ≡ text ++ texts_of_groups ys = flat_map-append (λ (group : NumberedGroup). capture_bytes group.2) xs ys in
@@ -72,8 +72,8 @@ groups_more xs ys a b c old mid new old_spans mid_spans new_spans same same_span
       bytes = second.bytes ∙ ap (λ n. n + length (texts_of_groups ys)) first.bytes ∙ add_assoc a.bytes (length text) (length (texts_of_groups ys)) ∙ ap (λ n. a.bytes + n) (sym (length-append text (texts_of_groups ys)) ∙ ap length (sym texts));
       spans = second.spans ∙ ap (λ n. n + length (spans_from b.bytes ys)) first.spans ∙ add_assoc a.spans (length (spans_from a.bytes xs)) (length (spans_from b.bytes ys))
           ∙ ap (λ n. a.spans + n) (sym (length-append (spans_from a.bytes xs) (spans_from b.bytes ys)) ∙ ap length (sym all));
-      texts_put = subst (λ added. IsPut a.bytes added old new) (sym texts) (put_more a.bytes b.bytes text (texts_of_groups ys) old mid new same first.bytes first.texts_put second.texts_put);
-      spans_put = subst (λ added. IsPut a.spans added old_spans new_spans) (sym all) (put_more a.spans b.spans (spans_from a.bytes xs) (spans_from b.bytes ys) old_spans mid_spans new_spans same_spans first.spans first.spans_put second.spans_put);
+      texts_put = subst (λ added. IsWrittenAt a.bytes added old new) (sym texts) (put_more a.bytes b.bytes text (texts_of_groups ys) old mid new same first.bytes first.texts_put second.texts_put);
+      spans_put = subst (λ added. IsWrittenAt a.spans added old_spans new_spans) (sym all) (put_more a.spans b.spans (spans_from a.bytes xs) (spans_from b.bytes ys) old_spans mid_spans new_spans same_spans first.spans first.spans_put second.spans_put);
     }
 
 -- A component is appended.

@@ -8,7 +8,7 @@ use Rattle.urlpattern_ffi.specs.TextBuffers.{IsWrittenTo}
 use Rattle.urlpattern_ffi.specs.declared.status.Status.{Status}
 use Rattle.urlpattern_ffi.specs.declared.status.Status.TheVariants as statuses
 use Rattle.urlpattern_engine.specs.declared.pattern_regexp.PatternRegexp.{PatternRegexp}
-use Rattle.urlpattern_ffi_links.specs.GivenLinks.{IsLinkOfBytes, RefusesLinkOfBytes}
+use Rattle.urlpattern_ffi_links.specs.GivenLinks.{IsLinkOfBytes, RejectsLinkOfBytes}
 use Rattle.urlpattern_ffi_links.specs.declared.given.GivenBytes.{GivenBytes}
 use Rattle.urlpattern_pattern.specs.UrlPatterns.{UrlPattern}
 use Rattle.urlpattern_generate.specs.declared.no_link.NoLink.{NoLink}
@@ -20,7 +20,7 @@ module _ (pattern : UrlPattern PatternRegexp) (text : List ℕ) (given : List Gi
   link_written url bytes statuses.TooSmall is same counted written = (bytes, inl (url, is, same), counted, written)
   link_written url bytes status is same counted written = absurd written
 
-  pub reason_written : (reason : NoLink) (status : Status) → RefusesLinkOfBytes pattern text given reason → IsReasonWritten reason old new needed status → IsUrlLinked pattern text given old new needed status
+  pub reason_written : (reason : NoLink) (status : Status) → RejectsLinkOfBytes pattern text given reason → IsReasonWritten reason old new needed status → IsUrlLinked pattern text given old new needed status
   reason_written reason statuses.TooSmall refused (bytes, says, counted, written) = (bytes, inr (reason, refused, says), counted, written)
   reason_written reason statuses.Refused refused (bytes, says, counted, written) = (bytes, (reason, refused, says), counted, written)
   reason_written reason statuses.OutOfMemory refused written = written

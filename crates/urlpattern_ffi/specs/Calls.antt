@@ -4,8 +4,8 @@ use Rattle.std.specs.Str.{chars, IsUtf8}
 use Rattle.url.specs.Parts.{Parts}
 use Rattle.urlpattern.specs.Errors.{ErrorView}
 use Rattle.urlpattern.specs.Errors.{ErrorView as views}
-use Rattle.urlpattern_canonical.specs.BaseUrls.{IsRefusedText, IsUrlOf}
-use Rattle.urlpattern.specs.FromString.{IsPatternOfText, RefusesPatternOfText}
+use Rattle.urlpattern_canonical.specs.BaseUrls.{IsRejectedText, IsUrlOf}
+use Rattle.urlpattern.specs.FromString.{IsPatternOfText, RejectsPatternOfText}
 use Rattle.urlpattern.specs.FirstMatch.{IsFirstMatch, patterns_view}
 use Rattle.urlpattern.specs.Match.{HasMatch, HasNoMatch}
 use Rattle.urlpattern.specs.Patterns.{PatternView, pattern_view}
@@ -14,7 +14,7 @@ use Rattle.urlpattern_ffi.specs.Statuses.{status_number}
 use Rattle.urlpattern_ffi.specs.declared.status.Status.{Status}
 use Rattle.urlpattern_ffi.specs.declared.status.Status.TheVariants as statuses
 use Rattle.urlpattern_components.specs.declared.eight.ComponentName.{ComponentName}
-use Rattle.urlpattern_engine.specs.PatternRegexps.{pattern_answer, pattern_engine}
+use Rattle.urlpattern_engine.specs.PatternRegexps.{pattern_result, pattern_engine}
 use Rattle.urlpattern_engine.specs.declared.pattern_regexp.PatternRegexp.{PatternRegexp}
 use Rattle.urlpattern_init.specs.declared.init.UrlPatternMatchInput.TheVariants as match_inputs
 use Rattle.urlpattern_inputs.specs.declared.options.UrlPatternOptions.{UrlPatternOptions}
@@ -46,8 +46,8 @@ abbrev pub KeepsItsParts : (text : List ℕ) → (base : Option (List ℕ)) → 
 KeepsItsParts text base ignores pattern = KeepsPartsOfText pattern_engine (chars text) base (c_options ignores) pattern
 
 -- The constructor string with this base URL is rejected with this error.
-abbrev pub RefusesToCompile : (text : List ℕ) → (base : Option (List ℕ)) → (ignore_case : Bool) → ErrorView → Type 0
-RefusesToCompile text base ignores = RefusesPatternOfText pattern_engine (chars text) base (c_options ignores)
+abbrev pub RejectsCompilation : (text : List ℕ) → (base : Option (List ℕ)) → (ignore_case : Bool) → ErrorView → Type 0
+RejectsCompilation text base ignores = RejectsPatternOfText pattern_engine (chars text) base (c_options ignores)
 
 -- The status for an error with which a pattern is rejected.
 abbrev pub error_status : ErrorView → Status
@@ -67,7 +67,7 @@ IsAdded old text base ignores new statuses.Done =
     (pattern : UrlPattern PatternRegexp) × IsCompiledFromText text (given_base base) ignores pattern
     × KeepsItsParts text (given_base base) ignores pattern × (new ≡ old ++ pattern ∷ [])
 IsAdded old text base ignores new statuses.Refused =
-    (error : ErrorView) × RefusesToCompile text (given_base base) ignores error × (new ≡ old)
+    (error : ErrorView) × RejectsCompilation text (given_base base) ignores error × (new ≡ old)
 IsAdded old text base ignores new statuses.NotUtf8 = ((¬ IsUtf8 text) ⊎ (¬ IsUtf8 base)) × (new ≡ old)
 IsAdded old text base ignores new statuses.OutOfMemory = new ≡ old
 IsAdded old text base ignores new status = ⊥
@@ -81,7 +81,7 @@ IsUrlUnderBase text base url = IsUrlOf text (given_base base) url
 -- The reason why the text is not a URL.
 abbrev pub IsNoUrl : (text base : List ℕ) → Status → Type 0
 IsNoUrl text base statuses.NotUtf8 = (¬ IsUtf8 text) ⊎ (¬ IsUtf8 base)
-IsNoUrl text base statuses.NoMatch = IsRefusedText text (given_base base)
+IsNoUrl text base statuses.NoMatch = IsRejectedText text (given_base base)
 IsNoUrl text base statuses.OutOfMemory = Unit {0}
 IsNoUrl text base status = ⊥
 
@@ -89,10 +89,10 @@ IsNoUrl text base status = ⊥
 
 -- Whether the pattern matches the URL. A text that is not a URL does not match.
 abbrev pub IsUrlTested : PatternView PatternRegexp → (text base : List ℕ) → Status → Type 0
-IsUrlTested pattern text base statuses.Done = (url : Parts) × IsUrlUnderBase text base url × HasMatch pattern_answer pattern (match_inputs.Url url)
+IsUrlTested pattern text base statuses.Done = (url : Parts) × IsUrlUnderBase text base url × HasMatch pattern_result pattern (match_inputs.Url url)
 IsUrlTested pattern text base statuses.NoMatch =
     IsNoUrl text base statuses.NoMatch
-    ⊎ ((url : Parts) × IsUrlUnderBase text base url × HasNoMatch pattern_answer pattern (match_inputs.Url url))
+    ⊎ ((url : Parts) × IsUrlUnderBase text base url × HasNoMatch pattern_result pattern (match_inputs.Url url))
 IsUrlTested pattern text base status = IsNoUrl text base status
 
 -- Whether the pattern at an index matches the URL.
@@ -105,10 +105,10 @@ IsTested patterns index text base status =
 abbrev pub IsFirstReported : List (UrlPattern PatternRegexp) → (text base : List ℕ) → (old new : ℕ) → Status → Type 0
 IsFirstReported patterns text base old new statuses.Done =
     (url : Parts) × IsUrlUnderBase text base url
-    × ((result : ComponentName → ResultView) × IsFirstMatch pattern_answer (patterns_view patterns) (match_inputs.Url url) (Some (new, result)))
+    × ((result : ComponentName → ResultView) × IsFirstMatch pattern_result (patterns_view patterns) (match_inputs.Url url) (Some (new, result)))
 IsFirstReported patterns text base old new statuses.NoMatch =
     (new ≡ old)
     × (IsNoUrl text base statuses.NoMatch
-    ⊎ ((url : Parts) × IsUrlUnderBase text base url × IsFirstMatch pattern_answer (patterns_view patterns) (match_inputs.Url url) None))
+    ⊎ ((url : Parts) × IsUrlUnderBase text base url × IsFirstMatch pattern_result (patterns_view patterns) (match_inputs.Url url) None))
 IsFirstReported patterns text base old new statuses.NoPattern = (new ≡ old) × (patterns ≡ [])
 IsFirstReported patterns text base old new status = (new ≡ old) × IsNoUrl text base status

@@ -9,13 +9,13 @@ use Rattle.urlpattern.specs.Patterns.{PatternView, pattern_view}
 use Rattle.urlpattern_ffi.specs.Calls.{IsFirstReported, IsUrlTested, IsUrlUnderBase}
 use Rattle.urlpattern_ffi.specs.KeptPatterns.{PatternList, boxed_patterns}
 use Rattle.urlpattern_ffi.specs.Mismatches.{component_number}
-use Rattle.urlpattern_ffi.specs.declared.kept.Kept.{Kept}
+use Rattle.urlpattern_ffi.specs.declared.pattern_box.PatternBox.{PatternBox}
 use Rattle.urlpattern_ffi.specs.declared.spans.Sizes.{Sizes}
 use Rattle.urlpattern_ffi.specs.declared.spans.GroupSpan.{GroupSpan}
 use Rattle.urlpattern_ffi.specs.declared.status.Status.{Status}
 use Rattle.urlpattern_ffi.specs.declared.status.Status.TheVariants as statuses
 use Rattle.urlpattern_components.specs.declared.eight.ComponentName.{ComponentName}
-use Rattle.urlpattern_engine.specs.PatternRegexps.{pattern_answer}
+use Rattle.urlpattern_engine.specs.PatternRegexps.{pattern_result}
 use Rattle.urlpattern_engine.specs.declared.pattern_regexp.PatternRegexp.{PatternRegexp}
 use Rattle.urlpattern_init.specs.Inheritance.{texts_of_url}
 use Rattle.urlpattern_init.specs.declared.init.UrlPatternMatchInput.TheVariants as match_inputs
@@ -49,7 +49,7 @@ pub record AreGroupsOf (pattern : PatternView PatternRegexp) (url base : List �
   pub parts : Parts
   pub captures : ComponentName → List (List ℕ × Option (List ℕ))
   pub is_url : IsUrlUnderBase url base parts
-  pub are_captures : AreGroupsInOrder pattern_answer pattern (texts_of_url parts) captures
+  pub are_captures : AreGroupsInOrder pattern_result pattern (texts_of_url parts) captures
   pub are_groups : groups ≡ numbered_groups captures components
 
 -- ---- texts and spans
@@ -89,21 +89,21 @@ sizes_of groups = record { bytes = length (texts_of_groups groups); spans = leng
 
 -- If the elements fit into the list from `at` on, they are written there, and the rest is
 -- unchanged.
-abbrev pub IsPut : {A : Type 0} → (at : ℕ) → (added old new : List A) → Type 0
-IsPut at added old new = at + length added ≤ length old → new ≡ take at old ++ added ++ drop (at + length added) old
+abbrev pub IsWrittenAt : {A : Type 0} → (at : ℕ) → (added old new : List A) → Type 0
+IsWrittenAt at added old new = at + length added ≤ length old → new ≡ take at old ++ added ++ drop (at + length added) old
 
 -- The texts and the spans of the groups are written after the sizes `from`, as far as there is
 -- room.
-pub record ArePut (groups : List NumberedGroup) (from to : Sizes) (old new : List ℕ) (old_spans new_spans : List GroupSpan) : Type 0 where
+pub record AreWrittenAt (groups : List NumberedGroup) (from to : Sizes) (old new : List ℕ) (old_spans new_spans : List GroupSpan) : Type 0 where
   pub bytes : to.bytes ≡ from.bytes + length (texts_of_groups groups)
   pub spans : to.spans ≡ from.spans + length (spans_from from.bytes groups)
-  pub texts_put : IsPut from.bytes (texts_of_groups groups) old new
-  pub spans_put : IsPut from.spans (spans_from from.bytes groups) old_spans new_spans
+  pub texts_put : IsWrittenAt from.bytes (texts_of_groups groups) old new
+  pub spans_put : IsWrittenAt from.spans (spans_from from.bytes groups) old_spans new_spans
 
 -- A group is written after the sizes `from`.
-abbrev pub IsGroupPut : ComponentName → (group : ℕ) → (capture : Option (List ℕ)) → (from to : Sizes) → (old new : List ℕ)
+abbrev pub IsGroupWrittenAt : ComponentName → (group : ℕ) → (capture : Option (List ℕ)) → (from to : Sizes) → (old new : List ℕ)
     → (old_spans new_spans : List GroupSpan) → Type 0
-IsGroupPut component group capture from to old new old_spans new_spans = ArePut ((component, group, capture) ∷ []) from to old new old_spans new_spans
+IsGroupWrittenAt component group capture from to old new old_spans new_spans = AreWrittenAt ((component, group, capture) ∷ []) from to old new old_spans new_spans
 
 -- The list begins with these elements, and the rest is unchanged.
 abbrev pub BeginsWithElements : {A : Type 0} → (elements old new : List A) → Type 0
@@ -150,8 +150,8 @@ pub record AreFirstGroupsOf (patterns : PatternList) (url base : List ℕ) (inde
   pub captures : ComponentName → List (List ℕ × Option (List ℕ))
   pub is_url : IsUrlUnderBase url base parts
   pub is_there : slice_get (patterns_view patterns) index ≡ Some pattern
-  pub is_first : IsFirstMatch pattern_answer (patterns_view patterns) (match_inputs.Url parts) (Some (index, result))
-  pub are_captures : AreGroupsInOrder pattern_answer pattern (texts_of_url parts) captures
+  pub is_first : IsFirstMatch pattern_result (patterns_view patterns) (match_inputs.Url parts) (Some (index, result))
+  pub are_captures : AreGroupsInOrder pattern_result pattern (texts_of_url parts) captures
   pub are_groups : groups ≡ numbered_groups captures components
 
 -- The index of the first match and its groups are written, or there is no match.
@@ -168,7 +168,7 @@ AreFirstCaptures patterns url base old_index new_index old new old_spans new_spa
     IsFirstReported patterns url base old_index new_index status × (new ≡ old) × (new_spans ≡ old_spans)
 
 -- The first match of the patterns of a handle.
-abbrev pub AreFirstInBox : Option (Box Kept Global) → (url base : List ℕ) → (old_index new_index : ℕ) → (old new : List ℕ)
+abbrev pub AreFirstInBox : Option (Box PatternBox Global) → (url base : List ℕ) → (old_index new_index : ℕ) → (old new : List ℕ)
     → (old_spans new_spans : List GroupSpan) → (needed : Sizes) → Status → Type 0
 AreFirstInBox kept url base old_index new_index old new old_spans new_spans needed status =
     AreFirstCaptures (boxed_patterns kept) url base old_index new_index old new old_spans new_spans needed status

@@ -8,7 +8,7 @@ use Rattle.urlpattern_ffi.specs.Calls.{c_options}
 use Rattle.urlpattern_ffi.specs.KeptPatterns.{PatternList}
 use Rattle.urlpattern_ffi.specs.declared.status.Status.{Status}
 use Rattle.urlpattern_ffi.specs.declared.status.Status.TheVariants as statuses
-use Rattle.urlpattern_compile.specs.Compiled.{IsPatternOfInit, RefusesInit}
+use Rattle.urlpattern_compile.specs.Compiled.{IsPatternOfInit, RejectsInit}
 use Rattle.urlpattern_engine.specs.PatternRegexps.{pattern_engine}
 use Rattle.urlpattern_engine.specs.declared.pattern_regexp.PatternRegexp.{PatternRegexp}
 use Rattle.urlpattern_init.specs.declared.init.UrlPatternInit.{UrlPatternInit}
@@ -18,7 +18,7 @@ use Rattle.urlpattern_inputs.specs.declared.init.UrlPatternInit.{UrlPatternInit 
 use Rattle.urlpattern_inputs.specs.declared.input.StringOrInit.TheVariants as inputs
 use Rattle.urlpattern_pattern.specs.KeptParts.{KeepsPartsOf}
 use Rattle.urlpattern_pattern.specs.UrlPatterns.{UrlPattern}
-use Rattle.urlpattern_quirks.specs.Inputs.{IsInitOf, RefusesInput}
+use Rattle.urlpattern_quirks.specs.Inputs.{IsInitOf, RejectsInput}
 
 -- The texts of an init in JSON: an object, in which each text may be missing or null.
 abbrev pub plain_init_of : (json : List ℕ) → Option InitView
@@ -31,19 +31,19 @@ pub record IsInitOfJson (json : List ℕ) (init : UrlPatternInit) : Type 0 where
   pub is_init : IsInitOf plain init
 
 -- `url` rejects the base URL in the JSON.
-abbrev pub HasRefusedBase : (json : List ℕ) → ErrorView → Type 0
-HasRefusedBase json error = (plain : PlainInit) × (plain_init_of json ≡ Some (init_view plain)) × RefusesInput (inputs.Init plain) None error
+abbrev pub HasRejectedBase : (json : List ℕ) → ErrorView → Type 0
+HasRejectedBase json error = (plain : PlainInit) × (plain_init_of json ≡ Some (init_view plain)) × RejectsInput (inputs.Init plain) None error
 
 -- The reason why the JSON is not an init.
 abbrev pub IsNoInit : (json : List ℕ) → Status → Type 0
 IsNoInit json statuses.NotUtf8 = ¬ IsUtf8 json
-IsNoInit json statuses.Refused = (plain_init_of json ≡ None) ⊎ ((error : ErrorView) × HasRefusedBase json error)
+IsNoInit json statuses.Refused = (plain_init_of json ≡ None) ⊎ ((error : ErrorView) × HasRejectedBase json error)
 IsNoInit json statuses.OutOfMemory = Unit {0}
 IsNoInit json status = ⊥
 
 -- The init is rejected with this error.
-abbrev pub IsInitRefused : (json : List ℕ) → (ignore_case : Bool) → ErrorView → Type 0
-IsInitRefused json ignores error = (init : UrlPatternInit) × IsInitOfJson json init × RefusesInit pattern_engine init (c_options ignores) error
+abbrev pub IsInitRejected : (json : List ℕ) → (ignore_case : Bool) → ErrorView → Type 0
+IsInitRejected json ignores error = (init : UrlPatternInit) × IsInitOfJson json init × RejectsInit pattern_engine init (c_options ignores) error
 
 -- The init is compiled, and its pattern, which keeps its parts, is appended. Otherwise the patterns
 -- are unchanged.
@@ -53,6 +53,6 @@ IsInitAdded old json ignores new statuses.Done =
     × IsPatternOfInit pattern_engine init (c_options ignores) (pattern_view pattern)
     × KeepsPartsOf pattern_engine init (c_options ignores) pattern × (new ≡ old ++ pattern ∷ [])
 IsInitAdded old json ignores new statuses.Refused =
-    (IsNoInit json statuses.Refused ⊎ ((error : ErrorView) × IsInitRefused json ignores error)) × (new ≡ old)
+    (IsNoInit json statuses.Refused ⊎ ((error : ErrorView) × IsInitRejected json ignores error)) × (new ≡ old)
 IsInitAdded old json ignores new statuses.OutOfMemory = new ≡ old
 IsInitAdded old json ignores new status = IsNoInit json status × (new ≡ old)

@@ -9,7 +9,7 @@ use Rattle.urlpattern_ffi.specs.declared.status.Status.{Status}
 use Rattle.urlpattern_ffi.specs.declared.status.Status.TheVariants as statuses
 use Rattle.urlpattern_components.specs.declared.eight.ComponentName.{ComponentName}
 use Rattle.urlpattern_components.specs.declared.eight.ComponentName.TheVariants as names
-use Rattle.urlpattern_engine.specs.PatternRegexps.{pattern_answer}
+use Rattle.urlpattern_engine.specs.PatternRegexps.{pattern_result}
 use Rattle.urlpattern_engine.specs.declared.pattern_regexp.PatternRegexp.{PatternRegexp}
 use Rattle.urlpattern_init.specs.Inheritance.{texts_of_url}
 use Rattle.urlpattern_pattern.specs.Mismatch.{FindsMismatch}
@@ -34,13 +34,13 @@ component_number names.Hash = 7
 abbrev pub IsMismatchNumber : PatternView PatternRegexp → (text base : List ℕ) → (number : ℕ) → Type 0
 IsMismatchNumber pattern text base number =
     (url : Parts) × (name : ComponentName) × IsUrlUnderBase text base url × (slice_get components number ≡ Some name)
-    × FindsMismatch pattern_answer pattern (texts_of_url url) (Some name)
+    × FindsMismatch pattern_result pattern (texts_of_url url) (Some name)
 
 -- Done: each component matches. NoMatch: the first one that does not match is reported, or none if
 -- the text is not a URL.
 abbrev pub IsUrlMismatched : PatternView PatternRegexp → (text base : List ℕ) → (number : ℕ) → Status → Type 0
 IsUrlMismatched pattern text base number statuses.Done =
-    (number ≡ no_component) × ((url : Parts) × IsUrlUnderBase text base url × FindsMismatch pattern_answer pattern (texts_of_url url) None)
+    (number ≡ no_component) × ((url : Parts) × IsUrlUnderBase text base url × FindsMismatch pattern_result pattern (texts_of_url url) None)
 IsUrlMismatched pattern text base number statuses.NoMatch =
     ((number ≡ no_component) × IsNoUrl text base statuses.NoMatch) ⊎ IsMismatchNumber pattern text base number
 IsUrlMismatched pattern text base number status = (number ≡ no_component) × IsNoUrl text base status

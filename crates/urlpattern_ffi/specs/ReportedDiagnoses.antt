@@ -4,8 +4,8 @@ use Rattle.std.specs.Str.{chars}
 use Rattle.urlpattern.specs.Errors.{ErrorView, error_view}
 use Rattle.urlpattern.specs.FromString.{IsPatternOfText}
 use Rattle.urlpattern.specs.Patterns.{PatternView}
-use Rattle.urlpattern_ffi.specs.Calls.{given_base, c_options, IsNoUrl, RefusesToCompile}
-use Rattle.urlpattern_ffi.specs.Inits.{IsInitOfJson, IsInitRefused, IsNoInit}
+use Rattle.urlpattern_ffi.specs.Calls.{given_base, c_options, IsNoUrl, RejectsCompilation}
+use Rattle.urlpattern_ffi.specs.Inits.{IsInitOfJson, IsInitRejected, IsNoInit}
 use Rattle.urlpattern_ffi.specs.Mismatches.{component_number}
 use Rattle.urlpattern_ffi.specs.TextBuffers.{WritesToBuffer}
 use Rattle.urlpattern_ffi.specs.declared.diagnosing.Place.{Place}
@@ -45,13 +45,13 @@ pub record IsDiagnosis (Refuses : ErrorView → Type 0) (Shows : Diagnosis → T
   pub is_place : place ≡ place_of_diagnosis (number diagnosis.subject) diagnosis
 
 -- The errors with which the constructor string is rejected.
-abbrev pub RefusesTextByOptions : (text base : List ℕ) → (ignore_case : Bool) → ErrorView → Type 0
-RefusesTextByOptions text base ignores error = RefusesToCompile text (given_base base) ignores error
+abbrev pub RejectsTextByOptions : (text base : List ℕ) → (ignore_case : Bool) → ErrorView → Type 0
+RejectsTextByOptions text base ignores error = RejectsCompilation text (given_base base) ignores error
 
 -- The reason and the place are those of a diagnosis of the constructor string.
 abbrev pub IsDiagnosisOfText : (text base : List ℕ) → (ignore_case : Bool) → Place → (reason : List ℕ) → Type 0
 IsDiagnosisOfText text base ignores =
-    IsDiagnosis (RefusesTextByOptions text base ignores) (ShowsGiven pattern_engine text (given_base base) (c_options ignores)) subject_number
+    IsDiagnosis (RejectsTextByOptions text base ignores) (ShowsGiven pattern_engine text (given_base base) (c_options ignores)) subject_number
 
 -- The diagnosis shows the fault of an init in JSON.
 abbrev pub ShowsInitOfJson : (json : List ℕ) → (ignore_case : Bool) → Diagnosis → Type 0
@@ -59,7 +59,7 @@ ShowsInitOfJson json ignores diagnosis = (init : UrlPatternInit) × IsInitOfJson
 
 -- The reason and the place are those of a diagnosis of an init in JSON.
 abbrev pub IsDiagnosisOfInit : (json : List ℕ) → (ignore_case : Bool) → Place → (reason : List ℕ) → Type 0
-IsDiagnosisOfInit json ignores = IsDiagnosis (IsInitRefused json ignores) (ShowsInitOfJson json ignores) init_subject_number
+IsDiagnosisOfInit json ignores = IsDiagnosis (IsInitRejected json ignores) (ShowsInitOfJson json ignores) init_subject_number
 
 -- Done: the reason why the pattern is rejected is written. NoMatch: it is not rejected.
 abbrev pub IsDiagnosed : (text base : List ℕ) → (ignore_case : Bool) → (old new : List ℕ) → (needed : ℕ) → Place → Status → Type 0

@@ -13,7 +13,7 @@ use Rattle.urlpattern_ffi.specs.KeptPatterns.{PatternList}
 use Rattle.urlpattern_ffi.specs.declared.status.Status.{Status}
 use Rattle.urlpattern_ffi.specs.declared.status.Status.TheVariants as statuses
 use Rattle.urlpattern_components.specs.declared.eight.ComponentName.{ComponentName}
-use Rattle.urlpattern_engine.specs.PatternRegexps.{pattern_answer}
+use Rattle.urlpattern_engine.specs.PatternRegexps.{pattern_result}
 use Rattle.urlpattern_engine.specs.declared.pattern_regexp.PatternRegexp.{PatternRegexp}
 use Rattle.urlpattern_init.specs.declared.init.UrlPatternMatchInput.TheVariants as match_inputs
 use Rattle.urlpattern_matches.specs.ResultJson.{IsResultTree, plain_results_view}
@@ -75,7 +75,7 @@ pub record IsJsonOfMatch (pattern : PatternView PatternRegexp) (url base text : 
   pub parts : Parts
   pub result : UrlPatternResult
   pub is_url : IsUrlUnderBase url base parts
-  pub is_match : IsMatch pattern_answer pattern (match_inputs.Url parts) (result_view result)
+  pub is_match : IsMatch pattern_result pattern (match_inputs.Url parts) (result_view result)
   pub is_text : IsResultText result text
 
 -- The match of the URL is written, or there is no match.

@@ -7,7 +7,7 @@ use Rattle.urlpattern_ffi.specs.declared.status.Status.{Status}
 use Rattle.urlpattern_ffi.specs.declared.status.Status.TheVariants as statuses
 use Rattle.urlpattern_engine.specs.declared.pattern_regexp.PatternRegexp.{PatternRegexp}
 use Rattle.urlpattern_ffi_links.specs.GivenBytes.{GivesNothing}
-use Rattle.urlpattern_ffi_links.specs.GivenLinks.{IsLinkOfBytes, RefusesLinkOfBytes}
+use Rattle.urlpattern_ffi_links.specs.GivenLinks.{IsLinkOfBytes, RejectsLinkOfBytes}
 pub use Rattle.urlpattern_ffi_links.specs.declared.given.GivenBytes.{GivenBytes}
 use Rattle.urlpattern_pattern.specs.UrlPatterns.{UrlPattern}
 use Rattle.urlpattern_generate.specs.NoLinkText.{no_link_text}
@@ -30,7 +30,7 @@ IsTextOfLink pattern text given written = (url : Parts) × IsLinkOfBytes pattern
 
 -- `written` says why the pattern has no URL with the groups that `given` cuts out of `text`.
 abbrev pub IsTextOfNoLink : UrlPattern PatternRegexp → (text : List ℕ) → List GivenBytes → (written : List ℕ) → Type 0
-IsTextOfNoLink pattern text given written = (reason : NoLink) × RefusesLinkOfBytes pattern text given reason × SaysWhy reason written
+IsTextOfNoLink pattern text given written = (reason : NoLink) × RejectsLinkOfBytes pattern text given reason × SaysWhy reason written
 
 -- Done: the URL is written. Refused: the reason why there is none is written. TooSmall: there is no
 -- room for the URL or the reason.

@@ -1,10 +1,10 @@
 //! Compiles patterns.
 ghost use Rattle.std.specs.Prelude.{◌≡◌, option_copied, IfErr, IfOk};
-ghost use Rattle.urlpattern_ffi.specs.Calls.{given_base, c_options, error_status, IsAdded, IsCompiledFromText, IsPushed, KeepsItsParts, RefusesToCompile};
+ghost use Rattle.urlpattern_ffi.specs.Calls.{given_base, c_options, error_status, IsAdded, IsCompiledFromText, IsPushed, KeepsItsParts, RejectsCompilation};
 ghost use Rattle.urlpattern_ffi.specs.KeptPatterns.{boxed_patterns};
 ghost use Rattle.urlpattern.specs.Errors.{error_view, MemoryOr};
 
-use crate::kept::{Kept, take_or_new};
+use crate::pattern_box::{PatternBox, take_or_insert_empty};
 use crate::status::Status;
 use std::alloc::Global;
 use std::str;
@@ -14,7 +14,7 @@ use urlpattern::{Error, RegexSyntax, UrlPattern, UrlPatternOptions};
 /// Compiles a constructor string, under a base URL unless `base` is empty, and appends the pattern.
 pub fn add(
     alloc: Global,
-    kept: &mut Option<Box<Kept>>,
+    kept: &mut Option<Box<PatternBox>>,
     text: &[u8],
     base: &[u8],
     ignore_case: bool,
@@ -63,7 +63,7 @@ fn compiled(
 ) -> Result<UrlPattern<PatternRegexp>, Error>
     ensures compiled { IfOk result (IsCompiledFromText text.now (option_copied base.entry) ignore_case) }
     ensures kept { IfOk result (KeepsItsParts text.now (option_copied base.entry) ignore_case) }
-    ensures refused { IfErr result (MemoryOr (RefusesToCompile text.now (option_copied base.entry) ignore_case)) }
+    ensures refused { IfErr result (MemoryOr (RejectsCompilation text.now (option_copied base.entry) ignore_case)) }
 {
     UrlPattern::from_constructor_string(alloc, text, base, options(ignore_case))
 }
@@ -81,12 +81,12 @@ pub(crate) fn options(ignore_case: bool) -> UrlPatternOptions
 /// Appends a pattern.
 pub(crate) fn push(
     alloc: Global,
-    kept: &mut Option<Box<Kept>>,
+    kept: &mut Option<Box<PatternBox>>,
     pattern: UrlPattern<PatternRegexp>,
 ) -> Status
     ensures { IsPushed (boxed_patterns kept.old) pattern (boxed_patterns kept.new) result }
 {
-    let Ok(mut taken) = take_or_new(alloc, kept) else {
+    let Ok(mut taken) = take_or_insert_empty(alloc, kept) else {
         return Status::OutOfMemory;
     };
     let pushed = taken.list.try_push(pattern);

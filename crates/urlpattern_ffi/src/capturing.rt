@@ -3,7 +3,7 @@ ghost use Rattle.urlpattern.specs.Patterns.{pattern_view};
 ghost use Rattle.urlpattern_ffi.specs.KeptPatterns.{boxed_patterns};
 ghost use Rattle.urlpattern_ffi.specs.GroupSpans.{AreCapturesReported, AreFirstCaptures, AreFirstInBox, AreUrlCaptures};
 
-use crate::kept::{Kept, pattern_at};
+use crate::pattern_box::{PatternBox, pattern_at};
 use crate::spans::{GroupSpan, Sizes, write_groups};
 use crate::status::Status;
 use crate::url_inputs::url_of;
@@ -14,7 +14,7 @@ use urlpattern::{UrlPattern, UrlPatternList};
 /// Writes what the groups of the pattern at an index capture of a URL, and a span for each group.
 pub fn captures(
     alloc: Global,
-    kept: &Option<Box<Kept>>,
+    kept: &Option<Box<PatternBox>>,
     index: usize,
     url: &[u8],
     base: &[u8],
@@ -58,7 +58,7 @@ fn pattern_captures(
 /// span for each group.
 pub fn first_captures(
     alloc: Global,
-    kept: &Option<Box<Kept>>,
+    kept: &Option<Box<PatternBox>>,
     url: &[u8],
     base: &[u8],
     index: &mut usize,

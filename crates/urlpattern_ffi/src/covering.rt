@@ -4,8 +4,8 @@ ghost use Rattle.urlpattern_ffi.specs.ReportedCoverings.{AreCompared, IsCovering
 ghost use Rattle.urlpattern_ffi.specs.KeptPatterns.{boxed_patterns};
 ghost use Rattle.urlpattern_ffi.specs.Mismatches.{no_component};
 
-use crate::kept::{Kept, pattern_at};
 use crate::mismatching::{NO_COMPONENT, component_number};
+use crate::pattern_box::{PatternBox, pattern_at};
 use crate::status::Status;
 use std::alloc::Global;
 use urlpattern::regexp::PatternRegexp;
@@ -17,9 +17,9 @@ use urlpattern::{CompareError, UrlPattern};
 /// or else `NO_COMPONENT`.
 pub fn covers(
     alloc: Global,
-    kept: &Option<Box<Kept>>,
+    kept: &Option<Box<PatternBox>>,
     index: usize,
-    others: &Option<Box<Kept>>,
+    others: &Option<Box<PatternBox>>,
     asked: usize,
     component: &mut u32,
 ) -> Status

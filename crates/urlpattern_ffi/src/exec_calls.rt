@@ -6,7 +6,7 @@ ghost use Rattle.urlpattern_ffi.specs.KeptPatterns.{boxed_patterns};
 ghost use Rattle.urlpattern_ffi.specs.TextBuffers.{IsExecReported, IsJsonOfMatch, IsResultText, IsUrlExecuted};
 ghost use Rattle.urlpattern_ffi.specs.declared.status.Status.TheVariants as statuses;
 
-use crate::kept::{Kept, pattern_at};
+use crate::pattern_box::{PatternBox, pattern_at};
 use crate::status::Status;
 use crate::text_buffers::write;
 use crate::url_inputs::url_of;
@@ -17,7 +17,7 @@ use urlpattern::{Error, UrlPattern, UrlPatternList, UrlPatternResult};
 /// Whether the pattern at an index matches a URL.
 pub fn test(
     alloc: Global,
-    kept: &Option<Box<Kept>>,
+    kept: &Option<Box<PatternBox>>,
     index: usize,
     url: &[u8],
     base: &[u8],
@@ -53,7 +53,7 @@ fn test_pattern(
 /// Finds the first pattern that matches a URL, and writes its index.
 pub fn first(
     alloc: Global,
-    kept: &Option<Box<Kept>>,
+    kept: &Option<Box<PatternBox>>,
     url: &[u8],
     base: &[u8],
     index: &mut usize,
@@ -94,7 +94,7 @@ fn first_in(
 /// Writes the match of a URL by the pattern at an index, as JSON.
 pub fn execute(
     alloc: Global,
-    kept: &Option<Box<Kept>>,
+    kept: &Option<Box<PatternBox>>,
     index: usize,
     url: &[u8],
     base: &[u8],

@@ -5,7 +5,7 @@ ghost use Rattle.urlpattern_ffi.specs.KeptPatterns.{boxed_patterns};
 ghost use Rattle.urlpattern_inputs.specs.InputValues.{init_view};
 
 use crate::adding::{options, push, status_of_error};
-use crate::kept::Kept;
+use crate::pattern_box::PatternBox;
 use crate::status::Status;
 use serde_json::Value;
 use std::alloc::Global;
@@ -18,7 +18,7 @@ use urlpattern::{UrlPattern, UrlPatternInit};
 #[tactic(auto, using(crate::proofs::ReportedInitLemmas::init_added))]
 pub fn add_init(
     alloc: Global,
-    kept: &mut Option<Box<Kept>>,
+    kept: &mut Option<Box<PatternBox>>,
     json: &[u8],
     ignore_case: bool,
 ) -> Status

@@ -2,7 +2,7 @@
 ghost use Rattle.urlpattern_ffi.specs.KeptPatterns.{boxed_patterns};
 ghost use Rattle.urlpattern_ffi.specs.WrittenLinks.{IsLinkReported, IsReasonWritten, IsUrlLinked};
 
-use crate::kept::{Kept, pattern_at};
+use crate::pattern_box::{PatternBox, pattern_at};
 use crate::status::Status;
 use crate::text_buffers::write;
 use std::alloc::Global;
@@ -14,7 +14,7 @@ use urlpattern_ffi_links::{GivenBytes, Unlinked};
 /// none.
 pub fn link(
     alloc: Global,
-    kept: &Option<Box<Kept>>,
+    kept: &Option<Box<PatternBox>>,
     index: usize,
     text: &[u8],
     given: &[GivenBytes],

@@ -5,7 +5,7 @@ ghost use Rattle.urlpattern.specs.Patterns.{pattern_view};
 ghost use Rattle.urlpattern_ffi.specs.KeptPatterns.{boxed_patterns};
 ghost use Rattle.urlpattern_ffi.specs.Mismatches.{component_number, IsCustomReported, IsMismatchReported, IsUrlMismatched};
 
-use crate::kept::{Kept, pattern_at};
+use crate::pattern_box::{PatternBox, pattern_at};
 use crate::status::Status;
 use crate::url_inputs::url_of;
 use std::alloc::Global;
@@ -19,7 +19,7 @@ pub(crate) const NO_COMPONENT: u32 = 8;
 /// `NO_COMPONENT`.
 pub fn mismatch(
     alloc: Global,
-    kept: &Option<Box<Kept>>,
+    kept: &Option<Box<PatternBox>>,
     index: usize,
     url: &[u8],
     base: &[u8],
@@ -81,7 +81,7 @@ pub(crate) fn component_number(name: ComponentName) -> u32
 }
 
 /// Whether the pattern at an index has a custom regular expression.
-pub fn has_regexp_groups(kept: &Option<Box<Kept>>, index: usize) -> Status
+pub fn has_regexp_groups(kept: &Option<Box<PatternBox>>, index: usize) -> Status
     ensures { IsCustomReported (boxed_patterns kept.now) index result }
 {
     match pattern_at(kept, index) {

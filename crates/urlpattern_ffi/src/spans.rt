@@ -1,7 +1,7 @@
 //! Spans of captures, in memory that C owns.
 ghost use Rattle.std.specs.Prelude.{◌≡◌, ◌+◌, [], ◌∷◌, length, encode_utf8_all, if◌then◌else◌, is_some, IfSome};
 ghost use Rattle.std.specs.Str.{chars};
-ghost use Rattle.urlpattern_ffi.specs.GroupSpans.{capture_bytes, found_groups, no_sizes, numbered, ArePut, AreSpansWritten, IsGroupPut, IsPut};
+ghost use Rattle.urlpattern_ffi.specs.GroupSpans.{capture_bytes, found_groups, no_sizes, numbered, AreWrittenAt, AreSpansWritten, IsGroupWrittenAt, IsWrittenAt};
 ghost use Rattle.urlpattern_matches.specs.BorrowedMatches.{groups_left};
 ghost use Rattle.urlpattern_syntax.specs.Text.{option_text};
 
@@ -65,7 +65,7 @@ fn put_all(
     buffer: &mut [u8],
     spans: &mut [GroupSpan],
 ) -> Option<Sizes>
-    ensures { IfSome result (λ to. ArePut (found_groups found.now) no_sizes to buffer.old buffer.new spans.old spans.new) }
+    ensures { IfSome result (λ to. AreWrittenAt (found_groups found.now) no_sizes to buffer.old buffer.new spans.old spans.new) }
 {
     let mut sizes = Sizes { bytes: 0, spans: 0 };
     for name in ComponentName::all() {
@@ -83,7 +83,7 @@ fn put_groups(
     buffer: &mut [u8],
     spans: &mut [GroupSpan],
 ) -> Option<Sizes>
-    ensures { IfSome result (λ to. ArePut (numbered component 0 (groups_left groups.entry)) from to
+    ensures { IfSome result (λ to. AreWrittenAt (numbered component 0 (groups_left groups.entry)) from to
         buffer.old buffer.new spans.old spans.new) }
 {
     let mut sizes = from;
@@ -103,7 +103,7 @@ fn put_group(
     buffer: &mut [u8],
     spans: &mut [GroupSpan],
 ) -> Option<Sizes>
-    ensures { IfSome result (λ to. IsGroupPut component group (option_text capture.entry) from to
+    ensures { IfSome result (λ to. IsGroupWrittenAt component group (option_text capture.entry) from to
         buffer.old buffer.new spans.old spans.new) }
 {
     let text = capture_bytes(capture);
@@ -122,7 +122,7 @@ fn put_group(
 /// Writes a text from a place on, if it fits. Returns the place after it.
 fn put_text(text: &[u8], at: usize, buffer: &mut [u8]) -> Option<usize>
     ensures end { IfSome result (λ end. end ≡ at + length text.now) }
-    ensures text { IfSome result (λ _. IsPut at text.now buffer.old buffer.new) }
+    ensures text { IfSome result (λ _. IsWrittenAt at text.now buffer.old buffer.new) }
 {
     let end = at.checked_add(text.len())?;
     if at == end {
@@ -137,7 +137,7 @@ fn put_text(text: &[u8], at: usize, buffer: &mut [u8]) -> Option<usize>
 /// Writes a span at a place, if it fits. Returns the place after it.
 fn put_span(span: GroupSpan, at: usize, spans: &mut [GroupSpan]) -> Option<usize>
     ensures end { IfSome result (λ end. end ≡ at + 1) }
-    ensures span { IfSome result (λ _. IsPut at (span ∷ []) spans.old spans.new) }
+    ensures span { IfSome result (λ _. IsWrittenAt at (span ∷ []) spans.old spans.new) }
 {
     let end = at.checked_add(1)?;
     if end <= spans.len() {

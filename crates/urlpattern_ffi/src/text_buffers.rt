@@ -6,7 +6,7 @@ ghost use Rattle.urlpattern_ffi.specs.KeptPatterns.{boxed_patterns};
 ghost use Rattle.urlpattern_ffi.specs.TextBuffers.{group_name_at, IsComponentWritten, IsGroupNameWritten, IsWrittenTo};
 ghost use Rattle.urlpattern_syntax.specs.Text.{option_text};
 
-use crate::kept::{Kept, pattern_at};
+use crate::pattern_box::{PatternBox, pattern_at};
 use crate::status::Status;
 use urlpattern::regexp::PatternRegexp;
 use urlpattern::{ComponentName, UrlPattern};
@@ -28,7 +28,7 @@ pub(crate) fn write(text: &str, buffer: &mut [u8], needed: &mut usize) -> Status
 
 /// Writes the pattern text of a component of the pattern at an index.
 pub fn write_component(
-    kept: &Option<Box<Kept>>,
+    kept: &Option<Box<PatternBox>>,
     index: usize,
     component: u32,
     buffer: &mut [u8],
@@ -54,7 +54,7 @@ fn pattern_text(pattern: &UrlPattern<PatternRegexp>, name: ComponentName) -> &st
 
 /// Writes the name of a group of the pattern at an index, given its number in a component.
 pub fn write_group_name(
-    kept: &Option<Box<Kept>>,
+    kept: &Option<Box<PatternBox>>,
     index: usize,
     component: u32,
     group: usize,
@@ -70,7 +70,12 @@ pub fn write_group_name(
 }
 
 /// The name of a group of the pattern at an index, given its number in a component.
-fn group_name(kept: &Option<Box<Kept>>, index: usize, component: u32, group: usize) -> Option<&str>
+fn group_name(
+    kept: &Option<Box<PatternBox>>,
+    index: usize,
+    component: u32,
+    group: usize,
+) -> Option<&str>
     ensures { option_text result ≡ group_name_at (boxed_patterns kept.now) index component group }
 {
     let pattern = pattern_at(kept, index)?;

@@ -32,7 +32,7 @@ abbrev pub GivesNothing : (text : List ℕ) → GivenBytes → Type 0
 GivesNothing text given = (group : GroupOfBytes) → ¬ GivesGroup text given group
 
 -- A part gives no group, or memory ran out.
-abbrev pub RefusesParts : (text : List ℕ) → List GivenBytes → Unlinked → Type 0
-RefusesParts text given unlinked.Given = Any (GivesNothing text) given
-RefusesParts text given unlinked.OutOfMemory = Unit {0}
-RefusesParts text given (unlinked.NoLink error) = ⊥
+abbrev pub RejectsParts : (text : List ℕ) → List GivenBytes → Unlinked → Type 0
+RejectsParts text given unlinked.Given = Any (GivesNothing text) given
+RejectsParts text given unlinked.OutOfMemory = Unit {0}
+RejectsParts text given (unlinked.NoLink error) = ⊥

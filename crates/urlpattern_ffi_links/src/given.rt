@@ -2,7 +2,7 @@
 ghost use Rattle.std.specs.Prelude.{◌≡◌, slice_get, IfErr, IfNone, IfOk, IfSome};
 ghost use Rattle.std.specs.List.{AllZip};
 ghost use Rattle.urlpattern_components.specs.Eight.{components};
-ghost use Rattle.urlpattern_ffi_links.specs.GivenBytes.{GivesGroup, GivesNothing, IsNoPart, IsPart, RefusesParts};
+ghost use Rattle.urlpattern_ffi_links.specs.GivenBytes.{GivesGroup, GivesNothing, IsNoPart, IsPart, RejectsParts};
 
 use crate::given_link::Unlinked;
 use std::alloc::Global;
@@ -35,7 +35,7 @@ pub(crate) fn groups_of<'t>(
     given: &[GivenBytes],
 ) -> Result<Vec<GivenGroup<'t>>, Unlinked>
     ensures groups { IfOk result (λ groups. AllZip (GivesGroup text.now) given.now groups.items) }
-    ensures refused { IfErr result (RefusesParts text.now given.now) }
+    ensures refused { IfErr result (RejectsParts text.now given.now) }
 {
     let Ok(mut groups) = Vec::with_capacity(alloc, given.len()) else {
         return Err(Unlinked::OutOfMemory);

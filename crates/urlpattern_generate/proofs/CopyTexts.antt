@@ -20,7 +20,7 @@ texts_core Is prefix suffix (suc n) text (first, rest, cut, is, more) =
 
 pub core_texts : (Is : List ℕ → Type 0) (prefix suffix : List ℕ) (n : ℕ) (text : List ℕ) → IsCore Is prefix suffix n text → AreTextsWith Is (suffix ++ prefix) n text
 core_texts Is prefix suffix zero text core = one_core Is prefix suffix text core
-core_texts Is prefix suffix (suc n) text (first, rest, cut, is, (stretch, behind, next_cut, (piece, e, next), more)) = (
+core_texts Is prefix suffix (suc n) text (first, rest, cut, is, (substring, behind, next_cut, (piece, e, next), more)) = (
   first,
   piece ++ behind,
   cut ∙ ap (λ t. first ++ t) (next_cut ∙ ap (λ t. t ++ behind) e) ∙ first_between first suffix prefix piece behind,

@@ -6,9 +6,9 @@ use Rattle.std.proofs.lemmas.List.{drop-map, drop_all, length-drop}
 use Rattle.std.proofs.lemmas.Bool.Decides.{nat_tests}
 use Rattle.std.specs.Borrow.{Bor}
 use Rattle.std.specs.Prelude.{◌↔◌, ◌==◌, IsTrue}
-use Rattle.urlpattern_generate.specs.Asked.{AreAsked, IsAsked}
-use Rattle.urlpattern_generate.specs.Manners.{WritingManner}
-use Rattle.urlpattern_generate.specs.WrittenTexts.{LeavesAsked}
+use Rattle.urlpattern_generate.specs.Requested.{AreRequested, IsRequested}
+use Rattle.urlpattern_generate.specs.WriteSettings.{WriteSettings}
+use Rattle.urlpattern_generate.specs.WrittenTexts.{LeavesRequested}
 use Rattle.urlpattern_generate.specs.Links.{OfFirst, captures_after}
 use Rattle.urlpattern_meaning.specs.PartMeaning.{Captures}
 use Rattle.urlpattern_syntax.specs.declared.parser.Part.{Part}
@@ -27,30 +27,30 @@ left_from found i other within =
     drop-map option_text i found ∙ ap (map option_text) (drop-cons found i other within) ∙ ap (λ rest. option_text (get_or found i other) ∷ rest) (sym (drop-map option_text (suc i) found))
     ∙ ap (λ n. option_text (get_or found i other) ∷ drop n (map option_text found)) (sym (add-one i))
 
-asked_by : (manner : WritingManner) (kind : PartType) (part : PartView) (capture : Option (List ℕ)) (rest : Captures) → ¬ (kind ≡ FixedText) → IsAsked manner part capture →
-    OfFirst (IsAsked manner) kind part (capture ∷ rest) × (captures_after kind (capture ∷ rest) ≡ rest)
-asked_by manner FixedText part capture rest group asked = absurd (group refl)
-asked_by manner Regexp part capture rest group asked = (asked, refl)
-asked_by manner SegmentWildcard part capture rest group asked = (asked, refl)
-asked_by manner FullWildcard part capture rest group asked = (asked, refl)
+asked_by : (settings : WriteSettings) (kind : PartType) (part : PartView) (capture : Option (List ℕ)) (rest : Captures) → ¬ (kind ≡ FixedText) → IsRequested settings part capture →
+    OfFirst (IsRequested settings) kind part (capture ∷ rest) × (captures_after kind (capture ∷ rest) ≡ rest)
+asked_by settings FixedText part capture rest group asked = absurd (group refl)
+asked_by settings Regexp part capture rest group asked = (asked, refl)
+asked_by settings SegmentWildcard part capture rest group asked = (asked, refl)
+asked_by settings FullWildcard part capture rest group asked = (asked, refl)
 
-asked_of : (manner : WritingManner) (kind : PartType) (part : PartView) (capture : Option (List ℕ)) (rest : Captures) → ¬ (kind ≡ FixedText) → OfFirst (IsAsked manner) kind part (capture ∷ rest) → IsAsked manner part capture
-asked_of manner FixedText part capture rest group first = absurd (group refl)
-asked_of manner Regexp part capture rest group first = first
-asked_of manner SegmentWildcard part capture rest group first = first
-asked_of manner FullWildcard part capture rest group first = first
+asked_of : (settings : WriteSettings) (kind : PartType) (part : PartView) (capture : Option (List ℕ)) (rest : Captures) → ¬ (kind ≡ FixedText) → OfFirst (IsRequested settings) kind part (capture ∷ rest) → IsRequested settings part capture
+asked_of settings FixedText part capture rest group first = absurd (group refl)
+asked_of settings Regexp part capture rest group first = first
+asked_of settings SegmentWildcard part capture rest group first = first
+asked_of settings FullWildcard part capture rest group first = first
 
-module _ (manner : WritingManner) (part : PartView) (found : Found) (i : ℕ) (other : Option (Bor (List ℕ))) (is : Bool) (group : ¬ (part.kind ≡ FixedText)) (within : i < length found)
-    (tested : IsTrue is ↔ IsAsked manner part (option_text (get_or found i other))) where
-  pub asked_here : is ≡ true → LeavesAsked manner part (map option_text found) i (Some (i + 1))
+module _ (settings : WriteSettings) (part : PartView) (found : Found) (i : ℕ) (other : Option (Bor (List ℕ))) (is : Bool) (group : ¬ (part.kind ≡ FixedText)) (within : i < length found)
+    (tested : IsTrue is ↔ IsRequested settings part (option_text (get_or found i other))) where
+  pub asked_here : is ≡ true → LeavesRequested settings part (map option_text found) i (Some (i + 1))
   asked_here e =
-      subst (λ left. OfFirst (IsAsked manner) part.kind part left × (captures_after part.kind left ≡ drop (i + 1) (map option_text found))) (sym (left_from found i other within))
-      (asked_by manner part.kind part (option_text (get_or found i other)) (drop (i + 1) (map option_text found)) group (tested.0 e))
+      subst (λ left. OfFirst (IsRequested settings) part.kind part left × (captures_after part.kind left ≡ drop (i + 1) (map option_text found))) (sym (left_from found i other within))
+      (asked_by settings part.kind part (option_text (get_or found i other)) (drop (i + 1) (map option_text found)) group (tested.0 e))
 
-  pub other_here : is ≡ false → LeavesAsked manner part (map option_text found) i None
+  pub other_here : is ≡ false → LeavesRequested settings part (map option_text found) i None
   other_here e first =
-      false≢true (sym e ∙ tested.1 (asked_of manner part.kind part (option_text (get_or found i other)) (drop (i + 1) (map option_text found)) group
-      (subst (OfFirst (IsAsked manner) part.kind part) (left_from found i other within) first)))
+      false≢true (sym e ∙ tested.1 (asked_of settings part.kind part (option_text (get_or found i other)) (drop (i + 1) (map option_text found)) group
+      (subst (OfFirst (IsRequested settings) part.kind part) (left_from found i other within) first)))
 
 -- ---- the remaining captures at the end
 
@@ -60,9 +60,9 @@ none_left all next within = (
   (λ none. let many : length all - next ≡ 0 = sym (length-drop next all) ∙ ap length none in grind (arith, nat_tests)),
 )
 
-pub left_at_end : (manner : WritingManner) (list : List Part) (all : Captures) (i next count : ℕ) (Whole : Type 0) → length list ≤ i → next ≤ length all → count ≡ length all →
-    AreAsked manner (parts_view (drop i list)) (drop next all) ↔ Whole → IsTrue (next == count) ↔ Whole
-left_at_end manner list all i next count Whole past within many are =
-    let whole : AreAsked manner [] (drop next all) ↔ Whole = subst (λ parts. AreAsked manner (parts_view parts) (drop next all) ↔ Whole) (drop_all i list past) are in
+pub left_at_end : (settings : WriteSettings) (list : List Part) (all : Captures) (i next count : ℕ) (Whole : Type 0) → length list ≤ i → next ≤ length all → count ≡ length all →
+    AreRequested settings (parts_view (drop i list)) (drop next all) ↔ Whole → IsTrue (next == count) ↔ Whole
+left_at_end settings list all i next count Whole past within many are =
+    let whole : AreRequested settings [] (drop next all) ↔ Whole = subst (λ parts. AreRequested settings (parts_view parts) (drop next all) ↔ Whole) (drop_all i list past) are in
     let none = none_left all next within in
     ((λ same. whole.0 (none.0 (subst (λ n. IsTrue (next == n)) many same))), (λ asked. subst (λ n. IsTrue (next == n)) (sym many) (none.1 (whole.1 asked))))

@@ -6,7 +6,7 @@ use Rattle.std.proofs.lemmas.Slice.Eq.{bytes_eq-Decides}
 use Rattle.std.proofs.lemmas.List.{drop_all}
 use Rattle.std.specs.{Borrow.Bor, Str.chars}
 use Rattle.std.specs.Prelude.{IsTrue, codes, if◌then◌else◌}
-use Rattle.urlpattern_generate.specs.Manners.{given_groups, text_given, given_view, is_given_for}
+use Rattle.urlpattern_generate.specs.WriteSettings.{given_groups, text_given, given_view, is_given_for}
 use Rattle.urlpattern_components.proofs.EightLemmas.{by_name}
 use Rattle.urlpattern_components.specs.Eight.{name_text}
 use Rattle.urlpattern_components.specs.declared.eight.ComponentName.{ComponentName}

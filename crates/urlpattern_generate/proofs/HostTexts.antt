@@ -24,7 +24,7 @@ use Rattle.url.specs.declared.host.Host.{Host}
 use Rattle.url.specs.declared.scheme.SchemeType.TheVariants.{SpecialNotFile}
 use Rattle.url.specs.declared.sets.TheConstants.{FORBIDDEN_DOMAIN, FORBIDDEN_HOST}
 use Rattle.urlpattern_canonical.proofs.CanonicalLemmas.{after-ok}
-use Rattle.urlpattern_canonical.specs.Canonical.{dummy_url, hostname_of, refused_as}
+use Rattle.urlpattern_canonical.specs.Canonical.{dummy_url, hostname_of, rejected_as}
 use Rattle.urlpattern_generate.proofs.SetTexts.{AreVisible, dummy, dummy_is, is_visible, stripped}
 
 -- ---- bytes that pass a test
@@ -85,5 +85,5 @@ host_set host valid =
 
 pub hostname_kept : (host : Host (List ℕ)) → IsHostOf SpecialNotFile host → hostname_of (host_text host) ≡ Ok (host_text host)
 hostname_kept host valid =
-    after-ok dummy_url (λ url. refused_as InvalidDomainCharacter (quirks.set_host url (host_text host) false)) (λ url. host_text (host_or_empty url)) dummy (record dummy { host = Some host; port = None })
-    dummy_is (ap (refused_as InvalidDomainCharacter) (host_set host valid))
+    after-ok dummy_url (λ url. rejected_as InvalidDomainCharacter (quirks.set_host url (host_text host) false)) (λ url. host_text (host_or_empty url)) dummy (record dummy { host = Some host; port = None })
+    dummy_is (ap (rejected_as InvalidDomainCharacter) (host_set host valid))

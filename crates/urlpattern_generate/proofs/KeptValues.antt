@@ -29,14 +29,14 @@ use Rattle.url.specs.declared.host.Host.TheVariants.{Domain}
 use Rattle.url.specs.declared.scheme.SchemeType.TheVariants.{SpecialNotFile}
 use Rattle.url.specs.declared.sets.TheConstants.{FORBIDDEN_DOMAIN, FRAGMENT, OPAQUE_PATH, PATH, SPECIAL_QUERY}
 use Rattle.urlpattern_canonical.proofs.CanonicalLemmas.{pathname_of-bare}
-use Rattle.urlpattern_canonical.specs.Canonical.{after, canonical_hostname, canonical_opaque_pathname, canonical_protocol, dummy_url, hostname_of, pathname_of, without_guard}
+use Rattle.urlpattern_canonical.specs.Canonical.{after, canonical_hostname, canonical_opaque_pathname, canonical_protocol, dummy_url, hostname_of, pathname_of, without_added_prefix}
 use Rattle.urlpattern_components.specs.declared.eight.ComponentName.{ComponentName}
 use Rattle.urlpattern_components.specs.declared.eight.ComponentName.TheVariants.{Protocol, Username, Password, Hostname, Port, Pathname, Search, Hash}
 use Rattle.urlpattern_generate.proofs.HostTexts.{host_visible, hostname_kept}
 use Rattle.urlpattern_generate.proofs.OpaquePaths.{path_canonical}
 use Rattle.urlpattern_generate.proofs.PortTexts.{port_digits, port_kept}
 use Rattle.urlpattern_generate.proofs.SetTexts.{AreVisible, by_bytes, hash_kept, is_visible, path_stays, pathname_kept, search_kept}
-use Rattle.urlpattern_generate.specs.Manners.{canonical_for}
+use Rattle.urlpattern_generate.specs.WriteSettings.{canonical_for}
 use Rattle.urlpattern_syntax.proofs.TextLemmas.{chars_nothing}
 use Rattle.urlpattern_syntax.specs.Text.{lacks, line_feed}
 use Rattle.urlpattern_generate.specs.CanonicalValues.{is_dot_mark, is_host_character, is_kept_character, is_kept_host, is_kept_opaque, is_kept_path, is_kept_value, is_label_character}
@@ -134,7 +134,7 @@ guarded_kept bytes bare kept =
     let visible = All-cons (Passes is_visible) 47 (45 ∷ bytes) refl (All-cons (Passes is_visible) 45 bytes refl (are_visible bytes (path_characters false bytes kept))) in
     let list = segments false [] (45 ∷ []) bytes (no_segments SpecialNotFile) (All-cons (Passes is_of_segment) 45 [] refl (All-nil (Passes is_of_segment))) refl kept in
     pathname_of-bare bytes bare
-    ∙ ap (λ parsed. and_then parsed (λ path. Ok (without_guard path))) (path_stays (codes "/-" ++ bytes) visible list (omega arith))
+    ∙ ap (λ parsed. and_then parsed (λ path. Ok (without_added_prefix path))) (path_stays (codes "/-" ++ bytes) visible list (omega arith))
 
 path_kept : (bytes : List ℕ) → is_kept_path false bytes ≡ true → pathname_of bytes ≡ Ok bytes
 path_kept [] kept = guarded_kept [] refl kept

@@ -4,7 +4,7 @@ pub mod GroupLemmas
 pub mod LinkExamples
 pub mod LinkLaws
 pub mod SearchLemmas
-pub mod AskedLemmas
+pub mod RequestedLemmas
 pub mod FoundCaptures
 pub mod GeneratingLemmas
 pub mod GivenLemmas

@@ -7,7 +7,7 @@ use Rattle.std.specs.Char.{is_ascii_alphabetic, to_ascii_lowercase}
 use Rattle.std.specs.Prelude.{◌||◌, IsTrue, map, option_to_list, unwrap_or}
 use Rattle.urlpattern_generate.specs.Generating.{ReadsWritten, has_one_case}
 use Rattle.urlpattern_generate.specs.Links.{IsCopyText, MayCapture, MayCaptureAll, OfFirst, captures_after, fewest_copies, text_of_group, text_of_part, text_of_parts}
-use Rattle.urlpattern_meaning.specs.Matching.{Answers, BeginsPlain, EndsPlain, IsMadeBetween, IsMadeByEngine, IsMadeOf, IsMadeOfOne, IsRemoved, MatcherView, MayBeEmpty, PassesFilter, end_text, folded, single_capture_matcher}
+use Rattle.urlpattern_meaning.specs.Matching.{Returns, BeginsPlain, EndsPlain, IsMadeBetween, IsMadeByEngine, IsMadeOf, IsMadeOfOne, IsRemoved, MatcherView, MayBeEmpty, PassesFilter, end_text, folded, single_capture_matcher}
 use Rattle.urlpattern_meaning.specs.PartMeaning.{Allows, Captures}
 use Rattle.urlpattern_syntax.specs.declared.parser.PartModifier.{PartModifier}
 use Rattle.urlpattern_syntax.specs.declared.parser.PartModifier.TheVariants as modifiers
@@ -124,9 +124,9 @@ module _ {E : Type 0} (answer : E → List ℕ → Option Captures) (IsEngine : 
   -- A single capture is found.
   capture_found : (filter : Option ℕ) (allow_empty : Bool) (part : PartView) (front back text : List ℕ) (matcher : MatcherView E) →
       matcher ≡ single_capture_matcher options front part back filter allow_empty → IsTrue (not options.ignore_case || has_one_case filter) → MayBeEmpty allow_empty text → PassesFilter false filter text →
-      Answers answer matcher (front ++ ((part.prefix ++ text ++ part.suffix) ++ back)) (Some (Some text ∷ []))
+      Returns answer matcher (front ++ ((part.prefix ++ text ++ part.suffix) ++ back)) (Some (Some text ∷ []))
   capture_found filter allow_empty part front back text matcher e one some lacking =
-      subst (λ m. Answers answer m (front ++ ((part.prefix ++ text ++ part.suffix) ++ back)) (Some (Some text ∷ []))) (sym e) (
+      subst (λ m. Returns answer m (front ++ ((part.prefix ++ text ++ part.suffix) ++ back)) (Some (Some text ∷ []))) (sym e) (
         text,
         (front ++ part.prefix, part.suffix ++ back, cut_out front part.prefix text part.suffix back, refl, refl),
         (some, passes_folded options.ignore_case filter text one lacking, refl),
@@ -138,7 +138,7 @@ module _ {E : Type 0} (answer : E → List ℕ → Option Captures) (IsEngine : 
   module _ (front : List ℕ) (part : PartView) (back : Option PartView) (IsThere : Type 0) (removed : IsRemoved back IsThere) (matcher : MatcherView E) (captures : Captures) where
     -- The matcher finds the captures.
     abbrev Found : Type 0
-    Found = Answers answer matcher (front ++ text_of_parts (part ∷ option_to_list back) captures) (Some captures)
+    Found = Returns answer matcher (front ++ text_of_parts (part ∷ option_to_list back) captures) (Some captures)
 
     -- The matcher finds the capture of the part and those after it.
     with_capture : (filter : Option ℕ) (allow_empty : Bool) (capture : Option (List ℕ)) (text : List ℕ) (more : Captures) → captures ≡ capture ∷ more → capture ≡ Some text →
@@ -149,8 +149,8 @@ module _ {E : Type 0} (answer : E → List ℕ → Option Captures) (IsEngine : 
         let whole : text_of_parts (part ∷ option_to_list back) captures ≡ (part.prefix ++ text ++ part.suffix) ++ end_text back =
         cut ∙ ap (λ c. text_of_group part c ++ text_of_parts (option_to_list back) more) f ∙ ap (λ t. (part.prefix ++ text ++ part.suffix) ++ t) alone.1 in
         let all : captures ≡ Some text ∷ [] = e ∙ ap (λ c. c ∷ more) f ∙ ap (λ m. Some text ∷ m) alone.0 in
-        subst (λ t. Answers answer matcher (front ++ t) (Some captures)) (sym whole)
-        (subst (λ c. Answers answer matcher (front ++ ((part.prefix ++ text ++ part.suffix) ++ end_text back)) (Some c)) (sym all)
+        subst (λ t. Returns answer matcher (front ++ t) (Some captures)) (sym whole)
+        (subst (λ c. Returns answer matcher (front ++ ((part.prefix ++ text ++ part.suffix) ++ end_text back)) (Some c)) (sym all)
         (capture_found filter allow_empty part front (end_text back) text matcher made folds some lacking))
 
     segment_found : part.kind ≡ SegmentWildcard → part.modifier ≡ modifiers.None → MayCaptureAll options (part ∷ option_to_list back) captures →
@@ -188,10 +188,10 @@ module _ {E : Type 0} (answer : E → List ℕ → Option Captures) (IsEngine : 
   -- The parts between two texts.
   between_found : (front : List ℕ) (middle : List PartView) (back : Option PartView) (IsThere : Type 0) (matcher : MatcherView E) (captures : Captures) → IsRemoved back IsThere →
       IsMadeBetween IsEngine options front middle (end_text back) matcher → ReadsWritten matcher.ignore_case matcher.inner → MayCaptureAll options (middle ++ option_to_list back) captures →
-      Answers answer matcher (front ++ text_of_parts (middle ++ option_to_list back) captures) (Some captures)
+      Returns answer matcher (front ++ text_of_parts (middle ++ option_to_list back) captures) (Some captures)
   between_found front [] back IsThere matcher captures removed made reads may =
       let alone = back_alone options back IsThere captures removed may in
-      subst (λ m. Answers answer m (front ++ text_of_parts (option_to_list back) captures) (Some captures)) (sym made) (
+      subst (λ m. Returns answer m (front ++ text_of_parts (option_to_list back) captures) (Some captures)) (sym made) (
         front ++ text_of_parts (option_to_list back) captures,
         ([], [], sym (append-nil (front ++ text_of_parts (option_to_list back) captures)), refl, refl),
         (ap (λ text. folded options.ignore_case (front ++ text)) alone.1, alone.0),
@@ -201,11 +201,11 @@ module _ {E : Type 0} (answer : E → List ℕ → Option Captures) (IsEngine : 
   between_found front (part ∷ next ∷ parts) back IsThere matcher captures removed made reads may = absurd (engine_made front (end_text back) (part ∷ next ∷ parts) matcher made reads)
 
   pub made_finds : (parts : List PartView) (matcher : MatcherView E) (captures : Captures) → IsMadeOf IsEngine options parts matcher → ReadsWritten matcher.ignore_case matcher.inner →
-      MayCaptureAll options parts captures → Answers answer matcher (text_of_parts parts captures) (Some captures)
+      MayCaptureAll options parts captures → Returns answer matcher (text_of_parts parts captures) (Some captures)
   made_finds parts matcher captures made reads may =
       let front = option_to_list made.front in
       let back = option_to_list made.back in
       let cut : parts ≡ front ++ (made.middle ++ back) = made.are_peeled.cut ∙ append_assoc front made.middle back in
       let after = front_first options made.front (BeginsPlain parts) (made.middle ++ back) captures made.are_peeled.front_removed (subst (λ all. MayCaptureAll options all captures) cut may) in
-      subst (λ text. Answers answer matcher text (Some captures)) (sym (ap (λ all. text_of_parts all captures) cut ∙ after.1))
+      subst (λ text. Returns answer matcher text (Some captures)) (sym (ap (λ all. text_of_parts all captures) cut ∙ after.1))
       (between_found (end_text made.front) made.middle made.back (EndsPlain made.middle) matcher captures made.are_peeled.back_removed made.is_made reads after.0)

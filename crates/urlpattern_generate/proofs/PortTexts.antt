@@ -24,7 +24,7 @@ use Rattle.url.specs.declared.error.ParseError.TheVariants.{InvalidPort}
 use Rattle.url.specs.declared.host.Host.TheVariants.{Domain}
 use Rattle.url.specs.declared.slicing.Position.TheVariants.{BeforePort, AfterPort}
 use Rattle.urlpattern_canonical.proofs.CanonicalLemmas.{after-ok}
-use Rattle.urlpattern_canonical.specs.Canonical.{canonical_port, dummy_of_scheme, port_of, refused_as}
+use Rattle.urlpattern_canonical.specs.Canonical.{canonical_port, dummy_of_scheme, port_of, rejected_as}
 use Rattle.urlpattern_generate.proofs.HostTexts.{taken}
 use Rattle.urlpattern_generate.proofs.SetTexts.{AreVisible, by_bytes, is_visible, stripped}
 use Rattle.urlpattern_generate.specs.CanonicalValues.{is_kept_port}
@@ -105,8 +105,8 @@ module _ (bytes : List ℕ) (short : IsShort bytes) where
 
   asked : port_of scheme bytes ≡ Ok bytes
   asked =
-      after-ok (dummy_of_scheme scheme) (λ url. refused_as InvalidPort (quirks.set_port url bytes)) (λ url. text_between url BeforePort AfterPort) unset (record unset { port = Some (digits_value 10 bytes) }) unset_is
-      (ap (refused_as InvalidPort) port_set)
+      after-ok (dummy_of_scheme scheme) (λ url. rejected_as InvalidPort (quirks.set_port url bytes)) (λ url. text_between url BeforePort AfterPort) unset (record unset { port = Some (digits_value 10 bytes) }) unset_is
+      (ap (rejected_as InvalidPort) port_set)
       ∙ ap (λ text. Ok text) (append-nil (decimal (digits_value 10 bytes)) ∙ written_back)
 
 pub port_digits : (bytes : List ℕ) → is_kept_port bytes ≡ true → All (Passes is_ascii_digit) bytes

@@ -17,7 +17,7 @@ use Rattle.urlpattern_components.specs.declared.eight.Eight.{Eight}
 use Rattle.urlpattern_components.specs.Eight.{at, components}
 use Rattle.urlpattern_generate.specs.WrittenTexts.{cow_text}
 use Rattle.urlpattern_generate.specs.UrlLines.{bytes_of_each, url_line}
-use Rattle.urlpattern_generate.specs.UrlsOfTexts.{AreSeenAs, IsAtFault, IsSeenAs, RefusesLine, RefusesTexts, compared_components, cow_texts, line_of, runs_on, texts_seen}
+use Rattle.urlpattern_generate.specs.UrlsOfTexts.{AreSeenAs, IsAtFault, IsSeenAs, RejectsLine, RejectsTexts, compared_components, cow_texts, line_of, runs_on, texts_seen}
 use Rattle.urlpattern_generate.specs.declared.no_link.NoLink.{NoLink}
 use Rattle.urlpattern_generate.specs.declared.no_link.NoLink.TheVariants.{Component, OtherText, OutOfMemory, Url}
 
@@ -43,7 +43,7 @@ seen_texts texts seen are =
     same_values (texts_seen seen) (cow_texts texts)
     (λ name. at-each (λ other. chars (at seen other).now) name ∙ ap chars (are name).0 ∙ sym (at-each (λ other. cow_text (at texts other)) name))
 
-pub line_refused : (texts : Eight (CowStr Global)) (error : NoLink) → RefusesLine (line_of (cow_texts texts)) error → RefusesTexts (cow_texts texts) error
+pub line_refused : (texts : Eight (CowStr Global)) (error : NoLink) → RejectsLine (line_of (cow_texts texts)) error → RejectsTexts (cow_texts texts) error
 line_refused texts (Component error) h = absurd h
 line_refused texts (Url reason) h = h
 line_refused texts (OtherText component) h = absurd h

@@ -5,10 +5,10 @@ use Rattle.std.proofs.lemmas.List.{map-append, take-append-drop, take_more}
 use Rattle.std.specs.Prelude.{◌&&◌, ◌↔◌, IfOk, IfSome, IsTrue}
 use Rattle.std.specs.{Borrow.Bor, Str.chars}
 use Rattle.urlpattern_components.specs.declared.eight.ComponentName.{ComponentName}
-use Rattle.urlpattern_generate.proofs.AskedLemmas.{each_alone, each_joined, text_alone, texts_joined}
-use Rattle.urlpattern_generate.specs.Asked.{IsAsked, IsAskedBy}
-use Rattle.urlpattern_generate.specs.Manners.{WritingManner}
-use Rattle.urlpattern_generate.specs.WrittenTexts.{CannotWrite, IsWritten, RefusesPart}
+use Rattle.urlpattern_generate.proofs.RequestedLemmas.{each_alone, each_joined, text_alone, texts_joined}
+use Rattle.urlpattern_generate.specs.Requested.{IsRequested, IsRequestedBy}
+use Rattle.urlpattern_generate.specs.WriteSettings.{WriteSettings}
+use Rattle.urlpattern_generate.specs.WrittenTexts.{CannotWrite, IsWritten, RejectsPart}
 use Rattle.urlpattern_generate.specs.declared.generate_error.GenerateError.{GenerateError}
 use Rattle.urlpattern_generate.specs.Links.{IsCopyText, MayCapture, text_of_group, text_of_parts}
 use Rattle.urlpattern_meaning.specs.PartMeaning.{Allows}
@@ -21,23 +21,23 @@ use Rattle.urlpattern_syntax.specs.Text.{lacks, line_feed}
 
 -- ---- texts
 
-pub nothing_written : (manner : WritingManner) → IsWritten manner [] []
-nothing_written manner = record { captures = []; are_asked = refl; may_capture = refl; is_text = refl }
+pub nothing_written : (settings : WriteSettings) → IsWritten settings [] []
+nothing_written settings = record { captures = []; are_requested = refl; may_capture = refl; is_text = refl }
 
-pub written_joined : (manner : WritingManner) (parts others : List PartView) (text more : List ℕ) → IsWritten manner parts text → IsWritten manner others more → IsWritten manner (parts ++ others) (text ++ more)
-written_joined manner parts others text more written also = record {
+pub written_joined : (settings : WriteSettings) (parts others : List PartView) (text more : List ℕ) → IsWritten settings parts text → IsWritten settings others more → IsWritten settings (parts ++ others) (text ++ more)
+written_joined settings parts others text more written also = record {
   captures = written.captures ++ also.captures;
-  are_asked = each_joined (IsAsked manner) parts others written.captures also.captures written.are_asked also.are_asked;
-  may_capture = each_joined (MayCapture manner.options) parts others written.captures also.captures written.may_capture also.may_capture;
-  is_text = ap (λ own. own ++ more) written.is_text ∙ ap (λ other. text_of_parts parts written.captures ++ other) also.is_text ∙ sym (texts_joined (IsAsked manner) parts others written.captures also.captures written.are_asked);
+  are_requested = each_joined (IsRequested settings) parts others written.captures also.captures written.are_requested also.are_requested;
+  may_capture = each_joined (MayCapture settings.options) parts others written.captures also.captures written.may_capture also.may_capture;
+  is_text = ap (λ own. own ++ more) written.is_text ∙ ap (λ other. text_of_parts parts written.captures ++ other) also.is_text ∙ sym (texts_joined (IsRequested settings) parts others written.captures also.captures written.are_requested);
 }
 
-pub group_written : (manner : WritingManner) (part : PartView) (capture : Option (List ℕ)) → ¬ (part.kind ≡ FixedText) → IsAsked manner part capture → MayCapture manner.options part capture →
-    IsWritten manner (part ∷ []) (text_of_group part capture)
-group_written manner part capture group asked may = record {
+pub group_written : (settings : WriteSettings) (part : PartView) (capture : Option (List ℕ)) → ¬ (part.kind ≡ FixedText) → IsRequested settings part capture → MayCapture settings.options part capture →
+    IsWritten settings (part ∷ []) (text_of_group part capture)
+group_written settings part capture group asked may = record {
   captures = capture ∷ [];
-  are_asked = each_alone (IsAsked manner) part capture group asked;
-  may_capture = each_alone (MayCapture manner.options) part capture group may;
+  are_requested = each_alone (IsRequested settings) part capture group asked;
+  may_capture = each_alone (MayCapture settings.options) part capture group may;
   is_text = sym (text_alone part capture group);
 }
 
@@ -54,28 +54,28 @@ parts_cut list i part within is =
     ∙ ap (λ p. parts_view (take i list) ++ part_view p ∷ parts_view (drop (i + 1) list)) (sym is)
 
 -- The text with one more part.
-pub written_more : (manner : WritingManner) (list : List Part) (i : ℕ) (part : Part) (text more now : List ℕ) → i < length list → part ≡ get_or list i part → IsWritten manner (parts_view (take i list)) text →
-    IsWritten manner (part_view part ∷ []) more → now ≡ text ++ more → IsWritten manner (parts_view (take (i + 1) list)) now
-written_more manner list i part text more now within is written also e =
-    subst (IsWritten manner (parts_view (take (i + 1) list))) (sym e)
-    (subst (λ parts. IsWritten manner parts (text ++ more)) (sym (parts_more list i part within is)) (written_joined manner (parts_view (take i list)) (part_view part ∷ []) text more written also))
+pub written_more : (settings : WriteSettings) (list : List Part) (i : ℕ) (part : Part) (text more now : List ℕ) → i < length list → part ≡ get_or list i part → IsWritten settings (parts_view (take i list)) text →
+    IsWritten settings (part_view part ∷ []) more → now ≡ text ++ more → IsWritten settings (parts_view (take (i + 1) list)) now
+written_more settings list i part text more now within is written also e =
+    subst (IsWritten settings (parts_view (take (i + 1) list))) (sym e)
+    (subst (λ parts. IsWritten settings parts (text ++ more)) (sym (parts_more list i part within is)) (written_joined settings (parts_view (take i list)) (part_view part ∷ []) text more written also))
 
 -- A part cannot be written, after those before it were.
-pub refused_there : (component : ComponentName) (manner : WritingManner) (list : List Part) (i : ℕ) (part : Part) (text : List ℕ) (error : GenerateError) → i < length list → part ≡ get_or list i part →
-    IsWritten manner (parts_view (take i list)) text → RefusesPart component manner (part_view part) error → CannotWrite component manner (parts_view list) error
-refused_there component manner list i part text error within is written refused =
+pub refused_there : (component : ComponentName) (settings : WriteSettings) (list : List Part) (i : ℕ) (part : Part) (text : List ℕ) (error : GenerateError) → i < length list → part ≡ get_or list i part →
+    IsWritten settings (parts_view (take i list)) text → RejectsPart component settings (part_view part) error → CannotWrite component settings (parts_view list) error
+refused_there component settings list i part text error within is written refused =
     inr (parts_view (take i list), parts_view (drop (i + 1) list), part_view part, text, parts_cut list i part within is, written, refused)
 
 -- ---- a single part whose text can be borrowed
 
-pub lent_written : (manner : WritingManner) (part : PartView) (text : List ℕ) → part.kind ≡ FullWildcard → part.modifier ≡ modifiers.None → (is_empty part.prefix && is_empty part.suffix) ≡ true → IsAsked manner part (Some text) →
-    IsTrue (lacks line_feed text) → IsWritten manner (part ∷ []) text
-lent_written manner part text e f bare asked line =
+pub lent_written : (settings : WriteSettings) (part : PartView) (text : List ℕ) → part.kind ≡ FullWildcard → part.modifier ≡ modifiers.None → (is_empty part.prefix && is_empty part.suffix) ≡ true → IsRequested settings part (Some text) →
+    IsTrue (lacks line_feed text) → IsWritten settings (part ∷ []) text
+lent_written settings part text e f bare asked line =
     let none = both_nothing part.prefix part.suffix bare in
-    let may : MayCapture manner.options part (Some text) =
-    inr (0, subst (λ m. Allows m 1) (sym f) refl, subst (λ k. IsCopyText manner.options k text) (sym e) line) in
-    subst (IsWritten manner (part ∷ [])) (ap (λ front. front ++ text ++ part.suffix) none.0 ∙ ap (λ back. text ++ back) none.1 ∙ append-nil text)
-    (group_written manner part (Some text) (λ fixed. cc) asked may)
+    let may : MayCapture settings.options part (Some text) =
+    inr (0, subst (λ m. Allows m 1) (sym f) refl, subst (λ k. IsCopyText settings.options k text) (sym e) line) in
+    subst (IsWritten settings (part ∷ [])) (ap (λ front. front ++ text ++ part.suffix) none.0 ∙ ap (λ back. text ++ back) none.1 ∙ append-nil text)
+    (group_written settings part (Some text) (λ fixed. cc) asked may)
   where
     both_nothing : (prefix suffix : List ℕ) → (is_empty prefix && is_empty suffix) ≡ true → (prefix ≡ []) × (suffix ≡ [])
     both_nothing [] [] bare = (refl, refl)
@@ -83,18 +83,18 @@ lent_written manner part text e f bare asked line =
     both_nothing (c ∷ prefix) suffix bare = cc bare
 
 -- The text of a single wildcard whose capture can be borrowed.
-pub lent_if : (manner : WritingManner) (part : PartView) (found : Option (Bor (List ℕ))) → part.kind ≡ FullWildcard → part.modifier ≡ modifiers.None → (is_empty part.prefix && is_empty part.suffix) ≡ true →
-    IfSome found (λ text. IsAsked manner part (Some (chars text.now))) → IfSome found (λ text. IsTrue (lacks line_feed (chars text.now))) → IfSome found (λ text. IsWritten manner (part ∷ []) (chars text.now))
-lent_if manner part None e f bare asked line = tt
-lent_if manner part (Some text) e f bare asked line = lent_written manner part (chars text.now) e f bare asked line
+pub lent_if : (settings : WriteSettings) (part : PartView) (found : Option (Bor (List ℕ))) → part.kind ≡ FullWildcard → part.modifier ≡ modifiers.None → (is_empty part.prefix && is_empty part.suffix) ≡ true →
+    IfSome found (λ text. IsRequested settings part (Some (chars text.now))) → IfSome found (λ text. IsTrue (lacks line_feed (chars text.now))) → IfSome found (λ text. IsWritten settings (part ∷ []) (chars text.now))
+lent_if settings part None e f bare asked line = tt
+lent_if settings part (Some text) e f bare asked line = lent_written settings part (chars text.now) e f bare asked line
 
 -- ---- the requested capture of a group with a value
 
-pub asked_form : {Fault : Type 0} (manner : WritingManner) (part : PartView) (given value : List ℕ) (r : Result Bool Fault) → manner.given part.name ≡ Some given →
-    IfOk r (λ has. IsTrue has ↔ (manner.canonical given ≡ Ok value)) → IfOk r (λ is. IsTrue is ↔ IsAsked manner part (Some value))
-asked_form manner part given value (Err fault) e tested = tt
-asked_form manner part given value (Ok is) e tested =
-    subst (λ text. IsTrue is ↔ IsAskedBy manner.canonical text part (Some value)) (sym e) (
+pub asked_form : {Fault : Type 0} (settings : WriteSettings) (part : PartView) (given value : List ℕ) (r : Result Bool Fault) → settings.given part.name ≡ Some given →
+    IfOk r (λ has. IsTrue has ↔ (settings.canonical given ≡ Ok value)) → IfOk r (λ is. IsTrue is ↔ IsRequested settings part (Some value))
+asked_form settings part given value (Err fault) e tested = tt
+asked_form settings part given value (Ok is) e tested =
+    subst (λ text. IsTrue is ↔ IsRequestedBy settings.canonical text part (Some value)) (sym e) (
       (λ yes. (value, tested.0 yes, refl)),
       (λ (other, form, same). tested.1 (form ∙ ap (λ t. Ok t) (some_same other value same))),
     )

@@ -4,29 +4,29 @@ use Rattle.std.specs.{Char.is_ascii_alphabetic, Str.chars}
 use Rattle.url.specs.Parser.{Parsed}
 use Rattle.urlpattern_canonical.specs.Canonical.{long_text}
 use Rattle.urlpattern_components.specs.declared.eight.ComponentName.{ComponentName}
-use Rattle.urlpattern_generate.specs.Asked.{AreAsked}
-use Rattle.urlpattern_generate.specs.Manners.{WritingManner}
+use Rattle.urlpattern_generate.specs.Requested.{AreRequested}
+use Rattle.urlpattern_generate.specs.WriteSettings.{WriteSettings}
 use Rattle.urlpattern_generate.specs.WrittenTexts.{CannotWrite, IsWritten}
 use Rattle.urlpattern_generate.specs.declared.generate_error.GenerateError.{GenerateError}
 use Rattle.urlpattern_generate.specs.declared.generate_error.GenerateError.TheVariants.{ReadOtherwise}
-use Rattle.urlpattern_meaning.specs.Matching.{Answers, InnerView, Literal, MatcherView, RegExp, SingleCapture}
+use Rattle.urlpattern_meaning.specs.Matching.{Returns, InnerView, Literal, MatcherView, RegExp, SingleCapture}
 use Rattle.urlpattern_meaning.specs.PartMeaning.{Captures}
 use Rattle.urlpattern_syntax.specs.Parts.{PartView}
 
 -- ---- what a matcher finds
 
 -- The matcher finds the requested captures in the text.
-abbrev pub FindsAsked : {E : Type 0} → (answer : E → List ℕ → Option Captures) → MatcherView E → WritingManner → List PartView → (text : List ℕ) → Type 0
-FindsAsked answer matcher manner parts text = (captures : Captures) × AreAsked manner parts captures × Answers answer matcher text (Some captures)
+abbrev pub FindsRequested : {E : Type 0} → (answer : E → List ℕ → Option Captures) → MatcherView E → WriteSettings → List PartView → (text : List ℕ) → Type 0
+FindsRequested answer matcher settings parts text = (captures : Captures) × AreRequested settings parts captures × Returns answer matcher text (Some captures)
 
 -- The matcher finds other captures, or does not match the text.
-abbrev pub FindsOther : {E : Type 0} → (answer : E → List ℕ → Option Captures) → MatcherView E → WritingManner → List PartView → (text : List ℕ) → Type 0
-FindsOther answer matcher manner parts text =
-    (found : Option Captures) × Answers answer matcher text found × ((captures : Captures) → AreAsked manner parts captures → found ≢ Some captures)
+abbrev pub FindsOther : {E : Type 0} → (answer : E → List ℕ → Option Captures) → MatcherView E → WriteSettings → List PartView → (text : List ℕ) → Type 0
+FindsOther answer matcher settings parts text =
+    (found : Option Captures) × Returns answer matcher text found × ((captures : Captures) → AreRequested settings parts captures → found ≢ Some captures)
 
 -- Whether the matcher finds the requested captures.
-abbrev pub TellsFound : {E : Type 0} → Bool → (answer : E → List ℕ → Option Captures) → MatcherView E → WritingManner → List PartView → (text : List ℕ) → Type 0
-TellsFound is answer matcher manner parts text = MatchBool is (FindsAsked answer matcher manner parts text) (FindsOther answer matcher manner parts text)
+abbrev pub DecidesFound : {E : Type 0} → Bool → (answer : E → List ℕ → Option Captures) → MatcherView E → WriteSettings → List PartView → (text : List ℕ) → Type 0
+DecidesFound is answer matcher settings parts text = MatchBool is (FindsRequested answer matcher settings parts text) (FindsOther answer matcher settings parts text)
 
 -- Whether the filter, if there is one, is a character other than an ASCII letter.
 abbrev pub has_one_case : (filter : Option ℕ) → Bool
@@ -51,25 +51,25 @@ abbrev pub IsNotCanonical : (List ℕ → Parsed (List ℕ)) → (bytes : List �
 IsNotCanonical canonical bytes = (¬ IsCanonical canonical (chars bytes)) ⊎ (long_text ≤ length bytes)
 
 -- Whether the text is its own canonical form.
-abbrev pub TellsCanonical : Bool → (List ℕ → Parsed (List ℕ)) → (bytes : List ℕ) → Type 0
-TellsCanonical is canonical bytes = MatchBool is (IsCanonical canonical (chars bytes)) (IsNotCanonical canonical bytes)
+abbrev pub DecidesCanonical : Bool → (List ℕ → Parsed (List ℕ)) → (bytes : List ℕ) → Type 0
+DecidesCanonical is canonical bytes = MatchBool is (IsCanonical canonical (chars bytes)) (IsNotCanonical canonical bytes)
 
 -- ---- the text of a component
 
 -- The text is written from the parts, is canonical, as that of a URL is, and the matcher finds the
 -- requested captures in it.
-pub record HasText {E : Type 0} (answer : E → List ℕ → Option Captures) (matcher : MatcherView E) (manner : WritingManner) (parts : List PartView) (text : List ℕ) : Type 0 where
-  pub is_written : IsWritten manner parts text
-  pub is_found : FindsAsked answer matcher manner parts text
-  pub is_canonical : IsCanonical manner.canonical text
+pub record HasText {E : Type 0} (answer : E → List ℕ → Option Captures) (matcher : MatcherView E) (settings : WriteSettings) (parts : List PartView) (text : List ℕ) : Type 0 where
+  pub is_written : IsWritten settings parts text
+  pub is_found : FindsRequested answer matcher settings parts text
+  pub is_canonical : IsCanonical settings.canonical text
 
 -- In the text of the parts the matcher finds other captures, or the text is not canonical.
-abbrev pub IsTextReadOtherwise : {E : Type 0} → (answer : E → List ℕ → Option Captures) → MatcherView E → WritingManner → List PartView → Type 0
-IsTextReadOtherwise answer matcher manner parts =
-    (bytes : List ℕ) × IsWritten manner parts (chars bytes)
-    × (FindsOther answer matcher manner parts (chars bytes) ⊎ IsNotCanonical manner.canonical bytes)
+abbrev pub IsTextReadOtherwise : {E : Type 0} → (answer : E → List ℕ → Option Captures) → MatcherView E → WriteSettings → List PartView → Type 0
+IsTextReadOtherwise answer matcher settings parts =
+    (bytes : List ℕ) × IsWritten settings parts (chars bytes)
+    × (FindsOther answer matcher settings parts (chars bytes) ⊎ IsNotCanonical settings.canonical bytes)
 
 -- The error that says why there is no such text.
-abbrev pub LacksText : {E : Type 0} → (answer : E → List ℕ → Option Captures) → MatcherView E → ComponentName → WritingManner → List PartView → GenerateError → Type 0
-LacksText answer matcher component manner parts (ReadOtherwise of) = (of ≡ component) × IsTextReadOtherwise answer matcher manner parts
-LacksText answer matcher component manner parts error = CannotWrite component manner parts error
+abbrev pub LacksText : {E : Type 0} → (answer : E → List ℕ → Option Captures) → MatcherView E → ComponentName → WriteSettings → List PartView → GenerateError → Type 0
+LacksText answer matcher component settings parts (ReadOtherwise of) = (of ≡ component) × IsTextReadOtherwise answer matcher settings parts
+LacksText answer matcher component settings parts error = CannotWrite component settings parts error

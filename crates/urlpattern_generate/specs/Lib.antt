@@ -2,11 +2,11 @@ pub mod CopySearch
 pub mod LawsOfLinks
 pub mod Links
 pub mod Texts
-pub mod Asked
+pub mod Requested
 pub mod GenerateErrorText
 pub mod Generating
 pub mod CanonicalValues
-pub mod Manners
+pub mod WriteSettings
 pub mod WrittenTexts
 pub mod NoLinkText
 pub mod UrlLines

@@ -67,13 +67,13 @@ IsAtFault url texts component =
     × HasOtherText url texts component
 
 -- The error says that `url` rejects the text, with its reason, or that memory ran out.
-abbrev pub RefusesLine : (bytes : List ℕ) → NoLink → Type 0
-RefusesLine bytes (Url reason) = Reports (parse_url None bytes) (length bytes) (views.Url reason)
-RefusesLine bytes OutOfMemory = Unit {0}
-RefusesLine bytes error = ⊥
+abbrev pub RejectsLine : (bytes : List ℕ) → NoLink → Type 0
+RejectsLine bytes (Url reason) = Reports (parse_url None bytes) (length bytes) (views.Url reason)
+RejectsLine bytes OutOfMemory = Unit {0}
+RejectsLine bytes error = ⊥
 
 -- The error says why there is no URL with these texts: `url` rejects the joined texts, or parses
 -- them as a URL with other texts; or memory ran out.
-abbrev pub RefusesTexts : Texts → NoLink → Type 0
-RefusesTexts texts (OtherText component) = (url : Parts) × IsReadOfTexts texts url × IsAtFault url texts component
-RefusesTexts texts error = RefusesLine (line_of texts) error
+abbrev pub RejectsTexts : Texts → NoLink → Type 0
+RejectsTexts texts (OtherText component) = (url : Parts) × IsReadOfTexts texts url × IsAtFault url texts component
+RejectsTexts texts error = RejectsLine (line_of texts) error

@@ -5,8 +5,8 @@ use Rattle.std.specs.declared.borrow.CowStr.{CowStr}
 use Rattle.std.specs.Cow.{cow_str_bytes}
 use Rattle.std.specs.Str.{chars}
 use Rattle.urlpattern_components.specs.declared.eight.ComponentName.{ComponentName}
-use Rattle.urlpattern_generate.specs.Asked.{AreAsked, IsAsked, RefusesGiven}
-use Rattle.urlpattern_generate.specs.Manners.{WritingManner, given_groups, manner_for}
+use Rattle.urlpattern_generate.specs.Requested.{AreRequested, IsRequested, RejectsGiven}
+use Rattle.urlpattern_generate.specs.WriteSettings.{WriteSettings, given_groups, settings_for}
 use Rattle.urlpattern_generate.specs.declared.generate_error.GenerateError.{GenerateError}
 use Rattle.urlpattern_generate.specs.declared.generate_error.GenerateError.TheVariants.{Missing, NotCaptured, OutOfMemory}
 use Rattle.urlpattern_generate.specs.declared.substitution.Substitution.{Substitution}
@@ -18,22 +18,22 @@ use Rattle.urlpattern_syntax.specs.Parts.{PartView}
 use Rattle.urlpattern_syntax.specs.Text.{text_of}
 
 -- The text is that of the parts with the requested captures, which their groups may have.
-pub record IsWritten (manner : WritingManner) (parts : List PartView) (text : List ℕ) : Type 0 where
+pub record IsWritten (settings : WriteSettings) (parts : List PartView) (text : List ℕ) : Type 0 where
   pub captures : Captures
-  pub are_asked : AreAsked manner parts captures
-  pub may_capture : MayCaptureAll manner.options parts captures
+  pub are_requested : AreRequested settings parts captures
+  pub may_capture : MayCaptureAll settings.options parts captures
   pub is_text : text ≡ text_of_parts parts captures
 
 -- ---- errors
 
 -- The group is requested to capture nothing, but is not optional.
-abbrev pub IsMissing : WritingManner → PartView → Type 0
-IsMissing manner part = IsAsked manner part None × ¬ MayCapture manner.options part None
+abbrev pub IsMissing : WriteSettings → PartView → Type 0
+IsMissing settings part = IsRequested settings part None × ¬ MayCapture settings.options part None
 
 -- `url` rejects the value of the group, or the group may not capture the canonical form.
-abbrev pub IsNotCaptured : WritingManner → PartView → Type 0
-IsNotCaptured manner part =
-    RefusesGiven manner part.name ⊎ ((text : List ℕ) × IsAsked manner part (Some text) × ¬ MayCapture manner.options part (Some text))
+abbrev pub IsNotCaptured : WriteSettings → PartView → Type 0
+IsNotCaptured settings part =
+    RejectsGiven settings part.name ⊎ ((text : List ℕ) × IsRequested settings part (Some text) × ¬ MayCapture settings.options part (Some text))
 
 -- The part is a group of this name.
 abbrev pub IsGroup : (name : List ℕ) → PartView → Type 0
@@ -41,18 +41,18 @@ IsGroup name part = (part.kind ≢ PartType.FixedText) × (part.name ≡ name)
 
 -- The error says why the part cannot be written, with the name of its group, or that memory ran
 -- out.
-abbrev pub RefusesPart : ComponentName → WritingManner → PartView → GenerateError → Type 0
-RefusesPart component manner part (Missing of name) = (of ≡ component) × IsGroup (text_of name) part × IsMissing manner part
-RefusesPart component manner part (NotCaptured of name) = (of ≡ component) × IsGroup (text_of name) part × IsNotCaptured manner part
-RefusesPart component manner part OutOfMemory = Unit {0}
-RefusesPart component manner part error = ⊥
+abbrev pub RejectsPart : ComponentName → WriteSettings → PartView → GenerateError → Type 0
+RejectsPart component settings part (Missing of name) = (of ≡ component) × IsGroup (text_of name) part × IsMissing settings part
+RejectsPart component settings part (NotCaptured of name) = (of ≡ component) × IsGroup (text_of name) part × IsNotCaptured settings part
+RejectsPart component settings part OutOfMemory = Unit {0}
+RejectsPart component settings part error = ⊥
 
 -- The error is that memory ran out, or that of the first part that cannot be written.
-abbrev pub CannotWrite : ComponentName → WritingManner → List PartView → GenerateError → Type 0
-CannotWrite component manner parts error =
+abbrev pub CannotWrite : ComponentName → WriteSettings → List PartView → GenerateError → Type 0
+CannotWrite component settings parts error =
     (error ≡ OutOfMemory)
     ⊎ ((before after : List PartView) × (part : PartView) × (text : List ℕ) × (parts ≡ before ++ part ∷ after)
-    × IsWritten manner before text × RefusesPart component manner part error)
+    × IsWritten settings before text × RejectsPart component settings part error)
 
 -- ---- steps of writing
 
@@ -61,16 +61,16 @@ abbrev pub cow_text : CowStr Global → List ℕ
 cow_text text = chars (cow_str_bytes text)
 
 -- How a writer writes.
-abbrev pub manner_of_writer : Substitution → WritingManner
-manner_of_writer writer = manner_for writer.component (kept_options writer.kept.now) (kept_parts writer.kept.now) (given_groups writer.groups.now)
+abbrev pub settings_of_writer : Substitution → WriteSettings
+settings_of_writer writer = settings_for writer.component (kept_options writer.kept.now) (kept_parts writer.kept.now) (given_groups writer.groups.now)
 
 -- The capture at `index` is the requested one, if the part is a group, and the next part's begins
 -- at `next`. None: it is not.
-abbrev pub LeavesAsked : WritingManner → PartView → Captures → (index : ℕ) → (next : Option ℕ) → Type 0
-LeavesAsked manner part captures index None = ¬ OfFirst (IsAsked manner) part.kind part (drop index captures)
-LeavesAsked manner part captures index (Some next) =
-    OfFirst (IsAsked manner) part.kind part (drop index captures) × (captures_after part.kind (drop index captures) ≡ drop next captures)
+abbrev pub LeavesRequested : WriteSettings → PartView → Captures → (index : ℕ) → (next : Option ℕ) → Type 0
+LeavesRequested settings part captures index None = ¬ OfFirst (IsRequested settings) part.kind part (drop index captures)
+LeavesRequested settings part captures index (Some next) =
+    OfFirst (IsRequested settings) part.kind part (drop index captures) × (captures_after part.kind (drop index captures) ≡ drop next captures)
 
 -- The text of a part was appended.
-abbrev pub GetsPart : WritingManner → PartView → (old new : String Global) → Type 0
-GetsPart manner part old new = (text : List ℕ) × IsWritten manner (part ∷ []) text × (text_of new ≡ text_of old ++ text)
+abbrev pub GetsPart : WriteSettings → PartView → (old new : String Global) → Type 0
+GetsPart settings part old new = (text : List ℕ) × IsWritten settings (part ∷ []) text × (text_of new ≡ text_of old ++ text)

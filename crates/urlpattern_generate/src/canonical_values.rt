@@ -5,7 +5,7 @@ ghost use Rattle.std.specs.Prelude.{◌≡◌, ◌&&◌, IsTrue, Ok, false, leb,
 ghost use Rattle.std.specs.Char.{is_ascii_digit};
 ghost use Rattle.std.specs.Str.{chars};
 ghost use Rattle.urlpattern_canonical.specs.Canonical.{canonical_protocol};
-ghost use Rattle.urlpattern_generate.specs.Manners.{canonical_for};
+ghost use Rattle.urlpattern_generate.specs.WriteSettings.{canonical_for};
 ghost use Rattle.urlpattern_generate.specs.CanonicalValues.{is_dot_mark, is_host_character, is_kept_character, is_kept_host, is_kept_opaque, is_kept_path, is_kept_port, is_kept_value};
 ghost use Rattle.urlpattern_syntax.specs.Text.{lacks, line_feed};
 

@@ -2,8 +2,8 @@
 
 ghost use Rattle.std.specs.Prelude.{◌≡◌, ◌≢◌, [], ◌∷◌, IfErr, IfOk, IfSome, IsTrue, OnOk, Some};
 ghost use Rattle.std.specs.Str.{chars};
-ghost use Rattle.urlpattern_generate.specs.Asked.{IsAsked};
-ghost use Rattle.urlpattern_generate.specs.WrittenTexts.{CannotWrite, GetsPart, IsWritten, RefusesPart, cow_text, manner_of_writer};
+ghost use Rattle.urlpattern_generate.specs.Requested.{IsRequested};
+ghost use Rattle.urlpattern_generate.specs.WrittenTexts.{CannotWrite, GetsPart, IsWritten, RejectsPart, cow_text, settings_of_writer};
 ghost use Rattle.urlpattern_syntax.specs.ComponentParts.{kept_parts};
 ghost use Rattle.urlpattern_syntax.specs.declared.parser.PartType.TheVariants.{FixedText};
 ghost use Rattle.urlpattern_syntax.specs.Parts.{part_view};
@@ -11,7 +11,7 @@ ghost use Rattle.urlpattern_syntax.specs.Text.{lacks, line_feed, option_text, te
 
 use crate::generate_error::GenerateError;
 use crate::given_groups::given_text;
-use crate::missing_captures::capture_not_given;
+use crate::missing_captures::default_capture;
 use crate::part_text::{push_fixed, push_group};
 use crate::substitution::Substitution;
 use std::borrow::CowStr;
@@ -28,13 +28,13 @@ impl<'d> Substitution<'d> {
     /// The error is that of the first part that cannot be written, or that memory ran out.
     #[inline(always)]
     pub(crate) fn text(&self) -> Result<CowStr<'d>, GenerateError>
-        ensures written { IfOk result (λ text. IsWritten (manner_of_writer self.now) (kept_parts self.now.kept.now) (cow_text text)) }
-        ensures refused { IfErr result (CannotWrite self.now.component (manner_of_writer self.now) (kept_parts self.now.kept.now)) }
+        ensures written { IfOk result (λ text. IsWritten (settings_of_writer self.now) (kept_parts self.now.kept.now) (cow_text text)) }
+        ensures refused { IfErr result (CannotWrite self.now.component (settings_of_writer self.now) (kept_parts self.now.kept.now)) }
     {
-        if let Some(text) = self.lent_text() {
+        if let Some(text) = self.borrowed_text() {
             return Ok(CowStr::Borrowed(text));
         }
-        match self.own_text() {
+        match self.build_text() {
             Ok(text) => Ok(CowStr::Owned(text)),
             Err(error) => Err(error),
         }
@@ -43,12 +43,12 @@ impl<'d> Substitution<'d> {
     /// Returns the text of no parts, or of a single part, if the text can be borrowed. `None`: the
     /// text has to be built.
     #[inline(always)]
-    fn lent_text(&self) -> Option<&'d str>
-        ensures { IfSome result (λ text. IsWritten (manner_of_writer self.now) (kept_parts self.now.kept.now) (chars text.now)) }
+    fn borrowed_text(&self) -> Option<&'d str>
+        ensures { IfSome result (λ text. IsWritten (settings_of_writer self.now) (kept_parts self.now.kept.now) (chars text.now)) }
     {
         match self.kept.parts.as_slice() {
             [] => Some(""),
-            [part] => self.lent_part(part),
+            [part] => self.borrowed_part(part),
             _ => None,
         }
     }
@@ -56,15 +56,15 @@ impl<'d> Substitution<'d> {
     /// Returns the text of a part, if it can be borrowed: a fixed text, or the capture of a
     /// wildcard without prefix and suffix.
     #[inline(always)]
-    fn lent_part(&self, part: &'d Part) -> Option<&'d str>
-        ensures { IfSome result (λ text. IsWritten (manner_of_writer self.now) (part_view part.now ∷ []) (chars text.now)) }
+    fn borrowed_part(&self, part: &'d Part) -> Option<&'d str>
+        ensures { IfSome result (λ text. IsWritten (settings_of_writer self.now) (part_view part.now ∷ []) (chars text.now)) }
     {
         if part.modifier != PartModifier::None {
             return None;
         }
         match part.kind {
             PartType::FixedText => Some(&part.value),
-            PartType::FullWildcard if is_bare(part) => self.lent_capture(part),
+            PartType::FullWildcard if is_bare(part) => self.borrowed_capture(part),
             _ => None,
         }
     }
@@ -72,12 +72,12 @@ impl<'d> Substitution<'d> {
     /// Returns the capture of a group, if its value needs no canonicalization. `None`: the group
     /// captures nothing, or the value has to be made canonical.
     #[inline(always)]
-    fn lent_capture(&self, part: &Part) -> Option<&'d str>
-        ensures asked { IfSome result (λ text. IsAsked (manner_of_writer self.now) (part_view part.now) (Some (chars text.now))) }
+    fn borrowed_capture(&self, part: &Part) -> Option<&'d str>
+        ensures asked { IfSome result (λ text. IsRequested (settings_of_writer self.now) (part_view part.now) (Some (chars text.now))) }
         ensures line { IfSome result (λ text. IsTrue (lacks line_feed (chars text.now))) }
     {
         match given_text(self.groups, self.component, &part.name) {
-            None => capture_not_given(part),
+            None => default_capture(part),
             Some(text) if self.keeps(text) => Some(text),
             Some(_) => None,
         }
@@ -87,9 +87,9 @@ impl<'d> Substitution<'d> {
     ///
     /// The error is that of the first part that cannot be written, or that memory ran out.
     #[inline(never)]
-    fn own_text(&self) -> Result<String, GenerateError>
-        ensures written { IfOk result (λ text. IsWritten (manner_of_writer self.now) (kept_parts self.now.kept.now) (text_of text)) }
-        ensures refused { IfErr result (CannotWrite self.now.component (manner_of_writer self.now) (kept_parts self.now.kept.now)) }
+    fn build_text(&self) -> Result<String, GenerateError>
+        ensures written { IfOk result (λ text. IsWritten (settings_of_writer self.now) (kept_parts self.now.kept.now) (text_of text)) }
+        ensures refused { IfErr result (CannotWrite self.now.component (settings_of_writer self.now) (kept_parts self.now.kept.now)) }
     {
         let mut text = String::with_capacity(self.alloc, ROOM)?;
         for part in &self.kept.parts {
@@ -104,15 +104,15 @@ impl<'d> Substitution<'d> {
     /// Appends the text of a part.
     #[inline(always)]
     fn push_part(&self, text: &mut String, part: &Part) -> Result<(), GenerateError>
-        ensures written { OnOk result (GetsPart (manner_of_writer self.now) (part_view part.now) text.old text.new) }
-        ensures refused { IfErr result (RefusesPart self.now.component (manner_of_writer self.now) (part_view part.now)) }
+        ensures written { OnOk result (GetsPart (settings_of_writer self.now) (part_view part.now) text.old text.new) }
+        ensures refused { IfErr result (RejectsPart self.now.component (settings_of_writer self.now) (part_view part.now)) }
     {
         if part.kind == PartType::FixedText {
             push_fixed(text, part)?;
             return Ok(());
         }
         match given_text(self.groups, self.component, &part.name) {
-            None => self.push_capture(text, part, capture_not_given(part)),
+            None => self.push_capture(text, part, default_capture(part)),
             Some(given) if self.keeps(given) => self.push_capture(text, part, Some(given)),
             Some(given) => self.push_canonical(text, part, given),
         }
@@ -127,9 +127,9 @@ impl<'d> Substitution<'d> {
         given: &str,
     ) -> Result<(), GenerateError>
         requires group { part.now.kind ≢ FixedText }
-        requires given { (manner_of_writer self.now).given (text_of part.now.name) ≡ Some (chars given.now) }
-        ensures written { OnOk result (GetsPart (manner_of_writer self.now) (part_view part.now) text.old text.new) }
-        ensures refused { IfErr result (RefusesPart self.now.component (manner_of_writer self.now) (part_view part.now)) }
+        requires given { (settings_of_writer self.now).given (text_of part.now.name) ≡ Some (chars given.now) }
+        ensures written { OnOk result (GetsPart (settings_of_writer self.now) (part_view part.now) text.old text.new) }
+        ensures refused { IfErr result (RejectsPart self.now.component (settings_of_writer self.now) (part_view part.now)) }
     {
         match self.canonical(given) {
             Ok(value) => self.push_capture(text, part, Some(&value)),
@@ -147,9 +147,9 @@ impl<'d> Substitution<'d> {
         capture: Option<&str>,
     ) -> Result<(), GenerateError>
         requires group { part.now.kind ≢ FixedText }
-        requires asked { IsAsked (manner_of_writer self.now) (part_view part.now) (option_text capture) }
-        ensures written { OnOk result (GetsPart (manner_of_writer self.now) (part_view part.now) text.old text.new) }
-        ensures refused { IfErr result (RefusesPart self.now.component (manner_of_writer self.now) (part_view part.now)) }
+        requires asked { IsRequested (settings_of_writer self.now) (part_view part.now) (option_text capture) }
+        ensures written { OnOk result (GetsPart (settings_of_writer self.now) (part_view part.now) text.old text.new) }
+        ensures refused { IfErr result (RejectsPart self.now.component (settings_of_writer self.now) (part_view part.now)) }
     {
         if push_group(text, &self.kept.options, part, capture)? {
             return Ok(());

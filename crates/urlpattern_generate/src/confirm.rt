@@ -4,16 +4,16 @@ ghost use Rattle.std.specs.Prelude.{◌≡◌, ◌↔◌, ◌≤◌, false, leng
 ghost use Rattle.std.specs.Str.{chars};
 ghost use Rattle.urlpattern_matcher.specs.Components.{IsEngineOf, engine_flags};
 ghost use Rattle.urlpattern_matcher.specs.Matchers.{matcher_view};
-ghost use Rattle.urlpattern_generate.specs.Asked.{AreAsked, IsAsked};
-ghost use Rattle.urlpattern_generate.specs.Generating.{ReadsWritten, TellsFound, has_one_case};
-ghost use Rattle.urlpattern_generate.specs.WrittenTexts.{IsWritten, LeavesAsked, manner_of_writer};
+ghost use Rattle.urlpattern_generate.specs.Requested.{AreRequested, IsRequested};
+ghost use Rattle.urlpattern_generate.specs.Generating.{ReadsWritten, DecidesFound, has_one_case};
+ghost use Rattle.urlpattern_generate.specs.WrittenTexts.{IsWritten, LeavesRequested, settings_of_writer};
 ghost use Rattle.urlpattern_meaning.specs.Matching.{IsMadeOf};
 ghost use Rattle.urlpattern_syntax.specs.ComponentParts.{kept_options, kept_parts};
 ghost use Rattle.urlpattern_syntax.specs.Parts.{part_view};
 ghost use Rattle.urlpattern_syntax.specs.Text.{option_text};
 
 use crate::given_groups::{given_text, is_same_text};
-use crate::missing_captures::capture_not_given;
+use crate::missing_captures::default_capture;
 use crate::substitution::Substitution;
 use std::alloc::AllocError;
 use urlpattern_matcher::matcher::{InnerMatcher, Matcher};
@@ -31,8 +31,8 @@ impl Substitution<'_> {
     ) -> Result<bool, AllocError>
         requires made { IsMadeOf (IsEngineOf R.RegExp false (engine_flags (kept_options self.now.kept.now)))
             (kept_options self.now.kept.now) (kept_parts self.now.kept.now) (matcher_view matcher.now) }
-        requires written { IsWritten (manner_of_writer self.now) (kept_parts self.now.kept.now) (chars text.now) }
-        ensures { IfOk result (λ is. TellsFound is R.answer (matcher_view matcher.now) (manner_of_writer self.now) (kept_parts self.now.kept.now) (chars text.now)) }
+        requires written { IsWritten (settings_of_writer self.now) (kept_parts self.now.kept.now) (chars text.now) }
+        ensures { IfOk result (λ is. DecidesFound is R.answer (matcher_view matcher.now) (settings_of_writer self.now) (kept_parts self.now.kept.now) (chars text.now)) }
     {
         if reads_what_is_written(matcher) {
             return Ok(true);
@@ -43,24 +43,24 @@ impl Substitution<'_> {
     /// Whether a matcher finds the requested captures in a text.
     #[inline(never)]
     fn finds<R: RegExp>(&self, matcher: &Matcher<R>, text: &str) -> Result<bool, AllocError>
-        ensures { IfOk result (λ is. TellsFound is R.answer (matcher_view matcher.now) (manner_of_writer self.now) (kept_parts self.now.kept.now) (chars text.now)) }
+        ensures { IfOk result (λ is. DecidesFound is R.answer (matcher_view matcher.now) (settings_of_writer self.now) (kept_parts self.now.kept.now) (chars text.now)) }
     {
         let Ok(found) = matcher.matches(self.alloc, text) else {
             return Err(AllocError);
         };
         match found {
-            Some(found) => self.are_asked(&found),
+            Some(found) => self.are_requested(&found),
             None => Ok(false),
         }
     }
 
     /// Whether the captures are the requested ones.
-    fn are_asked(&self, found: &[Option<&str>]) -> Result<bool, AllocError>
-        ensures { IfOk result (λ are. IsTrue are ↔ AreAsked (manner_of_writer self.now) (kept_parts self.now.kept.now) (map option_text found.now)) }
+    fn are_requested(&self, found: &[Option<&str>]) -> Result<bool, AllocError>
+        ensures { IfOk result (λ are. IsTrue are ↔ AreRequested (settings_of_writer self.now) (kept_parts self.now.kept.now) (map option_text found.now)) }
     {
         let mut next = 0;
         for part in &self.kept.parts {
-            match self.after_asked(part, found, next)? {
+            match self.after_requested(part, found, next)? {
                 Some(later) => next = later,
                 None => return Ok(false),
             }
@@ -70,14 +70,14 @@ impl Substitution<'_> {
 
     /// Returns the index after the capture of a part, if the capture at `index` is the requested
     /// one. A fixed text has no capture. `None`: the capture is another one, or missing.
-    fn after_asked(
+    fn after_requested(
         &self,
         part: &Part,
         found: &[Option<&str>],
         index: usize,
     ) -> Result<Option<usize>, AllocError>
         requires { index ≤ length found.now }
-        ensures next { IfOk result (LeavesAsked (manner_of_writer self.now) (part_view part.now) (map option_text found.now) index) }
+        ensures next { IfOk result (LeavesRequested (settings_of_writer self.now) (part_view part.now) (map option_text found.now) index) }
         ensures within { IfOk result (λ next. IfSome next (λ later. later ≤ length found.now)) }
     {
         if part.kind == PartType::FixedText {
@@ -86,7 +86,7 @@ impl Substitution<'_> {
         if index == found.len() {
             return Ok(None);
         }
-        if self.is_asked(part, found[index])? {
+        if self.is_requested(part, found[index])? {
             Ok(Some(index + 1))
         } else {
             Ok(None)
@@ -94,11 +94,11 @@ impl Substitution<'_> {
     }
 
     /// Whether a capture is the one that is requested of a group.
-    fn is_asked(&self, part: &Part, capture: Option<&str>) -> Result<bool, AllocError>
-        ensures { IfOk result (λ is. IsTrue is ↔ IsAsked (manner_of_writer self.now) (part_view part.now) (option_text capture.entry)) }
+    fn is_requested(&self, part: &Part, capture: Option<&str>) -> Result<bool, AllocError>
+        ensures { IfOk result (λ is. IsTrue is ↔ IsRequested (settings_of_writer self.now) (part_view part.now) (option_text capture.entry)) }
     {
         let Some(given) = given_text(self.groups, self.component, &part.name) else {
-            return Ok(is_same(capture, capture_not_given(part)));
+            return Ok(is_same(capture, default_capture(part)));
         };
         match capture {
             Some(value) => self.has_form(given, value),
@@ -109,7 +109,7 @@ impl Substitution<'_> {
     /// Whether the canonical form of a text is `value`. A rejection by `url` is reported as memory
     /// that ran out, since texts that were written are not rejected.
     fn has_form(&self, given: &str, value: &str) -> Result<bool, AllocError>
-        ensures { IfOk result (λ has. IsTrue has ↔ ((manner_of_writer self.now).canonical (chars given.now) ≡ Ok (chars value.now))) }
+        ensures { IfOk result (λ has. IsTrue has ↔ ((settings_of_writer self.now).canonical (chars given.now) ≡ Ok (chars value.now))) }
     {
         if self.keeps(given) {
             return Ok(is_same_text(given, value));

@@ -4,8 +4,8 @@ ghost use Rattle.std.specs.Prelude.{IfErr, IfOk, false};
 ghost use Rattle.std.specs.Str.{chars};
 ghost use Rattle.urlpattern_matcher.specs.Components.{IsEngineOf, engine_flags};
 ghost use Rattle.urlpattern_matcher.specs.Matchers.{matcher_view};
-ghost use Rattle.urlpattern_generate.specs.Generating.{HasText, LacksText, TellsFound};
-ghost use Rattle.urlpattern_generate.specs.Manners.{given_groups, manner_for};
+ghost use Rattle.urlpattern_generate.specs.Generating.{HasText, LacksText, DecidesFound};
+ghost use Rattle.urlpattern_generate.specs.WriteSettings.{given_groups, settings_for};
 ghost use Rattle.urlpattern_generate.specs.WrittenTexts.{CannotWrite, IsWritten, cow_text};
 ghost use Rattle.urlpattern_meaning.specs.Matching.{IsMadeOf};
 ghost use Rattle.urlpattern_syntax.specs.ComponentParts.{kept_options, kept_parts};
@@ -38,9 +38,9 @@ pub fn generate_component<R: RegExp>(
 ) -> Result<String, GenerateError>
     requires { IsMadeOf (IsEngineOf R.RegExp false (engine_flags (kept_options kept.now))) (kept_options kept.now) (kept_parts kept.now) (matcher_view matcher.now) }
     ensures generated { IfOk result (λ text. HasText R.answer (matcher_view matcher.now)
-        (manner_for component (kept_options kept.now) (kept_parts kept.now) (given_groups groups.now)) (kept_parts kept.now) (text_of text)) }
+        (settings_for component (kept_options kept.now) (kept_parts kept.now) (given_groups groups.now)) (kept_parts kept.now) (text_of text)) }
     ensures refused { IfErr result (LacksText R.answer (matcher_view matcher.now) component
-        (manner_for component (kept_options kept.now) (kept_parts kept.now) (given_groups groups.now)) (kept_parts kept.now)) }
+        (settings_for component (kept_options kept.now) (kept_parts kept.now) (given_groups groups.now)) (kept_parts kept.now)) }
 {
     let writer = Substitution {
         alloc,
@@ -72,9 +72,9 @@ pub fn written_component<'d>(
     groups: &'d [GivenGroup<'d>],
 ) -> Result<CowStr<'d>, GenerateError>
     ensures written { IfOk result (λ text. IsWritten
-        (manner_for component (kept_options kept.now) (kept_parts kept.now) (given_groups groups.now)) (kept_parts kept.now) (cow_text text)) }
+        (settings_for component (kept_options kept.now) (kept_parts kept.now) (given_groups groups.now)) (kept_parts kept.now) (cow_text text)) }
     ensures refused { IfErr result (CannotWrite component
-        (manner_for component (kept_options kept.now) (kept_parts kept.now) (given_groups groups.now)) (kept_parts kept.now)) }
+        (settings_for component (kept_options kept.now) (kept_parts kept.now) (given_groups groups.now)) (kept_parts kept.now)) }
 {
     let writer = Substitution {
         alloc,
@@ -98,9 +98,9 @@ pub fn confirms<R: RegExp>(
 ) -> Result<bool, AllocError>
     requires made { IsMadeOf (IsEngineOf R.RegExp false (engine_flags (kept_options kept.now))) (kept_options kept.now) (kept_parts kept.now) (matcher_view matcher.now) }
     requires written { IsWritten
-        (manner_for component (kept_options kept.now) (kept_parts kept.now) (given_groups groups.now)) (kept_parts kept.now) (chars text.now) }
-    ensures { IfOk result (λ is. TellsFound is R.answer (matcher_view matcher.now)
-        (manner_for component (kept_options kept.now) (kept_parts kept.now) (given_groups groups.now)) (kept_parts kept.now) (chars text.now)) }
+        (settings_for component (kept_options kept.now) (kept_parts kept.now) (given_groups groups.now)) (kept_parts kept.now) (chars text.now) }
+    ensures { IfOk result (λ is. DecidesFound is R.answer (matcher_view matcher.now)
+        (settings_for component (kept_options kept.now) (kept_parts kept.now) (given_groups groups.now)) (kept_parts kept.now) (chars text.now)) }
 {
     let writer = Substitution {
         alloc,

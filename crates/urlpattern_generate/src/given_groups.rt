@@ -3,7 +3,7 @@
 ghost use Rattle.std.specs.Prelude.{◌≡◌, ◌↔◌, IsTrue, bytes_eq};
 ghost use Rattle.std.specs.Str.{chars};
 ghost use Rattle.urlpattern_components.specs.Eight.{name_text};
-ghost use Rattle.urlpattern_generate.specs.Manners.{given_groups, text_given, given_view, is_given_for};
+ghost use Rattle.urlpattern_generate.specs.WriteSettings.{given_groups, text_given, given_view, is_given_for};
 ghost use Rattle.urlpattern_syntax.specs.Text.{option_text};
 
 use urlpattern_components::ComponentName;

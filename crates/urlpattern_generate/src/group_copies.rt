@@ -121,7 +121,7 @@ impl CopyTexts {
             let Some(first) = without_back(front, before) else {
                 return false;
             };
-            let Some(later) = without_front(behind, after) else {
+            let Some(later) = without_prefix(behind, after) else {
                 return false;
             };
             if !self.is_long_enough(first) {
@@ -142,7 +142,7 @@ fn split_at_first(text: &str, mark: char) -> Option<(&str, &str)>
 }
 
 /// Returns the text without the prefix `front`.
-fn without_front<'t>(text: &'t str, front: &str) -> Option<&'t str>
+fn without_prefix<'t>(text: &'t str, front: &str) -> Option<&'t str>
     ensures cut { IfSome result (λ rest. chars text.now ≡ chars front.now ++ chars rest.now) }
     ensures none { IfNone result ((rest : List ℕ) → ¬ (chars text.now ≡ chars front.now ++ rest)) }
     ensures len { IfSome result (λ rest. length rest.now ≤ length text.now) }

@@ -9,7 +9,7 @@ ghost use Rattle.urlpattern_components.specs.declared.eight.ComponentName.TheVar
 ghost use Rattle.urlpattern_components.specs.Eight.{at};
 ghost use Rattle.urlpattern_syntax.specs.RegexpText.{is_empty};
 ghost use Rattle.urlpattern_syntax.specs.Text.{begins_with};
-ghost use Rattle.urlpattern_generate.specs.UrlsOfTexts.{AreSeenAs, IsAtFault, IsReadOfTexts, IsSeenAs, RefusesLine, RefusesTexts, cow_texts, runs_on, texts_seen};
+ghost use Rattle.urlpattern_generate.specs.UrlsOfTexts.{AreSeenAs, IsAtFault, IsReadOfTexts, IsSeenAs, RejectsLine, RejectsTexts, cow_texts, runs_on, texts_seen};
 
 use crate::given_groups::is_same_text;
 use crate::no_link::NoLink;
@@ -29,7 +29,7 @@ use urlpattern_syntax::Error;
 pub fn url_of_texts(alloc: Global, texts: &Eight<CowStr<'_>>) -> Result<Url, NoLink>
     ensures has { IfOk result (λ url. texts_of_url url ≡ cow_texts texts.now) }
     ensures read { IfOk result (IsReadOfTexts (cow_texts texts.now)) }
-    ensures refused { IfErr result (RefusesTexts (cow_texts texts.now)) }
+    ensures refused { IfErr result (RejectsTexts (cow_texts texts.now)) }
 {
     let seen = seen(texts);
     let line = url_line(alloc, &seen)?;
@@ -58,7 +58,7 @@ fn seen<'t>(texts: &'t Eight<CowStr<'_>>) -> Eight<&'t str>
 /// The error is that `url` rejects the text, or that memory ran out.
 fn read(alloc: Global, line: &str) -> Result<Url, NoLink>
     ensures read { IfOk result (λ url. parse_url None line.now ≡ Ok url) }
-    ensures refused { IfErr result (RefusesLine line.now) }
+    ensures refused { IfErr result (RejectsLine line.now) }
 {
     match reported(Url::parse(alloc, line), line.len()) {
         Ok(url) => Ok(url),

@@ -3,7 +3,7 @@
 ghost use Rattle.std.specs.Prelude.{◌≡◌};
 ghost use Rattle.std.specs.Char.{is_ascii_digit};
 ghost use Rattle.std.specs.Str.{chars};
-ghost use Rattle.urlpattern_generate.specs.Asked.{capture_not_given, empty_if, is_nameless};
+ghost use Rattle.urlpattern_generate.specs.Requested.{default_capture, empty_if, is_nameless};
 ghost use Rattle.urlpattern_syntax.specs.Parts.{part_view};
 ghost use Rattle.urlpattern_syntax.specs.Text.{begins_with, option_text, text_of};
 
@@ -11,8 +11,8 @@ use urlpattern_printing::is_bare;
 use urlpattern_syntax::parser::{Part, PartModifier, PartType};
 
 /// The capture of a group without a value.
-pub(crate) fn capture_not_given(part: &Part) -> Option<&'static str>
-    ensures { option_text result ≡ capture_not_given (part_view part.now) }
+pub(crate) fn default_capture(part: &Part) -> Option<&'static str>
+    ensures { option_text result ≡ default_capture (part_view part.now) }
 {
     match part.modifier {
         PartModifier::Optional => None,

@@ -2,10 +2,10 @@
 
 ghost use Rattle.std.specs.Prelude.{◌≡◌, IfOk, IsTrue, Ok, length};
 ghost use Rattle.std.specs.Str.{chars};
-ghost use Rattle.urlpattern_canonical.specs.Canonical.{IsAnswer};
-ghost use Rattle.urlpattern_generate.specs.Generating.{TellsCanonical};
-ghost use Rattle.urlpattern_generate.specs.Manners.{begins_ipv6, is_ipv6_host, is_slash_delimiter};
-ghost use Rattle.urlpattern_generate.specs.WrittenTexts.{manner_of_writer};
+ghost use Rattle.urlpattern_canonical.specs.Canonical.{IsResult};
+ghost use Rattle.urlpattern_generate.specs.Generating.{DecidesCanonical};
+ghost use Rattle.urlpattern_generate.specs.WriteSettings.{begins_ipv6, is_ipv6_host, is_slash_delimiter};
+ghost use Rattle.urlpattern_generate.specs.WrittenTexts.{settings_of_writer};
 ghost use Rattle.urlpattern_syntax.specs.ComponentParts.{kept_parts};
 ghost use Rattle.urlpattern_syntax.specs.Parts.{parts_view};
 ghost use Rattle.urlpattern_syntax.specs.Text.{lacks, line_feed};
@@ -32,7 +32,7 @@ pub(crate) struct Substitution<'d> {
 impl Substitution<'_> {
     /// Whether a value is known to be canonical in the component.
     pub(crate) fn keeps(&self, text: &str) -> bool
-        ensures canonical { IsTrue result → (manner_of_writer self.now).canonical (chars text.now) ≡ Ok (chars text.now) }
+        ensures canonical { IsTrue result → (settings_of_writer self.now).canonical (chars text.now) ≡ Ok (chars text.now) }
         ensures line { IsTrue result → IsTrue (lacks line_feed (chars text.now)) }
     {
         keeps(
@@ -48,7 +48,7 @@ impl Substitution<'_> {
     /// The error is that `url` rejects the value, or that memory ran out.
     #[inline(never)]
     pub(crate) fn canonical(&self, text: &str) -> Result<String, Error>
-        ensures { IsAnswer ((manner_of_writer self.now).canonical (chars text.now)) (length text.now) result }
+        ensures { IsResult ((settings_of_writer self.now).canonical (chars text.now)) (length text.now) result }
     {
         let values = Canonicalizer::new(self.alloc);
         match self.component {
@@ -69,7 +69,7 @@ impl Substitution<'_> {
 
     /// Whether a text is its own canonical form.
     pub(crate) fn is_canonical(&self, text: &str) -> Result<bool, AllocError>
-        ensures { IfOk result (λ is. TellsCanonical is (manner_of_writer self.now).canonical text.now) }
+        ensures { IfOk result (λ is. DecidesCanonical is (settings_of_writer self.now).canonical text.now) }
     {
         if self.keeps(text) {
             return Ok(true);
@@ -83,7 +83,7 @@ impl Substitution<'_> {
 
     /// Whether the delimiter of the component is a slash.
     fn is_hierarchical(&self) -> bool
-        ensures { result ≡ is_slash_delimiter (manner_of_writer self.now).options.delimiter }
+        ensures { result ≡ is_slash_delimiter (settings_of_writer self.now).options.delimiter }
     {
         self.kept.options.delimiter_code_point == Some('/')
     }

@@ -5,7 +5,7 @@ use Rattle.std.proofs.lemmas.List.{get_or-set_other, get_or-set_same, get_or_pas
 use Rattle.std.proofs.lemmas.List.Elements.{Contains-append_cases, Contains-append_left, Contains-append_right, Contains-push}
 use Rattle.std.specs.Prelude.{Contains, IsTrue, OnErr, Some, Result, Ok, Err, Vec, slice_get, slice_index_or}
 use Rattle.urlpattern_index.specs.FixedTexts.{AddressTexts, FixedTexts, HasTexts}
-use Rattle.urlpattern_index.specs.Keys.{AreEnough, Fits, FormView, form_key, form_view, forms_for, group, group_of_form, hashes_of}
+use Rattle.urlpattern_index.specs.Keys.{HasSegmentCount, Fits, FormView, form_key, form_view, forms_for, group, group_of_form, hashes_of}
 use Rattle.urlpattern_index.specs.declared.form.Form.{Form}
 use Rattle.urlpattern_index.specs.Listed.{GetsPattern, Listing}
 
@@ -93,8 +93,8 @@ empty-groups (suc n) (first ∷ groups) long each =
     rw none (ap (λ views. [] ∷ views) (empty-groups n groups (omega arith) (λ i d lt. each (suc i) d (omega arith))))
 
 -- A form that an address fits is among those for its number of segments.
-for-fitting : (forms : List (List FormView)) (form : FormView) (count : ℕ) (is_whole : Bool) → AreEnough is_whole (length form.segments) count
-    → Contains (group forms (cond is_whole (length form.segments) 0)) form → Contains (forms_for forms count) form
+for-fitting : (forms : List (List FormView)) (form : FormView) (count : ℕ) (is_exact : Bool) → HasSegmentCount is_exact (length form.segments) count
+    → Contains (group forms (cond is_exact (length form.segments) 0)) form → Contains (forms_for forms count) form
 for-fitting forms form count true enough has =
     Contains-append_right (group forms 0) (group forms count) form (subst (λ n. Contains (group forms n) form) (sym enough) has)
 for-fitting forms form count false enough has = Contains-append_left (group forms 0) (group forms count) form has
@@ -129,7 +129,7 @@ module _ (form : FormView) (key : ℕ) (more : List FormView) (fixed : FixedText
         let place = placed address texts in
         let in_group = subst (λ (g : List FormView). Contains g form) (sym (grown-same forms (group_of_form form) more within)) has in (
           form,
-          for-fitting (grown forms (group_of_form form) more) form (length (hashes_of address).segments) form.is_whole place.0 in_group,
+          for-fitting (grown forms (group_of_form form) more) form (length (hashes_of address).segments) form.is_exact place.0 in_group,
           place.0,
           slice_get-last keys key ∙ ap (λ k. Some k) place.1,
         ));

@@ -6,8 +6,8 @@ use Rattle.std.specs.Prelude.{◌&&◌, ◌||◌, ◌≢◌, ◌<◌, ◌≤◌,
 use Rattle.urlpattern_matcher.specs.Components.{IsEngineOf, engine_flags, has_regexp, is_custom}
 use Rattle.urlpattern_matcher.specs.declared.regexp.RegExp.{Ghosts as Engine}
 use Rattle.urlpattern_index.specs.Known.{IsFirstText}
-use Rattle.urlpattern_index.specs.Paths.{FitsBy, FitsOnce, FitsPart, FitsParts}
-use Rattle.urlpattern_meaning.proofs.FirstAnswers.{middle_plain}
+use Rattle.urlpattern_index.specs.Paths.{FitsModified, FitsUnmodified, FitsPart, FitsParts}
+use Rattle.urlpattern_meaning.proofs.FirstResults.{middle_plain}
 use Rattle.urlpattern_meaning.proofs.MatchingLaws.{middle_kept, regrouped}
 use Rattle.urlpattern_meaning.specs.Matching.{Agrees, BeginsPlain, HoldsEngine, IsMadeBetween, IsMadeByEngine, IsMadeOf, IsMadeOfOne, IsMatched, IsRemoved, IsSame, Literal, MatcherView, Matches, PassesFilter, RegExp, ValuesAgreeWithParts, end_text, single_capture_matcher}
 use Rattle.urlpattern_meaning.specs.PartMeaning.{Allows, AreCopies, AreGenerated, Captures, IsCopyOf, PartMeans, PartsMean}
@@ -49,12 +49,12 @@ plain_part part plain = by part.kind part.modifier plain
 plain_fits : (delimiter : Option ℕ) (part : PartView) → IsTrue (is_plain part) → FitsPart delimiter part part.value
 plain_fits delimiter part plain =
     let (is_kind, once) = plain_part part plain in
-    subst (λ m. FitsBy m delimiter part part.value) (sym once) (subst (λ k. FitsOnce k delimiter part part.value) (sym is_kind) refl)
+    subst (λ m. FitsModified m delimiter part part.value) (sym once) (subst (λ k. FitsUnmodified k delimiter part part.value) (sym is_kind) refl)
 
 plain_alone : (delimiter : Option ℕ) (part : PartView) (text : List ℕ) → IsTrue (is_plain part) → FitsPart delimiter part text → text ≡ part.value
 plain_alone delimiter part text plain fits =
     let (is_kind, once) = plain_part part plain in
-    subst (λ k. FitsOnce k delimiter part text) is_kind (subst (λ m. FitsBy m delimiter part text) once fits)
+    subst (λ k. FitsUnmodified k delimiter part text) is_kind (subst (λ m. FitsModified m delimiter part text) once fits)
 
 end_fits : (delimiter : Option ℕ) (end : Option PartView) (IsThere : Type 0) → IsRemoved end IsThere → FitsParts true delimiter (option_to_list end) (end_text end)
 end_fits delimiter (Some part) IsThere plain = fits_one delimiter part part.value (plain_fits delimiter part plain)
@@ -63,11 +63,11 @@ end_fits delimiter None IsThere none = λ whole. refl
 -- ---- texts that parts mean
 
 segment_fits : (delimiter : Option ℕ) (part : PartView) (piece text : List ℕ) → text ≡ part.prefix ++ piece ++ part.suffix
-    → IsTrue (lacks (unwrap_or delimiter line_feed) piece) → FitsOnce SegmentWildcard delimiter part text
+    → IsTrue (lacks (unwrap_or delimiter line_feed) piece) → FitsUnmodified SegmentWildcard delimiter part text
 segment_fits (Some end) part piece text cut lack = (piece, cut, lack)
 segment_fits None part piece text cut lack = (piece ++ part.suffix, cut ∙ append_assoc part.prefix piece part.suffix)
 
-copy_fits : (options : OptionsView) (kind : PartType) (part : PartView) (text : List ℕ) → IsCopyOf options kind part text → FitsOnce kind options.delimiter part text
+copy_fits : (options : OptionsView) (kind : PartType) (part : PartView) (text : List ℕ) → IsCopyOf options kind part text → FitsUnmodified kind options.delimiter part text
 copy_fits options FixedText part text is = is
 copy_fits options Regexp part text (piece, cut, never) = absurd never
 copy_fits options SegmentWildcard part text (piece, cut, (filled, lack)) = segment_fits options.delimiter part piece text cut lack
@@ -76,10 +76,10 @@ copy_fits options FullWildcard part text (piece, cut, lack) = (piece ++ part.suf
 part_fits : (options : OptionsView) (part : PartView) (text : List ℕ) (captures : Captures) → PartMeans options part text captures → FitsPart options.delimiter part text
 part_fits options part text captures means = by part.modifier means.allowed
   where
-    by : (modifier : PartModifier) → Allows modifier means.count → FitsBy modifier options.delimiter part text
+    by : (modifier : PartModifier) → Allows modifier means.count → FitsModified modifier options.delimiter part text
     by modifiers.None one =
         let (first, rest, cut, is, none) = subst (λ n. AreCopies options part n text) one means.are_copies in
-        subst (FitsOnce part.kind options.delimiter part) (sym (cut ∙ ap (λ r. first ++ r) none ∙ append-nil first)) (copy_fits options part.kind part first is)
+        subst (FitsUnmodified part.kind options.delimiter part) (sym (cut ∙ ap (λ r. first ++ r) none ∙ append-nil first)) (copy_fits options part.kind part first is)
     by modifiers.Optional allowed = tt
     by modifiers.ZeroOrMore allowed = tt
     by modifiers.OneOrMore allowed = tt
@@ -134,7 +134,7 @@ module _ {E : Type 0} (answer : E → List ℕ → Option Captures) (IsEngine : 
           (inner, whole, inr (value, ap (λ (m : MatcherView E). m.inner) made, of, answers))
       by (Err error) of made = absurd (let (inner, cut, never) = subst (λ (m : MatcherView E). Matches answer m text captures) made matches in never)
 
-  passes_fits : (delimiter : Option ℕ) (part : PartView) (piece : List ℕ) → PassesFilter false delimiter piece → FitsOnce SegmentWildcard delimiter part (part.prefix ++ piece ++ part.suffix)
+  passes_fits : (delimiter : Option ℕ) (part : PartView) (piece : List ℕ) → PassesFilter false delimiter piece → FitsUnmodified SegmentWildcard delimiter part (part.prefix ++ piece ++ part.suffix)
   passes_fits (Some end) part piece passes = (piece, refl, passes)
   passes_fits None part piece passes = (piece ++ part.suffix, append_assoc part.prefix piece part.suffix)
 
@@ -142,12 +142,12 @@ module _ {E : Type 0} (answer : E → List ℕ → Option Captures) (IsEngine : 
       → IsMadeOfOne IsEngine kind modifier options front part back matcher → IsBetween front (part ∷ []) back
   one_between FullWildcard modifiers.None front part back is_kind once made =
       capture_between front part back None true made (λ piece passes.
-      subst (λ m. FitsBy m options.delimiter part (part.prefix ++ piece ++ part.suffix)) (sym once)
-      (subst (λ k. FitsOnce k options.delimiter part (part.prefix ++ piece ++ part.suffix)) (sym is_kind) (piece ++ part.suffix, append_assoc part.prefix piece part.suffix)))
+      subst (λ m. FitsModified m options.delimiter part (part.prefix ++ piece ++ part.suffix)) (sym once)
+      (subst (λ k. FitsUnmodified k options.delimiter part (part.prefix ++ piece ++ part.suffix)) (sym is_kind) (piece ++ part.suffix, append_assoc part.prefix piece part.suffix)))
   one_between SegmentWildcard modifiers.None front part back is_kind once made =
       capture_between front part back options.delimiter false made (λ piece passes.
-      subst (λ m. FitsBy m options.delimiter part (part.prefix ++ piece ++ part.suffix)) (sym once)
-      (subst (λ k. FitsOnce k options.delimiter part (part.prefix ++ piece ++ part.suffix)) (sym is_kind) (passes_fits options.delimiter part piece passes)))
+      subst (λ m. FitsModified m options.delimiter part (part.prefix ++ piece ++ part.suffix)) (sym once)
+      (subst (λ k. FitsUnmodified k options.delimiter part (part.prefix ++ piece ++ part.suffix)) (sym is_kind) (passes_fits options.delimiter part piece passes)))
   one_between kind modifier front part back is_kind once made = engine_between front (part ∷ []) back made
 
   pub matched_between : (front : List ℕ) (middle : List PartView) (back : List ℕ) → IsMadeBetween IsEngine options front middle back matcher → IsBetween front middle back

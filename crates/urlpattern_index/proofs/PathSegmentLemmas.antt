@@ -6,9 +6,9 @@ use Rattle.std.proofs.lemmas.List.{append_assoc, at_drop_all, at_drop_more, leng
 use Rattle.std.specs.Borrow.{Bor}
 use Rattle.std.specs.Prelude.{Option, Some, None, chars, fold, is_some, option_map, unwrap_or, IsTrue}
 use Rattle.urlpattern_index.specs.FixedTexts.{IsText}
-use Rattle.urlpattern_index.specs.Keys.{AreEnough, mixed, mixed_segments, option_hash, segment_hashes, text_hash}
+use Rattle.urlpattern_index.specs.Keys.{HasSegmentCount, mixed, mixed_segments, option_hash, segment_hashes, text_hash}
 use Rattle.urlpattern_index.specs.Paths.{FitsParts, FitsPath, PathView}
-use Rattle.urlpattern_index.specs.Segments.{AddsSegment, AreNone, AreOpen, AreSegmentsOf, CountAlike, IsCurrent, IsReadTo, ReadsTo}
+use Rattle.urlpattern_index.specs.Segments.{AddsSegment, AreNone, AreOpen, AreSegmentsOf, HaveEqualKeys, IsCurrent, IsReadTo, ReadsTo}
 use Rattle.urlpattern_index.specs.declared.path_segments.PathSegments.{PathSegments}
 use Rattle.urlpattern_syntax.specs.Parts.{PartView}
 use Rattle.urlpattern_syntax.specs.Text.{lacks}
@@ -59,20 +59,20 @@ hashes-end path read hashes hash all whole = ap (λ h. hashes ++ h) (sym (at_dro
 -- ---- mixing in segments
 
 -- Mixing in the next segment.
-pub mixed_segments-next : (hash : ℕ) (have_texts : List Bool) (own : List ℕ) (i : ℕ) (b : Bool) (o : ℕ) → i < length have_texts → i < length own → b ≡ get_or have_texts i b → o ≡ get_or own i o
-    → mixed_segments hash (drop i have_texts) (drop i own) ≡ mixed_segments (mixed hash (cond b o 1)) (drop (i + 1) have_texts) (drop (i + 1) own)
-mixed_segments-next hash have_texts own i b o within within_own is_b is_o =
-    ap (λ t. mixed_segments hash t (drop i own)) (at_drop_more (λ t. t) have_texts i b within ∙ ap (λ x. x ∷ drop (i + 1) have_texts) (sym is_b))
-    ∙ ap (mixed_segments hash (b ∷ drop (i + 1) have_texts)) (at_drop_more (λ t. t) own i o within_own ∙ ap (λ x. x ∷ drop (i + 1) own) (sym is_o))
+pub mixed_segments-next : (hash : ℕ) (are_fixed : List Bool) (own : List ℕ) (i : ℕ) (b : Bool) (o : ℕ) → i < length are_fixed → i < length own → b ≡ get_or are_fixed i b → o ≡ get_or own i o
+    → mixed_segments hash (drop i are_fixed) (drop i own) ≡ mixed_segments (mixed hash (cond b o 1)) (drop (i + 1) are_fixed) (drop (i + 1) own)
+mixed_segments-next hash are_fixed own i b o within within_own is_b is_o =
+    ap (λ t. mixed_segments hash t (drop i own)) (at_drop_more (λ t. t) are_fixed i b within ∙ ap (λ x. x ∷ drop (i + 1) are_fixed) (sym is_b))
+    ∙ ap (mixed_segments hash (b ∷ drop (i + 1) are_fixed)) (at_drop_more (λ t. t) own i o within_own ∙ ap (λ x. x ∷ drop (i + 1) own) (sym is_o))
 
 -- Only as many hashes are mixed in as there are segments.
-pub mixed_segments-take : (hash : ℕ) (have_texts : List Bool) (own : List ℕ) (n : ℕ) → length have_texts ≤ n → mixed_segments hash have_texts (take n own) ≡ mixed_segments hash have_texts own
+pub mixed_segments-take : (hash : ℕ) (are_fixed : List Bool) (own : List ℕ) (n : ℕ) → length are_fixed ≤ n → mixed_segments hash are_fixed (take n own) ≡ mixed_segments hash are_fixed own
 mixed_segments-take hash [] own n few = refl
-mixed_segments-take hash (b ∷ have_texts) own zero few = absurd (omega arith)
-mixed_segments-take hash (b ∷ have_texts) [] (suc n) few = refl
-mixed_segments-take hash (b ∷ have_texts) (o ∷ own) (suc n) few = mixed_segments-take (mixed hash (cond b o 1)) have_texts own n (omega arith)
+mixed_segments-take hash (b ∷ are_fixed) own zero few = absurd (omega arith)
+mixed_segments-take hash (b ∷ are_fixed) [] (suc n) few = refl
+mixed_segments-take hash (b ∷ are_fixed) (o ∷ own) (suc n) few = mixed_segments-take (mixed hash (cond b o 1)) are_fixed own n (omega arith)
 
-pub enough-take : (is_whole : Bool) (segments n : ℕ) (own : List ℕ) → segments < n → AreEnough is_whole segments (length own) → AreEnough is_whole segments (length (take n own))
+pub enough-take : (is_exact : Bool) (segments n : ℕ) (own : List ℕ) → segments < n → HasSegmentCount is_exact segments (length own) → HasSegmentCount is_exact segments (length (take n own))
 enough-take true segments n own few is = let count = length-take n own in omega (arith, count, is)
 enough-take false segments n own few is = let count = length-take n own in omega (arith, count, is)
 
@@ -89,27 +89,27 @@ pub hosts_alike : (fixed : Option (Bor (List ℕ))) (given : List ℕ) → IsTex
 hosts_alike (Some text) given is has hash is_has is_hash = rw (is_has, is_hash) (ap text_hash is)
 hosts_alike None given is has hash is_has is_hash = rw is_has refl
 
-pub keys_alike : (have_texts : List Bool) (hashes own : List ℕ) → length have_texts < 13 → CountAlike have_texts hashes own
-    → (p q r s : ℕ) → p ≡ q → r ≡ s → (is_whole : Bool)
-    → mixed (mixed_segments (mixed p r) have_texts (take 13 own)) (cond is_whole 1 0) ≡ mixed (mixed_segments (mixed q s) have_texts hashes) (cond is_whole 1 0)
-keys_alike have_texts hashes own few alike p q r s same_p same_r is_whole =
-    ap (λ h. mixed h (cond is_whole 1 0)) (
-    ap (λ h. mixed_segments h have_texts (take 13 own)) (ap (λ x. mixed x r) same_p ∙ ap (mixed q) same_r)
-    ∙ mixed_segments-take (mixed q s) have_texts own 13 (omega arith) ∙ alike (mixed q s))
+pub keys_alike : (are_fixed : List Bool) (hashes own : List ℕ) → length are_fixed < 13 → HaveEqualKeys are_fixed hashes own
+    → (p q r s : ℕ) → p ≡ q → r ≡ s → (is_exact : Bool)
+    → mixed (mixed_segments (mixed p r) are_fixed (take 13 own)) (cond is_exact 1 0) ≡ mixed (mixed_segments (mixed q s) are_fixed hashes) (cond is_exact 1 0)
+keys_alike are_fixed hashes own few alike p q r s same_p same_r is_exact =
+    ap (λ h. mixed h (cond is_exact 1 0)) (
+    ap (λ h. mixed_segments h are_fixed (take 13 own)) (ap (λ x. mixed x r) same_p ∙ ap (mixed q) same_r)
+    ∙ mixed_segments-take (mixed q s) are_fixed own 13 (omega arith) ∙ alike (mixed q s))
 
 -- ---- mixing in appended segments
 
-mixed_segments-append : (hash : ℕ) (have_texts : List Bool) (own more : List ℕ) → length own ≡ length have_texts → mixed_segments hash have_texts (own ++ more) ≡ mixed_segments hash have_texts own
+mixed_segments-append : (hash : ℕ) (are_fixed : List Bool) (own more : List ℕ) → length own ≡ length are_fixed → mixed_segments hash are_fixed (own ++ more) ≡ mixed_segments hash are_fixed own
 mixed_segments-append hash [] own more same = refl
-mixed_segments-append hash (b ∷ have_texts) [] more same = absurd (omega arith)
-mixed_segments-append hash (b ∷ have_texts) (o ∷ own) more same = mixed_segments-append (mixed hash (cond b o 1)) have_texts own more (omega arith)
+mixed_segments-append hash (b ∷ are_fixed) [] more same = absurd (omega arith)
+mixed_segments-append hash (b ∷ are_fixed) (o ∷ own) more same = mixed_segments-append (mixed hash (cond b o 1)) are_fixed own more (omega arith)
 
-mixed_segments-push : (hash : ℕ) (have_texts : List Bool) (own : List ℕ) (b : Bool) (o : ℕ) → length own ≡ length have_texts
-    → mixed_segments hash (have_texts ++ b ∷ []) (own ++ o ∷ []) ≡ mixed (mixed_segments hash have_texts own) (cond b o 1)
+mixed_segments-push : (hash : ℕ) (are_fixed : List Bool) (own : List ℕ) (b : Bool) (o : ℕ) → length own ≡ length are_fixed
+    → mixed_segments hash (are_fixed ++ b ∷ []) (own ++ o ∷ []) ≡ mixed (mixed_segments hash are_fixed own) (cond b o 1)
 mixed_segments-push hash [] [] b o same = refl
 mixed_segments-push hash [] (x ∷ own) b o same = absurd (omega arith)
-mixed_segments-push hash (t ∷ have_texts) [] b o same = absurd (omega arith)
-mixed_segments-push hash (t ∷ have_texts) (x ∷ own) b o same = mixed_segments-push (mixed hash (cond t x 1)) have_texts own b o (omega arith)
+mixed_segments-push hash (t ∷ are_fixed) [] b o same = absurd (omega arith)
+mixed_segments-push hash (t ∷ are_fixed) (x ∷ own) b o same = mixed_segments-push (mixed hash (cond t x 1)) are_fixed own b o (omega arith)
 
 -- ---- what was read of a path
 
@@ -128,15 +128,15 @@ same_current : (current : Option ℕ) (own hash : ℕ) → IsCurrent current own
 same_current (Some h) own hash is = ap (mixed hash) is
 same_current None own hash is = refl
 
-module _ (segments : PathSegments) (path : List ℕ) (as_many : length segments.hashes.items ≡ length segments.have_texts.items) where
+module _ (segments : PathSegments) (path : List ℕ) (as_many : length segments.hashes.items ≡ length segments.are_fixed.items) where
   -- Appending the segment that was read.
   alike-push : (rest : List ℕ) (is : IsReadTo segments path rest)
-      → CountAlike (segments.have_texts.items ++ is_some segments.current ∷ []) (segments.hashes.items ++ unwrap_or segments.current 0 ∷ []) (is.done ++ is.own ∷ [])
+      → HaveEqualKeys (segments.are_fixed.items ++ is_some segments.current ∷ []) (segments.hashes.items ++ unwrap_or segments.current 0 ∷ []) (is.done ++ is.own ∷ [])
   alike-push rest is = λ hash.
-      mixed_segments-push hash segments.have_texts.items is.done (is_some segments.current) is.own is.as_many
+      mixed_segments-push hash segments.are_fixed.items is.done (is_some segments.current) is.own is.as_many
       ∙ ap (λ h. mixed h (cond (is_some segments.current) is.own 1)) (is.alike hash)
-      ∙ same_current segments.current is.own (mixed_segments hash segments.have_texts.items segments.hashes.items) is.is_current
-      ∙ sym (mixed_segments-push hash segments.have_texts.items segments.hashes.items (is_some segments.current) (unwrap_or segments.current 0) as_many)
+      ∙ same_current segments.current is.own (mixed_segments hash segments.are_fixed.items segments.hashes.items) is.is_current
+      ∙ sym (mixed_segments-push hash segments.are_fixed.items segments.hashes.items (is_some segments.current) (unwrap_or segments.current 0) as_many)
 
   pub read_slash : (more : PathSegments) (c : ℕ) (rest : List ℕ) → AddsSegment segments more → c ≡ 47
       → IsReadTo segments path (c ∷ rest) → IsReadTo more path rest
@@ -144,14 +144,14 @@ module _ (segments : PathSegments) (path : List ℕ) (as_many : length segments.
     done = is.done ++ is.own ∷ [];
     own = 0;
     cut = is.cut ∙ ap (λ h. is.done ++ h) (next_segment is.own c rest is_slash) ∙ sym (append_assoc is.done (is.own ∷ []) (segment_hashes 0 rest));
-    as_many = length_push is.done is.own ∙ ap (λ n. n + 1) is.as_many ∙ sym (length_push segments.have_texts.items (is_some segments.current)) ∙ sym (ap length adds.texts);
+    as_many = length_push is.done is.own ∙ ap (λ n. n + 1) is.as_many ∙ sym (length_push segments.are_fixed.items (is_some segments.current)) ∙ sym (ap length adds.texts);
     alike = rw (adds.texts, adds.hashes) (alike-push (c ∷ rest) is);
     is_current = rw adds.current refl;
   }
 
   -- Where reading stops, the path has more segments than were read.
   pub enough_at_stop : (rest : List ℕ) → IsReadTo segments path rest
-      → AreEnough false (length segments.have_texts.items) (length (segment_hashes 0 path))
+      → HasSegmentCount false (length segments.are_fixed.items) (length (segment_hashes 0 path))
   enough_at_stop rest is =
       let some = some_segment is.own rest in
       let count : length (segment_hashes 0 path) ≡ length is.done + length (segment_hashes is.own rest) =
@@ -159,22 +159,22 @@ module _ (segments : PathSegments) (path : List ℕ) (as_many : length segments.
       omega (arith, is.as_many)
 
   pub alike_at_stop : (rest : List ℕ) → IsReadTo segments path rest
-      → CountAlike segments.have_texts.items segments.hashes.items (segment_hashes 0 path)
+      → HaveEqualKeys segments.are_fixed.items segments.hashes.items (segment_hashes 0 path)
   alike_at_stop rest is = λ hash.
-      ap (mixed_segments hash segments.have_texts.items) is.cut
-      ∙ mixed_segments-append hash segments.have_texts.items is.done (segment_hashes is.own rest) is.as_many ∙ is.alike hash
+      ap (mixed_segments hash segments.are_fixed.items) is.cut
+      ∙ mixed_segments-append hash segments.are_fixed.items is.done (segment_hashes is.own rest) is.as_many ∙ is.alike hash
 
   -- Where the path ends, it has exactly the segments that were read.
   pub enough_at_end : (more : PathSegments) → AddsSegment segments more → IsReadTo segments path []
-      → AreEnough true (length more.have_texts.items) (length (segment_hashes 0 path))
+      → HasSegmentCount true (length more.are_fixed.items) (length (segment_hashes 0 path))
   enough_at_end more adds is =
       ap length is.cut ∙ length_push is.done is.own ∙ ap (λ n. n + 1) is.as_many
-      ∙ sym (length_push segments.have_texts.items (is_some segments.current)) ∙ sym (ap length adds.texts)
+      ∙ sym (length_push segments.are_fixed.items (is_some segments.current)) ∙ sym (ap length adds.texts)
 
   pub alike_at_end : (more : PathSegments) → AddsSegment segments more → IsReadTo segments path []
-      → CountAlike more.have_texts.items more.hashes.items (segment_hashes 0 path)
+      → HaveEqualKeys more.are_fixed.items more.hashes.items (segment_hashes 0 path)
   alike_at_end more adds is = λ hash.
-      ap (mixed_segments hash more.have_texts.items) is.cut ∙ rw (adds.texts, adds.hashes) (alike-push [] is hash)
+      ap (mixed_segments hash more.are_fixed.items) is.cut ∙ rw (adds.texts, adds.hashes) (alike-push [] is hash)
 
 goes_on : (current : Option ℕ) (own c : ℕ) → IsCurrent current own → IsCurrent (option_map (λ hash. mixed hash c) current) (mixed own c)
 goes_on (Some hash) own c is = ap (λ h. mixed h c) is
@@ -218,7 +218,7 @@ next_text text read c is_next = at_drop_more (λ text. text) text read c is_next
 -- Each text that fits the path is read up to a rest that fits the parts left.
 abbrev pub AreReadTo : PathView → PathSegments → (parts : List PartView) → Type 0
 AreReadTo path segments parts =
-    (text : List ℕ) → FitsPath path text → (rest : List ℕ) × IsReadTo segments text rest × FitsParts path.is_whole path.delimiter parts rest
+    (text : List ℕ) → FitsPath path text → (rest : List ℕ) × IsReadTo segments text rest × FitsParts path.is_exact path.delimiter parts rest
 
 -- Reading stops before the parts that are left.
 pub left_segments : (path : PathView) (segments : PathSegments) → AreOpen segments
@@ -226,15 +226,15 @@ pub left_segments : (path : PathView) (segments : PathSegments) → AreOpen segm
 left_segments path segments are are_read = record {
   few = are.few;
   as_many = are.as_many;
-  enough = λ text fits. subst (λ whole. AreEnough whole (length segments.have_texts.items) (length (segment_hashes 0 text))) (sym are.goes_on)
+  enough = λ text fits. subst (λ whole. HasSegmentCount whole (length segments.are_fixed.items) (length (segment_hashes 0 text))) (sym are.goes_on)
       (let (rest, read) = are_read text fits in enough_at_stop segments text are.as_many rest read);
   alike = λ text fits. let (rest, read) = are_read text fits in alike_at_stop segments text are.as_many rest read;
 }
 
 -- The path ends, and its last segment is added unless there is no room for it.
-pub all_segments : (path : PathView) (segments more : PathSegments) (added : Bool) → AreOpen segments → IsTrue path.is_whole
+pub all_segments : (path : PathView) (segments more : PathSegments) (added : Bool) → AreOpen segments → IsTrue path.is_exact
     → AreReadTo path segments [] → (IsTrue added → AddsSegment segments more) → (¬ IsTrue added → more ≡ segments)
-    → AreSegmentsOf path (record more { is_whole = added })
+    → AreSegmentsOf path (record more { is_exact = added })
 all_segments path segments more true are whole are_read adds full =
     let is = adds refl in
     let ends : (text : List ℕ) → FitsPath path text → IsReadTo segments text [] =
@@ -246,6 +246,6 @@ all_segments path segments more true are whole are_read adds full =
       alike = λ text fits. alike_at_end segments text are.as_many more is (ends text fits);
     }
 all_segments path segments more false are whole are_read adds full =
-    subst (λ (s : PathSegments). AreSegmentsOf path (record s { is_whole = false })) (sym (full (λ is. true≢false (sym is))))
-    (subst (λ (b : Bool). AreSegmentsOf path (record segments { is_whole = b })) are.goes_on
+    subst (λ (s : PathSegments). AreSegmentsOf path (record s { is_exact = false })) (sym (full (λ is. true≢false (sym is))))
+    (subst (λ (b : Bool). AreSegmentsOf path (record segments { is_exact = b })) are.goes_on
     (left_segments path segments are (λ text fits. let (rest, read, none) = are_read text fits in (rest, read))))

@@ -32,7 +32,7 @@ abbrev pub path_view : KnownPath → PathView
 path_view path = record {
   parts = parts_view path.parts.now;
   delimiter = path.delimiter;
-  is_whole = path.is_whole;
+  is_exact = path.is_exact;
 }
 
 abbrev pub fixed_texts : Fixed → FixedTexts

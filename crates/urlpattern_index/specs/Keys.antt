@@ -48,26 +48,26 @@ hashes_view hashes = record { protocol = hashes.protocol; hostname = hashes.host
 -- Which texts have a part in a key: protocol, hostname, and each of the first segments of the path
 -- (`false`: the segment is arbitrary); and whether the path has no more segments, or has some.
 pub record FormView : Type 0 where
-  pub has_protocol : Bool
-  pub has_hostname : Bool
+  pub uses_protocol : Bool
+  pub uses_hostname : Bool
   pub segments : List Bool
-  pub is_whole : Bool
+  pub is_exact : Bool
 
 abbrev pub form_view : Form → FormView
-form_view form = record { has_protocol = form.has_protocol; has_hostname = form.has_hostname; segments = form.segments.items; is_whole = form.is_whole }
+form_view form = record { uses_protocol = form.uses_protocol; uses_hostname = form.uses_hostname; segments = form.segments.items; is_exact = form.is_exact }
 
 -- `count` is the number of segments that a form requires, or above it if the path has more.
-abbrev pub AreEnough : (is_whole : Bool) → (segments count : ℕ) → Type 0
-AreEnough true segments count = count ≡ segments
-AreEnough false segments count = segments < count
+abbrev pub HasSegmentCount : (is_exact : Bool) → (segments count : ℕ) → Type 0
+HasSegmentCount true segments count = count ≡ segments
+HasSegmentCount false segments count = segments < count
 
 -- The path has as many segments as the form requires.
 abbrev pub Fits : FormView → Hashes → Type 0
-Fits form hashes = AreEnough form.is_whole (length form.segments) (length hashes.segments)
+Fits form hashes = HasSegmentCount form.is_exact (length form.segments) (length hashes.segments)
 
 -- The group of a form: for whole paths that of their number of segments, else the first.
 abbrev pub group_of_form : FormView → ℕ
-group_of_form form = if form.is_whole then length form.segments else 0
+group_of_form form = if form.is_exact then length form.segments else 0
 
 -- The forms of a group.
 abbrev pub group : List (List FormView) → ℕ → List FormView
@@ -86,8 +86,8 @@ mixed_segments hash (has_text ∷ segments) (own ∷ hashes) = mixed_segments (m
 -- The key of an address, in a form.
 abbrev pub form_key : FormView → Hashes → ℕ
 form_key form hashes =
-    let hosts = mixed (if form.has_protocol then hashes.protocol else 0) (if form.has_hostname then hashes.hostname else 0) in
-    mixed (mixed_segments hosts form.segments hashes.segments) (if form.is_whole then 1 else 0)
+    let hosts = mixed (if form.uses_protocol then hashes.protocol else 0) (if form.uses_hostname then hashes.hostname else 0) in
+    mixed (mixed_segments hosts form.segments hashes.segments) (if form.is_exact then 1 else 0)
 
 -- The address fits the form, and has this key in it.
 abbrev pub IsKeyBy : FormView → Hashes → (key : ℕ) → Type 0

@@ -1,21 +1,21 @@
 -- What the segments read from a path say of each text that fits it.
 use Rattle.std.specs.Prelude.{◌≡◌, ◌≤◌, ℕ, Bool, true, false, List, [], ◌∷◌, ◌++◌, length, Option, None, Some, is_some, unwrap_or}
 use Rattle.urlpattern_index.specs.FixedTexts.{AddressTexts, FixedTexts, HasTexts}
-use Rattle.urlpattern_index.specs.Keys.{AreEnough, Fits, form_key, form_view, hashes_of, mixed_segments, segment_hashes}
+use Rattle.urlpattern_index.specs.Keys.{HasSegmentCount, Fits, form_key, form_view, hashes_of, mixed_segments, segment_hashes}
 use Rattle.urlpattern_index.specs.Paths.{FitsPath, PathView}
 use Rattle.urlpattern_index.specs.declared.form.FormKey.{FormKey}
 use Rattle.urlpattern_index.specs.declared.path_segments.PathSegments.{PathSegments}
 
 -- `hashes` and `own` result in the same keys.
-abbrev pub CountAlike : (have_texts : List Bool) → (hashes own : List ℕ) → Type 0
-CountAlike have_texts hashes own = (hash : ℕ) → mixed_segments hash have_texts own ≡ mixed_segments hash have_texts hashes
+abbrev pub HaveEqualKeys : (are_fixed : List Bool) → (hashes own : List ℕ) → Type 0
+HaveEqualKeys are_fixed hashes own = (hash : ℕ) → mixed_segments hash are_fixed own ≡ mixed_segments hash are_fixed hashes
 
 -- Each text that fits the path has the segments that were read, with their fixed texts.
 pub record AreSegmentsOf (path : PathView) (segments : PathSegments) : Type 0 where
-  pub few : length segments.have_texts.items ≤ 12
-  pub as_many : length segments.hashes.items ≡ length segments.have_texts.items
-  pub enough : (text : List ℕ) → FitsPath path text → AreEnough segments.is_whole (length segments.have_texts.items) (length (segment_hashes 0 text))
-  pub alike : (text : List ℕ) → FitsPath path text → CountAlike segments.have_texts.items segments.hashes.items (segment_hashes 0 text)
+  pub few : length segments.are_fixed.items ≤ 12
+  pub as_many : length segments.hashes.items ≡ length segments.are_fixed.items
+  pub enough : (text : List ℕ) → FitsPath path text → HasSegmentCount segments.is_exact (length segments.are_fixed.items) (length (segment_hashes 0 text))
+  pub alike : (text : List ℕ) → FitsPath path text → HaveEqualKeys segments.are_fixed.items segments.hashes.items (segment_hashes 0 text)
 
 -- Each address that has the fixed texts fits the form, and has the key in it.
 abbrev pub IsPlaceFor : FixedTexts → FormKey → Type 0
@@ -26,21 +26,21 @@ IsPlaceFor fixed place =
 
 -- No segment was read yet.
 pub record AreNone (segments : PathSegments) : Type 0 where
-  pub texts : segments.have_texts.items ≡ []
+  pub texts : segments.are_fixed.items ≡ []
   pub hashes : segments.hashes.items ≡ []
   pub current : segments.current ≡ Some 0
-  pub goes_on : segments.is_whole ≡ false
+  pub goes_on : segments.is_exact ≡ false
 
 -- More segments may follow.
 pub record AreOpen (segments : PathSegments) : Type 0 where
-  pub few : length segments.have_texts.items ≤ 12
-  pub as_many : length segments.hashes.items ≡ length segments.have_texts.items
-  pub goes_on : segments.is_whole ≡ false
+  pub few : length segments.are_fixed.items ≤ 12
+  pub as_many : length segments.hashes.items ≡ length segments.are_fixed.items
+  pub goes_on : segments.is_exact ≡ false
 
 -- The segment being read is added, with the hash of its text or as an arbitrary segment.
 pub record AddsSegment (before after : PathSegments) : Type 0 where
   pub are_open : AreOpen after
-  pub texts : after.have_texts.items ≡ before.have_texts.items ++ is_some before.current ∷ []
+  pub texts : after.are_fixed.items ≡ before.are_fixed.items ++ is_some before.current ∷ []
   pub hashes : after.hashes.items ≡ before.hashes.items ++ unwrap_or before.current 0 ∷ []
   pub current : after.current ≡ Some 0
 
@@ -54,8 +54,8 @@ pub record IsReadTo (segments : PathSegments) (path rest : List ℕ) : Type 0 wh
   pub done : List ℕ
   pub own : ℕ
   pub cut : segment_hashes 0 path ≡ done ++ segment_hashes own rest
-  pub as_many : length done ≡ length segments.have_texts.items
-  pub alike : CountAlike segments.have_texts.items segments.hashes.items done
+  pub as_many : length done ≡ length segments.are_fixed.items
+  pub alike : HaveEqualKeys segments.are_fixed.items segments.hashes.items done
   pub is_current : IsCurrent segments.current own
 
 -- The path is read up to `rest`, or, if not to the end, up to some rest.

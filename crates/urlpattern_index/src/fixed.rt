@@ -25,7 +25,7 @@ impl Fixed<'_> {
             pathname: KnownPath {
                 parts: &[],
                 delimiter: None,
-                is_whole: false,
+                is_exact: false,
             },
         }
     }
@@ -39,7 +39,7 @@ pub struct KnownPath<'a> {
     /// The character that ends a segment.
     pub delimiter: Option<char>,
     /// Whether nothing follows the parts; otherwise any text may follow.
-    pub is_whole: bool,
+    pub is_exact: bool,
 }
 
 /// The texts of an input by which patterns are looked up.

@@ -2,7 +2,7 @@
 ghost use Rattle.arrayvec.specs.ArrayVec.{array_vec_len};
 ghost use Rattle.std.specs.Prelude.{◌≡◌, ◌≤◌, ◌<◌, ◌↔◌, IsTrue, IfNone, IfSome, chars, option_map, length, if◌then◌else◌};
 ghost use Rattle.urlpattern_index.specs.FixedTexts.{fixed_texts, FixedTexts};
-ghost use Rattle.urlpattern_index.specs.Keys.{AreEnough, Fits, IsKeyBy, form_key, form_view, group_of_form, hashes_view, option_hash};
+ghost use Rattle.urlpattern_index.specs.Keys.{HasSegmentCount, Fits, IsKeyBy, form_key, form_view, group_of_form, hashes_view, option_hash};
 ghost use Rattle.urlpattern_index.specs.Segments.{IsPlaceFor};
 
 use crate::address::AddressHashes;
@@ -25,13 +25,13 @@ const ANY: u64 = 1;
 #[derive(Debug, Drop)]
 pub(crate) struct Form {
     /// Whether the protocol has a part.
-    pub(crate) has_protocol: bool,
+    pub(crate) uses_protocol: bool,
     /// Whether the hostname has a part.
-    pub(crate) has_hostname: bool,
+    pub(crate) uses_hostname: bool,
     /// For each of the first path segments, whether it has a part; otherwise it is arbitrary.
     pub(crate) segments: ArrayVec<bool, DEPTH>,
     /// Whether the path has no more segments; otherwise it has some.
-    pub(crate) is_whole: bool,
+    pub(crate) is_exact: bool,
 }
 
 /// Where a pattern is listed: a form, and the key in that form.
@@ -56,9 +56,9 @@ impl Form {
 
     /// Whether a path with `count` segments has as many as the form requires.
     fn fits(&self, count: usize) -> bool
-        ensures { IsTrue result ↔ AreEnough self.now.is_whole (array_vec_len self.now.segments) count }
+        ensures { IsTrue result ↔ HasSegmentCount self.now.is_exact (array_vec_len self.now.segments) count }
     {
-        if self.is_whole {
+        if self.is_exact {
             count == self.segments.len()
         } else {
             self.segments.len() < count
@@ -70,7 +70,7 @@ impl Form {
         ensures group { result ≡ group_of_form (form_view self.now) }
         ensures bound { result < 13 }
     {
-        if self.is_whole {
+        if self.is_exact {
             self.segments.len()
         } else {
             0
@@ -82,28 +82,28 @@ impl Form {
         requires { length self.now.segments.items ≤ length hashes.now.segments.items }
         ensures { result ≡ form_key (form_view self.now) (hashes_view hashes.now) }
     {
-        let protocol = part(self.has_protocol, hashes.protocol, 0);
-        let hostname = part(self.has_hostname, hashes.hostname, 0);
+        let protocol = part(self.uses_protocol, hashes.protocol, 0);
+        let hostname = part(self.uses_hostname, hashes.hostname, 0);
         let segments = self.segments.as_slice();
         let own = hashes.segments.as_slice();
         let mut key = mixed(protocol, hostname);
         for index in 0..segments.len() {
             key = mixed(key, part(segments[index], own[index], ANY));
         }
-        mixed(key, u64::from(self.is_whole))
+        mixed(key, u64::from(self.is_exact))
     }
 
     /// Whether the forms are equal.
     pub(crate) fn is_same(&self, other: &Form) -> bool
         ensures { IsTrue result → form_view self.now ≡ form_view other.now }
     {
-        if self.has_protocol != other.has_protocol {
+        if self.uses_protocol != other.uses_protocol {
             return false;
         }
-        if self.has_hostname != other.has_hostname {
+        if self.uses_hostname != other.uses_hostname {
             return false;
         }
-        if self.is_whole != other.is_whole {
+        if self.is_exact != other.is_exact {
             return false;
         }
         self.segments.as_slice() == other.segments.as_slice()
@@ -122,10 +122,10 @@ impl FormKey {
             segments: segments.hashes,
         };
         let form = Form {
-            has_protocol: fixed.protocol.is_some(),
-            has_hostname: fixed.hostname.is_some(),
-            segments: segments.have_texts,
-            is_whole: segments.is_whole,
+            uses_protocol: fixed.protocol.is_some(),
+            uses_hostname: fixed.hostname.is_some(),
+            segments: segments.are_fixed,
+            is_exact: segments.is_exact,
         };
         let key = form.key_of(&hashes);
         FormKey { form, key }
@@ -136,10 +136,10 @@ impl FormKey {
         ensures { (fixed : FixedTexts) → IsPlaceFor fixed result }
     {
         let form = Form {
-            has_protocol: false,
-            has_hostname: false,
+            uses_protocol: false,
+            uses_hostname: false,
             segments: ArrayVec::new(),
-            is_whole: false,
+            is_exact: false,
         };
         let hashes = AddressHashes {
             protocol: 0,

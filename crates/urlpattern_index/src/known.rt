@@ -45,13 +45,13 @@ pub fn known_path<'a, R: RegExp>(
         return KnownPath {
             parts: &kept.parts,
             delimiter,
-            is_whole: true,
+            is_exact: true,
         };
     }
     KnownPath {
         parts: first_text(kept),
         delimiter,
-        is_whole: false,
+        is_exact: false,
     }
 }
 

@@ -18,13 +18,13 @@ use urlpattern_syntax::parser::{Part, PartModifier, PartType};
 #[derive(Drop)]
 pub(crate) struct PathSegments {
     /// For each segment, whether it has a fixed text; otherwise it is arbitrary.
-    pub(crate) have_texts: ArrayVec<bool, DEPTH>,
+    pub(crate) are_fixed: ArrayVec<bool, DEPTH>,
     /// The hashes of the fixed texts, and some number for each arbitrary segment.
     pub(crate) hashes: ArrayVec<u64, SEGMENTS>,
     /// The hash of the segment being read. `None`: the segment is arbitrary.
     current: Option<u64>,
     /// Whether there are no more segments; otherwise there are some.
-    pub(crate) is_whole: bool,
+    pub(crate) is_exact: bool,
 }
 
 impl PathSegments {
@@ -33,10 +33,10 @@ impl PathSegments {
         ensures { AreNone result }
     {
         PathSegments {
-            have_texts: ArrayVec::new(),
+            are_fixed: ArrayVec::new(),
             hashes: ArrayVec::new(),
             current: Some(0),
-            is_whole: false,
+            is_exact: false,
         }
     }
 
@@ -46,10 +46,10 @@ impl PathSegments {
         ensures added { IsTrue result → AddsSegment self.old self.new }
         ensures full { ¬ IsTrue result → self.new ≡ self.old }
     {
-        if self.have_texts.is_full() {
+        if self.are_fixed.is_full() {
             return false;
         }
-        self.have_texts.push(self.current.is_some());
+        self.are_fixed.push(self.current.is_some());
         self.hashes.push(self.current.unwrap_or(0));
         self.current = Some(0);
         true
@@ -109,8 +109,8 @@ pub(crate) fn read_segments(path: KnownPath<'_>) -> PathSegments
             return segments;
         }
     }
-    if path.is_whole {
-        segments.is_whole = segments.push();
+    if path.is_exact {
+        segments.is_exact = segments.push();
     }
     segments
 }

@@ -8,7 +8,7 @@ use Rattle.std.specs.Str.{chars, IsUtf8}
 use Rattle.std.specs.declared.alloc.Global.{Global}
 use Rattle.url.specs.Parts.{Parts, cannot_be_a_base}
 use Rattle.urlpattern_canonical.proofs.CanonicalLemmas.{answers-more, dummy_is_parsed, memory_alone}
-use Rattle.urlpattern_canonical.specs.Canonical.{IsAnswer, Reports, bytes_asked, dummy_url, processed_base, processed_pathname}
+use Rattle.urlpattern_canonical.specs.Canonical.{IsResult, Reports, bytes_passed, dummy_url, processed_base, processed_pathname}
 use Rattle.std.proofs.lemmas.List.Elements.{All-head, All-tail}
 use Rattle.urlpattern_components.proofs.EightLemmas.{at-each, by_name, same_values}
 use Rattle.urlpattern_syntax.proofs.StringTexts.{text-nil}
@@ -19,7 +19,7 @@ use Rattle.urlpattern_syntax.specs.Text.{byte_len, text_of}
 use Rattle.urlpattern_components.specs.declared.eight.ComponentName.{ComponentName}
 use Rattle.urlpattern_components.specs.declared.eight.ComponentName.TheVariants.{Protocol, Username, Password, Hostname, Port, Pathname, Search, Hash}
 use Rattle.urlpattern_components.specs.declared.eight.Eight.{Eight}
-use Rattle.urlpattern_init.specs.Inheritance.{asked_bytes, bytes_of, first_refusal, value_given, given_bytes, given_text, is_absolute, is_slash, processed_text, processed_values, protocol_bytes, put_before, refusal_or, unless_refused, up_to_last_slash, value_or_none, processed_value}
+use Rattle.urlpattern_init.specs.Inheritance.{longest_bytes, bytes_of, first_error, value_given, given_bytes, given_text, is_absolute, is_slash, processed_text, processed_values, protocol_bytes, path_prefix, error_or, unless_error, up_to_last_slash, value_or_none, processed_value}
 use Rattle.urlpattern_canonical.specs.declared.canonicalize_and_process.ProcessType.{ProcessType}
 use Rattle.urlpattern_canonical.specs.declared.canonicalize_and_process.ProcessType.TheVariants.{Pattern, Url}
 use Rattle.urlpattern_syntax.specs.declared.error.Error.TheVariants as errors
@@ -88,17 +88,17 @@ abbrev pub HasValue : {A : Type 0} → (ComponentName → Parsed A) → Componen
 HasValue {A} answers name = (value : A) × (answers name ≡ Ok value)
 
 refusal-after : {A : Type 0} (answers : ComponentName → Parsed A) (reason : ParseError) (name : ComponentName) (before after : List ComponentName)
-    → All (HasValue answers) before → answers name ≡ Err reason → first_refusal answers (before ++ name ∷ after) ≡ Some reason
-refusal-after answers reason name [] after values refused = ap (λ answer. refusal_or answer (first_refusal answers after)) refused
+    → All (HasValue answers) before → answers name ≡ Err reason → first_error answers (before ++ name ∷ after) ≡ Some reason
+refusal-after answers reason name [] after values refused = ap (λ answer. error_or answer (first_error answers after)) refused
 refusal-after answers reason name (earlier ∷ before) after values refused =
-    ap (λ answer. refusal_or answer (first_refusal answers (before ++ name ∷ after))) (All-head (HasValue answers) earlier before values).1
+    ap (λ answer. error_or answer (first_error answers (before ++ name ∷ after))) (All-head (HasValue answers) earlier before values).1
     ∙ refusal-after answers reason name before after (All-tail (HasValue answers) earlier before values) refused
 
 no-refusal : {A : Type 0} (answers : ComponentName → Parsed A) (names : List ComponentName) → ((name : ComponentName) → HasValue answers name)
-    → first_refusal answers names ≡ None
+    → first_error answers names ≡ None
 no-refusal answers [] values = refl
 no-refusal answers (name ∷ others) values =
-    ap (λ answer. refusal_or answer (first_refusal answers others)) (values name).1 ∙ no-refusal answers others values
+    ap (λ answer. error_or answer (first_error answers others)) (values name).1 ∙ no-refusal answers others values
 
 -- If the component's value is the first error, processing returns it.
 pub refused-after : (mode : ProcessType) (values : Values) (base : Option Parts) (protocol : Option (List ℕ)) (reason : ParseError)
@@ -110,8 +110,8 @@ unfolding processed_values
 refused-after mode values base protocol reason name before after split e earlier refused =
     let answers = processed_value mode values base protocol in
     bind-ok _ _ _ e
-    ∙ ap (λ refusal. unless_refused refusal (each (λ other. value_or_none (answers other))))
-    (ap (first_refusal answers) split ∙ refusal-after answers reason name before after earlier refused)
+    ∙ ap (λ refusal. unless_error refusal (each (λ other. value_or_none (answers other))))
+    (ap (first_error answers) split ∙ refusal-after answers reason name before after earlier refused)
 
 protocol-given : (mode : ProcessType) (values : Values) (base : Option Parts) (protocol given : Option (List ℕ))
     → value_given mode values base protocol Protocol given ≡ value_given mode values base None Protocol given
@@ -159,33 +159,33 @@ unfolding processed_values
 processed mode values base protocol found e are =
     let answers = processed_value mode values base protocol in
     bind-ok _ _ _ e
-    ∙ ap (λ refusal. unless_refused refusal (each (λ name. value_or_none (answers name)))) (no-refusal answers components (λ name. (at found name, are name)))
+    ∙ ap (λ refusal. unless_error refusal (each (λ name. value_or_none (answers name)))) (no-refusal answers components (λ name. (at found name, are name)))
     ∙ ap Ok (same_values (each (λ name. value_or_none (answers name))) found (λ name. at-each (λ other. value_or_none (answers other)) name ∙ ap value_or_none (are name)))
 
 -- ---- lengths of texts
 
-pub asked-mono : (mode : ProcessType) (few many : ℕ) → few ≤ many → bytes_asked mode few ≤ bytes_asked mode many
+pub asked-mono : (mode : ProcessType) (few many : ℕ) → few ≤ many → bytes_passed mode few ≤ bytes_passed mode many
 asked-mono Pattern few many more = omega arith
 asked-mono Url few many more = more
 
 -- A result about texts of some length is one about longer texts.
 pub answers-asked : (mode : ProcessType) (asked : Parsed (List ℕ)) (few many : ℕ) (result : Result (String Global) Error) → few ≤ many
-    → IsAnswer asked (bytes_asked mode few) result → IsAnswer asked (bytes_asked mode many) result
+    → IsResult asked (bytes_passed mode few) result → IsResult asked (bytes_passed mode many) result
 answers-asked mode asked few many result more answer =
-    answers-more asked (bytes_asked mode few) (bytes_asked mode many) result (asked-mono mode few many more) answer
+    answers-more asked (bytes_passed mode few) (bytes_passed mode many) result (asked-mono mode few many more) answer
 
 -- A result about some bytes is one about a text and its protocol, if neither of the two is shorter.
 pub answers-under : (mode : ProcessType) (asked : Parsed (List ℕ)) (text under : List ℕ) (few : ℕ) (result : Result (String Global) Error)
-    → IsUtf8 text → few ≤ max (length under) (length text) → IsAnswer asked (bytes_asked mode few) result
-    → IsAnswer asked (bytes_asked mode (max (length under) (byte_len (chars text)))) result
+    → IsUtf8 text → few ≤ max (length under) (length text) → IsResult asked (bytes_passed mode few) result
+    → IsResult asked (bytes_passed mode (max (length under) (byte_len (chars text)))) result
 answers-under mode asked text under few result utf8 more =
     let size = byte_len-chars text utf8 in
     answers-asked mode asked few (max (length under) (byte_len (chars text))) result (omega arith)
 
 -- A result about the bytes of a text alone is one about the text and its protocol.
 pub answers-own : (mode : ProcessType) (asked : Parsed (List ℕ)) (text under : List ℕ) (result : Result (String Global) Error)
-    → IsUtf8 text → IsAnswer asked (bytes_asked mode (length text)) result
-    → IsAnswer asked (bytes_asked mode (max (length under) (byte_len (chars text)))) result
+    → IsUtf8 text → IsResult asked (bytes_passed mode (length text)) result
+    → IsResult asked (bytes_passed mode (max (length under) (byte_len (chars text)))) result
 answers-own mode asked text under result utf8 answer = answers-under mode asked text under (length text) result utf8 (omega arith) answer
 
 -- The length in bytes of the longest text.
@@ -212,15 +212,15 @@ unfolding all_bytes
 under-all mode values base component protocol e = rw e (longest (bytes_of protocol) (given_bytes mode values base) component)
 
 pub given-le : (mode : ProcessType) (values : Values) (base : Option Parts) (component : ComponentName)
-    → bytes_asked mode (max 0 (given_bytes mode values base component)) ≤ asked_bytes mode values base
-unfolding asked_bytes all_bytes
+    → bytes_passed mode (max 0 (given_bytes mode values base component)) ≤ longest_bytes mode values base
+unfolding longest_bytes all_bytes
 given-le mode values base component =
     asked-mono mode (max 0 (given_bytes mode values base component)) (all_bytes mode values base) (given-all mode values base component)
 
 pub asked-le : (mode : ProcessType) (values : Values) (base : Option Parts) (component : ComponentName) (protocol : Option (List ℕ))
     → processed_value mode values base None Protocol ≡ Ok protocol
-    → bytes_asked mode (max (bytes_of protocol) (given_bytes mode values base component)) ≤ asked_bytes mode values base
-unfolding asked_bytes all_bytes
+    → bytes_passed mode (max (bytes_of protocol) (given_bytes mode values base component)) ≤ longest_bytes mode values base
+unfolding longest_bytes all_bytes
 asked-le mode values base component protocol e =
     asked-mono mode (max (bytes_of protocol) (given_bytes mode values base component)) (all_bytes mode values base) (under-all mode values base component protocol e)
 
@@ -258,8 +258,8 @@ never-reported asked found view is refused = absurd refused
 
 -- Processing a pattern fails only when memory runs out.
 pub pattern-memory : (values : Values) (base : Option Parts) (error : Error)
-    → MemoryOr (Reports (processed_values Pattern values base) (asked_bytes Pattern values base)) error → error ≡ errors.OutOfMemory
-unfolding asked_bytes
+    → MemoryOr (Reports (processed_values Pattern values base) (longest_bytes Pattern values base)) error → error ≡ errors.OutOfMemory
+unfolding longest_bytes
 pattern-memory values base error reported =
     let found = pattern-processed values base in
     elim reported [
@@ -269,30 +269,30 @@ pattern-memory values base error reported =
 
 -- ---- what is put before a pathname
 
-pub put_before-base : (mode : ProcessType) (url : Parts) (text : List ℕ) → is_absolute mode text ≡ false → cannot_be_a_base url ≡ false
-    → put_before mode (Some url) text ≡ processed_base mode (chars (up_to_last_slash url.path))
-put_before-base mode url text relative hierarchical =
+pub path_prefix-base : (mode : ProcessType) (url : Parts) (text : List ℕ) → is_absolute mode text ≡ false → cannot_be_a_base url ≡ false
+    → path_prefix mode (Some url) text ≡ processed_base mode (chars (up_to_last_slash url.path))
+path_prefix-base mode url text relative hierarchical =
     ap (λ test. if test then [] else processed_base mode (chars (up_to_last_slash url.path)))
     (or_false (is_absolute mode text) (cannot_be_a_base url) relative hierarchical)
 
-pub put_before-absolute : (mode : ProcessType) (url : Parts) (text : List ℕ) → is_absolute mode text ≡ true → put_before mode (Some url) text ≡ []
-put_before-absolute mode url text absolute =
+pub path_prefix-absolute : (mode : ProcessType) (url : Parts) (text : List ℕ) → is_absolute mode text ≡ true → path_prefix mode (Some url) text ≡ []
+path_prefix-absolute mode url text absolute =
     ap (λ test. if test || cannot_be_a_base url then [] else processed_base mode (chars (up_to_last_slash url.path))) absolute
 
-pub put_before-opaque : (mode : ProcessType) (url : Parts) (text : List ℕ) → cannot_be_a_base url ≡ true → put_before mode (Some url) text ≡ []
-put_before-opaque mode url text opaque =
+pub path_prefix-opaque : (mode : ProcessType) (url : Parts) (text : List ℕ) → cannot_be_a_base url ≡ true → path_prefix mode (Some url) text ≡ []
+path_prefix-opaque mode url text opaque =
     ap (λ test. if test then [] else processed_base mode (chars (up_to_last_slash url.path))) (or_true (is_absolute mode text) (cannot_be_a_base url) opaque)
 
-pub put_before-none : (mode : ProcessType) (base : Option Parts) (text : List ℕ) → ((url : Parts) → ¬ (base ≡ Some url)) → put_before mode base text ≡ []
-put_before-none mode None text none = refl
-put_before-none mode (Some url) text none = absurd (none url refl)
+pub path_prefix-none : (mode : ProcessType) (base : Option Parts) (text : List ℕ) → ((url : Parts) → ¬ (base ≡ Some url)) → path_prefix mode base text ≡ []
+path_prefix-none mode None text none = refl
+path_prefix-none mode (Some url) text none = absurd (none url refl)
 
 -- A result about the bytes of a text, as one about the text.
 pub answers-text : (mode : ProcessType) (protocol : Option (List ℕ)) (bytes text : List ℕ) (result : Result (String Global) Error) → IsUtf8 bytes
-    → chars bytes ≡ text → IsAnswer (processed_pathname mode protocol (chars bytes)) (bytes_asked mode (length bytes)) result
-    → IsAnswer (processed_pathname mode protocol text) (bytes_asked mode (byte_len text)) result
+    → chars bytes ≡ text → IsResult (processed_pathname mode protocol (chars bytes)) (bytes_passed mode (length bytes)) result
+    → IsResult (processed_pathname mode protocol text) (bytes_passed mode (byte_len text)) result
 answers-text mode protocol bytes text result u e answer =
-    let Answered : List ℕ → Type 0 = λ t. IsAnswer (processed_pathname mode protocol t) (bytes_asked mode (byte_len t)) result in
+    let Answered : List ℕ → Type 0 = λ t. IsResult (processed_pathname mode protocol t) (bytes_passed mode (byte_len t)) result in
     subst Answered e
     (answers-asked mode (processed_pathname mode protocol (chars bytes)) (length bytes) (byte_len (chars bytes)) result
     (let size = byte_len-chars bytes u in omega arith) answer)

@@ -3,7 +3,7 @@ use Rattle.std.proofs.Common.{◌≡◌, ℕ, zero, suc, ◌+◌, ◌<◌, ◌�
 use Rattle.std.proofs.lemmas.Bool.{and_from, and_parts, both_ways, cases_eq, cases_lt, false≢true, or_cases, or_left, or_right}
 use Rattle.std.specs.Prelude.{codes, IsSomeAnd, IsTrue}
 use Rattle.urlpattern_init.specs.ConstructorString.{SplitsAs}
-use Rattle.urlpattern_constructor.specs.Split.{AuthorityFrom, EndsAt, HashAt, HashFrom, HostnameFrom, IsAbsoluteSplit, IsRelativeSplit, PathnameAt, PathnameFrom, PortAt, SearchAt, SearchFrom, IsComponentBetween, UserinfoFrom, depth_before, ends_at, has_slashes, implied_pathname, is_at_sign, is_balanced, is_colon_sign, is_hash_sign, is_search_sign, is_slash_sign, may_end}
+use Rattle.urlpattern_constructor.specs.Split.{AuthorityFrom, EndsAt, HashAt, HashFrom, HostnameFrom, IsAbsoluteSplit, IsRelativeSplit, PathnameAt, PathnameFrom, PortAt, SearchAt, SearchFrom, IsComponentBetween, UserinfoFrom, depth_before, ends_at, has_slashes, implied_pathname, is_at_sign, is_balanced, is_colon_sign, is_hash_sign, is_search_prefix, is_slash_sign, may_end}
 use Rattle.urlpattern_constructor.proofs.ClosedTokens.{IsClosed}
 use Rattle.urlpattern_constructor.specs.Splitting.{may_follow}
 use Rattle.urlpattern_constructor.specs.declared.sections.Section.{Section}
@@ -124,8 +124,8 @@ module _ (text : List ℕ) (tokens : List TokenView) (are_tokens : AreLenientTok
       (t.0, h.0, λ c. (ends.0, ends.1, t.1, h.1 (record c { search = t.0 })))
 
   search_at : (place : ℕ) → place < length tokens → IsTrue (may_follow Pathname tokens place) → SearchFor (SearchAt text tokens place)
-  search_at place within some = elim (or_cases (is_search_sign tokens place || is_hash_sign tokens place) (ends_at tokens place) some) [
-    | inl signs ↦ elim (or_cases (is_search_sign tokens place) (is_hash_sign tokens place) signs) [
+  search_at place within some = elim (or_cases (is_search_prefix tokens place || is_hash_sign tokens place) (ends_at tokens place) some) [
+    | inl signs ↦ elim (or_cases (is_search_prefix tokens place) (is_hash_sign tokens place) signs) [
       | inl sign ↦
           let s = search_from (place + 1) 0 (closed.goes_on place within (search_not_end text tokens place are_tokens sign)) in
           (s.0, s.1, λ c. inl (sign, s.2 c))
@@ -141,24 +141,24 @@ module _ (text : List ℕ) (tokens : List TokenView) (are_tokens : AreLenientTok
       let ends = ends_some Pathname from depth within in
       let t = takes_some Pathname from depth ends in
       let s = search_at ends.0 ends.1.within (elim (stops_cases Pathname tokens from depth ends.0 ends.1) [
-        | inl may ↦ or_left (is_search_sign tokens ends.0 || is_hash_sign tokens ends.0) (ends_at tokens ends.0) (may_end_parts Pathname tokens from depth ends.0 may).1
-        | inr end ↦ or_right (is_search_sign tokens ends.0 || is_hash_sign tokens ends.0) (ends_at tokens ends.0) end
+        | inl may ↦ or_left (is_search_prefix tokens ends.0 || is_hash_sign tokens ends.0) (ends_at tokens ends.0) (may_end_parts Pathname tokens from depth ends.0 may).1
+        | inr end ↦ or_right (is_search_prefix tokens ends.0 || is_hash_sign tokens ends.0) (ends_at tokens ends.0) end
       ]) in
       (t.0, s.0, s.1, λ c. (ends.0, ends.1, t.1, s.2 (record c { pathname = t.0 })))
 
   -- What may follow a port.
   data Follows (place : ℕ) : Type 0 where
     Slash : IsTrue (is_slash_sign tokens place) → Follows place
-    Signs : IsTrue (is_search_sign tokens place || is_hash_sign tokens place) → Follows place
+    Signs : IsTrue (is_search_prefix tokens place || is_hash_sign tokens place) → Follows place
     AtEnd : IsTrue (ends_at tokens place) → Follows place
 
-  follows : (place : ℕ) → IsTrue (is_slash_sign tokens place || is_search_sign tokens place || is_hash_sign tokens place) → Follows place
-  follows place signs = elim (or_cases (is_slash_sign tokens place || is_search_sign tokens place) (is_hash_sign tokens place) signs) [
-    | inl more ↦ elim (or_cases (is_slash_sign tokens place) (is_search_sign tokens place) more) [
+  follows : (place : ℕ) → IsTrue (is_slash_sign tokens place || is_search_prefix tokens place || is_hash_sign tokens place) → Follows place
+  follows place signs = elim (or_cases (is_slash_sign tokens place || is_search_prefix tokens place) (is_hash_sign tokens place) signs) [
+    | inl more ↦ elim (or_cases (is_slash_sign tokens place) (is_search_prefix tokens place) more) [
       | inl slash ↦ Slash slash
-      | inr sign ↦ Signs (or_left (is_search_sign tokens place) (is_hash_sign tokens place) sign)
+      | inr sign ↦ Signs (or_left (is_search_prefix tokens place) (is_hash_sign tokens place) sign)
     ]
-    | inr hash ↦ Signs (or_right (is_search_sign tokens place) (is_hash_sign tokens place) hash)
+    | inr hash ↦ Signs (or_right (is_search_prefix tokens place) (is_hash_sign tokens place) hash)
   ]
 
   pathname_at : (special : Bool) (place : ℕ) → place < length tokens → Follows place → PathnameFor (PathnameAt text tokens special place)
@@ -166,7 +166,7 @@ module _ (text : List ℕ) (tokens : List TokenView) (are_tokens : AreLenientTok
       let p = pathname_from place 0 within in
       (p.0, p.1, p.2, λ c. inl (slash, p.3 c))
   pathname_at special place within (Signs signs) =
-      let s = search_at place within (or_left (is_search_sign tokens place || is_hash_sign tokens place) (ends_at tokens place) signs) in
+      let s = search_at place within (or_left (is_search_prefix tokens place || is_hash_sign tokens place) (ends_at tokens place) signs) in
       (Some (implied_pathname special), s.0, s.1, λ c. inr (inl (signs, refl, s.2 (record c { pathname = Some (implied_pathname special) }))))
   pathname_at special place within (AtEnd end) = (None, None, None, λ c. inr (inr (end, refl, refl, refl)))
 
@@ -174,7 +174,7 @@ module _ (text : List ℕ) (tokens : List TokenView) (are_tokens : AreLenientTok
   port_at special place within (inl colon) =
       let ends = ends_some Port (place + 1) 0 (sign_goes_on (codes ":") tokens place closed colon) in
       let t = takes_some Port (place + 1) 0 ends in
-      let p = pathname_at special ends.0 ends.1.within (elim (or_cases (is_slash_sign tokens ends.0 || is_search_sign tokens ends.0 || is_hash_sign tokens ends.0) (ends_at tokens ends.0) (port_sign tokens (place + 1) 0 ends.0 ends.1)) [
+      let p = pathname_at special ends.0 ends.1.within (elim (or_cases (is_slash_sign tokens ends.0 || is_search_prefix tokens ends.0 || is_hash_sign tokens ends.0) (ends_at tokens ends.0) (port_sign tokens (place + 1) 0 ends.0 ends.1)) [
         | inl signs ↦ follows ends.0 signs
         | inr end ↦ AtEnd end
       ]) in
@@ -184,9 +184,9 @@ module _ (text : List ℕ) (tokens : List TokenView) (are_tokens : AreLenientTok
       (Some [], p.0, p.1, p.2, λ c. inr (no_colon, refl, p.3 (record c { port = Some [] })))
 
   -- Without a colon, a hostname is followed by what may follow a port.
-  colon_or_more : (place : ℕ) → ¬ IsTrue (is_colon_sign tokens place) → (balanced : Bool) → IsTrue ((balanced && is_colon_sign tokens place) || is_slash_sign tokens place || is_search_sign tokens place || is_hash_sign tokens place) → Follows place
+  colon_or_more : (place : ℕ) → ¬ IsTrue (is_colon_sign tokens place) → (balanced : Bool) → IsTrue ((balanced && is_colon_sign tokens place) || is_slash_sign tokens place || is_search_prefix tokens place || is_hash_sign tokens place) → Follows place
   colon_or_more place no_colon balanced signs =
-      follows place (without (balanced && is_colon_sign tokens place) (is_slash_sign tokens place) (is_search_sign tokens place) (is_hash_sign tokens place)
+      follows place (without (balanced && is_colon_sign tokens place) (is_slash_sign tokens place) (is_search_prefix tokens place) (is_hash_sign tokens place)
       (λ h. no_colon (and_parts balanced (is_colon_sign tokens place) h).1) signs)
     where
       without : (a b c d : Bool) → ¬ IsTrue a → IsTrue (a || b || c || d) → IsTrue (b || c || d)
@@ -256,7 +256,7 @@ module _ (text : List ℕ) (tokens : List TokenView) (are_tokens : AreLenientTok
       depth : ℕ
       depth = depth_before tokens 0 0 until
 
-      by_search : (b : Bool) → is_search_sign tokens 0 ≡ b → is_hash_sign tokens 0 ≡ false → (c : Values) × IsRelativeSplit text tokens c
+      by_search : (b : Bool) → is_search_prefix tokens 0 ≡ b → is_hash_sign tokens 0 ≡ false → (c : Values) × IsRelativeSplit text tokens c
       by_search true sign other =
           let next = closed.goes_on 0 some_token (search_not_end text tokens 0 are_tokens sign) in
           let s = search_from 1 (depth_before tokens 0 0 until) (omega arith) in (
@@ -277,9 +277,9 @@ module _ (text : List ℕ) (tokens : List TokenView) (are_tokens : AreLenientTok
               no_colon = ends;
               is_end = end;
               begins = inr (inr (
-                (λ signs. elim (or_cases (is_hash_sign tokens 0) (is_search_sign tokens 0) signs) [
+                (λ signs. elim (or_cases (is_hash_sign tokens 0) (is_search_prefix tokens 0) signs) [
                   | inl sign ↦ both_ways (is_hash_sign tokens 0) no_hash sign
-                  | inr sign ↦ both_ways (is_search_sign tokens 0) no_search sign
+                  | inr sign ↦ both_ways (is_search_prefix tokens 0) no_search sign
                 ]),
                 p.3 nothing,
               ));
@@ -300,7 +300,7 @@ module _ (text : List ℕ) (tokens : List TokenView) (are_tokens : AreLenientTok
               nothing_before = (refl, refl, refl, refl, refl);
             },
           )
-      by_hash false other = by_search (is_search_sign tokens 0) refl other
+      by_hash false other = by_search (is_search_prefix tokens 0) refl other
 
   absolute : (special : Bool) (colon : ℕ) → EndsAt Protocol tokens 0 0 colon → IsTrue (is_colon_sign tokens colon) → (c : Values) × IsAbsoluteSplit text tokens special colon c
   absolute special colon ends sign = by_slashes (has_slashes tokens colon) refl

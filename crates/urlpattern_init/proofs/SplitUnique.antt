@@ -6,7 +6,7 @@ use Rattle.std.proofs.lemmas.Slice.Eq.{bytes_eq-Decides}
 use Rattle.std.specs.Prelude.{codes, IsSomeAnd, IsTrue, slice_get}
 use Rattle.std.specs.Str.{bytes_eq}
 use Rattle.urlpattern_init.specs.ConstructorString.{SplitsAs, SplitsInto}
-use Rattle.urlpattern_constructor.specs.Split.{AuthorityFrom, EndsAt, HasProtocol, HashAt, HashFrom, HostnameFrom, IsAbsoluteSplit, IsRelativeSplit, IsSplit, IsTextBetween, PathnameAt, PathnameFrom, PortAt, SearchAt, SearchFrom, IsComponentBetween, UserinfoFrom, passes_at, ends_at, has_slashes, is_at_sign, is_character, is_colon_sign, is_end, is_hash_sign, is_search_sign, is_sign, is_slash_sign, follows_modified, depth_before}
+use Rattle.urlpattern_constructor.specs.Split.{AuthorityFrom, EndsAt, HasProtocol, HashAt, HashFrom, HostnameFrom, IsAbsoluteSplit, IsRelativeSplit, IsSplit, IsTextBetween, PathnameAt, PathnameFrom, PortAt, SearchAt, SearchFrom, IsComponentBetween, UserinfoFrom, passes_at, ends_at, has_slashes, is_at_sign, is_character, is_colon_sign, is_end, is_hash_sign, is_search_prefix, is_non_special_pattern_char, is_slash_sign, follows_modified, depth_before}
 use Rattle.urlpattern_constructor.proofs.ClosedTokens.{IsClosed}
 use Rattle.urlpattern_constructor.specs.declared.sections.Section.{Section}
 use Rattle.urlpattern_constructor.specs.declared.sections.Section.TheVariants.{Authority, Hostname, Pathname, Port, Protocol, Search, Username}
@@ -71,17 +71,17 @@ values_one one two tokens place h g =
     let e = at_view (λ token. bytes_eq token.value two) tokens place found.0 found.1 in
     sym ((bytes_eq-Decides found.0.value one).0 found.2) ∙ (bytes_eq-Decides found.0.value two).0 (sym e ∙ g)
 
-sign_value : (mark : List ℕ) (tokens : List TokenView) (place : ℕ) → IsTrue (passes_at (is_sign mark) tokens place) → IsTrue (has_value mark tokens place)
+sign_value : (mark : List ℕ) (tokens : List TokenView) (place : ℕ) → IsTrue (passes_at (is_non_special_pattern_char mark) tokens place) → IsTrue (has_value mark tokens place)
 unfolding has_value
 sign_value mark tokens place h =
-    let found = found_at (is_sign mark) tokens place h in
+    let found = found_at (is_non_special_pattern_char mark) tokens place h in
     at_view (λ token. bytes_eq token.value mark) tokens place found.0 found.1
     ∙ (and_parts (is_character found.0.kind) (bytes_eq found.0.value mark) found.2).1
 
-search_value : (tokens : List TokenView) (place : ℕ) → IsTrue (is_search_sign tokens place) → IsTrue (has_value (codes "?") tokens place)
+search_value : (tokens : List TokenView) (place : ℕ) → IsTrue (is_search_prefix tokens place) → IsTrue (has_value (codes "?") tokens place)
 unfolding has_value
 search_value tokens place h =
-    elim (or_cases (passes_at (is_sign (codes "?")) tokens place) (passes_at (λ token. bytes_eq token.value (codes "?")) tokens place && not (follows_modified tokens place)) h) [
+    elim (or_cases (passes_at (is_non_special_pattern_char (codes "?")) tokens place) (passes_at (λ token. bytes_eq token.value (codes "?")) tokens place && not (follows_modified tokens place)) h) [
       | inl sign ↦ sign_value (codes "?") tokens place sign
       | inr value ↦ (and_parts (passes_at (λ token. bytes_eq token.value (codes "?")) tokens place) (not (follows_modified tokens place)) value).0
     ]
@@ -90,11 +90,11 @@ search_value tokens place h =
 differ : (one two : List ℕ) → bytes_eq one two ≡ false → one ≡ two → ⊥
 differ one two other e = false≢true (sym other ∙ (bytes_eq-Decides one two).1 e)
 
-search_not_hash : (tokens : List TokenView) (place : ℕ) → IsTrue (is_search_sign tokens place) → IsTrue (is_hash_sign tokens place) → ⊥
+search_not_hash : (tokens : List TokenView) (place : ℕ) → IsTrue (is_search_prefix tokens place) → IsTrue (is_hash_sign tokens place) → ⊥
 search_not_hash tokens place h g =
     differ (codes "?") (codes "#") refl (values_one (codes "?") (codes "#") tokens place (search_value tokens place h) (sign_value (codes "#") tokens place g))
 
-slash_not_search : (tokens : List TokenView) (place : ℕ) → IsTrue (is_slash_sign tokens place) → IsTrue (is_search_sign tokens place) → ⊥
+slash_not_search : (tokens : List TokenView) (place : ℕ) → IsTrue (is_slash_sign tokens place) → IsTrue (is_search_prefix tokens place) → ⊥
 slash_not_search tokens place h g =
     differ (codes "/") (codes "?") refl (values_one (codes "/") (codes "?") tokens place (sign_value (codes "/") tokens place h) (search_value tokens place g))
 
@@ -110,7 +110,7 @@ end_value whole text [] (suc place) cut h = absurd (false≢true h)
 end_value whole text (token ∷ front) zero cut h = absurd (both_ways (is_end token.kind) (lenient_not_end whole cut.0 token cut.1 cut.3) h)
 end_value whole text (token ∷ front) (suc place) cut h = end_value whole cut.1 front place cut.4 h
 
-pub search_not_end : (text : List ℕ) (tokens : List TokenView) (place : ℕ) → AreLenientTokens text tokens → IsTrue (is_search_sign tokens place) → IsTrue (ends_at tokens place) → ⊥
+pub search_not_end : (text : List ℕ) (tokens : List TokenView) (place : ℕ) → AreLenientTokens text tokens → IsTrue (is_search_prefix tokens place) → IsTrue (ends_at tokens place) → ⊥
 search_not_end text tokens place h search end =
     let last = end_value text text h.front place h.cut (subst (λ (ts : List TokenView). IsTrue (ends_at ts place)) h.all end) in
     differ (codes "?") [] refl (values_one (codes "?") [] tokens place (search_value tokens place search) (subst (λ (ts : List TokenView). IsTrue (has_value [] ts place)) (sym h.all) last))
@@ -198,14 +198,14 @@ module _ (text : List ℕ) (tokens : List TokenView) (are_tokens : AreLenientTok
           search_at_one g.0 (subst (λ until. SearchAt text tokens until c) e h.3) g.3,
         )
 
-    slash_alone : (place : ℕ) → IsTrue (is_slash_sign tokens place) → IsTrue (is_search_sign tokens place || is_hash_sign tokens place) → ⊥
-    slash_alone place slash signs = elim (or_cases (is_search_sign tokens place) (is_hash_sign tokens place) signs) [
+    slash_alone : (place : ℕ) → IsTrue (is_slash_sign tokens place) → IsTrue (is_search_prefix tokens place || is_hash_sign tokens place) → ⊥
+    slash_alone place slash signs = elim (or_cases (is_search_prefix tokens place) (is_hash_sign tokens place) signs) [
       | inl search ↦ slash_not_search tokens place slash search
       | inr hash ↦ slash_not_hash tokens place slash hash
     ]
 
-    signs_not_end : (place : ℕ) → IsTrue (is_search_sign tokens place || is_hash_sign tokens place) → IsTrue (ends_at tokens place) → ⊥
-    signs_not_end place signs end = elim (or_cases (is_search_sign tokens place) (is_hash_sign tokens place) signs) [
+    signs_not_end : (place : ℕ) → IsTrue (is_search_prefix tokens place || is_hash_sign tokens place) → IsTrue (ends_at tokens place) → ⊥
+    signs_not_end place signs end = elim (or_cases (is_search_prefix tokens place) (is_hash_sign tokens place) signs) [
       | inl search ↦ search_not_end text tokens place are_tokens search end
       | inr hash ↦ sign_not_end (codes "#") tokens place hash end
     ]
@@ -278,18 +278,18 @@ module _ (text : List ℕ) (tokens : List TokenView) (are_tokens : AreLenientTok
     abbrev RelativeFrom : Values → (until : ℕ) → Type 0
     RelativeFrom components until =
         (IsTrue (is_hash_sign tokens 0) × (components.pathname ≡ None) × (components.search ≡ None) × HashFrom text tokens 1 components)
-        ⊎ (IsTrue (is_search_sign tokens 0) × (components.pathname ≡ None) × SearchFrom text tokens 1 (depth_before tokens 0 0 until) components)
-        ⊎ (¬ IsTrue (is_hash_sign tokens 0 || is_search_sign tokens 0) × PathnameFrom text tokens 0 (depth_before tokens 0 0 until) components)
+        ⊎ (IsTrue (is_search_prefix tokens 0) × (components.pathname ≡ None) × SearchFrom text tokens 1 (depth_before tokens 0 0 until) components)
+        ⊎ (¬ IsTrue (is_hash_sign tokens 0 || is_search_prefix tokens 0) × PathnameFrom text tokens 0 (depth_before tokens 0 0 until) components)
 
     relative_from_one : (until : ℕ) → RelativeFrom c until → RelativeFrom d until → SamePathname c d
     relative_from_one until (inl h) (inl g) = (h.1 ∙ sym g.1, (h.2 ∙ sym g.2, hash_from_one 1 h.3 g.3))
     relative_from_one until (inl h) (inr (inl g)) = absurd (search_not_hash tokens 0 g.0 h.0)
-    relative_from_one until (inl h) (inr (inr g)) = absurd (g.0 (or_left (is_hash_sign tokens 0) (is_search_sign tokens 0) h.0))
+    relative_from_one until (inl h) (inr (inr g)) = absurd (g.0 (or_left (is_hash_sign tokens 0) (is_search_prefix tokens 0) h.0))
     relative_from_one until (inr (inl h)) (inl g) = absurd (search_not_hash tokens 0 h.0 g.0)
     relative_from_one until (inr (inl h)) (inr (inl g)) = (h.1 ∙ sym g.1, search_from_one 1 (depth_before tokens 0 0 until) h.2 g.2)
-    relative_from_one until (inr (inl h)) (inr (inr g)) = absurd (g.0 (or_right (is_hash_sign tokens 0) (is_search_sign tokens 0) h.0))
-    relative_from_one until (inr (inr h)) (inl g) = absurd (h.0 (or_left (is_hash_sign tokens 0) (is_search_sign tokens 0) g.0))
-    relative_from_one until (inr (inr h)) (inr (inl g)) = absurd (h.0 (or_right (is_hash_sign tokens 0) (is_search_sign tokens 0) g.0))
+    relative_from_one until (inr (inl h)) (inr (inr g)) = absurd (g.0 (or_right (is_hash_sign tokens 0) (is_search_prefix tokens 0) h.0))
+    relative_from_one until (inr (inr h)) (inl g) = absurd (h.0 (or_left (is_hash_sign tokens 0) (is_search_prefix tokens 0) g.0))
+    relative_from_one until (inr (inr h)) (inr (inl g)) = absurd (h.0 (or_right (is_hash_sign tokens 0) (is_search_prefix tokens 0) g.0))
     relative_from_one until (inr (inr h)) (inr (inr g)) = pathname_from_one 0 (depth_before tokens 0 0 until) h.1 g.1
 
     relative_one : IsRelativeSplit text tokens c → IsRelativeSplit text tokens d → c ≡ d

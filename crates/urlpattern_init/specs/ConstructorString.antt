@@ -1,7 +1,7 @@
 -- The outcomes of parsing a constructor string.
 use Rattle.std.specs.Prelude.{◌≡◌, ℕ, ◌*◌, ◌≤◌, ◌⊎◌, Bool, true, false, List, Option, None, length}
 use Rattle.url.specs.declared.Url.{Url}
-use Rattle.urlpattern_init.specs.SpecialProtocol.{RefusesProtocol}
+use Rattle.urlpattern_init.specs.SpecialProtocol.{RejectsProtocol}
 use Rattle.urlpattern_constructor.specs.Split.{HasProtocol, IsSplit, LacksProtocol}
 use Rattle.urlpattern_constructor.specs.Splitting.{split_values, text_of_source, tokens_of}
 use Rattle.urlpattern_constructor.specs.declared.{components.Split.Split, tokens.Source.Source}
@@ -30,9 +30,9 @@ AreFewTurns text turns = (tokens : List TokenView) × AreLenientTokens text toke
 
 -- The text is rejected with this error: that of its protocol, or `BaseUrlRequired` if it has
 -- neither a protocol nor a base URL.
-abbrev pub RefusesString : (text : List ℕ) → (base_url : Option Url) → ErrorView → Type 0
-RefusesString text base_url error =
-    HasProtocol text (λ protocol. RefusesProtocol protocol error)
+abbrev pub RejectsString : (text : List ℕ) → (base_url : Option Url) → ErrorView → Type 0
+RejectsString text base_url error =
+    HasProtocol text (λ protocol. RejectsProtocol protocol error)
     ⊎ (LacksProtocol text × (base_url ≡ None) × (error ≡ ErrorView.BaseUrlRequired))
 
 -- The init has a protocol or a base URL.

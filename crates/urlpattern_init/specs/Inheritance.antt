@@ -12,7 +12,7 @@ use Rattle.url.specs.Parser.{Parsed, and_then}
 use Rattle.url.specs.Parts.{Parts, cannot_be_a_base, host_or_empty, text_between}
 use Rattle.urlpattern_components.specs.declared.eight.ComponentName.TheVariants.{Protocol, Username, Password, Hostname, Port, Pathname, Search, Hash}
 use Rattle.urlpattern_init.specs.declared.init.UrlPatternInit.{UrlPatternInit}
-use Rattle.urlpattern_canonical.specs.Canonical.{bytes_asked, left_brace, processed_base, processed_hash, processed_hostname, processed_password, processed_pathname, processed_port, processed_protocol, processed_search, processed_username, without_first}
+use Rattle.urlpattern_canonical.specs.Canonical.{bytes_passed, left_brace, processed_base, processed_hash, processed_hostname, processed_password, processed_pathname, processed_port, processed_protocol, processed_search, processed_username, without_first}
 use Rattle.urlpattern_canonical.specs.declared.canonicalize_and_process.ProcessType.{ProcessType}
 use Rattle.urlpattern_components.specs.declared.eight.ComponentName.{ComponentName}
 use Rattle.urlpattern_components.specs.declared.eight.Eight.{Eight}
@@ -91,16 +91,16 @@ up_to_last_slash (c ∷ path) = if list_any is_slash (c ∷ path) then c ∷ up_
 
 -- What is put before a relative pathname: the base's path up to its last slash, unless the path is
 -- opaque.
-abbrev pub put_before : ProcessType → Option Parts → List ℕ → List ℕ
-put_before mode None text = []
-put_before mode (Some base) text =
+abbrev pub path_prefix : ProcessType → Option Parts → List ℕ → List ℕ
+path_prefix mode None text = []
+path_prefix mode (Some base) text =
     if is_absolute mode text || cannot_be_a_base base then [] else processed_base mode (chars (up_to_last_slash base.path))
 
 -- ---- processed values
 
 -- The given text of a component, after what is put before it.
 abbrev pub given_text : ProcessType → Option Parts → ComponentName → List ℕ → List ℕ
-given_text mode base Pathname text = put_before mode base text ++ text
+given_text mode base Pathname text = path_prefix mode base text ++ text
 given_text mode base component text = text
 
 -- Whether the init lacks all of these components.
@@ -132,14 +132,14 @@ processed_value mode values base protocol component =
     value_given mode values base protocol component (at values component)
 
 -- The error of a result, or else the later error.
-abbrev pub refusal_or : {A : Type 0} → Parsed A → Option ParseError → Option ParseError
-refusal_or (Err reason) later = Some reason
-refusal_or (Ok value) later = later
+abbrev pub error_or : {A : Type 0} → Parsed A → Option ParseError → Option ParseError
+error_or (Err reason) later = Some reason
+error_or (Ok value) later = later
 
 -- The first error among the results for these components.
-abbrev pub first_refusal : {A : Type 0} → (ComponentName → Parsed A) → List ComponentName → Option ParseError
-first_refusal answers [] = None
-first_refusal answers (name ∷ others) = refusal_or (answers name) (first_refusal answers others)
+abbrev pub first_error : {A : Type 0} → (ComponentName → Parsed A) → List ComponentName → Option ParseError
+first_error answers [] = None
+first_error answers (name ∷ others) = error_or (answers name) (first_error answers others)
 
 -- The value of a result, none for an error.
 abbrev pub value_or_none : Parsed (Option (List ℕ)) → Option (List ℕ)
@@ -147,13 +147,13 @@ value_or_none (Ok value) = value
 value_or_none (Err reason) = None
 
 -- The values, unless there is an error.
-abbrev pub unless_refused : Option ParseError → Values → Parsed Values
-unless_refused (Some reason) values = Err reason
-unless_refused None values = Ok values
+abbrev pub unless_error : Option ParseError → Values → Parsed Values
+unless_error (Some reason) values = Err reason
+unless_error None values = Ok values
 
 -- The values that are the results for the components, or the first error.
 abbrev pub all_values : (ComponentName → Parsed (Option (List ℕ))) → Parsed Values
-all_values answers = unless_refused (first_refusal answers components) (each (λ name. value_or_none (answers name)))
+all_values answers = unless_error (first_error answers components) (each (λ name. value_or_none (answers name)))
 
 -- The processed values of an init with this base, or the first error.
 unfoldable pub processed_values : ProcessType → Values → Option Parts → Parsed Values
@@ -177,17 +177,17 @@ protocol_bytes (Ok protocol) = bytes_of protocol
 protocol_bytes (Err reason) = 0
 
 -- The length in bytes of the longest text that `url` receives; for a pattern it receives none.
-unfoldable pub asked_bytes : ProcessType → Values → Option Parts → ℕ
-asked_bytes mode values base =
-    bytes_asked mode (fold max (protocol_bytes (processed_value mode values base None Protocol)) (map (given_bytes mode values base) components))
+unfoldable pub longest_bytes : ProcessType → Values → Option Parts → ℕ
+longest_bytes mode values base =
+    bytes_passed mode (fold max (protocol_bytes (processed_value mode values base None Protocol)) (map (given_bytes mode values base) components))
 
 -- The processed values of an init, or the first error.
 abbrev pub init_values : ProcessType → UrlPatternInit → Parsed Values
 init_values mode init = processed_values mode (values_view init) init.base_url
 
 -- The length in bytes of the longest text of an init that `url` receives.
-abbrev pub init_bytes : ProcessType → UrlPatternInit → ℕ
-init_bytes mode init = asked_bytes mode (values_view init) init.base_url
+abbrev pub longest_init_bytes : ProcessType → UrlPatternInit → ℕ
+longest_init_bytes mode init = longest_bytes mode (values_view init) init.base_url
 
 -- ---- eight texts
 

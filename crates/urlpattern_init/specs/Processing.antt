@@ -3,9 +3,9 @@ use Rattle.std.specs.Prelude.{◌≡◌, ◌≢◌, ℕ, List, [], length, max, 
 use Rattle.std.specs.{Borrow.Bor, Option.option_or}
 use Rattle.std.specs.declared.alloc.Global.{Global}
 use Rattle.url.specs.Parser.{Parsed}
-use Rattle.urlpattern_canonical.specs.Canonical.{IsAnswer, Reports, bytes_asked}
+use Rattle.urlpattern_canonical.specs.Canonical.{IsResult, Reports, bytes_passed}
 use Rattle.urlpattern_init.specs.declared.init.processing.Processing.{Processing}
-use Rattle.urlpattern_init.specs.Inheritance.{bytes_of, given_bytes, given_text, inherited, init_bytes, init_values, missing, processed_text, processed_value, values_view}
+use Rattle.urlpattern_init.specs.Inheritance.{bytes_of, given_bytes, given_text, inherited, longest_init_bytes, init_values, missing, processed_text, processed_value, values_view}
 use Rattle.urlpattern_components.specs.declared.eight.ComponentName.{ComponentName}
 use Rattle.urlpattern_components.specs.Eight.{Values}
 use Rattle.urlpattern_syntax.specs.Errors.{MemoryOr}
@@ -27,13 +27,13 @@ values_in processing = init_values processing.kind.now processing.init.now
 
 -- The length in bytes of the longest text of the init that `url` receives.
 abbrev pub bytes_in : Processing → ℕ
-bytes_in processing = init_bytes processing.kind.now processing.init.now
+bytes_in processing = longest_init_bytes processing.kind.now processing.init.now
 
 -- The length in bytes of the longest text that `url` receives for one component, under a protocol
 -- of `protocol_bytes`.
 abbrev pub component_bytes : Processing → (protocol_bytes : ℕ) → ComponentName → ℕ
 component_bytes processing protocol_bytes component =
-    bytes_asked processing.kind.now
+    bytes_passed processing.kind.now
     (max protocol_bytes (given_bytes processing.kind.now (given_values processing) processing.init.now.base_url component))
 
 -- A given text of the init, after what is put before it.
@@ -50,16 +50,16 @@ abbrev pub optional_bytes : Option (Bor (List ℕ)) → ℕ
 optional_bytes text = length (unwrap_or (option_copied text) [])
 
 -- The result is that of processing a given text under a protocol.
-abbrev pub IsTextAnswer : Processing → (protocol : Option (Bor (List ℕ))) → ComponentName → List ℕ → Result (String Global) Error → Type 0
-IsTextAnswer processing protocol component text result =
-    IsAnswer (text_value_in processing (option_text protocol) component text)
-    (bytes_asked processing.kind.now (max (optional_bytes protocol) (byte_len (given_in processing component text)))) result
+abbrev pub IsTextResult : Processing → (protocol : Option (Bor (List ℕ))) → ComponentName → List ℕ → Result (String Global) Error → Type 0
+IsTextResult processing protocol component text result =
+    IsResult (text_value_in processing (option_text protocol) component text)
+    (bytes_passed processing.kind.now (max (optional_bytes protocol) (byte_len (given_in processing component text)))) result
 
 -- The result is that of processing a given pathname; its errors depend on its own length alone.
-abbrev pub IsGivenPathnameAnswer : Processing → (protocol : Option (Bor (List ℕ))) → List ℕ → Result (String Global) Error → Type 0
-IsGivenPathnameAnswer processing protocol text result =
-    IsAnswer (text_value_in processing (option_text protocol) ComponentName.Pathname text)
-    (bytes_asked processing.kind.now (byte_len (given_in processing ComponentName.Pathname text))) result
+abbrev pub IsGivenPathnameResult : Processing → (protocol : Option (Bor (List ℕ))) → List ℕ → Result (String Global) Error → Type 0
+IsGivenPathnameResult processing protocol text result =
+    IsResult (text_value_in processing (option_text protocol) ComponentName.Pathname text)
+    (bytes_passed processing.kind.now (byte_len (given_in processing ComponentName.Pathname text))) result
 
 -- The value of a component that the init lacks.
 abbrev pub lacking_in : Processing → ComponentName → Option (List ℕ)

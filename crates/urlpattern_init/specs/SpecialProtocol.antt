@@ -3,7 +3,7 @@
 use Rattle.std.specs.Prelude.{◌≡◌, ℕ, ◌↔◌, Bool, false, List, Any, IsTrue, Option, Result, String, codes, length}
 use Rattle.std.specs.{Borrow.Bor, Str.chars}
 use Rattle.std.specs.declared.alloc.Global.{Global}
-use Rattle.urlpattern_canonical.specs.Canonical.{IsAnswer, canonical_protocol, special_schemes}
+use Rattle.urlpattern_canonical.specs.Canonical.{IsResult, canonical_protocol, special_schemes}
 use Rattle.urlpattern_matcher.specs.{Matchers.matcher_view, Components.IsCompiledKeeping, Components.IsEngineOf}
 use Rattle.urlpattern_matcher.specs.declared.component.ComponentWithParts.{ComponentWithParts}
 use Rattle.urlpattern_matcher.specs.declared.matcher.Matcher.{Matcher}
@@ -12,11 +12,11 @@ use Rattle.urlpattern_meaning.specs.Matching.{IsMadeOf, IsMatched, MatcherView}
 use Rattle.urlpattern_meaning.specs.PartMeaning.{Captures}
 use Rattle.urlpattern_syntax.specs.declared.error.Error.{Error}
 use Rattle.urlpattern_syntax.specs.{Errors.ErrorView, Options.default_options, Parts.PartView}
-use Rattle.urlpattern_syntax.specs.Reading.{Encoding, Reads, Refuses, encoding_of}
+use Rattle.urlpattern_syntax.specs.Reading.{Encoding, Reads, Rejects, encoding_of}
 
 -- What `canonicalize_protocol` may return for the bytes of a text.
 abbrev pub CanonicalizesProtocol : List ℕ → Result (String Global) Error → Type 0
-CanonicalizesProtocol bytes returned = IsAnswer (canonical_protocol (chars bytes)) (length bytes) returned
+CanonicalizesProtocol bytes returned = IsResult (canonical_protocol (chars bytes)) (length bytes) returned
 
 -- The encoding by `canonicalize_protocol`.
 abbrev pub protocol_encoding : Encoding
@@ -48,5 +48,5 @@ abbrev pub IsKnownProtocol : {E : Type 0} → Engine E → Bor (List ℕ) × Com
 IsKnownProtocol engine known = IsCompiledKeeping engine (chars known.0.now) default_options protocol_encoding known.1
 
 -- The pattern of a protocol is rejected with this error.
-abbrev pub RefusesProtocol : List ℕ → ErrorView → Type 0
-RefusesProtocol protocol error = Refuses protocol default_options protocol_encoding error
+abbrev pub RejectsProtocol : List ℕ → ErrorView → Type 0
+RejectsProtocol protocol error = Rejects protocol default_options protocol_encoding error

@@ -4,10 +4,10 @@
 
 ghost use Rattle.std.specs.Prelude.{◌≡◌, IfErr, IfOk, IfSome, ◌*◌, ◌≤◌, length};
 ghost use Rattle.std.specs.Str.{chars};
-ghost use Rattle.urlpattern_init.specs.ConstructorString.{AreFewTurns, HasProtocolOrBase, IsSplitOf, RefusesString, SplitsInto};
+ghost use Rattle.urlpattern_init.specs.ConstructorString.{AreFewTurns, HasProtocolOrBase, IsSplitOf, RejectsString, SplitsInto};
 ghost use Rattle.urlpattern_components.specs.Eight.{at};
 ghost use Rattle.urlpattern_init.specs.Inheritance.{values_view};
-ghost use Rattle.urlpattern_init.specs.SpecialProtocol.{IsKnownProtocol, IsSpecialTo, RefusesProtocol};
+ghost use Rattle.urlpattern_init.specs.SpecialProtocol.{IsKnownProtocol, IsSpecialTo, RejectsProtocol};
 ghost use Rattle.urlpattern_constructor.specs.Split.{HasProtocol};
 ghost use Rattle.urlpattern_constructor.specs.Splitting.{IsOwned, IsSource, split_values, text_of_source};
 ghost use Rattle.urlpattern_syntax.specs.Errors.{MemoryOr, OnlyOutOfMemory};
@@ -43,7 +43,7 @@ impl UrlPatternInit {
         ensures split { IfOk result (λ init. SplitsInto (IsSpecialTo R.RegExp) (chars pattern.now) (values_view init)) }
         ensures base { IfOk result (λ init. init.base_url ≡ base_url) }
         ensures complete { IfOk result HasProtocolOrBase }
-        ensures refused { IfErr result (MemoryOr (RefusesString (chars pattern.now) base_url)) }
+        ensures refused { IfErr result (MemoryOr (RejectsString (chars pattern.now) base_url)) }
     {
         let (init, _) = Self::parse_constructor_string_counted::<R>(alloc, pattern, base_url)?;
         Ok(init)
@@ -60,7 +60,7 @@ impl UrlPatternInit {
         ensures turns { IfOk result (λ found. AreFewTurns (chars pattern.now) found.1) }
         ensures base { IfOk result (λ found. found.0.base_url ≡ base_url) }
         ensures complete { IfOk result (λ found. HasProtocolOrBase found.0) }
-        ensures refused { IfErr result (MemoryOr (RefusesString (chars pattern.now) base_url)) }
+        ensures refused { IfErr result (MemoryOr (RejectsString (chars pattern.now) base_url)) }
     {
         let (init, turns, _) = Self::parse_constructor_string_keeping::<R>(
             alloc, pattern, base_url, false,
@@ -88,7 +88,7 @@ impl UrlPatternInit {
         ensures base { IfOk result (λ found. found.0.base_url ≡ base_url) }
         ensures complete { IfOk result (λ found. HasProtocolOrBase found.0) }
         ensures known { IfOk result (λ found. IfSome found.2 (IsKnownProtocol R.RegExp)) }
-        ensures refused { IfErr result (MemoryOr (RefusesString (chars pattern.now) base_url)) }
+        ensures refused { IfErr result (MemoryOr (RejectsString (chars pattern.now) base_url)) }
     {
         let tokens = tokenize(alloc, pattern, TokenizePolicy::Lenient)?;
         let source = Source {
@@ -120,7 +120,7 @@ pub fn protocol_of(alloc: Global, pattern: &str) -> Result<Option<&str>, Error>
         turns: 0,
     };
     let end = source.end_of(Section::Protocol, start);
-    if source.is_sign(end.index, b':') {
+    if source.is_non_special_pattern_char(end.index, b':') {
         Ok(Some(source.text_between(0, end.index)))
     } else {
         Ok(None)
@@ -141,7 +141,7 @@ fn split<'a, R: RegExp>(
     ensures split { IfOk result (λ found. IsSplitOf (IsSpecialTo R.RegExp) source.now found.0) }
     ensures turns { IfOk result (λ found. found.0.turns ≤ 2 * length source.now.tokens.now) }
     ensures known { IfOk result (λ found. IfSome found.1 (IsKnownProtocol R.RegExp)) }
-    ensures refused { IfErr result (MemoryOr (λ error. HasProtocol (text_of_source source.now) (λ protocol. RefusesProtocol protocol error))) }
+    ensures refused { IfErr result (MemoryOr (λ error. HasProtocol (text_of_source source.now) (λ protocol. RejectsProtocol protocol error))) }
 {
     let start = Position {
         index: 0,
@@ -149,7 +149,7 @@ fn split<'a, R: RegExp>(
         turns: 0,
     };
     let end = source.end_of(Section::Protocol, start);
-    if !source.is_sign(end.index, b':') {
+    if !source.is_non_special_pattern_char(end.index, b':') {
         return Ok((source.relative(end), None));
     }
     let back = Position { index: 0, ..end };

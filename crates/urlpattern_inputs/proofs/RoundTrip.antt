@@ -34,8 +34,8 @@ listed_init values =
     ++ (codes "baseURL", option_map string values.base_url) ∷ []
 
 -- A text of the init is found by its key.
-text_again : (name : List ℕ) (values : InitView) (text : Option (List ℕ)) → last_of name (listed_init values) None ≡ newer (option_map string text) None → optional_read as_str name (init_tree values) ≡ Some text
-text_again name values text e =
+text_round_trip : (name : List ℕ) (values : InitView) (text : Option (List ℕ)) → last_of name (listed_init values) None ≡ newer (option_map string text) None → optional_read as_str name (init_tree values) ≡ Some text
+text_round_trip name values text e =
     ap (found_read as_str) (get_member-all_with name (listed_init values) no_members ∙ e ∙ newer-none (option_map string text)) ∙ optional_string text
 
 -- The last tree at the name of a component is that of its text.
@@ -47,8 +47,8 @@ last_of-name values name = refl
 pub init_again : (values : InitView) → init_read (init_tree values) ≡ Some values
 init_again values =
     init_from (init_tree values) values refl
-    (read_each-all _ values.texts (λ name. text_again (name_text name) values (at values.texts name) (last_of-name values name)))
-    (text_again (codes "baseURL") values values.base_url refl)
+    (read_each-all _ values.texts (λ name. text_round_trip (name_text name) values (at values.texts name) (last_of-name values name)))
+    (text_round_trip (codes "baseURL") values values.base_url refl)
 
 pub input_again : (input : InputView) → input_read (input_tree input) ≡ Some input
 input_again (of_text bytes) = refl
@@ -56,6 +56,6 @@ input_again (of_init values) = ap (option_map of_init) (init_again values)
 
 -- ---- match inputs
 
-pub match_input_again : (input : Eight (List ℕ)) → match_input_read (match_input_tree input) ≡ Some input
+pub match_input_round_trip : (input : Eight (List ℕ)) → match_input_read (match_input_tree input) ≡ Some input
 unfolding read_each
-match_input_again input = refl
+match_input_round_trip input = refl

@@ -12,8 +12,8 @@ use Rattle.urlpattern_laws.proofs.Takes.{matches_takes, nothing_in}
 use Rattle.urlpattern_laws.specs.Expressions.{is_groupless}
 use Rattle.urlpattern_meaning.specs.PartMeaning.{Captures}
 use Rattle.urlpattern_meaning.specs.Ways.{Way}
-use Rattle.urlpattern_engine.proofs.GroupSlots.{Shown, shown-append, shown-capturing, shown-idle}
-use Rattle.urlpattern_engine.proofs.WayAnswers.{Writes, at}
+use Rattle.urlpattern_engine.proofs.GroupSlots.{Shown, shown-append, shown-capturing, shown-empty_way}
+use Rattle.urlpattern_engine.proofs.WayResults.{Writes, at}
 
 -- ---- patterns without groups
 
@@ -154,7 +154,7 @@ catches_perhaps g count a A c = record { sound = λ whole good before text e j w
           ends = ends ∙ ap at (sym (append-nil before));
           is = inr (refl, refl);
           counted = length-replicate count nothing;
-          shown = subst (λ ws. Shown (encodes whole) g (replicate count None) ws) (sym none) (shown-idle (encodes whole) g count text);
+          shown = subst (λ ws. Shown (encodes whole) g (replicate count None) ws) (sym none) (shown-empty_way (encodes whole) g count text);
         }
 
 pub catches_group : (g count : ℕ) (a : Re) (A : Caps) → Catches (suc g) count a A → Catches g (suc count) (group g a) (Whole A)

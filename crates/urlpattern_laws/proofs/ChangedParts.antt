@@ -2,7 +2,7 @@
 use Rattle.std.proofs.Common.{◌≡◌, List, [], ◌∷◌, ◌++◌, map, refl, sym, ap, ◌∙◌}
 use Rattle.std.proofs.lemmas.List.{map-append}
 use Rattle.std.specs.Prelude.{Option, Some, None, option_map, option_to_list}
-use Rattle.urlpattern_meaning.specs.Matching.{ArePeeled, BeginsPlain, EndsPlain, IsRemoved}
+use Rattle.urlpattern_meaning.specs.Matching.{AreStripped, BeginsPlain, EndsPlain, IsRemoved}
 use Rattle.urlpattern_syntax.specs.Parts.{PartView}
 use Rattle.urlpattern_syntax.specs.RegexpText.{is_plain}
 
@@ -24,8 +24,8 @@ module _ (changed : PartView → PartView) (plain : (part : PartView) → is_pla
   removed_changed (Some part) There Changed back removed = plain part ∙ removed
   removed_changed None There Changed back removed = λ there. removed (back there)
 
-  pub peeled_changed : (parts : List PartView) (front : Option PartView) (middle : List PartView) (back : Option PartView) → ArePeeled parts front middle back →
-      ArePeeled (map changed parts) (option_map changed front) (map changed middle) (option_map changed back)
+  pub peeled_changed : (parts : List PartView) (front : Option PartView) (middle : List PartView) (back : Option PartView) → AreStripped parts front middle back →
+      AreStripped (map changed parts) (option_map changed front) (map changed middle) (option_map changed back)
   peeled_changed parts front middle back peeled = record {
     cut =
         ap (map changed) peeled.cut ∙ map-append changed (option_to_list front ++ middle) (option_to_list back)

@@ -16,18 +16,18 @@ use Rattle.regex_hir.specs.Text.{char_at, has_bytes_at, is_some_and}
 use Rattle.regex_syntax.specs.Brackets.{Nested}
 use Rattle.urlpattern_laws.proofs.Bare.{bare}
 use Rattle.urlpattern_laws.proofs.Takes.{at_push, char_here, character_of}
-use Rattle.urlpattern_laws.specs.Expressions.{is_groupless, takes_characters}
+use Rattle.urlpattern_laws.specs.Expressions.{is_groupless, matches_characters}
 use Rattle.urlpattern_laws.specs.PartWays.{captured_whole, followed_by, pattern_ways}
 use Rattle.urlpattern_meaning.proofs.WayLists.{every-append, every-cond, every-continued, every-map, every-weaker}
 use Rattle.urlpattern_meaning.proofs.WaysSound.{IsSound, AreSound, nil_of_zero, taken-count, taken-sound}
-use Rattle.urlpattern_meaning.specs.Dialect.{AllowsGroups, IsTaken, Quantifier, Once, Optional, ZeroOrMore, OneOrMore, LazyOneOrMore}
+use Rattle.urlpattern_meaning.specs.Dialect.{AllowsGroups, IsQuantified, Quantifier, Once, Optional, ZeroOrMore, OneOrMore, LazyOneOrMore}
 use Rattle.urlpattern_meaning.specs.PartMeaning.{Captures}
-use Rattle.urlpattern_meaning.specs.Ways.{Way, Choice, capturing, idle, looped, one_that, quantified_ways}
-use Rattle.urlpattern_engine.proofs.GroupSlots.{Shown, shown-append, shown-capturing, shown-idle}
+use Rattle.urlpattern_meaning.specs.Ways.{Way, Choice, capturing, empty_way, looped, one_that, quantified_ways}
+use Rattle.urlpattern_engine.proofs.GroupSlots.{Shown, shown-append, shown-capturing, shown-empty_way}
 use Rattle.urlpattern_engine.proofs.ItemsRead.{repeated_as}
 use Rattle.urlpattern_engine.proofs.LoopAttempts.{Suits, leaf, looped-suits}
 use Rattle.urlpattern_engine.proofs.TreeAttempts.{re_taken}
-use Rattle.urlpattern_engine.proofs.WayAnswers.{at, Gave, gave-append, gave-capturing, gave-continued, gave-idle}
+use Rattle.urlpattern_engine.proofs.WayResults.{at, Gave, gave-append, gave-capturing, gave-continued, gave-empty_way}
 
 -- ---- splitting texts
 
@@ -39,7 +39,7 @@ HasCaptures count taken captures = length captures ≡ count
 abbrev pub Cuts : Choice → (count : ℕ) → Type 0
 Cuts choice count = AreSound choice (HasCaptures count)
 
-pub cuts_idle : (groups : ℕ) → Cuts (λ text. idle groups text ∷ []) groups
+pub cuts_idle : (groups : ℕ) → Cuts (λ text. empty_way groups text ∷ []) groups
 cuts_idle groups text = let nothing : Option (List ℕ) = None in ((refl, length-replicate groups nothing), tt)
 
 pub cuts_one : (passes : ℕ → Bool) → Cuts (one_that passes) 0
@@ -65,7 +65,7 @@ cuts_captured choice n cuts text =
 
 pub cuts_quantified : (quantifier : Quantifier) (groups : ℕ) (choice : Choice) → AllowsGroups quantifier groups → Cuts choice groups → Cuts (quantified_ways quantifier groups choice) groups
 cuts_quantified quantifier groups choice allowed cuts text =
-    every-weaker (IsSound text (IsTaken quantifier groups (HasCaptures groups))) _ (quantified_ways quantifier groups choice text)
+    every-weaker (IsSound text (IsQuantified quantifier groups (HasCaptures groups))) _ (quantified_ways quantifier groups choice text)
     (λ way p. (p.0, taken-count quantifier groups (HasCaptures groups) allowed (λ t c e. e) way.taken way.captures p.1))
     (taken-sound quantifier groups choice (HasCaptures groups) allowed (λ t c e. e) cuts text)
 
@@ -107,21 +107,21 @@ module _ (whole : List ℕ) (good : scalars whole ≡ true) where
   hay = encodes whole
 
   abbrev Shows : ℕ → List ℕ → Rest → List Way → Option Trace → Type 0
-  Shows = Gave (Shown hay) (shown-append hay) (shown-idle hay)
+  Shows = Gave (Shown hay) (shown-append hay) (shown-empty_way hay)
 
   -- At each place of the text, the attempt tries the ways of the choice in order. Its groups are
   -- numbered from g on.
   abbrev pub Fits : (g : ℕ) → Choice → (Rest → Rest) → Type 0
-  Fits = Suits (Shown hay) (shown-append hay) (shown-idle hay) whole good
+  Fits = Suits (Shown hay) (shown-append hay) (shown-empty_way hay) whole good
 
-  fits_idle : (g groups : ℕ) → Fits g (λ text. idle groups text ∷ []) (attempt hay empty)
+  fits_idle : (g groups : ℕ) → Fits g (λ text. empty_way groups text ∷ []) (attempt hay empty)
   unfolding attempt
-  fits_idle g groups before text e k = gave-idle (Shown hay) (shown-append hay) (shown-idle hay) g groups before text k
+  fits_idle g groups before text e k = gave-empty_way (Shown hay) (shown-append hay) (shown-empty_way hay) g groups before text k
 
   fits_followed : (g m : ℕ) (first next : Choice) (a b : Re) → Cuts first m → Fits g first (attempt hay a) → Fits (g + m) next (attempt hay b) → Fits g (followed_by first next) (attempt hay (cat a b))
   unfolding attempt
   fits_followed g m first next a b cuts fits also before text e k =
-      gave-continued (Shown hay) (shown-append hay) (shown-idle hay) g before k (attempt hay b k) next (first text) (attempt hay a (attempt hay b k) (at before))
+      gave-continued (Shown hay) (shown-append hay) (shown-empty_way hay) g before k (attempt hay b k) next (first text) (attempt hay a (attempt hay b k) (at before))
       (every-weaker (IsSound text (HasCaptures m)) _ (first text)
       (λ way p. subst (λ n. Shows (g + n) (before ++ way.taken) k (next way.rest) (attempt hay b k (at (before ++ way.taken)))) (sym p.1)
       (also (before ++ way.taken) way.rest (append_assoc before way.taken way.rest ∙ ap (λ t. before ++ t) (sym p.0) ∙ e) k))
@@ -131,20 +131,20 @@ module _ (whole : List ℕ) (good : scalars whole ≡ true) where
   fits_either : (g : ℕ) (first other : Choice) (a b : Re) → Fits g first (attempt hay a) → Fits g other (attempt hay b) → Fits g (λ text. first text ++ other text) (attempt hay (alt a b))
   unfolding attempt
   fits_either g first other a b fits also before text e k =
-      gave-append (Shown hay) (shown-append hay) (shown-idle hay) g before k (first text) (other text) (attempt hay a k (at before)) (attempt hay b k (at before))
+      gave-append (Shown hay) (shown-append hay) (shown-empty_way hay) g before k (first text) (other text) (attempt hay a k (at before)) (attempt hay b k (at before))
       (fits before text e k) (also before text e k)
 
   fits_captured : (g n : ℕ) (choice : Choice) (a : Re) → Cuts choice n → Fits (suc g) choice (attempt hay a) → Fits g (captured_whole choice) (attempt hay (group g a))
   unfolding attempt
   fits_captured g n choice a cuts fits before text e k =
-      gave-capturing (Shown hay) (shown-append hay) (shown-idle hay) g before (λ way. (before ++ way.taken) ++ way.rest ≡ whole) (shown-capturing whole good g before) k (choice text)
+      gave-capturing (Shown hay) (shown-append hay) (shown-empty_way hay) g before (λ way. (before ++ way.taken) ++ way.rest ≡ whole) (shown-capturing whole good g before) k (choice text)
       (attempt hay a (λ j. write (2 * g + 1) j (k j)) (at before))
       (every-weaker (IsSound text (HasCaptures n)) _ (choice text) (λ way p. append_assoc before way.taken way.rest ∙ ap (λ t. before ++ t) (sym p.0) ∙ e) (cuts text))
       (fits before text e (λ j. write (2 * g + 1) j (k j)))
 
   fits_looped : (g : ℕ) (greedy : Bool) (choice : Choice) (a : Re) → Cuts choice 0 → Fits g choice (attempt hay a) → Fits g (looped greedy choice) (attempt hay (plus greedy a))
   fits_looped g greedy choice a cuts fits before text e k =
-      looped-suits (Shown hay) (shown-append hay) (shown-idle hay) whole good g greedy choice a fits
+      looped-suits (Shown hay) (shown-append hay) (shown-empty_way hay) whole good g greedy choice a fits
       (λ t. every-weaker (IsSound t (HasCaptures 0)) (λ (way : Way). (t ≡ way.taken ++ way.rest) × (way.captures ≡ [])) (choice t) (λ way p. (p.0, nil_of_zero way.captures p.1)) (cuts t)) k before text e
 
   fits_quantified : (g : ℕ) (quantifier : Quantifier) (groups : ℕ) (choice : Choice) (a : Re) → AllowsGroups quantifier groups → Cuts choice groups → Fits g choice (attempt hay a)
@@ -152,11 +152,11 @@ module _ (whole : List ℕ) (good : scalars whole ≡ true) where
   unfolding attempt
   fits_quantified g Once groups choice a allowed cuts fits before text e k = fits before text e k
   fits_quantified g Optional groups choice a allowed cuts fits before text e k =
-      gave-append (Shown hay) (shown-append hay) (shown-idle hay) g before k (choice text) (idle groups text ∷ []) (attempt hay a (attempt hay empty k) (at before)) (k (at before))
-      (fits before text e k) (gave-idle (Shown hay) (shown-append hay) (shown-idle hay) g groups before text k)
+      gave-append (Shown hay) (shown-append hay) (shown-empty_way hay) g before k (choice text) (empty_way groups text ∷ []) (attempt hay a (attempt hay empty k) (at before)) (k (at before))
+      (fits before text e k) (gave-empty_way (Shown hay) (shown-append hay) (shown-empty_way hay) g groups before text k)
   fits_quantified g ZeroOrMore groups choice a allowed cuts fits before text e k =
-      gave-append (Shown hay) (shown-append hay) (shown-idle hay) g before k (looped true choice text) (idle groups text ∷ []) (attempt hay (plus true a) k (at before)) (k (at before))
-      (fits_looped g true choice a (subst (λ n. Cuts choice n) allowed cuts) fits before text e k) (gave-idle (Shown hay) (shown-append hay) (shown-idle hay) g groups before text k)
+      gave-append (Shown hay) (shown-append hay) (shown-empty_way hay) g before k (looped true choice text) (empty_way groups text ∷ []) (attempt hay (plus true a) k (at before)) (k (at before))
+      (fits_looped g true choice a (subst (λ n. Cuts choice n) allowed cuts) fits before text e k) (gave-empty_way (Shown hay) (shown-append hay) (shown-empty_way hay) g groups before text k)
   fits_quantified g OneOrMore groups choice a allowed cuts fits before text e k = fits_looped g true choice a (subst (λ n. Cuts choice n) allowed cuts) fits before text e k
   fits_quantified g LazyOneOrMore groups choice a allowed cuts fits before text e k = fits_looped g false choice a (subst (λ n. Cuts choice n) allowed cuts) fits before text e k
 
@@ -210,21 +210,21 @@ module _ (whole : List ℕ) (good : scalars whole ≡ true) where
       by : (b r : Bool) (o : Option Trace) → r ≡ b → (b ≡ true → k (at (before ++ d ∷ [])) ≡ o)
           → Shows g before k (cond b (record { taken = d ∷ []; captures = []; rest = rest } ∷ []) []) (cond r o None)
       by true true None p q = inl (q refl, refl)
-      by true true (Some t) p q = inr ([], t, q refl, refl, shown-idle hay g 0 [])
+      by true true (Some t) p q = inr ([], t, q refl, refl, shown-empty_way hay g 0 [])
       by false false o p q = refl
       by true false o p q = absurd (true≢false (sym p))
       by false true o p q = absurd (true≢false p)
 
   -- ---- patterns without groups
 
-  pub pattern_fits : (re : Re) → takes_characters re ≡ true → is_groupless re ≡ true → (g : ℕ) → Fits g (pattern_ways re) (attempt hay re)
+  pub pattern_fits : (re : Re) → matches_characters re ≡ true → is_groupless re ≡ true → (g : ℕ) → Fits g (pattern_ways re) (attempt hay re)
   pattern_fits empty h none g = fits_idle g 0
   pattern_fits (literal bytes) h none g =
       let c = character_of bytes h in
       subst (λ (o : Option ℕ). Fits g (one_that (λ d. is_some_and o (λ written. d == written))) (attempt hay (literal bytes))) (sym c.1) (fits_literal g bytes c.0 c.2 c.3)
   pattern_fits (byte_in []) h none g = fits_nothing g
   pattern_fits (byte_in (range ∷ ranges)) h none g = absurd (true≢false (sym h))
-  pattern_fits (char_in ranges) h none g = leaf (Shown hay) (shown-append hay) (shown-idle hay) whole good g (in_ranges ranges) ranges (λ c scalar. refl)
+  pattern_fits (char_in ranges) h none g = leaf (Shown hay) (shown-append hay) (shown-empty_way hay) whole good g (in_ranges ranges) ranges (λ c scalar. refl)
   pattern_fits (look assertion) h none g = absurd (true≢false (sym h))
   pattern_fits (cat a b) h none g =
       let plain = and_parts _ _ h in
@@ -243,7 +243,7 @@ module _ (whole : List ℕ) (good : scalars whole ≡ true) where
 abbrev pub Tries : (g : ℕ) → Choice → Re → Type 0
 Tries g choice re = (whole : List ℕ) (good : scalars whole ≡ true) → Fits whole good g choice (attempt (encodes whole) re)
 
-pub tries_idle : (g groups : ℕ) → Tries g (λ text. idle groups text ∷ []) empty
+pub tries_idle : (g groups : ℕ) → Tries g (λ text. empty_way groups text ∷ []) empty
 tries_idle g groups whole good = fits_idle whole good g groups
 
 pub tries_followed : (g m : ℕ) (first next : Choice) (a b : Re) → Cuts first m → Tries g first a → Tries (g + m) next b → Tries g (followed_by first next) (cat a b)
@@ -256,9 +256,9 @@ pub tries_literal : (g : ℕ) (bytes : List ℕ) (c : ℕ) → IsScalar c → by
 tries_literal g bytes c scalar is whole good = fits_literal whole good g bytes c scalar is
 
 pub tries_class : (g : ℕ) (passes : ℕ → Bool) (ranges : List (ℕ × ℕ)) → ((c : ℕ) → IsScalar c → in_ranges ranges c ≡ passes c) → Tries g (one_that passes) (char_in ranges)
-tries_class g passes ranges same whole good = leaf (Shown (encodes whole)) (shown-append (encodes whole)) (shown-idle (encodes whole)) whole good g passes ranges same
+tries_class g passes ranges same whole good = leaf (Shown (encodes whole)) (shown-append (encodes whole)) (shown-empty_way (encodes whole)) whole good g passes ranges same
 
-pub tries_pattern : (re : Re) → takes_characters re ≡ true → is_groupless re ≡ true → (g : ℕ) → Tries g (pattern_ways re) re
+pub tries_pattern : (re : Re) → matches_characters re ≡ true → is_groupless re ≡ true → (g : ℕ) → Tries g (pattern_ways re) re
 tries_pattern re h none g whole good = pattern_fits whole good re h none g
 
 repeated_value : (quantifier : Quantifier) (sub : Nested Re) → re_taken quantifier sub.value ≡ (repeated_as quantifier sub).value
@@ -276,7 +276,7 @@ tries_quantified g quantifier groups choice sub allowed cuts tries =
 -- A pattern by itself, as the grammar builds it.
 pub tries_alone : (g : ℕ) (choice : Choice) (a : Re) → Tries g choice a → Tries g choice (alt a (byte_in []))
 tries_alone g choice a tries whole good before text e k =
-    subst (λ ways. Gave (Shown (encodes whole)) (shown-append (encodes whole)) (shown-idle (encodes whole)) g before k ways (attempt (encodes whole) (alt a (byte_in [])) k (at before))) (append-nil (choice text))
+    subst (λ ways. Gave (Shown (encodes whole)) (shown-append (encodes whole)) (shown-empty_way (encodes whole)) g before k ways (attempt (encodes whole) (alt a (byte_in [])) k (at before))) (append-nil (choice text))
     (fits_either whole good g choice (λ t. []) a (byte_in []) (tries whole good) (fits_nothing whole good g) before text e k)
 
 -- A pattern with nothing after it.
@@ -295,7 +295,7 @@ attempt_append bytes (tree ∷ trees) others k i =
 pub tries_append : (g m : ℕ) (first next : Choice) (trees others : List Re) → Cuts first m → Tries g first (cat_all trees) → Tries (g + m) next (cat_all others) → Tries g (followed_by first next) (cat_all (trees ++ others))
 unfolding attempt
 tries_append g m first next trees others cuts tries also whole good before text e k =
-    subst (Gave (Shown (encodes whole)) (shown-append (encodes whole)) (shown-idle (encodes whole)) g before k (followed_by first next text)) (sym (attempt_append (encodes whole) trees others k (at before)))
+    subst (Gave (Shown (encodes whole)) (shown-append (encodes whole)) (shown-empty_way (encodes whole)) g before k (followed_by first next text)) (sym (attempt_append (encodes whole) trees others k (at before)))
     (tries_followed g m first next (cat_all trees) (cat_all others) cuts tries also whole good before text e k)
 
 -- ---- without groups

@@ -25,7 +25,7 @@ use Rattle.urlpattern_laws.proofs.ItemsOf.{items_go_on}
 use Rattle.urlpattern_laws.proofs.Catching.{groupless_bare}
 use Rattle.urlpattern_laws.proofs.Senses.{Sense, Fulfils, fulfils_quiet, quiet}
 use Rattle.urlpattern_laws.proofs.Takes.{Takes, matches_takes, takes_matches}
-use Rattle.urlpattern_laws.specs.Expressions.{ExpressionTakes, TakesWhole, captures_nothing, is_groupless, stands_alone, takes_characters}
+use Rattle.urlpattern_laws.specs.Expressions.{ExpressionMatches, MatchesWhole, captures_nothing, is_groupless, is_self_contained, matches_characters}
 use Rattle.urlpattern_laws.specs.PartWays.{expression_ways, pattern_ways, ways_of_reading}
 use Rattle.urlpattern_engine.proofs.AtomsRead.{full}
 use Rattle.urlpattern_engine.proofs.ItemsRead.{Free, at_text}
@@ -39,7 +39,7 @@ nothing_left text taken rest cut e =
 
 -- A pattern of characters matches a whole text exactly if it matches the text character by
 -- character.
-pub whole_takes : (re : Re) → takes_characters re ≡ true → (text : List ℕ) → scalars text ≡ true → Takes re text ↔ TakesWhole re text
+pub whole_takes : (re : Re) → matches_characters re ≡ true → (text : List ℕ) → scalars text ≡ true → Takes re text ↔ MatchesWhole re text
 whole_takes re h text good = (
   λ takes. takes_matches text good re h [] text [] (append-nil text) takes,
   λ matches.
@@ -57,11 +57,11 @@ pub record IsReadAlone (expression : List ℕ) : Type 0 where
   pub is_read : read default_config expression ≡ Some (tree, names)
   pub inside : group_inside (2 * length expression + 2) (at_text (None ∷ []) expression) ≡ Some (tree, end)
   pub ends : end.text ≡ []
-  pub plain : takes_characters tree.value ≡ true
+  pub plain : matches_characters tree.value ≡ true
   pub calm : Calm expression
 
-read_alone : (expression : List ℕ) → stands_alone expression ≡ true → IsReadAlone expression
-unfolding stands_alone read
+read_alone : (expression : List ℕ) → is_self_contained expression ≡ true → IsReadAlone expression
+unfolding is_self_contained read
 read_alone expression h =
     let both = and_parts _ _ h in
     let found = is_some_and_parts (read default_config expression) _ both.1 in
@@ -106,7 +106,7 @@ free_alone (c ∷ t) rest n names tree end e =
 
 -- ---- expressions in groups
 
-pub denotes_expression : (expression : List ℕ) (alone : IsReadAlone expression) → Denotes alone.tree.value (ExpressionTakes expression)
+pub denotes_expression : (expression : List ℕ) (alone : IsReadAlone expression) → Denotes alone.tree.value (ExpressionMatches expression)
 denotes_expression expression alone = record {
   plain = alone.plain;
   same = λ text good.
@@ -134,20 +134,20 @@ ways_alone expression alone found e =
 
 -- The sense of an expression: its texts, its ways, and no captures, if it captures nothing.
 abbrev pub expression_sense : List ℕ → Sense
-expression_sense expression = quiet (IsTrue (captures_nothing expression)) (ExpressionTakes expression) (expression_ways expression)
+expression_sense expression = quiet (IsTrue (captures_nothing expression)) (ExpressionMatches expression) (expression_ways expression)
 
 -- A pattern that equals that of the expression, except for the numbers of groups, fulfils its
 -- sense.
 fulfils_expression : (expression : List ℕ) (alone : IsReadAlone expression) (g : ℕ) (found : Re) → bare found ≡ bare alone.tree.value → Fulfils (expression_sense expression) g found
 fulfils_expression expression alone g found e =
-    let denotes = denotes_bare alone.tree.value found (ExpressionTakes expression) e (denotes_expression expression alone) in
+    let denotes = denotes_bare alone.tree.value found (ExpressionMatches expression) e (denotes_expression expression alone) in
     let silent : IsTrue (captures_nothing expression) → is_groupless found ≡ true = λ k.
     sym (groupless_bare found) ∙ ap is_groupless e ∙ groupless_bare alone.tree.value ∙ (silent_alone expression alone k).1 in
     let ways = ways_alone expression alone found e in
-    fulfils_quiet (IsTrue (captures_nothing expression)) (ExpressionTakes expression) (expression_ways expression) g found denotes silent (λ k. subst (λ choice. Cuts choice 0) ways (pattern_cuts found))
+    fulfils_quiet (IsTrue (captures_nothing expression)) (ExpressionMatches expression) (expression_ways expression) g found denotes silent (λ k. subst (λ choice. Cuts choice 0) ways (pattern_cuts found))
     (λ k. subst (λ choice. Tries g choice found) ways (tries_pattern found denotes.plain (silent k) g))
 
-pub custom_inside : (expression : List ℕ) → IsTrue (stands_alone expression) → IsInside expression (expression_sense expression)
+pub custom_inside : (expression : List ℕ) → IsTrue (is_self_contained expression) → IsInside expression (expression_sense expression)
 custom_inside expression h =
     let alone = read_alone expression h in
     let p = at_text (None ∷ []) expression in

@@ -6,7 +6,7 @@ use Rattle.regex_hir.specs.Re.{Re, empty, byte_in, cat, alt, group, plus}
 use Rattle.regex_syntax.specs.Brackets.{Nested}
 use Rattle.urlpattern_laws.proofs.Bare.{bare}
 use Rattle.urlpattern_laws.proofs.Takes.{Takes}
-use Rattle.urlpattern_laws.specs.Expressions.{takes_characters}
+use Rattle.urlpattern_laws.specs.Expressions.{matches_characters}
 use Rattle.urlpattern_meaning.specs.Dialect.{Quantifier, Once, Optional, ZeroOrMore, OneOrMore, LazyOneOrMore}
 use Rattle.urlpattern_engine.proofs.ItemsRead.{repeated_as}
 use Rattle.urlpattern_engine.proofs.TreesRead.{scalars_parts}
@@ -18,7 +18,7 @@ Texts = List ℕ → Type 0
 
 -- The pattern matches exactly the texts of characters in the set.
 pub record Denotes (re : Re) (Is : List ℕ → Type 0) : Type 0 where
-  pub plain : takes_characters re ≡ true
+  pub plain : matches_characters re ≡ true
   pub same : (text : List ℕ) → scalars text ≡ true → Takes re text ↔ Is text
 
 -- A text of the first set, and then one of the second.
@@ -132,7 +132,7 @@ denotes_quantified LazyOneOrMore sub A d = denotes_plus false sub.value A d
 
 -- ---- without groups
 
-plain_bare : (a : Re) → takes_characters (bare a) ≡ takes_characters a
+plain_bare : (a : Re) → matches_characters (bare a) ≡ matches_characters a
 plain_bare (cat a b) = ap₂ ◌&&◌ (plain_bare a) (plain_bare b)
 plain_bare (alt a b) = ap₂ ◌&&◌ (plain_bare a) (plain_bare b)
 plain_bare (group n a) = plain_bare a
@@ -152,7 +152,7 @@ takes_bare a text good = (λ is. is, λ is. is)
 -- The texts of a pattern do not depend on the numbers of its groups.
 pub denotes_bare : (a b : Re) (A : Texts) → bare b ≡ bare a → Denotes a A → Denotes b A
 denotes_bare a b A e d = record {
-  plain = sym (plain_bare b) ∙ ap takes_characters e ∙ plain_bare a ∙ d.plain;
+  plain = sym (plain_bare b) ∙ ap matches_characters e ∙ plain_bare a ∙ d.plain;
   same = λ text good. (
     λ takes. (d.same text good).0 ((takes_bare a text good).0 (subst (λ re. Takes re text) e ((takes_bare b text good).1 takes))),
     λ is. (takes_bare b text good).0 (subst (λ re. Takes re text) (sym e) ((takes_bare a text good).1 ((d.same text good).1 is))),

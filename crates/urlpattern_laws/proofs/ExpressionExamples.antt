@@ -9,41 +9,41 @@ use Rattle.regex_syntax.specs.Grammar.{read, branches, items, item, atom, char_m
 use Rattle.regex_syntax.specs.Reading.{first, skip, take_up_to, take_run, decimal}
 use Rattle.regex_syntax.specs.Sets.{verbatim, one_of, negate_if, case_fold, is_member}
 use Rattle.regex_syntax.specs.Escapes.{escape, one_letter, boundary}
-use Rattle.urlpattern_laws.specs.Expressions.{ExpressionTakes, captures_nothing, stands_alone}
+use Rattle.urlpattern_laws.specs.Expressions.{ExpressionMatches, captures_nothing, is_self_contained}
 
-choices : stands_alone (codes "en|fr") ≡ true
-unfolding stands_alone read branches items item atom char_meaning join_parts with_repetitions repetitions first skip verbatim names_below char_at has_bytes_at chars encode
+choices : is_self_contained (codes "en|fr") ≡ true
+unfolding is_self_contained read branches items item atom char_meaning join_parts with_repetitions repetitions first skip verbatim names_below char_at has_bytes_at chars encode
 choices = refl
 
-digits : stands_alone (codes "\\d+") ≡ true
-unfolding stands_alone read branches items item atom piece_meaning join_parts with_repetitions repetitions bounds repeat first skip escape one_letter negate_if one_of names_below
+digits : is_self_contained (codes "\\d+") ≡ true
+unfolding is_self_contained read branches items item atom piece_meaning join_parts with_repetitions repetitions bounds repeat first skip escape one_letter negate_if one_of names_below
 digits = refl
 
-counted : stands_alone (codes "\\d{4}") ≡ true
-unfolding stands_alone read branches items item atom piece_meaning join_parts with_repetitions repetitions bounds repeat counted_bounds upper_bound decimal take_run take_up_to first skip escape one_letter negate_if one_of names_below
+counted : is_self_contained (codes "\\d{4}") ≡ true
+unfolding is_self_contained read branches items item atom piece_meaning join_parts with_repetitions repetitions bounds repeat counted_bounds upper_bound decimal take_run take_up_to first skip escape one_letter negate_if one_of names_below
 counted = refl
 
-classes : stands_alone (codes "[a-z0-9-]+") ≡ true
-unfolding stands_alone read branches items item atom join_parts with_repetitions repetitions bounds repeat first skip bracket bracket_start set_items operations operator posix item_or set_item member single range unite after_hyphen take_run take_up_to is_member negate_if case_fold one_of names_below
+classes : is_self_contained (codes "[a-z0-9-]+") ≡ true
+unfolding is_self_contained read branches items item atom join_parts with_repetitions repetitions bounds repeat first skip bracket bracket_start set_items operations operator posix item_or set_item member single range unite after_hyphen take_run take_up_to is_member negate_if case_fold one_of names_below
 classes = refl
 
-optional : stands_alone (codes "png|jpe?g|webp") ≡ true
-unfolding stands_alone read branches items item atom char_meaning join_parts with_repetitions repetitions bounds repeat first skip verbatim names_below char_at has_bytes_at chars encode
+optional : is_self_contained (codes "png|jpe?g|webp") ≡ true
+unfolding is_self_contained read branches items item atom char_meaning join_parts with_repetitions repetitions bounds repeat first skip verbatim names_below char_at has_bytes_at chars encode
 optional = refl
 
 -- An assertion looks at the text around the expression.
-word_boundary : stands_alone (codes "a\\b") ≡ false
-unfolding stands_alone read branches items item atom char_meaning piece_meaning join_parts with_repetitions repetitions first skip escape boundary verbatim names_below char_at has_bytes_at chars encode
+word_boundary : is_self_contained (codes "a\\b") ≡ false
+unfolding is_self_contained read branches items item atom char_meaning piece_meaning join_parts with_repetitions repetitions first skip escape boundary verbatim names_below char_at has_bytes_at chars encode
 word_boundary = refl
 
 -- A comment would hide the closing parenthesis.
-comment : stands_alone (codes "(?x)a#b") ≡ false
-unfolding stands_alone
+comment : is_self_contained (codes "(?x)a#b") ≡ false
+unfolding is_self_contained
 comment = refl
 
 -- The parentheses of an expression by itself must match.
-unpaired : stands_alone (codes "a)(b") ≡ false
-unfolding stands_alone read branches items item atom char_meaning join_parts with_repetitions repetitions first skip verbatim
+unpaired : is_self_contained (codes "a)(b") ≡ false
+unfolding is_self_contained read branches items item atom char_meaning join_parts with_repetitions repetitions first skip verbatim
 unpaired = refl
 
 -- ---- captures
@@ -63,6 +63,6 @@ never_taken = refl
 
 -- ---- texts
 
-takes_choice : ExpressionTakes (codes "en|fr") (codes "en")
+takes_choice : ExpressionMatches (codes "en|fr") (codes "en")
 unfolding read branches items item atom char_meaning join_parts with_repetitions repetitions first skip verbatim names_below has_bytes_at encode
 takes_choice = inl (1, (refl, refl), (2, (refl, refl), refl))

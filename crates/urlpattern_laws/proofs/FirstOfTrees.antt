@@ -3,7 +3,7 @@ use Rattle.std.proofs.Common.{◌≡◌, ◌≢◌, ℕ, suc, List, [], ◌∷�
 use Rattle.std.proofs.Math.Path.{fun_ext}
 use Rattle.std.proofs.lemmas.List.Elements.{All-head, All-tail}
 use Rattle.std.specs.Prelude.{All}
-use Rattle.urlpattern_laws.proofs.PeeledWays.{continued_idle, exactly_put}
+use Rattle.urlpattern_laws.proofs.StrippedWays.{continued_idle, exactly_put}
 use Rattle.urlpattern_laws.specs.LawsOfWays.{FirstWaysAreOfTrees}
 use Rattle.urlpattern_laws.specs.PartWays.{affixed_ways, bare_ways, between_ways, captured_whole, copies_ways, exactly, fixed_ways, followed_by, part_ways_by, parts_first_way, parts_ways, piece_ways, several_ways}
 use Rattle.urlpattern_meaning.proofs.DialectUnique.{trees_are_one}

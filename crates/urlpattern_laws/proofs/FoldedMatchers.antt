@@ -8,7 +8,7 @@ use Rattle.std.proofs.lemmas.Str.Ascii.{lowercase_is}
 use Rattle.std.specs.Char.{to_ascii_lowercase}
 use Rattle.std.specs.Prelude.{◌==◌, not, Option, Some, None, Result, Ok, Err, IsTrue, option_map}
 use Rattle.std.specs.Str.{all_scalars}
-use Rattle.urlpattern_meaning.specs.Matching.{Accepts, Answers, ArePeeled, InnerView, IsMadeBetween, IsMadeByEngine, IsMadeOf, IsMadeOfOne, IsSame, Literal, MatcherView, Matches, MayBeEmpty, PassesFilter, RegExp, SingleCapture, end_text, folded, folded_captures, folded_character, single_capture_matcher}
+use Rattle.urlpattern_meaning.specs.Matching.{Accepts, Returns, AreStripped, InnerView, IsMadeBetween, IsMadeByEngine, IsMadeOf, IsMadeOfOne, IsSame, Literal, MatcherView, Matches, MayBeEmpty, PassesFilter, RegExp, SingleCapture, end_text, folded, folded_captures, folded_character, single_capture_matcher}
 use Rattle.urlpattern_meaning.specs.PartMeaning.{Captures}
 use Rattle.urlpattern_meaning.specs.Ways.{first_way_by}
 use Rattle.urlpattern_meaning.proofs.PartTrees.{tree_of}
@@ -72,8 +72,8 @@ pub end_folded : (part : Option PartView) → folded true (end_text part) ≡ en
 end_folded (Some part) = refl
 end_folded None = refl
 
-pub peeled_folded : (parts : List PartView) (front : Option PartView) (middle : List PartView) (back : Option PartView) → ArePeeled parts front middle back →
-    ArePeeled (folded_parts parts) (option_map folded_part front) (folded_parts middle) (option_map folded_part back)
+pub peeled_folded : (parts : List PartView) (front : Option PartView) (middle : List PartView) (back : Option PartView) → AreStripped parts front middle back →
+    AreStripped (folded_parts parts) (option_map folded_part front) (folded_parts middle) (option_map folded_part back)
 peeled_folded parts front middle back peeled = peeled_changed folded_part (λ part. refl) parts front middle back peeled
 
 -- ---- the folded matcher
@@ -256,6 +256,6 @@ module _ {E : Type 0} (answer other : E → List ℕ → Option Captures) where
           ),
         )
 
-    pub answers_folded : (result : Option Captures) → Answers answer matcher text result → Answers other (folded_matcher matcher) (lower text) (option_map folded_captures result)
+    pub answers_folded : (result : Option Captures) → Returns answer matcher text result → Returns other (folded_matcher matcher) (lower text) (option_map folded_captures result)
     answers_folded (Some captures) matches = matched_folded captures matches
     answers_folded None never = λ captures matches. let (own, is) = matched_unfolded captures matches in never own is

@@ -5,27 +5,27 @@ use Rattle.std.proofs.lemmas.List.Elements.{All-cons, All-map, All-nil}
 use Rattle.std.specs.Prelude.{⊤, ◌-◌, All, codes, IfSome, Option, Some, None, Result, Ok, Err, IsTrue, option_map, option_to_list}
 use Rattle.std.specs.Str.{all_scalars}
 use Rattle.urlpattern_matcher.specs.Components.{IsEngineOf, engine_flags, ignores_case}
-use Rattle.urlpattern_matcher.specs.FirstWays.{MatchersTakeGenerated, ValuesAnswerByFlags}
+use Rattle.urlpattern_matcher.specs.FirstWays.{MatchersAcceptGenerated, ValuesReturnByFlags}
 use Rattle.urlpattern_matcher.specs.declared.regexp.RegExp.{Ghosts as Engine}
 use Rattle.urlpattern_meaning.proofs.DialectUnique.{trees_are_one}
-use Rattle.urlpattern_meaning.proofs.FirstAnswers.{first_agrees, matcher_first, of_made}
+use Rattle.urlpattern_meaning.proofs.FirstResults.{first_agrees, matcher_first, of_made}
 use Rattle.urlpattern_meaning.proofs.FoldedTrees.{first_way_folded}
 use Rattle.urlpattern_meaning.proofs.MatcherMeaning.{ends_of}
 use Rattle.urlpattern_meaning.proofs.OneMeaning.{is_tree_of}
-use Rattle.urlpattern_meaning.proofs.Peeling.{middle_one}
+use Rattle.urlpattern_meaning.proofs.StrippedParts.{middle_one}
 use Rattle.urlpattern_meaning.proofs.PartTrees.{tree_of}
 use Rattle.urlpattern_syntax.specs.RegexpText.{regexp_text}
 use Rattle.urlpattern_meaning.proofs.MeaningExamples.{part_alone}
 use Rattle.urlpattern_meaning.proofs.MeaningLaws.{peeled_means, plain_means}
 use Rattle.urlpattern_meaning.proofs.Middles.{rest_one, same-length}
 use Rattle.urlpattern_meaning.specs.Dialect.{Items}
-use Rattle.urlpattern_meaning.specs.FirstAnswers.{AnswersFirstInMiddle, IsFirstOf}
+use Rattle.urlpattern_meaning.specs.FirstResults.{ReturnsFirstInMiddle, IsFirstOf}
 use Rattle.urlpattern_meaning.specs.Ways.{first_way, first_way_by}
-use Rattle.urlpattern_meaning.specs.Matching.{Accepts, Agrees, Answers, BeginsPlain, EndsPlain, IsMadeBetween, IsMadeOf, InnerView, IsMadeOfOne, IsOfMiddle, IsRemoved, IsSame, Literal, MatcherView, Matches, RegExp, SingleCapture, end_text, folded, folded_captures, single_capture_matcher}
+use Rattle.urlpattern_meaning.specs.Matching.{Accepts, Agrees, Returns, BeginsPlain, EndsPlain, IsMadeBetween, IsMadeOf, InnerView, IsMadeOfOne, IsOfMiddle, IsRemoved, IsSame, Literal, MatcherView, Matches, RegExp, SingleCapture, end_text, folded, folded_captures, single_capture_matcher}
 use Rattle.urlpattern_meaning.specs.PartMeaning.{AreGenerated, Captures, PartsMean}
 use Rattle.urlpattern_laws.proofs.FoldedMatchers.{AnswersFolding, AnyEngine, FoldsAnswer, answers_folded, between_ignores, cut_unfolded, end_folded, folded_inner, folded_matcher, lower, lower_lacks, lower_scalars, made_folded, no_engine, peeled_folded}
 use Rattle.urlpattern_laws.proofs.FoldedTreeLaws.{tree_folds}
-use Rattle.urlpattern_laws.specs.Folded.{AreInPlace, FoldedFirstsAreAnswered, FoldedMean, FoldedWaysAreAnswered, HoldsNoEngine, IsFoldedFirst, IsFoldedStretch, IsWithinStretch, folded_options, folded_part, folded_parts}
+use Rattle.urlpattern_laws.specs.Folded.{AreInPlace, FoldedFirstsAreReturned, FoldedMean, FoldedWaysAreReturned, HoldsNoEngine, IsFoldedFirst, IsFoldedMatch, IsWithinCopy, folded_options, folded_part, folded_parts}
 use Rattle.urlpattern_syntax.specs.declared.parser.PartModifier.{PartModifier}
 use Rattle.urlpattern_syntax.specs.declared.parser.PartModifier.TheVariants as modifiers
 use Rattle.urlpattern_syntax.specs.declared.parser.PartType.{PartType}
@@ -51,32 +51,32 @@ module _ (options : OptionsView) where
   folded-append [] others text rest captures more (empty, nothing) means =
       subst (λ (t : List ℕ). FoldedMean options others t (captures ++ more)) (ap (λ (t : List ℕ). t ++ rest) (sym empty))
       (subst (λ (c : Captures). FoldedMean options others rest c) (ap (λ (c : Captures). c ++ more) (sym nothing)) means)
-  folded-append (part ∷ parts) others text rest captures more (first, after, own, behind, cut, is, stretch, mean) means = (
+  folded-append (part ∷ parts) others text rest captures more (first, after, own, behind, cut, is, substring, mean) means = (
     first,
     after ++ rest,
     own,
     behind ++ more,
     ap (λ (t : List ℕ). t ++ rest) cut ∙ append_assoc first after rest,
     ap (λ (c : Captures). c ++ more) is ∙ append_assoc own behind more,
-    stretch,
+    substring,
     folded-append parts others after rest behind more mean means,
   )
 
-  alone : (part : PartView) (stretch : List ℕ) (captures : Captures) → IsFoldedStretch options part stretch captures → FoldedMean options (part ∷ []) stretch captures
-  alone part stretch captures is = (stretch, [], captures, [], sym (append-nil stretch), sym (append-nil captures), is, (refl, refl))
+  alone : (part : PartView) (substring : List ℕ) (captures : Captures) → IsFoldedMatch options part substring captures → FoldedMean options (part ∷ []) substring captures
+  alone part substring captures is = (substring, [], captures, [], sym (append-nil substring), sym (append-nil captures), is, (refl, refl))
 
   -- A plain fixed text that is removed.
   end_means : (end : Option PartView) (IsThere : Type 0) (text : List ℕ) → IsRemoved end IsThere → lower text ≡ folded true (end_text end) → FoldedMean options (option_to_list end) text []
   end_means None IsThere text removed same = (nothing_folded text same, refl)
   end_means (Some part) IsThere text plain same = alone part text [] (record {
     means = (plain_means {options = folded_options options} {text = lower text} {captures = []} (folded_part part) plain).1 (same, refl);
-    are_pieces = All-nil (IsWithinStretch part text);
+    are_pieces = All-nil (IsWithinCopy part text);
   })
 
   -- A single capture is a substring within that of its part.
-  piece_of : (part : PartView) (front back text begin stretch end head middle tail : List ℕ) → text ≡ begin ++ stretch ++ end → text ≡ head ++ middle ++ tail →
-      length begin ≡ length front → length end ≡ length back → length head ≡ length (front ++ part.prefix) → length tail ≡ length (part.suffix ++ back) → IsWithinStretch part stretch (Some middle)
-  piece_of part front back text begin stretch end head middle tail cut also begins ends heads tails =
+  piece_of : (part : PartView) (front back text begin substring end head middle tail : List ℕ) → text ≡ begin ++ substring ++ end → text ≡ head ++ middle ++ tail →
+      length begin ≡ length front → length end ≡ length back → length head ≡ length (front ++ part.prefix) → length tail ≡ length (part.suffix ++ back) → IsWithinCopy part substring (Some middle)
+  piece_of part front back text begin substring end head middle tail cut also begins ends heads tails =
       let n = length front in
       let k = length part.suffix in
       let heads_sum : length head ≡ n + length part.prefix = heads ∙ length-append front part.prefix in
@@ -89,15 +89,15 @@ module _ (options : OptionsView) where
       let drop_tail : length (drop k tail) ≡ length back = length-drop k tail ∙ omega arith in
       let behind = drop k tail in
       let inner : (before ++ middle ++ after) ++ behind ≡ before ++ (middle ++ (after ++ behind)) = append_assoc (before ++ middle) after behind ∙ append_assoc before middle (after ++ behind) in
-      let whole : begin ++ (stretch ++ end) ≡ take n head ++ ((before ++ middle ++ after) ++ behind) =
-      sym (cut ∙ append_assoc begin stretch end) ∙ also ∙ append_assoc head middle tail
+      let whole : begin ++ (substring ++ end) ≡ take n head ++ ((before ++ middle ++ after) ++ behind) =
+      sym (cut ∙ append_assoc begin substring end) ∙ also ∙ append_assoc head middle tail
       ∙ ap (λ (t : List ℕ). t ++ (middle ++ tail)) (sym (take-append-drop n head)) ∙ append_assoc (take n head) before (middle ++ tail)
       ∙ ap (λ (t : List ℕ). take n head ++ (before ++ (middle ++ t))) (sym (take-append-drop k tail)) ∙ ap (λ (t : List ℕ). take n head ++ t) (sym inner) in
-      let rests : stretch ++ end ≡ (before ++ middle ++ after) ++ behind = rest_one begin (take n head) (stretch ++ end) ((before ++ middle ++ after) ++ behind) (begins ∙ sym take_head) whole in
-      let sums : length stretch + length end ≡ length (before ++ middle ++ after) + length behind = sym (length-append stretch end) ∙ ap length rests ∙ length-append (before ++ middle ++ after) behind in
-      let same : length stretch ≡ length (before ++ middle ++ after) = omega arith in
-      let is : stretch ≡ before ++ middle ++ after =
-      sym (take_at stretch end (length (before ++ middle ++ after)) same) ∙ ap (λ (t : List ℕ). take (length (before ++ middle ++ after)) t) rests
+      let rests : substring ++ end ≡ (before ++ middle ++ after) ++ behind = rest_one begin (take n head) (substring ++ end) ((before ++ middle ++ after) ++ behind) (begins ∙ sym take_head) whole in
+      let sums : length substring + length end ≡ length (before ++ middle ++ after) + length behind = sym (length-append substring end) ∙ ap length rests ∙ length-append (before ++ middle ++ after) behind in
+      let same : length substring ≡ length (before ++ middle ++ after) = omega arith in
+      let is : substring ≡ before ++ middle ++ after =
+      sym (take_at substring end (length (before ++ middle ++ after)) same) ∙ ap (λ (t : List ℕ). take (length (before ++ middle ++ after)) t) rests
       ∙ take_at (before ++ middle ++ after) behind (length (before ++ middle ++ after)) refl in
       (before, after, is, drop_head, take_tail)
 
@@ -105,35 +105,35 @@ pub generated_folded : (parts : List PartView) → AreGenerated parts → AreGen
 generated_folded parts generated = All-map (λ (part : PartView). part.kind ≢ Regexp) folded_part parts generated
 
 module _ {E : Type 0} (answer : E → List ℕ → Option Captures) (IsEngine : List ℕ → Result E ErrorView → Type 0) (options : OptionsView) where
-  capture_pieces : (front : List ℕ) (part : PartView) (back : List ℕ) (filter : Option ℕ) (allow_empty : Bool) (text begin stretch end : List ℕ) (captures : Captures) →
-      Matches answer (single_capture_matcher options front part back filter allow_empty) text captures → text ≡ begin ++ stretch ++ end → length begin ≡ length front → length end ≡ length back →
-      All (IsWithinStretch part stretch) captures
-  capture_pieces front part back filter allow_empty text begin stretch end captures (middle, (head, tail, also, heads, tails), (filled, passes, is)) cut begins ends =
-      subst (λ (c : Captures). All (IsWithinStretch part stretch) c) (sym is)
-      (All-cons (IsWithinStretch part stretch) (Some middle) []
-      (piece_of options part front back text begin stretch end head middle tail cut also begins ends (same-length options.ignore_case head (front ++ part.prefix) heads)
+  capture_pieces : (front : List ℕ) (part : PartView) (back : List ℕ) (filter : Option ℕ) (allow_empty : Bool) (text begin substring end : List ℕ) (captures : Captures) →
+      Matches answer (single_capture_matcher options front part back filter allow_empty) text captures → text ≡ begin ++ substring ++ end → length begin ≡ length front → length end ≡ length back →
+      All (IsWithinCopy part substring) captures
+  capture_pieces front part back filter allow_empty text begin substring end captures (middle, (head, tail, also, heads, tails), (filled, passes, is)) cut begins ends =
+      subst (λ (c : Captures). All (IsWithinCopy part substring) c) (sym is)
+      (All-cons (IsWithinCopy part substring) (Some middle) []
+      (piece_of options part front back text begin substring end head middle tail cut also begins ends (same-length options.ignore_case head (front ++ part.prefix) heads)
       (same-length options.ignore_case tail (part.suffix ++ back) tails))
-      (All-nil (IsWithinStretch part stretch)))
+      (All-nil (IsWithinCopy part substring)))
 
-  one_pieces : (kind : PartType) (modifier : PartModifier) (front : List ℕ) (part : PartView) (back : List ℕ) (matcher : MatcherView E) (text begin stretch end : List ℕ) (captures : Captures) →
+  one_pieces : (kind : PartType) (modifier : PartModifier) (front : List ℕ) (part : PartView) (back : List ℕ) (matcher : MatcherView E) (text begin substring end : List ℕ) (captures : Captures) →
       HoldsNoEngine matcher.inner → IsMadeOfOne IsEngine kind modifier options front part back matcher → Matches answer matcher text captures →
-      text ≡ begin ++ stretch ++ end → length begin ≡ length front → length end ≡ length back → All (IsWithinStretch part stretch) captures
-  one_pieces FullWildcard modifiers.None front part back matcher text begin stretch end captures none made matches cut begins ends =
-      capture_pieces front part back None true text begin stretch end captures (subst (λ (m : MatcherView E). Matches answer m text captures) made matches) cut begins ends
-  one_pieces SegmentWildcard modifiers.None front part back matcher text begin stretch end captures none made matches cut begins ends =
-      capture_pieces front part back options.delimiter false text begin stretch end captures (subst (λ (m : MatcherView E). Matches answer m text captures) made matches) cut begins ends
-  one_pieces kind modifier front part back matcher text begin stretch end captures none (engine, is, made) matches cut begins ends = absurd (no_engine IsEngine options matcher _ engine none made refl)
+      text ≡ begin ++ substring ++ end → length begin ≡ length front → length end ≡ length back → All (IsWithinCopy part substring) captures
+  one_pieces FullWildcard modifiers.None front part back matcher text begin substring end captures none made matches cut begins ends =
+      capture_pieces front part back None true text begin substring end captures (subst (λ (m : MatcherView E). Matches answer m text captures) made matches) cut begins ends
+  one_pieces SegmentWildcard modifiers.None front part back matcher text begin substring end captures none made matches cut begins ends =
+      capture_pieces front part back options.delimiter false text begin substring end captures (subst (λ (m : MatcherView E). Matches answer m text captures) made matches) cut begins ends
+  one_pieces kind modifier front part back matcher text begin substring end captures none (engine, is, made) matches cut begins ends = absurd (no_engine IsEngine options matcher _ engine none made refl)
 
-  between_means : (front : List ℕ) (middle : List PartView) (back : List ℕ) (matcher : MatcherView E) (text begin stretch end : List ℕ) (captures : Captures) →
+  between_means : (front : List ℕ) (middle : List PartView) (back : List ℕ) (matcher : MatcherView E) (text begin substring end : List ℕ) (captures : Captures) →
       HoldsNoEngine matcher.inner → IsMadeBetween IsEngine options front middle back matcher → Matches answer matcher text captures →
-      text ≡ begin ++ stretch ++ end → length begin ≡ length front → length end ≡ length back →
-      PartsMean (folded_options options) (folded_parts middle) (lower stretch) (folded_captures captures) → FoldedMean options middle stretch captures
-  between_means front [] back matcher text begin stretch end captures none made matches cut begins ends (empty, nothing) = (nothing_folded stretch empty, none_folded captures nothing)
-  between_means front (part ∷ []) back matcher text begin stretch end captures none made matches cut begins ends means = alone options part stretch captures (record {
-    means = part_alone {options = folded_options options} {part = folded_part part} {text = lower stretch} {captures = folded_captures captures} means;
-    are_pieces = one_pieces part.kind part.modifier front part back matcher text begin stretch end captures none made matches cut begins ends;
+      text ≡ begin ++ substring ++ end → length begin ≡ length front → length end ≡ length back →
+      PartsMean (folded_options options) (folded_parts middle) (lower substring) (folded_captures captures) → FoldedMean options middle substring captures
+  between_means front [] back matcher text begin substring end captures none made matches cut begins ends (empty, nothing) = (nothing_folded substring empty, none_folded captures nothing)
+  between_means front (part ∷ []) back matcher text begin substring end captures none made matches cut begins ends means = alone options part substring captures (record {
+    means = part_alone {options = folded_options options} {part = folded_part part} {text = lower substring} {captures = folded_captures captures} means;
+    are_pieces = one_pieces part.kind part.modifier front part back matcher text begin substring end captures none made matches cut begins ends;
   })
-  between_means front (part ∷ next ∷ parts) back matcher text begin stretch end captures none (engine, is, made) matches cut begins ends means =
+  between_means front (part ∷ next ∷ parts) back matcher text begin substring end captures none (engine, is, made) matches cut begins ends means =
       absurd (no_engine IsEngine options matcher _ engine none made refl)
 
   matched_means : (parts : List PartView) (matcher : MatcherView E) (text : List ℕ) (captures : Captures) → HoldsNoEngine matcher.inner → IsMadeOf IsEngine options parts matcher → Matches answer matcher text captures →
@@ -145,33 +145,33 @@ module _ {E : Type 0} (answer : E → List ℕ → Option Captures) (IsEngine : 
       let peeled = peeled_folded parts front middle back made.are_peeled in
       let (inner, cut, inside) =
       (peeled_means (folded_options options) (folded_parts parts) (option_map folded_part front) (folded_parts middle) (option_map folded_part back) (lower text) (folded_captures captures) peeled).0 means in
-      let (begin, stretch, end, is_cut, is_begin, is_stretch, is_end) = cut_unfolded text (end_text (option_map folded_part front)) inner (end_text (option_map folded_part back)) cut in
+      let (begin, substring, end, is_cut, is_begin, is_stretch, is_end) = cut_unfolded text (end_text (option_map folded_part front)) inner (end_text (option_map folded_part back)) cut in
       let begins : lower begin ≡ folded true (end_text front) = is_begin ∙ sym (end_folded front) in
       let ends : lower end ≡ folded true (end_text back) = is_end ∙ sym (end_folded back) in
-      let between : FoldedMean options middle stretch captures =
-      between_means (end_text front) middle (end_text back) matcher text begin stretch end captures none made.is_made matches is_cut
+      let between : FoldedMean options middle substring captures =
+      between_means (end_text front) middle (end_text back) matcher text begin substring end captures none made.is_made matches is_cut
       (same-length true begin (end_text front) begins) (same-length true end (end_text back) ends)
       (subst (λ (t : List ℕ). PartsMean (folded_options options) (folded_parts middle) t (folded_captures captures)) (sym is_stretch) inside) in
-      let first : FoldedMean options (option_to_list front ++ middle) (begin ++ stretch) captures =
-      folded-append options (option_to_list front) middle begin stretch [] captures (end_means options front (BeginsPlain parts) begin made.are_peeled.front_removed begins) between in
-      let whole : FoldedMean options (option_to_list front ++ middle ++ option_to_list back) (begin ++ stretch ++ end) (captures ++ []) =
-      folded-append options (option_to_list front ++ middle) (option_to_list back) (begin ++ stretch) end captures [] first (end_means options back (EndsPlain middle) end made.are_peeled.back_removed ends) in
+      let first : FoldedMean options (option_to_list front ++ middle) (begin ++ substring) captures =
+      folded-append options (option_to_list front) middle begin substring [] captures (end_means options front (BeginsPlain parts) begin made.are_peeled.front_removed begins) between in
+      let whole : FoldedMean options (option_to_list front ++ middle ++ option_to_list back) (begin ++ substring ++ end) (captures ++ []) =
+      folded-append options (option_to_list front ++ middle) (option_to_list back) (begin ++ substring) end captures [] first (end_means options back (EndsPlain middle) end made.are_peeled.back_removed ends) in
       subst (λ (c : Captures). FoldedMean options parts text c) (append-nil captures)
       (subst (λ (t : List ℕ). FoldedMean options parts t (captures ++ [])) (sym is_cut)
-      (subst (λ (ps : List PartView). FoldedMean options ps (begin ++ stretch ++ end) (captures ++ [])) (sym made.are_peeled.cut) whole))
+      (subst (λ (ps : List PartView). FoldedMean options ps (begin ++ substring ++ end) (captures ++ [])) (sym made.are_peeled.cut) whole))
 
   -- The folded result of a matcher is the first way of the folded parts, if the values of its
   -- engine return first ways.
   pub matcher_folded_first : (parts : List PartView) (matcher : MatcherView E) (text : List ℕ) (result : Option Captures) → IsMadeOf IsEngine options parts matcher → AreGenerated parts → options.ignore_case ≡ true →
       IsOfMiddle (λ engine middle. AreGenerated middle × AnswersFolding options middle (answer engine)) parts matcher.inner → IsTrue (lacks line_feed text) → IsTrue (all_scalars text) →
-      Answers answer matcher text result → IsFirstOf (folded_options options) (folded_parts parts) (lower text) (option_map folded_captures result)
+      Returns answer matcher text result → IsFirstOf (folded_options options) (folded_parts parts) (lower text) (option_map folded_captures result)
   matcher_folded_first parts matcher text result made generated ignored firsts no_feed scalars answers = by matcher.inner refl firsts
     where
       ignores : matcher.ignore_case ≡ true
       ignores = between_ignores IsEngine options (end_text made.front) made.middle (end_text made.back) matcher made.is_made ∙ ignored
 
       -- The result by the folded values in place of the engine's.
-      asking : (other : E → List ℕ → Option Captures) → FoldsAnswer answer other matcher.inner → AnswersFirstInMiddle other (folded_options options) (folded_parts parts) (folded_inner matcher.inner) →
+      asking : (other : E → List ℕ → Option Captures) → FoldsAnswer answer other matcher.inner → ReturnsFirstInMiddle other (folded_options options) (folded_parts parts) (folded_inner matcher.inner) →
           IsFirstOf (folded_options options) (folded_parts parts) (lower text) (option_map folded_captures result)
       asking other folds asks =
           matcher_first other AnyEngine (folded_options options) (folded_parts parts) (folded_matcher matcher) (lower text) (option_map folded_captures result)
@@ -185,10 +185,10 @@ module _ {E : Type 0} (answer : E → List ℕ → Option Captures) (IsEngine : 
           IsFirstOf (folded_options options) (folded_parts parts) (lower text) (option_map folded_captures result)
       by (Literal literal) is firsts =
           asking nothing (subst (λ (i : InnerView E). FoldsAnswer answer nothing i) (sym is) tt)
-          (subst (λ (i : InnerView E). AnswersFirstInMiddle nothing (folded_options options) (folded_parts parts) (folded_inner i)) (sym is) tt)
+          (subst (λ (i : InnerView E). ReturnsFirstInMiddle nothing (folded_options options) (folded_parts parts) (folded_inner i)) (sym is) tt)
       by (SingleCapture filter allow_empty) is firsts =
           asking nothing (subst (λ (i : InnerView E). FoldsAnswer answer nothing i) (sym is) tt)
-          (subst (λ (i : InnerView E). AnswersFirstInMiddle nothing (folded_options options) (folded_parts parts) (folded_inner i)) (sym is) tt)
+          (subst (λ (i : InnerView E). ReturnsFirstInMiddle nothing (folded_options options) (folded_parts parts) (folded_inner i)) (sym is) tt)
       by (RegExp (Err error)) is firsts = absurd firsts
       by (RegExp (Ok engine)) is (front, middle, back, peeled, (plain, folding)) =
           let also = generated_folded middle plain in
@@ -197,7 +197,7 @@ module _ {E : Type 0} (answer : E → List ℕ → Option Captures) (IsEngine : 
           let first : E → List ℕ → Option Captures = λ value t. first_way tree t in
           asking first
           (subst (λ (i : InnerView E). FoldsAnswer answer first i) (sym is) (λ t. ap (option_map folded_captures) (folding t) ∙ first_way_folded (tree_of options middle) tree (tree_folds options middle) t))
-          (subst (λ (i : InnerView E). AnswersFirstInMiddle first (folded_options options) (folded_parts parts) (folded_inner i)) (sym is) (
+          (subst (λ (i : InnerView E). ReturnsFirstInMiddle first (folded_options options) (folded_parts parts) (folded_inner i)) (sym is) (
             option_map folded_part front,
             folded_parts middle,
             option_map folded_part back,
@@ -207,7 +207,7 @@ module _ {E : Type 0} (answer : E → List ℕ → Option Captures) (IsEngine : 
 
   -- The captures are at their places.
   in_place : (parts : List PartView) (matcher : MatcherView E) (text : List ℕ) → IsMadeOf IsEngine options parts matcher → options.ignore_case ≡ true →
-      IsOfMiddle (λ engine middle. AreGenerated middle × AnswersFolding options middle (answer engine)) parts matcher.inner → (result : Option Captures) → Answers answer matcher text result →
+      IsOfMiddle (λ engine middle. AreGenerated middle × AnswersFolding options middle (answer engine)) parts matcher.inner → (result : Option Captures) → Returns answer matcher text result →
       Agrees (folded_options options) (folded_parts parts) (lower text) (option_map folded_captures result) → IfSome result (AreInPlace options parts text)
   in_place parts matcher text made ignored firsts None never agrees = tt
   in_place parts matcher text made ignored firsts (Some captures) matches means = by matcher.inner refl firsts
@@ -247,37 +247,37 @@ module _ {E : Type 0} (answer : E → List ℕ → Option Captures) (IsEngine : 
   no_value (RegExp engine) parts Is none = absurd none
 
   matcher_folded : (parts : List PartView) (matcher : MatcherView E) (text : List ℕ) (result : Option Captures) → IsMadeOf IsEngine options parts matcher → AreGenerated parts → options.ignore_case ≡ true →
-      HoldsNoEngine matcher.inner → IsTrue (lacks line_feed text) → IsTrue (all_scalars text) → Answers answer matcher text result → IsFoldedFirst options parts text result
+      HoldsNoEngine matcher.inner → IsTrue (lacks line_feed text) → IsTrue (all_scalars text) → Returns answer matcher text result → IsFoldedFirst options parts text result
   matcher_folded parts matcher text result made generated ignored none no_feed scalars answers =
       record { is_first = first; are_pieces = pieces result answers (first_agrees (folded_options options) (folded_parts parts) (lower text) (option_map folded_captures result) (generated_folded parts generated) first) }
     where
       first : IsFirstOf (folded_options options) (folded_parts parts) (lower text) (option_map folded_captures result)
       first = matcher_folded_first parts matcher text result made generated ignored (no_value matcher.inner parts _ none) no_feed scalars answers
 
-      pieces : (found : Option Captures) → Answers answer matcher text found → Agrees (folded_options options) (folded_parts parts) (lower text) (option_map folded_captures found) →
+      pieces : (found : Option Captures) → Returns answer matcher text found → Agrees (folded_options options) (folded_parts parts) (lower text) (option_map folded_captures found) →
           IfSome found (FoldedMean options parts text)
       pieces None never agrees = tt
       pieces (Some captures) matches means = matched_means parts matcher text captures none made matches means
 
 -- ---- components
 
-pub folded_answered : {E : Type 0} (engine : Engine E) → FoldedWaysAreAnswered engine
-folded_answered engine manner compiled text result is_compiled ignores line answers =
+pub folded_answered : {E : Type 0} (engine : Engine E) → FoldedWaysAreReturned engine
+folded_answered engine settings compiled text result is_compiled ignores line answers =
     let (parts, reads, is_component) = is_compiled.0 in
     record {
       parts = parts;
       reads = reads;
       is_first =
-          matcher_folded engine.answer (IsEngineOf engine false (engine_flags manner.options)) manner.options parts compiled.matcher text result is_component.has_matcher
+          matcher_folded engine.answer (IsEngineOf engine false (engine_flags settings.options)) settings.options parts compiled.matcher text result is_component.has_matcher
           (ignores.generated parts reads) ignores.case_ignored ignores.no_engine line.no_line_feed line.characters answers;
     }
 
 -- The folded result of a component that ignores case is the first way of its folded parts, if the
 -- values of the engine return results by their flags.
-pub folded_first_answered : {E : Type 0} (engine : Engine E) → ValuesAnswerByFlags engine → MatchersTakeGenerated engine → FoldedFirstsAreAnswered engine
-folded_first_answered {E} engine by_flags takes manner compiled text result is_compiled ignored generated line answers =
+pub folded_first_answered : {E : Type 0} (engine : Engine E) → ValuesReturnByFlags engine → MatchersAcceptGenerated engine → FoldedFirstsAreReturned engine
+folded_first_answered {E} engine by_flags takes settings compiled text result is_compiled ignored generated line answers =
     let (parts, reads, is_component) = is_compiled.0 in
-    let options = manner.options in
+    let options = settings.options in
     let flags = engine_flags options in
     let IsEngine : List ℕ → Result E ErrorView → Type 0 = IsEngineOf engine false flags in
     let plain = generated parts reads in

@@ -12,10 +12,10 @@ use Rattle.urlpattern_components.proofs.EightLemmas.{by_name}
 use Rattle.urlpattern_components.specs.declared.eight.ComponentName.{ComponentName}
 use Rattle.urlpattern_components.specs.declared.eight.ComponentName.TheVariants.{Protocol, Username, Password, Hostname, Port, Pathname, Search, Hash}
 use Rattle.urlpattern_components.specs.Eight.{components, name_text}
-use Rattle.urlpattern_generate.specs.Manners.{GivenView, given_groups, given_view, text_given}
-use Rattle.urlpattern_laws.specs.MatchLinks.{Lent}
+use Rattle.urlpattern_generate.specs.WriteSettings.{GivenView, given_groups, given_view, text_given}
+use Rattle.urlpattern_laws.specs.MatchLinks.{BorrowedGroup}
 use Rattle.urlpattern_matches.proofs.MatchGroupLemmas.{cond-or, lookup-append}
-use Rattle.urlpattern_matches.specs.BorrowedMatches.{GroupText, lent_group, named_groups, text_captured, texts_captured}
+use Rattle.urlpattern_matches.specs.BorrowedMatches.{GroupText, borrowed_group, named_groups, text_captured, texts_captured}
 
 abbrev pub Groups : Type 0
 Groups = List (List ℕ × Option (List ℕ))
@@ -23,7 +23,7 @@ Groups = List (List ℕ × Option (List ℕ))
 abbrev pub given_of : GroupText → GivenView
 given_of group = record { component = group.0; name = group.1; text = group.2 }
 
-pub given_lent : (groups : List Lent) → given_groups groups ≡ map given_of (map lent_group groups)
+pub given_lent : (groups : List BorrowedGroup) → given_groups groups ≡ map given_of (map borrowed_group groups)
 given_lent [] = refl
 given_lent (group ∷ groups) = ap (λ (later : List GivenView). given_view group ∷ later) (given_lent groups)
 
@@ -127,8 +127,8 @@ is_named : (component : ComponentName) → list_any (λ other. bytes_eq (name_te
 is_named = by_name (λ component. list_any (λ other. bytes_eq (name_text other) (name_text component)) components ≡ true) refl refl refl refl refl refl refl refl
 
 -- The text given for a group is the first one with its name.
-pub given_first : (groups_of : ComponentName → Groups) (groups : List Lent) →
-    map lent_group groups ≡ texts_captured (flat_map (λ other. named_groups other (groups_of other)) components) →
+pub given_first : (groups_of : ComponentName → Groups) (groups : List BorrowedGroup) →
+    map borrowed_group groups ≡ texts_captured (flat_map (λ other. named_groups other (groups_of other)) components) →
     (component : ComponentName) (name : List ℕ) → text_given (given_groups groups) component name ≡ first_text (groups_of component) name
 given_first groups_of groups are component name =
     ap (λ (list : List GivenView). text_given list component name) (given_lent groups ∙ ap (map given_of) are)

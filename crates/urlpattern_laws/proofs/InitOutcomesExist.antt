@@ -14,15 +14,15 @@ use Rattle.urlpattern_init.specs.declared.init.UrlPatternInit.{UrlPatternInit}
 use Rattle.urlpattern_inputs.specs.declared.options.UrlPatternOptions.{UrlPatternOptions}
 use Rattle.urlpattern_meaning.proofs.Encodings.{reads_weaker, refuses_weaker}
 use Rattle.urlpattern_meaning.proofs.OutcomesExist.{outcome_answered}
-use Rattle.urlpattern_meaning.specs.Laws.{AnswersAsked, HasSomeOutcome}
-use Rattle.urlpattern_meaning.specs.FirstAnswers.{TookText}
-use Rattle.urlpattern_meaning.specs.Matching.{Answers, ArePeeled, EndsPlain, InnerView, IsMadeBetween, IsMadeByEngine, IsMadeOf, IsMadeOfOne, IsMatched, IsRemoved, Literal, MatcherView, RegExp, SingleCapture, end_text, single_capture_matcher}
+use Rattle.urlpattern_meaning.specs.Laws.{HasRequestedResults, HasSomeOutcome}
+use Rattle.urlpattern_meaning.specs.FirstResults.{AcceptedText}
+use Rattle.urlpattern_meaning.specs.Matching.{Returns, AreStripped, EndsPlain, InnerView, IsMadeBetween, IsMadeByEngine, IsMadeOf, IsMadeOfOne, IsMatched, IsRemoved, Literal, MatcherView, RegExp, SingleCapture, end_text, single_capture_matcher}
 use Rattle.urlpattern_meaning.specs.PartMeaning.{Captures}
 use Rattle.urlpattern_meaning.specs.Printing.{printed}
 use Rattle.urlpattern_pattern.proofs.MatchersDecide.{Decided, answered, bool_decided, text_decided}
-use Rattle.urlpattern_compile.specs.Compiled.{FirstRefused, HasEngine, HasHierarchicalPath, IsComponentCompiled, IsComponentRefused, IsPathKind, IsPatternOfInit, Manner, RefusesInit, after_protocol, canonical_encoding, is_mark, manner_of, pattern_values, without_default_port}
+use Rattle.urlpattern_compile.specs.Compiled.{FirstRejected, HasEngine, HasHierarchicalPath, IsComponentCompiled, IsComponentRejected, IsPathKind, IsPatternOfInit, ParseSettings, RejectsInit, after_protocol, canonical_encoding, is_mark, settings_of, pattern_values, without_default_port}
 use Rattle.urlpattern_pattern.specs.MatchMeaning.{ReadsAs}
-use Rattle.urlpattern_laws.specs.Outcomes.{EngineAnswers, InitsHaveOutcomes, InitsHaveValues, IsOfTexts, UrlAnswers, of_texts}
+use Rattle.urlpattern_laws.specs.Outcomes.{EngineHasResults, InitsHaveOutcomes, InitsHaveValues, IsOfTexts, UrlHasResults, of_texts}
 use Rattle.urlpattern_pattern.specs.Patterns.{PatternView}
 use Rattle.urlpattern_components.specs.declared.eight.ComponentName.{ComponentName}
 use Rattle.urlpattern_components.specs.declared.eight.ComponentName.TheVariants.{Protocol, Username, Password, Hostname, Port, Pathname, Search, Hash}
@@ -34,7 +34,7 @@ use Rattle.urlpattern_components.specs.Eight.{Values}
 use Rattle.urlpattern_syntax.specs.Errors.{ErrorView, ErrorView as views}
 use Rattle.urlpattern_syntax.specs.Options.{OptionsView}
 use Rattle.urlpattern_syntax.specs.Parts.{PartView}
-use Rattle.urlpattern_syntax.specs.Reading.{Demand, Encode, Encoding, Expect, FirstFails, NewName, Refuses, demands, items_of}
+use Rattle.urlpattern_syntax.specs.Reading.{Demand, Encode, Encoding, Expect, FirstFails, NewName, Rejects, demands, items_of}
 use Rattle.urlpattern_syntax.specs.RegexpText.{group_names, is_plain, regexp_text}
 use Rattle.urlpattern_syntax.specs.Text.{begins_with}
 
@@ -62,7 +62,7 @@ ends (part ∷ next ∷ parts) =
     (part ∷ middle, back, ap (λ (ps : List PartView). part ∷ ps) cut, longer part next parts middle back cut removed)
 
 abbrev Peeled : List PartView → Type 0
-Peeled parts = (front : Option PartView) × (middle : List PartView) × (back : Option PartView) × ArePeeled parts front middle back
+Peeled parts = (front : Option PartView) × (middle : List PartView) × (back : Option PartView) × AreStripped parts front middle back
 
 front_end : (part : PartView) (parts : List PartView) → Decided (IsTrue (is_plain part)) → Peeled (part ∷ parts)
 front_end part parts (inl plain) =
@@ -112,62 +112,62 @@ first_of_texts encoding (NewName earlier name ∷ rest) error (inl (has, named))
 first_of_texts encoding (Expect kind token ∷ rest) error (inl (other, named)) = subst IsOfTexts (sym named) (λ same. cc, λ same. cc)
 first_of_texts encoding (demand ∷ rest) error (inr (met, fails)) = first_of_texts encoding rest error fails
 
-refusal_of_texts : (text : List ℕ) (options : OptionsView) (encoding : Encoding) (error : ErrorView) → Refuses text options (of_texts encoding) error → IsOfTexts error
+refusal_of_texts : (text : List ℕ) (options : OptionsView) (encoding : Encoding) (error : ErrorView) → Rejects text options (of_texts encoding) error → IsOfTexts error
 refusal_of_texts text options encoding error (inl (fault, place, is, named)) = subst IsOfTexts (sym named) (λ same. cc, λ same. cc)
 refusal_of_texts text options encoding error (inr demand) = first_of_texts encoding (demands (items_of demand.pieces) demand.ending) error demand.fails
 
 -- ---- a single component
 
-abbrev Outcome : {E : Type 0} → Engine E → Manner → Type 0
-Outcome {E} engine manner =
-    ((compiled : ComponentView E) × IsComponentCompiled engine manner compiled) ⊎ ((error : ErrorView) × IsOfTexts error × IsComponentRefused engine manner error)
+abbrev Outcome : {E : Type 0} → Engine E → ParseSettings → Type 0
+Outcome {E} engine settings =
+    ((compiled : ComponentView E) × IsComponentCompiled engine settings compiled) ⊎ ((error : ErrorView) × IsOfTexts error × IsComponentRejected engine settings error)
 
 -- The engine has a result for parts in a row of the pattern text.
-abbrev AnswersParts : {E : Type 0} → Engine E → Manner → Type 0
-AnswersParts {E} engine manner = (parts before middle after : List PartView) → ReadsAs manner parts → parts ≡ before ++ middle ++ after →
-    (made : Result E ErrorView) × IsEngineOf engine false (engine_flags manner.options) (regexp_text manner.options middle) made
+abbrev HasPartsText : {E : Type 0} → Engine E → ParseSettings → Type 0
+HasPartsText {E} engine settings = (parts before middle after : List PartView) → ReadsAs settings parts → parts ≡ before ++ middle ++ after →
+    (made : Result E ErrorView) × IsEngineOf engine false (engine_flags settings.options) (regexp_text settings.options middle) made
 
-module _ {E : Type 0} (engine : Engine E) (manner : Manner) (every : AnswersParts engine manner) where
-  of_component : (parts : List PartView) (component : ComponentView E) → ReadsAs manner parts → IsComponentOf engine manner.options parts component →
-      Decided (HasEngine component) → Outcome engine manner
+module _ {E : Type 0} (engine : Engine E) (settings : ParseSettings) (every : HasPartsText engine settings) where
+  of_component : (parts : List PartView) (component : ComponentView E) → ReadsAs settings parts → IsComponentOf engine settings.options parts component →
+      Decided (HasEngine component) → Outcome engine settings
   of_component parts component reads is (inl has) = inl (component, ((parts, reads, is), has))
   of_component parts component reads is (inr lacks) = inr (views.RegExp, (λ same. cc, λ same. cc), inr (component, (parts, reads, is), lacks, refl))
 
-  took_decided : (inner : InnerView E) → Decided (TookText (λ value. ⊤) inner)
+  took_decided : (inner : InnerView E) → Decided (AcceptedText (λ value. ⊤) inner)
   took_decided (RegExp (Ok value)) = inl tt
   took_decided (RegExp (Err error)) = inr (λ took. took)
   took_decided (Literal text) = inl tt
   took_decided (SingleCapture filter allow_empty) = inl tt
 
-  engine_decided : (component : ComponentView E) (made : Result E ErrorView) → component.regexp ≡ made → Decided (TookText (λ value. ⊤) component.matcher.inner) → Decided (HasEngine component)
+  engine_decided : (component : ComponentView E) (made : Result E ErrorView) → component.regexp ≡ made → Decided (AcceptedText (λ value. ⊤) component.matcher.inner) → Decided (HasEngine component)
   engine_decided component (Ok value) same (inl took) = inl (record { whole = subst IsOk (sym same) refl; of_matcher = took })
   engine_decided component (Ok value) same (inr lacks) = inr (λ has. lacks has.of_matcher)
   engine_decided component (Err error) same took = inr (λ has. let never : false ≡ true = subst IsOk same has.whole in cc never)
 
-  of_made : (parts : List PartView) (matcher : MatcherView E) (made : Result E ErrorView) → ReadsAs manner parts → IsMadeOf (IsEngineOf engine false (engine_flags manner.options)) manner.options parts matcher →
-      IsEngineOf engine false (engine_flags manner.options) (regexp_text manner.options parts) made → Outcome engine manner
+  of_made : (parts : List PartView) (matcher : MatcherView E) (made : Result E ErrorView) → ReadsAs settings parts → IsMadeOf (IsEngineOf engine false (engine_flags settings.options)) settings.options parts matcher →
+      IsEngineOf engine false (engine_flags settings.options) (regexp_text settings.options parts) made → Outcome engine settings
   of_made parts matcher made reads is_made is =
       let component : ComponentView E =
-      record { pattern_string = printed manner.options parts; regexp = made; group_name_list = group_names parts; matcher = matcher; has_regexp_group = has_regexp parts } in
+      record { pattern_string = printed settings.options parts; regexp = made; group_name_list = group_names parts; matcher = matcher; has_regexp_group = has_regexp parts } in
       of_component parts component reads (record { is_printed = refl; has_engine = inl is; has_names = refl; has_matcher = is_made; regexp_flag = refl })
       (engine_decided component made refl (took_decided matcher.inner))
 
-  of_reading : HasSomeOutcome manner.text manner.options (of_texts (canonical_encoding manner.canonical)) → Outcome engine manner
+  of_reading : HasSomeOutcome settings.text settings.options (of_texts (canonical_encoding settings.canonical)) → Outcome engine settings
   of_reading (Ok parts, strongly) =
-      let reads : ReadsAs manner parts =
-      reads_weaker (of_texts (canonical_encoding manner.canonical)) (canonical_encoding manner.canonical) (λ text answer both. both.0) manner.text manner.options parts strongly in
+      let reads : ReadsAs settings parts =
+      reads_weaker (of_texts (canonical_encoding settings.canonical)) (canonical_encoding settings.canonical) (λ text answer both. both.0) settings.text settings.options parts strongly in
       let (made, is) = every parts [] parts [] reads (sym (append-nil parts)) in
       let (matcher, is_made) =
-      matcher_exists (IsEngineOf engine false (engine_flags manner.options)) manner.options parts (λ before middle after cut. every parts before middle after reads cut) in
+      matcher_exists (IsEngineOf engine false (engine_flags settings.options)) settings.options parts (λ before middle after cut. every parts before middle after reads cut) in
       of_made parts matcher made reads is_made is
   of_reading (Err error, refuses) = inr (
     error,
-    refusal_of_texts manner.text manner.options (canonical_encoding manner.canonical) error refuses,
-    inl (refuses_weaker (of_texts (canonical_encoding manner.canonical)) (canonical_encoding manner.canonical) (λ text answer both. both.0) manner.text manner.options error refuses),
+    refusal_of_texts settings.text settings.options (canonical_encoding settings.canonical) error refuses,
+    inl (refuses_weaker (of_texts (canonical_encoding settings.canonical)) (canonical_encoding settings.canonical) (λ text answer both. both.0) settings.text settings.options error refuses),
   )
 
-  component_outcome : AnswersAsked manner.text manner.options (of_texts (canonical_encoding manner.canonical)) → Outcome engine manner
-  component_outcome answers = of_reading (outcome_answered manner.text manner.options (of_texts (canonical_encoding manner.canonical)) answers)
+  component_outcome : HasRequestedResults settings.text settings.options (of_texts (canonical_encoding settings.canonical)) → Outcome engine settings
+  component_outcome answers = of_reading (outcome_answered settings.text settings.options (of_texts (canonical_encoding settings.canonical)) answers)
 
 -- ---- whether the pathname is hierarchical
 
@@ -183,11 +183,11 @@ module _ {E : Type 0} (answer : E → List ℕ → Option Captures) (matcher : M
   abbrev is_matched : List ℕ → Bool
   is_matched text = is_some (answered answer matcher text).0
 
-  some_matched : (text : List ℕ) (result : Option Captures) → Answers answer matcher text result → is_some result ≡ true → IsMatched answer matcher text
+  some_matched : (text : List ℕ) (result : Option Captures) → Returns answer matcher text result → is_some result ≡ true → IsMatched answer matcher text
   some_matched text (Some captures) answers is = (captures, answers)
   some_matched text None answers is = let both : false ≡ true = is in cc both
 
-  matched_some : (text : List ℕ) (result : Option Captures) → Answers answer matcher text result → IsMatched answer matcher text → is_some result ≡ true
+  matched_some : (text : List ℕ) (result : Option Captures) → Returns answer matcher text result → IsMatched answer matcher text → is_some result ≡ true
   matched_some text (Some captures) answers is = refl
   matched_some text None answers (captures, matches) = absurd (answers captures matches)
 
@@ -225,22 +225,22 @@ module _ {E : Type 0} (answer : E → List ℕ → Option Captures) (matcher : M
 
 -- ---- components in order
 
-module _ {E : Type 0} (engine : Engine E) (manner : ComponentName → Manner) where
+module _ {E : Type 0} (engine : Engine E) (settings : ComponentName → ParseSettings) where
   abbrev Compiled : ComponentName → Type 0
-  Compiled component = (compiled : ComponentView E) × IsComponentCompiled engine (manner component) compiled
+  Compiled component = (compiled : ComponentView E) × IsComponentCompiled engine (settings component) compiled
 
   abbrev AllCompiled : List ComponentName → Type 0
   AllCompiled [] = Unit {0}
   AllCompiled (component ∷ components) = Compiled component × AllCompiled components
 
   abbrev SomeRefused : List ComponentName → Type 0
-  SomeRefused components = (error : ErrorView) × IsOfTexts error × FirstRefused engine manner components error
+  SomeRefused components = (error : ErrorView) × IsOfTexts error × FirstRejected engine settings components error
 
-  all_or_refused : ((component : ComponentName) → Outcome engine (manner component)) → (components : List ComponentName) → AllCompiled components ⊎ SomeRefused components
+  all_or_refused : ((component : ComponentName) → Outcome engine (settings component)) → (components : List ComponentName) → AllCompiled components ⊎ SomeRefused components
   all_or_refused each [] = inl tt
   all_or_refused each (component ∷ components) = by (each component) (all_or_refused each components)
     where
-      by : Outcome engine (manner component) → AllCompiled components ⊎ SomeRefused components → AllCompiled (component ∷ components) ⊎ SomeRefused (component ∷ components)
+      by : Outcome engine (settings component) → AllCompiled components ⊎ SomeRefused components → AllCompiled (component ∷ components) ⊎ SomeRefused (component ∷ components)
       by (inr (error, of, refused)) later = inr (error, of, inl refused)
       by (inl compiled) (inl all) = inl (compiled, all)
       by (inl compiled) (inr (error, of, refused)) = inr (error, of, inr (compiled, refused))
@@ -262,31 +262,31 @@ inits_have_values init =
     let (values, is) = pattern-processed (values_view init) init.base_url in
     (without_default_port values, rw is refl)
 
-module _ {E : Type 0} (engine : Engine E) (init : UrlPatternInit) (asked : UrlPatternOptions) (values : Values) (are_values : pattern_values init ≡ Ok values) (every : EngineAnswers engine asked values)
-    (answers : UrlAnswers asked values) where
-  abbrev manner_by : Bool → ComponentName → Manner
-  manner_by kind = manner_of asked values kind
+module _ {E : Type 0} (engine : Engine E) (init : UrlPatternInit) (asked : UrlPatternOptions) (values : Values) (are_values : pattern_values init ≡ Ok values) (every : EngineHasResults engine asked values)
+    (answers : UrlHasResults asked values) where
+  abbrev settings_by : Bool → ComponentName → ParseSettings
+  settings_by kind = settings_of asked values kind
 
   abbrev InitOutcome : Type 0
-  InitOutcome = ((pattern : PatternView E) × IsPatternOfInit engine init asked pattern) ⊎ ((error : ErrorView) × IsOfTexts error × RefusesInit engine init asked error)
+  InitOutcome = ((pattern : PatternView E) × IsPatternOfInit engine init asked pattern) ⊎ ((error : ErrorView) × IsOfTexts error × RejectsInit engine init asked error)
 
-  by_rest : (protocol : ComponentView E) (kind : Bool) → IsComponentCompiled engine (manner_by false Protocol) protocol → IsPathKind engine.answer values protocol.matcher kind →
-      AllCompiled engine (manner_by kind) after_protocol ⊎ SomeRefused engine (manner_by kind) after_protocol → InitOutcome
+  by_rest : (protocol : ComponentView E) (kind : Bool) → IsComponentCompiled engine (settings_by false Protocol) protocol → IsPathKind engine.answer values protocol.matcher kind →
+      AllCompiled engine (settings_by kind) after_protocol ⊎ SomeRefused engine (settings_by kind) after_protocol → InitOutcome
   unfolding each_compiled
   by_rest protocol kind is_compiled path_kind (inl all) =
-      let each = each_compiled engine (manner_by kind) (protocol, is_compiled) all in
+      let each = each_compiled engine (settings_by kind) (protocol, is_compiled) all in
       inl (λ component. (each component).0, (values, are_values, record { hierarchical = kind; path_kind = path_kind; are_compiled = λ component. (each component).1 }))
   by_rest protocol kind is_compiled path_kind (inr (error, of, refused)) =
       inr (error, of, (values, are_values, inr (record { protocol = protocol; hierarchical = kind; is_compiled = is_compiled; path_kind = path_kind; refused = refused })))
 
-  by_protocol : Outcome engine (manner_by false Protocol) → InitOutcome
+  by_protocol : Outcome engine (settings_by false Protocol) → InitOutcome
   by_protocol (inr (error, of, refused)) = inr (error, of, (values, are_values, inl refused))
   by_protocol (inl (protocol, is_compiled)) =
       let (kind, path_kind) = path_kind_exists engine.answer protocol.matcher values in
       by_rest protocol kind is_compiled path_kind
-      (all_or_refused engine (manner_by kind) (λ component. component_outcome engine (manner_by kind component) (every kind component) (answers kind component)) after_protocol)
+      (all_or_refused engine (settings_by kind) (λ component. component_outcome engine (settings_by kind component) (every kind component) (answers kind component)) after_protocol)
 
 pub init_outcome : {E : Type 0} (engine : Engine E) → InitsHaveOutcomes engine
 init_outcome engine init asked values are_values every answers =
     by_protocol engine init asked values are_values every answers
-    (component_outcome engine (manner_of asked values false Protocol) (every false Protocol) (answers false Protocol))
+    (component_outcome engine (settings_of asked values false Protocol) (every false Protocol) (answers false Protocol))

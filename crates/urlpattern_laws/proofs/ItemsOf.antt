@@ -12,7 +12,7 @@ use Rattle.regex_syntax.specs.Reading.{Text, first, skip, is_at}
 use Rattle.regex_syntax.specs.Verdict.{default_config}
 use Rattle.urlpattern_laws.proofs.Denoting.{Texts, Denotes, Joined, Nothing, Quantified, AreSameTexts, joined_same}
 use Rattle.urlpattern_laws.proofs.Takes.{Takes}
-use Rattle.urlpattern_laws.specs.Expressions.{is_groupless, takes_characters}
+use Rattle.urlpattern_laws.specs.Expressions.{is_groupless, matches_characters}
 use Rattle.urlpattern_laws.proofs.Catching.{Catches, Then, catches_append}
 use Rattle.urlpattern_laws.proofs.Choices.{Cuts, Tries, cuts_followed, tries_append}
 use Rattle.urlpattern_laws.proofs.Senses.{Sense, SameSense, Fulfils, fulfils_empty, fulfils_last, fulfils_perhaps, fulfils_quantified, fulfils_quiet, fulfils_same, joined, no_text, perhaps, quiet}
@@ -47,7 +47,7 @@ append_takes (tree ∷ trees) others =
     same_then _ _ _ (joined_same (Takes tree.value) (Takes tree.value) _ _ (same_texts (Takes tree.value)) (append_takes trees others))
     (joined_assoc (Takes tree.value) (Takes (cat_all (values trees))) (Takes (cat_all (values others))))
 
-append_plain : (trees others : List (Nested Re)) → takes_characters (cat_all (values trees)) ≡ true → takes_characters (cat_all (values others)) ≡ true → takes_characters (cat_all (values (trees ++ others))) ≡ true
+append_plain : (trees others : List (Nested Re)) → matches_characters (cat_all (values trees)) ≡ true → matches_characters (cat_all (values others)) ≡ true → matches_characters (cat_all (values (trees ++ others))) ≡ true
 append_plain [] others p q = q
 append_plain (tree ∷ trees) others p q = and_from _ _ (and_parts _ _ p).0 (append_plain trees others (and_parts _ _ p).1 q)
 

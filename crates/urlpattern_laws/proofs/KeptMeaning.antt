@@ -5,16 +5,16 @@ use Rattle.urlpattern_matcher.specs.Components.{ComponentView}
 use Rattle.urlpattern_printing.specs.Generated.{AreGenerated}
 use Rattle.urlpattern_matcher.specs.declared.regexp.RegExp.{Ghosts as Engine}
 use Rattle.urlpattern_compare.specs.MeantTexts.{MeansText}
-use Rattle.urlpattern_compile.specs.Compiled.{IsPathKind, Manner, ReadsAs, manner_of}
+use Rattle.urlpattern_compile.specs.Compiled.{IsPathKind, ParseSettings, ReadsAs, settings_of}
 use Rattle.urlpattern_components.specs.declared.eight.ComponentName.TheVariants.{Protocol}
 use Rattle.urlpattern_components.specs.Eight.{Values, at}
 use Rattle.urlpattern_init.specs.UrlTexts.{IsLine}
-use Rattle.urlpattern_meaning.specs.Matching.{Agrees, Answers, IsMatched}
+use Rattle.urlpattern_meaning.specs.Matching.{Agrees, Returns, IsMatched}
 use Rattle.urlpattern_meaning.specs.PartMeaning.{Captures}
 use Rattle.urlpattern_pattern.proofs.MatchersDecide.{answered}
 use Rattle.urlpattern_pattern.proofs.MeaningLemmas.{read_once}
-use Rattle.urlpattern_pattern.specs.ByText.{AnswersByText, HasMeaning}
-use Rattle.urlpattern_pattern.specs.KeptParts.{AreReadInManner}
+use Rattle.urlpattern_pattern.specs.ByText.{ReturnsByText, HasMeaning}
+use Rattle.urlpattern_pattern.specs.KeptParts.{AreReadBySettings}
 use Rattle.urlpattern_pattern.specs.Patterns.{pattern_view}
 use Rattle.urlpattern_laws.proofs.MatchingLemmas.{by_answer}
 use Rattle.urlpattern_laws.specs.PartReadings.{KeptPartsMean}
@@ -25,21 +25,21 @@ use Rattle.urlpattern_syntax.specs.Options.{OptionsView}
 use Rattle.urlpattern_syntax.specs.Parts.{PartView}
 
 -- A component that matches by its text matches what the parts of the text mean.
-matched_means : {E : Type 0} (answer : E → List ℕ → Option Captures) (manner : Manner) (compiled : ComponentView E) (parts : List PartView) (text : List ℕ) →
-    AnswersByText answer manner compiled → ReadsAs manner parts → IsLine text → IsMatched answer compiled.matcher text ↔ MeansText manner.options parts text
-matched_means answer manner compiled parts text by reads line =
-    let same : by.parts ≡ parts = read_once manner by.parts parts by.reads reads in
-    let agrees : (found : Option Captures) → Answers answer compiled.matcher text found → Agrees manner.options parts text found =
-    λ found answers. subst (λ (ps : List PartView). Agrees manner.options ps text found) same (by.answers text found line.no_line_feed line.characters answers).1 in
+matched_means : {E : Type 0} (answer : E → List ℕ → Option Captures) (settings : ParseSettings) (compiled : ComponentView E) (parts : List PartView) (text : List ℕ) →
+    ReturnsByText answer settings compiled → ReadsAs settings parts → IsLine text → IsMatched answer compiled.matcher text ↔ MeansText settings.options parts text
+matched_means answer settings compiled parts text by reads line =
+    let same : by.parts ≡ parts = read_once settings by.parts parts by.reads reads in
+    let agrees : (found : Option Captures) → Returns answer compiled.matcher text found → Agrees settings.options parts text found =
+    λ found answers. subst (λ (ps : List PartView). Agrees settings.options ps text found) same (by.answers text found line.no_line_feed line.characters answers).1 in
     let whole = answered answer compiled.matcher text in (
       λ matched. (matched.0, agrees (Some matched.0) matched.1),
-      λ means. by_answer answer compiled.matcher manner.options parts text whole.0 whole.1 (agrees whole.0 whole.1) means,
+      λ means. by_answer answer compiled.matcher settings.options parts text whole.0 whole.1 (agrees whole.0 whole.1) means,
     )
 
 -- Parts of known meaning are of a manner with a meaning.
-has_meaning : (manner : Manner) (component : ComponentParts) → AreReadInManner manner component → IsKnown component → HasMeaning manner
-has_meaning manner component are known = record {
-  generated = λ others reads. subst (λ (ps : List PartView). AreGenerated ps) (read_once manner (kept_parts component) others are.reads reads) known.generated;
+has_meaning : (settings : ParseSettings) (component : ComponentParts) → AreReadBySettings settings component → IsKnown component → HasMeaning settings
+has_meaning settings component are known = record {
+  generated = λ others reads. subst (λ (ps : List PartView). AreGenerated ps) (read_once settings (kept_parts component) others are.reads reads) known.generated;
   case_kept = sym (ap (λ (o : OptionsView). o.ignore_case) are.options_are) ∙ known.case_kept;
 }
 
@@ -55,9 +55,9 @@ kept_parts_mean engine init asked pattern by kept name known text line =
     let one : kept.values ≡ by.values = cc (sym kept.are_values ∙ by.are_values) in
     let path : kept.hierarchical ≡ by.hierarchical =
     same_truth _ kept.hierarchical by.hierarchical (subst (λ (v : Values). IsPathKind engine.answer v (pattern_view pattern Protocol).matcher kept.hierarchical) one kept.path_kind) by.by_protocol in
-    let manner = manner_of asked by.values by.hierarchical name in
-    let are : AreReadInManner manner component =
-    subst (λ (h : Bool). AreReadInManner (manner_of asked by.values h name) component) path
-    (subst (λ (v : Values). AreReadInManner (manner_of asked v kept.hierarchical name) component) one (kept.are_read name)) in
+    let settings = settings_of asked by.values by.hierarchical name in
+    let are : AreReadBySettings settings component =
+    subst (λ (h : Bool). AreReadBySettings (settings_of asked by.values h name) component) path
+    (subst (λ (v : Values). AreReadBySettings (settings_of asked v kept.hierarchical name) component) one (kept.are_read name)) in
     subst (λ (o : OptionsView). IsMatched engine.answer (pattern_view pattern name).matcher text ↔ MeansText o (kept_parts component) text) (sym are.options_are)
-    (matched_means engine.answer manner (pattern_view pattern name) (kept_parts component) text (by.answers name (has_meaning manner component are known)) are.reads line)
+    (matched_means engine.answer settings (pattern_view pattern name) (kept_parts component) text (by.answers name (has_meaning settings component are known)) are.reads line)

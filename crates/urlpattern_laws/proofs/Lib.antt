@@ -7,7 +7,7 @@ pub mod FoldedMatchers
 pub mod FoldedWays
 pub mod EcmaMatchers
 pub mod RegexGroups
-pub mod AskedCaptures
+pub mod RequestedCaptures
 pub mod LinkedTexts
 pub mod GivenGroups
 pub mod MatchedTexts
@@ -39,7 +39,7 @@ pub mod TakenMeanings
 pub mod MatchersTaken
 pub mod MatchersCapture
 pub mod SteadyWays
-pub mod PeeledWays
+pub mod StrippedWays
 pub mod FirstOfTrees
 pub mod MatchersFirst
 pub mod CaptureCounts

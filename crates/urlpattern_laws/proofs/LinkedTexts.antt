@@ -6,17 +6,17 @@ use Rattle.url.specs.Parts.{Parts}
 use Rattle.urlpattern_compile.specs.PatternViews.{eight_view}
 use Rattle.urlpattern_components.proofs.EightLemmas.{same_values}
 use Rattle.urlpattern_components.specs.Eight.{Texts, at}
-use Rattle.urlpattern_generate.specs.Manners.{GivenView, WritingManner}
+use Rattle.urlpattern_generate.specs.WriteSettings.{GivenView, WriteSettings}
 use Rattle.urlpattern_generate.specs.WrittenTexts.{IsWritten}
 use Rattle.urlpattern_init.specs.Inheritance.{texts_of_url}
-use Rattle.urlpattern_laws.proofs.AskedCaptures.{asked_one, given_again}
+use Rattle.urlpattern_laws.proofs.RequestedCaptures.{asked_one, given_again}
 use Rattle.urlpattern_laws.specs.LinkLaws.{IsWrittenBack, LinksAreOne, LinksDiffer, LinksOfCapturesAreTheTexts}
 use Rattle.urlpattern_generate.proofs.LinkLaws.{meant_captured, text_same}
 use Rattle.urlpattern_generate.specs.Links.{text_of_parts}
-use Rattle.urlpattern_meaning.specs.Matching.{Answers, MatcherView}
+use Rattle.urlpattern_meaning.specs.Matching.{Returns, MatcherView}
 use Rattle.urlpattern_meaning.specs.PartMeaning.{Captures}
 use Rattle.urlpattern_pattern.proofs.LinkedLemmas.{answered_once}
-use Rattle.urlpattern_pattern.specs.ComponentTexts.{manner_in, parts_in}
+use Rattle.urlpattern_pattern.specs.ComponentTexts.{settings_in, parts_in}
 use Rattle.urlpattern_pattern.specs.LinkedUrls.{IsLink, IsLinkOf}
 use Rattle.urlpattern_pattern.specs.UrlPatterns.{UrlPattern}
 use Rattle.urlpattern_compare.specs.declared.pattern_parts.PatternParts.{PatternParts}
@@ -26,17 +26,17 @@ use Rattle.urlpattern_generate.specs.UrlsOfTexts.{line_of}
 -- ---- a single text
 
 -- Parts have a single text with these groups.
-text_once : (manner : WritingManner) (parts : List PartView) (text other : List ℕ) → IsWritten manner parts text → IsWritten manner parts other → text ≡ other
-text_once manner parts text other is also =
-    is.is_text ∙ ap (text_of_parts parts) (asked_one manner parts is.captures also.captures is.are_asked also.are_asked) ∙ sym also.is_text
+text_once : (settings : WriteSettings) (parts : List PartView) (text other : List ℕ) → IsWritten settings parts text → IsWritten settings parts other → text ≡ other
+text_once settings parts text other is also =
+    is.is_text ∙ ap (text_of_parts parts) (asked_one settings parts is.captures also.captures is.are_requested also.are_requested) ∙ sym also.is_text
 
 -- The text with the captures of a match is the text that was matched.
-text_again : {E : Type 0} (answer : E → List ℕ → Option Captures) (matcher : MatcherView E) (manner : WritingManner) (parts : List PartView) (text other : List ℕ) (captures : Captures) → IsWritten manner parts text →
-    Answers answer matcher other (Some captures) → IsWrittenBack answer matcher manner parts other captures → text ≡ other
-text_again answer matcher manner parts text other captures is answered it =
+text_again : {E : Type 0} (answer : E → List ℕ → Option Captures) (matcher : MatcherView E) (settings : WriteSettings) (parts : List PartView) (text other : List ℕ) (captures : Captures) → IsWritten settings parts text →
+    Returns answer matcher other (Some captures) → IsWrittenBack answer matcher settings parts other captures → text ≡ other
+text_again answer matcher settings parts text other captures is answered it =
     let means = it.means answered in
-    let asked = given_again manner manner.options parts captures it.are_given (meant_captured manner.options parts other captures means) it.are_canonical in
-    is.is_text ∙ ap (text_of_parts parts) (asked_one manner parts is.captures captures is.are_asked asked) ∙ text_same manner.options parts other captures it.plain means
+    let asked = given_again settings settings.options parts captures it.are_given (meant_captured settings.options parts other captures means) it.are_canonical in
+    is.is_text ∙ ap (text_of_parts parts) (asked_one settings parts is.captures captures is.are_requested asked) ∙ text_same settings.options parts other captures it.plain means
 
 -- ---- links
 
@@ -66,9 +66,9 @@ links_differ answer pattern groups others url other component captures different
     let (more, more_asked, more_answers) = two.are_confirmed component in
     let matcher = (eight_view pattern.components component).matcher in
     let parts = parts_in one.parts component in
-    let matched = answered_once answer matcher (at (texts_of_url url) component) found more found_answers (subst (λ t. Answers answer matcher t (Some more)) (sym same) more_answers) in
-    differ (asked_one (manner_in one.parts groups component) parts captures found (ask one.parts one.has) found_asked ∙ matched
-    ∙ asked_one (manner_in one.parts others component) parts more different more_asked (asks one.parts one.has))
+    let matched = answered_once answer matcher (at (texts_of_url url) component) found more found_answers (subst (λ t. Returns answer matcher t (Some more)) (sym same) more_answers) in
+    differ (asked_one (settings_in one.parts groups component) parts captures found (ask one.parts one.has) found_asked ∙ matched
+    ∙ asked_one (settings_in one.parts others component) parts more different more_asked (asks one.parts one.has))
 
 pub links_one : {E : Type 0} (answer : E → List ℕ → Option Captures) → LinksAreOne answer
 links_one answer pattern groups url other is also =
@@ -76,7 +76,7 @@ links_one answer pattern groups url other is also =
     let two = link_of answer pattern one.parts groups other one.has also in
     let same =
     same_values (texts_of_url url) (texts_of_url other)
-    (λ component. text_once (manner_in one.parts groups component) (parts_in one.parts component) (at (texts_of_url url) component) (at (texts_of_url other) component) (one.link.are_written component) (two.are_written component)) in
+    (λ component. text_once (settings_in one.parts groups component) (parts_in one.parts component) (at (texts_of_url url) component) (at (texts_of_url other) component) (one.link.are_written component) (two.are_written component)) in
     let read : Parsed Parts = Ok url in
     let both : read ≡ Ok other = sym one.link.is_read ∙ ap (λ (texts : Texts). parse_url None (line_of texts)) same ∙ two.is_read in
     cc both
@@ -85,5 +85,5 @@ pub links_of_captures : {E : Type 0} (answer : E → List ℕ → Option Capture
 links_of_captures answer pattern groups url texts captures is answered back =
     let one = has_link answer pattern groups url is in
     same_values (texts_of_url url) texts
-    (λ component. text_again answer (eight_view pattern.components component).matcher (manner_in one.parts groups component) (parts_in one.parts component) (at (texts_of_url url) component) (at texts component)
+    (λ component. text_again answer (eight_view pattern.components component).matcher (settings_in one.parts groups component) (parts_in one.parts component) (at (texts_of_url url) component) (at texts component)
     (captures component) (one.link.are_written component) (answered component) (back component one.parts one.has))

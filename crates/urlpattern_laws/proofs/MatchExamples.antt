@@ -9,12 +9,12 @@ use Rattle.urlpattern_components.specs.declared.eight.ComponentName.{ComponentNa
 use Rattle.urlpattern_components.specs.declared.eight.ComponentName.TheVariants.{Protocol, Username, Password, Hostname, Port, Pathname, Search, Hash}
 use Rattle.urlpattern_init.specs.declared.init.UrlPatternMatchInput.TheVariants.{Url}
 use Rattle.urlpattern_init.specs.Inheritance.{texts_of_url}
-use Rattle.urlpattern_pattern.specs.Match.{AsksAnEngine, HasMatch, HasNoMatch, IsMatchOf}
+use Rattle.urlpattern_pattern.specs.Match.{CallsAnEngine, HasMatch, HasNoMatch, IsMatchOf}
 use Rattle.urlpattern_matches.specs.ResultViews.{group_of}
 use Rattle.urlpattern_pattern.specs.Mismatch.{FindsMismatch}
 use Rattle.urlpattern_pattern.specs.Patterns.{PatternView}
 use Rattle.urlpattern_matcher.specs.Components.{ComponentView}
-use Rattle.urlpattern_meaning.specs.Matching.{AsksEngine, InnerView, IsMatched, Literal, RegExp, SingleCapture}
+use Rattle.urlpattern_meaning.specs.Matching.{CallsEngine, InnerView, IsMatched, Literal, RegExp, SingleCapture}
 use Rattle.urlpattern_meaning.specs.PartMeaning.{Captures}
 use Rattle.urlpattern_meaning.proofs.MatchingLaws.{middle_kept}
 use Rattle.urlpattern_syntax.specs.Errors.{ErrorView as views}
@@ -131,7 +131,7 @@ wildcards_but_path-mismatch texts other =
 -- ---- when memory is allocated
 
 -- Wildcards call no engine.
-wildcards-ask_none : (answer : ⊥ → List ℕ → Option Captures) (texts : Texts) → ¬ AsksAnEngine answer wildcards texts
+wildcards-ask_none : (answer : ⊥ → List ℕ → Option Captures) (texts : Texts) → ¬ CallsAnEngine answer wildcards texts
 wildcards-ask_none answer texts asks = asks.asked.1.2
 
 -- A component of an engine, with empty prefix and suffix.
@@ -145,11 +145,11 @@ engine_component = record {
 }
 
 -- An engine without prefix and suffix is called for each text.
-engine_alone-asks : (text : List ℕ) → AsksEngine engine_component.matcher text
+engine_alone-asks : (text : List ℕ) → CallsEngine engine_component.matcher text
 engine_alone-asks text = (text, ([], [], sym (append-nil text), refl, refl), tt)
 
 -- A pattern of engines without prefix and suffix calls an engine.
-engine_alone-asked : (answer : Unit {0} → List ℕ → Option Captures) (texts : Texts) → AsksAnEngine answer (λ component. engine_component) texts
+engine_alone-asked : (answer : Unit {0} → List ℕ → Option Captures) (texts : Texts) → CallsAnEngine answer (λ component. engine_component) texts
 engine_alone-asked answer texts = record {
   asked = (Pathname, engine_alone-asks (at texts Pathname));
   others = λ component. inl (engine_alone-asks (at texts component));

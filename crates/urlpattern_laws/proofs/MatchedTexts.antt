@@ -12,7 +12,7 @@ use Rattle.std.specs.declared.alloc.Global.{Global}
 use Rattle.urlpattern_matcher.specs.declared.regexp.RegExp.{Ghosts as Engine}
 use Rattle.urlpattern_components.specs.declared.eight.ComponentName.{ComponentName}
 use Rattle.urlpattern_components.specs.Eight.{at}
-use Rattle.urlpattern_generate.specs.Manners.{text_given}
+use Rattle.urlpattern_generate.specs.WriteSettings.{text_given}
 use Rattle.urlpattern_laws.proofs.GivenGroups.{Distinct, Groups, captured_again, first_found, found_reversed, given_first, zip_distinct}
 use Rattle.urlpattern_laws.proofs.LinkedTexts.{links_of_captures}
 use Rattle.urlpattern_laws.specs.MatchLinks.{GroupsOfCapturesAreGiven, GroupsOfMatchesDiffer, GroupsOfResultsAreGiven, LinksOfMatchesAreTheTexts, NamesDiffer}
@@ -22,8 +22,8 @@ use Rattle.urlpattern_matches.specs.ResultViews.{ResultView, group_of, results_o
 use Rattle.urlpattern_meaning.proofs.CaptureCount.{captures_counted}
 use Rattle.urlpattern_meaning.proofs.NameLaws.{names_distinct}
 use Rattle.urlpattern_meaning.specs.PartMeaning.{Captures}
-use Rattle.urlpattern_compile.specs.Compiled.{canonical_encoding, manner_of}
-use Rattle.urlpattern_pattern.specs.ComponentTexts.{manner_in, parts_in}
+use Rattle.urlpattern_compile.specs.Compiled.{canonical_encoding, settings_of}
+use Rattle.urlpattern_pattern.specs.ComponentTexts.{settings_in, parts_in}
 use Rattle.urlpattern_pattern.specs.Patterns.{pattern_view}
 use Rattle.urlpattern_syntax.specs.{RegexpText.group_names, Text.text_of}
 
@@ -73,10 +73,10 @@ results_given result groups are differ component name =
 pub groups_differ : {E : Type 0} (engine : Engine E) → GroupsOfMatchesDiffer engine
 groups_differ engine asked values pattern texts found compiled in_order component =
     let (captures, answers, are) = in_order component in
-    let manner = manner_of asked values compiled.hierarchical component in
+    let settings = settings_of asked values compiled.hierarchical component in
     let (parts, reads, of_parts) = (compiled.are_compiled component).0 in
     let names = (pattern component).group_name_list in
-    let differ : NamesDiffer names = subst NamesDiffer (sym of_parts.has_names) (names_distinct manner.text manner.options (canonical_encoding manner.canonical) parts reads) in
+    let differ : NamesDiffer names = subst NamesDiffer (sym of_parts.has_names) (names_distinct settings.text settings.options (canonical_encoding settings.canonical) parts reads) in
     subst (λ (groups : Groups). NamesDiffer (keys_of groups)) (sym are)
     (AllPairs-from_IsDistinct bytes_eq-Decides (keys_of (zip names captures)) (zip_distinct names captures (distinct_names names differ)))
 
@@ -95,7 +95,7 @@ pub links_of_matches : {E : Type 0} (answer : E → List ℕ → Option Captures
 links_of_matches {E} answer pattern groups url texts result link found are back =
     links_of_captures answer pattern groups url texts found.captures link found.are_answers (λ component parts has.
     let it = back component parts has in
-    let manner = manner_in parts groups component in
+    let settings = settings_in parts groups component in
     let own = parts_in parts component in
     let captures = found.captures component in
     let means = it.means (found.are_answers component) in
@@ -103,6 +103,6 @@ links_of_matches {E} answer pattern groups url texts result link found are back 
       plain = it.plain;
       means = it.means;
       are_given = given_back (result component) (text_given groups component) (group_names own) (pattern_view pattern component).group_name_list captures
-          (captures_counted manner.options own (at texts component) captures means) it.names_differ it.has_names (found.are_results component).has_groups (are component);
+          (captures_counted settings.options own (at texts component) captures means) it.names_differ it.has_names (found.are_results component).has_groups (are component);
       are_canonical = it.are_canonical;
     })

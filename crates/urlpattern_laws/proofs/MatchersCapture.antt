@@ -4,17 +4,17 @@ use Rattle.std.proofs.lemmas.List.Elements.{All-head, All-tail}
 use Rattle.std.specs.Prelude.{◌≢◌, ◌&&◌, All, IsTrue, Ok, option_to_list}
 use Rattle.std.specs.Str.{all_scalars}
 use Rattle.urlpattern_matcher.specs.Components.{IsEngineOf}
-use Rattle.urlpattern_matcher.specs.FirstWays.{Keeping, Taking}
+use Rattle.urlpattern_matcher.specs.FirstWays.{Keeping, Acceptance}
 use Rattle.urlpattern_matcher.specs.declared.regexp.RegExp.{Ghosts as Engine}
 use Rattle.urlpattern_laws.proofs.Catching.{Then}
 use Rattle.urlpattern_laws.proofs.MatchersTaken.{HasRoomForFewer, TookAsKept, all_plain, asked, engine_taken, fast_plain, fast_taken, matcher_asks, middle_all}
-use Rattle.urlpattern_laws.specs.LawsOfTexts.{IsCapturedByParts, IsSomeIfTaken, MatchersCapture, PartsCaptureMeanings, Room, ValuesCapture}
+use Rattle.urlpattern_laws.specs.LawsOfTexts.{IsCapturedByParts, IsSomeIfMatched, MatchersCapture, PartsCaptureMeanings, Room, ValuesCapture}
 use Rattle.urlpattern_laws.specs.PartCaptures.{PartCaptures, PartsCapture}
-use Rattle.urlpattern_laws.specs.TakenPartTexts.{CapturesNothing, PartsTake}
+use Rattle.urlpattern_laws.specs.MatchedPartTexts.{CapturesNothing, PartsMatch}
 use Rattle.urlpattern_meaning.proofs.MatcherMeaning.{HasEnds}
 use Rattle.urlpattern_meaning.proofs.MatchingLaws.{fast_means, part_of}
 use Rattle.urlpattern_meaning.proofs.PartTrees.{IsNotCustom}
-use Rattle.urlpattern_meaning.specs.Matching.{Answers, ArePeeled, IsRemoved, MatcherView, Matches, RegExp, end_text}
+use Rattle.urlpattern_meaning.specs.Matching.{Returns, AreStripped, IsRemoved, MatcherView, Matches, RegExp, end_text}
 use Rattle.urlpattern_meaning.specs.PartMeaning.{AreGenerated, Captures, PartMeans, PartsMean}
 use Rattle.urlpattern_syntax.specs.Options.{OptionsView}
 use Rattle.urlpattern_syntax.specs.Parts.{PartView}
@@ -74,12 +74,12 @@ captures_mean options (part ∷ parts) text captures plain (first, rest, own, ot
 pub parts_capture_meanings : PartsCaptureMeanings
 parts_capture_meanings options parts text captures plain = (captures_mean options parts text captures plain, means_captures options parts text captures)
 
-captures_takes : (options : OptionsView) (parts : List PartView) (text : List ℕ) (captures : Captures) → PartsCapture options parts text captures → PartsTake options parts text
+captures_takes : (options : OptionsView) (parts : List PartView) (text : List ℕ) (captures : Captures) → PartsCapture options parts text captures → PartsMatch options parts text
 captures_takes options [] text captures is = is.0
 captures_takes options (part ∷ parts) text captures (first, rest, own, others, cut, all, one, more) =
     (first, rest, cut, (one.count, one.allowed, one.are_copies), captures_takes options parts rest others more)
 
-captured_taken : (options : OptionsView) (parts : List PartView) (text : List ℕ) (result : Option Captures) → IsCapturedByParts options parts text result → IsSomeIfTaken options parts text result
+captured_taken : (options : OptionsView) (parts : List PartView) (text : List ℕ) (result : Option Captures) → IsCapturedByParts options parts text result → IsSomeIfMatched options parts text result
 captured_taken options parts text (Some captures) is = (λ some. captures_takes options parts text captures is, λ takes. refl)
 captured_taken options parts text None is = (λ some. absurd (true≢false (sym some)), λ takes. absurd (is takes))
 
@@ -94,7 +94,7 @@ end_captures options None IsThere goes = (refl, refl)
 end_captures options (Some part) IsThere goes =
     (part.value, [], [], [], sym (append-nil part.value), refl, plain_by options part.kind part.modifier part.value part.name part.prefix part.suffix goes, (refl, refl))
 
-peeled_captures : (options : OptionsView) (parts : List PartView) (front : Option PartView) (middle : List PartView) (back : Option PartView) (text inner : List ℕ) (captures : Captures) → ArePeeled parts front middle back →
+peeled_captures : (options : OptionsView) (parts : List PartView) (front : Option PartView) (middle : List PartView) (back : Option PartView) (text inner : List ℕ) (captures : Captures) → AreStripped parts front middle back →
     text ≡ end_text front ++ inner ++ end_text back → PartsCapture options middle inner captures → PartsCapture options parts text captures
 peeled_captures options parts front middle back text inner captures peeled cut is =
     let most = captures_append options (option_to_list front) middle (end_text front ++ inner) captures (end_text front, inner, [], captures, refl, refl, end_captures options front _ peeled.front_removed, is) in
@@ -105,8 +105,8 @@ peeled_captures options parts front middle back text inner captures peeled cut i
 -- ---- matchers with an engine
 
 engine_captured : {E : Type 0} (answer : E → List ℕ → Option Captures) (options : OptionsView) (parts : List PartView) (front : Option PartView) (middle : List PartView) (back : Option PartView) (matcher : MatcherView E) (engine : E) (text : List ℕ) (result : Option Captures) →
-    ArePeeled parts front middle back → HasEnds options matcher (end_text front) (end_text back) → matcher.inner ≡ RegExp (Ok engine) → options.ignore_case ≡ false →
-    ((t : List ℕ) → IsTrue (all_scalars t) → IsCapturedByParts options middle t (answer engine t)) → IsTrue (all_scalars text) → Answers answer matcher text result → IsCapturedByParts options parts text result
+    AreStripped parts front middle back → HasEnds options matcher (end_text front) (end_text back) → matcher.inner ≡ RegExp (Ok engine) → options.ignore_case ≡ false →
+    ((t : List ℕ) → IsTrue (all_scalars t) → IsCapturedByParts options middle t (answer engine t)) → IsTrue (all_scalars text) → Returns answer matcher text result → IsCapturedByParts options parts text result
 engine_captured answer options parts front middle back matcher engine text (Some captures) peeled ends is case captured fine matches =
     let of = asked answer options (end_text front) (end_text back) matcher engine ends is case text captures fine matches in
     peeled_captures options parts front middle back text of.inner captures peeled of.cut (subst (λ result. IsCapturedByParts options middle of.inner result) of.found (captured of.inner of.scalars))
@@ -117,18 +117,18 @@ engine_captured answer options parts front middle back matcher engine text None 
 -- ---- any matcher
 
 fast_captured : {E : Type 0} (answer : E → List ℕ → Option Captures) (options : OptionsView) (parts : List PartView) (matcher : MatcherView E) (text : List ℕ) (result : Option Captures) → All IsNotCustom parts →
-    ((captures : Captures) → Matches answer matcher text captures ↔ PartsMean options parts text captures) → Answers answer matcher text result → IsCapturedByParts options parts text result
+    ((captures : Captures) → Matches answer matcher text captures ↔ PartsMean options parts text captures) → Returns answer matcher text result → IsCapturedByParts options parts text result
 fast_captured answer options parts matcher text (Some captures) plain same matches = means_captures options parts text captures ((same captures).0 matches)
 fast_captured answer options parts matcher text None plain same never = λ takes. true≢false (sym ((fast_taken answer options parts matcher text None plain same never).1 takes))
 
 -- If the values of an engine return what the parts capture, the matchers with accepted expressions
 -- do too.
-pub matchers_capture : {E : Type 0} (engine : Engine E) (Keeps : Keeping) (Fits : Room) (Took : Taking E) → ValuesCapture engine Keeps Fits → HasRoomForFewer Fits → TookAsKept Took Keeps
-    → MatchersCapture engine Fits Took
-matchers_capture engine Keeps Fits Took values shorter took options flags parts matcher made silent text result no_feed fine answers =
+pub matchers_capture : {E : Type 0} (engine : Engine E) (Keeps : Keeping) (Fits : Room) (Accepted : Acceptance E) → ValuesCapture engine Keeps Fits → HasRoomForFewer Fits → TookAsKept Accepted Keeps
+    → MatchersCapture engine Fits Accepted
+matchers_capture engine Keeps Fits Accepted values shorter took options flags parts matcher made silent text result no_feed fine answers =
     let m = made.is_made in
     let silent_middle = middle_all (λ part. CapturesNothing part.kind part.value) parts m.front m.middle m.back m.are_peeled silent in
-    matcher_asks engine Keeps Fits Took shorter took options flags parts matcher made (IsCapturedByParts options parts text result)
+    matcher_asks engine Keeps Fits Accepted shorter took options flags parts matcher made (IsCapturedByParts options parts text result)
     (λ is. fast_captured engine.answer options parts matcher text result (all_plain parts m.front m.middle m.back m.are_peeled (fast_plain (IsEngineOf engine false flags) options (end_text m.front) m.middle (end_text m.back) matcher m.is_made is))
     (λ captures. fast_means engine.answer (IsEngineOf engine false flags) options parts matcher text captures m made.case_kept no_feed is) answers)
     (λ value e keeps ends of. engine_captured engine.answer options parts m.front m.middle m.back matcher value text result m.are_peeled ends e made.case_kept

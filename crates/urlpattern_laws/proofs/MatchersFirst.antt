@@ -3,20 +3,20 @@ use Rattle.std.proofs.Common.{◌≡◌, ℕ, List, false, Option, Some, None, r
 use Rattle.std.specs.Prelude.{IsTrue, Ok}
 use Rattle.std.specs.Str.{all_scalars}
 use Rattle.urlpattern_matcher.specs.Components.{IsEngineOf}
-use Rattle.urlpattern_matcher.specs.FirstWays.{Keeping, Taking}
+use Rattle.urlpattern_matcher.specs.FirstWays.{Keeping, Acceptance}
 use Rattle.urlpattern_matcher.specs.declared.regexp.RegExp.{Ghosts as Engine}
 use Rattle.urlpattern_laws.proofs.FirstOfTrees.{first_of_tree}
 use Rattle.urlpattern_laws.proofs.MatchersTaken.{HasRoomForFewer, TookAsKept, all_plain, answered, asked, fast_plain, matcher_asks, middle_all}
-use Rattle.urlpattern_laws.proofs.PeeledWays.{between_ends, first_peeled}
+use Rattle.urlpattern_laws.proofs.StrippedWays.{between_ends, first_peeled}
 use Rattle.urlpattern_laws.specs.LawsOfTexts.{Room}
-use Rattle.urlpattern_laws.specs.LawsOfWays.{MatchersAnswerFirstOfParts, ValuesAnswerFirstOfParts}
-use Rattle.urlpattern_laws.specs.TakenPartTexts.{CapturesNothing}
+use Rattle.urlpattern_laws.specs.LawsOfWays.{MatchersReturnFirstOfParts, ValuesReturnFirstOfParts}
+use Rattle.urlpattern_laws.specs.MatchedPartTexts.{CapturesNothing}
 use Rattle.urlpattern_laws.specs.PartWays.{parts_first_way}
-use Rattle.urlpattern_meaning.proofs.FirstAnswers.{matcher_first}
+use Rattle.urlpattern_meaning.proofs.FirstResults.{matcher_first}
 use Rattle.urlpattern_meaning.proofs.MatcherMeaning.{HasEnds, scalars_middle}
 use Rattle.urlpattern_meaning.proofs.MatchingLaws.{IsFast}
-use Rattle.urlpattern_meaning.specs.FirstAnswers.{AnswersFirstInMiddle}
-use Rattle.urlpattern_meaning.specs.Matching.{Answers, ArePeeled, InnerView, Literal, MatcherView, RegExp, SingleCapture, end_text}
+use Rattle.urlpattern_meaning.specs.FirstResults.{ReturnsFirstInMiddle}
+use Rattle.urlpattern_meaning.specs.Matching.{Returns, AreStripped, InnerView, Literal, MatcherView, RegExp, SingleCapture, end_text}
 use Rattle.urlpattern_meaning.specs.PartMeaning.{Captures}
 use Rattle.urlpattern_syntax.specs.Options.{OptionsView}
 use Rattle.urlpattern_syntax.specs.Parts.{PartView}
@@ -24,8 +24,8 @@ use Rattle.urlpattern_syntax.specs.Parts.{PartView}
 -- ---- matchers with an engine
 
 engine_first : {E : Type 0} (answer : E → List ℕ → Option Captures) (options : OptionsView) (parts : List PartView) (front : Option PartView) (middle : List PartView) (back : Option PartView) (matcher : MatcherView E) (engine : E) (text : List ℕ) (result : Option Captures) →
-    ArePeeled parts front middle back → HasEnds options matcher (end_text front) (end_text back) → matcher.inner ≡ RegExp (Ok engine) → options.ignore_case ≡ false →
-    ((t : List ℕ) → IsTrue (all_scalars t) → answer engine t ≡ parts_first_way options middle t) → IsTrue (all_scalars text) → Answers answer matcher text result → result ≡ parts_first_way options parts text
+    AreStripped parts front middle back → HasEnds options matcher (end_text front) (end_text back) → matcher.inner ≡ RegExp (Ok engine) → options.ignore_case ≡ false →
+    ((t : List ℕ) → IsTrue (all_scalars t) → answer engine t ≡ parts_first_way options middle t) → IsTrue (all_scalars text) → Returns answer matcher text result → result ≡ parts_first_way options parts text
 engine_first answer options parts front middle back matcher engine text (Some captures) peeled ends is case firsts fine matches =
     let of = asked answer options (end_text front) (end_text back) matcher engine ends is case text captures fine matches in
     sym of.found ∙ firsts of.inner of.scalars ∙ sym (first_peeled options parts front middle back peeled of.inner) ∙ ap (parts_first_way options parts) (sym of.cut)
@@ -43,19 +43,19 @@ engine_first answer options parts front middle back matcher engine text None pee
 
 -- ---- any matcher
 
-fast_middle : {E : Type 0} (answer : E → List ℕ → Option Captures) (options : OptionsView) (parts : List PartView) (inner : InnerView E) → IsFast inner → AnswersFirstInMiddle answer options parts inner
+fast_middle : {E : Type 0} (answer : E → List ℕ → Option Captures) (options : OptionsView) (parts : List PartView) (inner : InnerView E) → IsFast inner → ReturnsFirstInMiddle answer options parts inner
 fast_middle answer options parts (Literal literal) is = tt
 fast_middle answer options parts (SingleCapture filter allow_empty) is = tt
 fast_middle answer options parts (RegExp value) is = absurd is
 
 -- If the values of an engine return the first way of the parts, the matchers with accepted
 -- expressions do too.
-pub matchers_first : {E : Type 0} (engine : Engine E) (Keeps : Keeping) (Fits : Room) (Took : Taking E) → ValuesAnswerFirstOfParts engine Keeps Fits → HasRoomForFewer Fits → TookAsKept Took Keeps
-    → MatchersAnswerFirstOfParts engine Fits Took
-matchers_first engine Keeps Fits Took values shorter took options flags parts matcher made silent text result no_feed fine answers =
+pub matchers_first : {E : Type 0} (engine : Engine E) (Keeps : Keeping) (Fits : Room) (Accepted : Acceptance E) → ValuesReturnFirstOfParts engine Keeps Fits → HasRoomForFewer Fits → TookAsKept Accepted Keeps
+    → MatchersReturnFirstOfParts engine Fits Accepted
+matchers_first engine Keeps Fits Accepted values shorter took options flags parts matcher made silent text result no_feed fine answers =
     let m = made.is_made in
     let silent_middle = middle_all (λ part. CapturesNothing part.kind part.value) parts m.front m.middle m.back m.are_peeled silent in
-    matcher_asks engine Keeps Fits Took shorter took options flags parts matcher made (result ≡ parts_first_way options parts text) fast
+    matcher_asks engine Keeps Fits Accepted shorter took options flags parts matcher made (result ≡ parts_first_way options parts text) fast
     (λ value e keeps ends of. engine_first engine.answer options parts m.front m.middle m.back matcher value text result m.are_peeled ends e made.case_kept
     (values options flags m.middle value keeps of.alone silent_middle of.fits of.is_made) fine answers)
   where

@@ -6,19 +6,19 @@ use Rattle.std.specs.Prelude.{◌≢◌, ◌&&◌, All, IsTrue, Ok, Err, option_
 use Rattle.std.specs.Str.{all_scalars}
 use Rattle.regex_hir.proofs.OptionLemmas.{value_of_IsSome}
 use Rattle.urlpattern_matcher.specs.Components.{IsEngineOf, is_custom}
-use Rattle.urlpattern_matcher.specs.FirstWays.{Keeping, Taking}
+use Rattle.urlpattern_matcher.specs.FirstWays.{Keeping, Acceptance}
 use Rattle.urlpattern_matcher.specs.declared.regexp.RegExp.{Ghosts as Engine}
 use Rattle.urlpattern_laws.proofs.Denoting.{Joined, AreSameTexts, joined_same}
 use Rattle.urlpattern_laws.proofs.ItemsOf.{joined_assoc, nothing_joined, same_then, same_texts}
 use Rattle.urlpattern_laws.proofs.GroupItems.{one_copy}
 use Rattle.urlpattern_laws.proofs.TakenMeanings.{means_takes, parts_take_meanings}
-use Rattle.urlpattern_laws.specs.LawsOfTexts.{HasNumbers, IsSomeIfTaken, IsTakenAlone, MatchersAnswerTaken, Room, ValuesAnswerTaken}
-use Rattle.urlpattern_laws.specs.TakenPartTexts.{AllStandAlone, PartTakes, PartsTake, StandsAlone}
+use Rattle.urlpattern_laws.specs.LawsOfTexts.{HasNumbers, IsSomeIfMatched, IsTakenAlone, MatchersReturnIfMatched, Room, ValuesReturnIfMatched}
+use Rattle.urlpattern_laws.specs.MatchedPartTexts.{AllStandAlone, PartMatches, PartsMatch, IsSelfContained}
 use Rattle.urlpattern_meaning.proofs.MatcherMeaning.{HasEnds, ends_of, not_fast, scalars_middle}
 use Rattle.urlpattern_meaning.proofs.MatchingLaws.{IsFast, fast_means, middle_kept, part_of}
 use Rattle.urlpattern_meaning.proofs.PartTrees.{IsNotCustom}
-use Rattle.urlpattern_meaning.specs.FirstAnswers.{TookText}
-use Rattle.urlpattern_meaning.specs.Matching.{Accepts, Answers, ArePeeled, InnerView, IsMadeBetween, IsMadeOfOne, IsRemoved, Literal, MatcherView, Matches, RegExp, SingleCapture, end_text}
+use Rattle.urlpattern_meaning.specs.FirstResults.{AcceptedText}
+use Rattle.urlpattern_meaning.specs.Matching.{Accepts, Returns, AreStripped, InnerView, IsMadeBetween, IsMadeOfOne, IsRemoved, Literal, MatcherView, Matches, RegExp, SingleCapture, end_text}
 use Rattle.urlpattern_meaning.specs.PartMeaning.{Captures, PartsMean}
 use Rattle.urlpattern_syntax.specs.Errors.{ErrorView}
 use Rattle.urlpattern_syntax.specs.Options.{OptionsView}
@@ -33,25 +33,25 @@ use Rattle.urlpattern_syntax.specs.Text.{IsRepeated}
 -- ---- parts without plain ends
 
 -- The texts of parts are those of the first parts, and then those of the others.
-takes_append : (options : OptionsView) (parts others : List PartView) → AreSameTexts (PartsTake options (parts ++ others)) (Joined (PartsTake options parts) (PartsTake options others))
-takes_append options [] others = nothing_joined (PartsTake options others)
+takes_append : (options : OptionsView) (parts others : List PartView) → AreSameTexts (PartsMatch options (parts ++ others)) (Joined (PartsMatch options parts) (PartsMatch options others))
+takes_append options [] others = nothing_joined (PartsMatch options others)
 takes_append options (part ∷ parts) others =
-    same_then _ _ _ (joined_same (PartTakes options part) (PartTakes options part) _ _ (same_texts (PartTakes options part)) (takes_append options parts others))
-    (joined_assoc (PartTakes options part) (PartsTake options parts) (PartsTake options others))
+    same_then _ _ _ (joined_same (PartMatches options part) (PartMatches options part) _ _ (same_texts (PartMatches options part)) (takes_append options parts others))
+    (joined_assoc (PartMatches options part) (PartsMatch options parts) (PartsMatch options others))
 
 plain_by : (options : OptionsView) (kind : PartType) (modifier : PartModifier) (value name prefix suffix text : List ℕ) → IsTrue (is_fixed_text kind && is_unmodified modifier) →
-    PartTakes options (part_of kind modifier value name prefix suffix) text ↔ (text ≡ value)
+    PartMatches options (part_of kind modifier value name prefix suffix) text ↔ (text ≡ value)
 plain_by options FixedText modifiers.None value name prefix suffix text h = (
   λ (n, allowed, are). (one_copy (λ t. t ≡ value) text).0 (subst (λ k. IsRepeated (λ t. t ≡ value) k text) allowed are),
   λ is. (1, refl, (text, [], sym (append-nil text), is, refl)),
 )
 plain_by options kind modifier value name prefix suffix text h = absurd (true≢false (sym h))
 
-plain_takes : (options : OptionsView) (part : PartView) (text : List ℕ) → IsTrue (is_plain part) → PartTakes options part text ↔ (text ≡ part.value)
+plain_takes : (options : OptionsView) (part : PartView) (text : List ℕ) → IsTrue (is_plain part) → PartMatches options part text ↔ (text ≡ part.value)
 plain_takes options part text h = plain_by options part.kind part.modifier part.value part.name part.prefix part.suffix text h
 
 -- A removed end matches its own text alone.
-end_takes : (options : OptionsView) (end : Option PartView) (IsThere : Type 0) (text : List ℕ) → IsRemoved end IsThere → PartsTake options (option_to_list end) text ↔ (text ≡ end_text end)
+end_takes : (options : OptionsView) (end : Option PartView) (IsThere : Type 0) (text : List ℕ) → IsRemoved end IsThere → PartsMatch options (option_to_list end) text ↔ (text ≡ end_text end)
 end_takes options None IsThere text goes = (λ takes. takes, λ is. is)
 end_takes options (Some part) IsThere text goes = (
   λ (first, rest, cut, one, none). cut ∙ ap (λ t. first ++ t) none ∙ append-nil first ∙ (plain_takes options part first goes).0 one,
@@ -60,24 +60,24 @@ end_takes options (Some part) IsThere text goes = (
 
 -- The text between the ends is matched by the middle parts.
 abbrev pub TakesBetween : OptionsView → (front : Option PartView) → List PartView → (back : Option PartView) → List ℕ → Type 0
-TakesBetween options front middle back text = (inner : List ℕ) × (text ≡ end_text front ++ inner ++ end_text back) × PartsTake options middle inner
+TakesBetween options front middle back text = (inner : List ℕ) × (text ≡ end_text front ++ inner ++ end_text back) × PartsMatch options middle inner
 
-three_take : (options : OptionsView) (parts others last : List PartView) → AreSameTexts (PartsTake options (parts ++ others ++ last)) (Joined (Joined (PartsTake options parts) (PartsTake options others)) (PartsTake options last))
+three_take : (options : OptionsView) (parts others last : List PartView) → AreSameTexts (PartsMatch options (parts ++ others ++ last)) (Joined (Joined (PartsMatch options parts) (PartsMatch options others)) (PartsMatch options last))
 three_take options parts others last =
     same_then _ _ _ (takes_append options (parts ++ others) last)
-    (joined_same (PartsTake options (parts ++ others)) _ (PartsTake options last) (PartsTake options last) (takes_append options parts others) (same_texts (PartsTake options last)))
+    (joined_same (PartsMatch options (parts ++ others)) _ (PartsMatch options last) (PartsMatch options last) (takes_append options parts others) (same_texts (PartsMatch options last)))
 
-pub peeled_takes : (options : OptionsView) (parts : List PartView) (front : Option PartView) (middle : List PartView) (back : Option PartView) (text : List ℕ) → ArePeeled parts front middle back → IsTrue (all_scalars text) →
-    PartsTake options parts text ↔ TakesBetween options front middle back text
+pub peeled_takes : (options : OptionsView) (parts : List PartView) (front : Option PartView) (middle : List PartView) (back : Option PartView) (text : List ℕ) → AreStripped parts front middle back → IsTrue (all_scalars text) →
+    PartsMatch options parts text ↔ TakesBetween options front middle back text
 peeled_takes options parts front middle back text peeled fine =
     let three = three_take options (option_to_list front) middle (option_to_list back) text fine in (
-      λ takes. there (three.0 (subst (λ ps. PartsTake options ps text) peeled.cut takes)),
+      λ takes. there (three.0 (subst (λ ps. PartsMatch options ps text) peeled.cut takes)),
       λ (inner, cut, takes).
-          subst (λ ps. PartsTake options ps text) (sym peeled.cut)
+          subst (λ ps. PartsMatch options ps text) (sym peeled.cut)
           (three.1 (end_text front ++ inner, end_text back, cut, (end_text front, inner, refl, (end_takes options front _ (end_text front) peeled.front_removed).1 refl, takes), (end_takes options back _ (end_text back) peeled.back_removed).1 refl)),
     )
   where
-    there : Joined (Joined (PartsTake options (option_to_list front)) (PartsTake options middle)) (PartsTake options (option_to_list back)) text → TakesBetween options front middle back text
+    there : Joined (Joined (PartsMatch options (option_to_list front)) (PartsMatch options middle)) (PartsMatch options (option_to_list back)) text → TakesBetween options front middle back text
     there (most, last, cut, (first, inner, other, f, m), b) = (
       inner,
       cut ∙ ap (λ t. most ++ t) ((end_takes options back _ last peeled.back_removed).0 b) ∙ ap (λ t. t ++ end_text back) (other ∙ ap (λ t. t ++ inner) ((end_takes options front _ first peeled.front_removed).0 f)),
@@ -87,7 +87,7 @@ peeled_takes options parts front middle back text peeled fine =
 -- ---- matchers with an engine
 
 -- The text between the removed ends, for which the engine returns the captures of the match.
-pub record IsAsked {E : Type 0} (answer : E → List ℕ → Option Captures) (front back : List ℕ) (engine : E) (text : List ℕ) (captures : Captures) : Type 0 where
+pub record IsRequested {E : Type 0} (answer : E → List ℕ → Option Captures) (front back : List ℕ) (engine : E) (text : List ℕ) (captures : Captures) : Type 0 where
   pub inner : List ℕ
   pub cut : text ≡ front ++ inner ++ back
   pub scalars : IsTrue (all_scalars inner)
@@ -95,7 +95,7 @@ pub record IsAsked {E : Type 0} (answer : E → List ℕ → Option Captures) (f
 
 module _ {E : Type 0} (answer : E → List ℕ → Option Captures) (options : OptionsView) (front back : List ℕ) (matcher : MatcherView E) (engine : E)
     (ends : HasEnds options matcher front back) (is : matcher.inner ≡ RegExp (Ok engine)) (case : options.ignore_case ≡ false) (text : List ℕ) where
-  pub asked : (captures : Captures) → IsTrue (all_scalars text) → Matches answer matcher text captures → IsAsked answer front back engine text captures
+  pub asked : (captures : Captures) → IsTrue (all_scalars text) → Matches answer matcher text captures → IsRequested answer front back engine text captures
   asked captures scalars (inner, has_middle, accepts) =
       let e = (middle_kept matcher text inner (ends.2 ∙ case)).0 has_middle in
       let cut : text ≡ front ++ inner ++ back = e ∙ ap (λ t. t ++ inner ++ matcher.suffix) ends.0 ∙ ap (λ t. front ++ inner ++ t) ends.1 in
@@ -114,8 +114,8 @@ module _ {E : Type 0} (answer : E → List ℕ → Option Captures) (options : O
 
 -- The result of an engine for the middle parts makes the result for all parts.
 pub engine_taken : {E : Type 0} (answer : E → List ℕ → Option Captures) (options : OptionsView) (parts : List PartView) (front : Option PartView) (middle : List PartView) (back : Option PartView) (matcher : MatcherView E) (engine : E) (text : List ℕ) (result : Option Captures) →
-    ArePeeled parts front middle back → HasEnds options matcher (end_text front) (end_text back) → matcher.inner ≡ RegExp (Ok engine) → options.ignore_case ≡ false →
-    ((t : List ℕ) → IsTrue (all_scalars t) → IsSomeIfTaken options middle t (answer engine t)) → IsTrue (all_scalars text) → Answers answer matcher text result → IsSomeIfTaken options parts text result
+    AreStripped parts front middle back → HasEnds options matcher (end_text front) (end_text back) → matcher.inner ≡ RegExp (Ok engine) → options.ignore_case ≡ false →
+    ((t : List ℕ) → IsTrue (all_scalars t) → IsSomeIfMatched options middle t (answer engine t)) → IsTrue (all_scalars text) → Returns answer matcher text result → IsSomeIfMatched options parts text result
 engine_taken answer options parts front middle back matcher engine text (Some captures) peeled ends is case taken fine matches =
     let of = asked answer options (end_text front) (end_text back) matcher engine ends is case text captures fine matches in
     (λ some. (peeled_takes options parts front middle back text peeled fine).1 (of.inner, of.cut, (taken of.inner of.scalars).0 (ap is_some of.found)), λ takes. refl)
@@ -163,13 +163,13 @@ end_plain : (end : Option PartView) (IsThere : Type 0) → IsRemoved end IsThere
 end_plain None IsThere goes = All-nil IsNotCustom
 end_plain (Some part) IsThere goes = All-cons IsNotCustom part [] (plain_kind part.kind part.modifier goes) (All-nil IsNotCustom)
 
-pub all_plain : (parts : List PartView) (front : Option PartView) (middle : List PartView) (back : Option PartView) → ArePeeled parts front middle back → All IsNotCustom middle → All IsNotCustom parts
+pub all_plain : (parts : List PartView) (front : Option PartView) (middle : List PartView) (back : Option PartView) → AreStripped parts front middle back → All IsNotCustom middle → All IsNotCustom parts
 all_plain parts front middle back peeled h =
     subst (λ ps. All IsNotCustom ps) (sym peeled.cut)
     (all_append IsNotCustom (option_to_list front ++ middle) (option_to_list back)
     (all_append IsNotCustom (option_to_list front) middle (end_plain front _ peeled.front_removed) h) (end_plain back _ peeled.back_removed))
 
-pub middle_all : (P : PartView → Type 0) (parts : List PartView) (front : Option PartView) (middle : List PartView) (back : Option PartView) → ArePeeled parts front middle back → All P parts → All P middle
+pub middle_all : (P : PartView → Type 0) (parts : List PartView) (front : Option PartView) (middle : List PartView) (back : Option PartView) → AreStripped parts front middle back → All P parts → All P middle
 middle_all P parts front middle back peeled h =
     all_right P (option_to_list front) middle (all_left P (option_to_list front ++ middle) (option_to_list back) (subst (λ ps. All P ps) peeled.cut h))
 
@@ -188,7 +188,7 @@ module _ (options : OptionsView) where
   right_length [] others = omega arith
   right_length (part ∷ parts) others = omega (arith, right_length parts others, length-append (part_regexp options part) (written (parts ++ others)))
 
-  pub middle_length : (parts : List PartView) (front : Option PartView) (middle : List PartView) (back : Option PartView) → ArePeeled parts front middle back → length (written middle) ≤ length (written parts)
+  pub middle_length : (parts : List PartView) (front : Option PartView) (middle : List PartView) (back : Option PartView) → AreStripped parts front middle back → length (written middle) ≤ length (written parts)
   middle_length parts front middle back peeled =
       omega (arith, right_length (option_to_list front) middle, left_length (option_to_list front ++ middle) (option_to_list back), ap (λ ps. length (written ps)) peeled.cut)
 
@@ -214,7 +214,7 @@ made_between IsEngine options front (part ∷ next ∷ parts) back matcher value
 
 -- The result of a matcher without an engine.
 pub fast_taken : {E : Type 0} (answer : E → List ℕ → Option Captures) (options : OptionsView) (parts : List PartView) (matcher : MatcherView E) (text : List ℕ) (result : Option Captures) → All IsNotCustom parts →
-    ((captures : Captures) → Matches answer matcher text captures ↔ PartsMean options parts text captures) → Answers answer matcher text result → IsSomeIfTaken options parts text result
+    ((captures : Captures) → Matches answer matcher text captures ↔ PartsMean options parts text captures) → Returns answer matcher text result → IsSomeIfMatched options parts text result
 fast_taken answer options parts matcher text (Some captures) plain same matches = (λ some. means_takes options parts text captures ((same captures).0 matches), λ takes. refl)
 fast_taken answer options parts matcher text None plain same never = (
   λ some. absurd (true≢false (sym some)),
@@ -233,19 +233,19 @@ HasRoomForFewer Fits =
     (options : OptionsView) (parts middle : List PartView) → length (written options middle) ≤ length (written options parts) → Fits (regexp_text options parts) → Fits (regexp_text options middle)
 
 -- An expression that the engine accepted was accepted with flags that keep case.
-abbrev pub TookAsKept : {E : Type 0} → Taking E → Keeping → Type 0
-TookAsKept {E} Took Keeps = (options : OptionsView) (flags : List ℕ) (inner : InnerView E) → options.ignore_case ≡ false → Took options flags inner → TookText (λ value. Keeps flags) inner
+abbrev pub TookAsKept : {E : Type 0} → Acceptance E → Keeping → Type 0
+TookAsKept {E} Accepted Keeps = (options : OptionsView) (flags : List ℕ) (inner : InnerView E) → options.ignore_case ≡ false → Accepted options flags inner → AcceptedText (λ value. Keeps flags) inner
 
 -- A matcher has no engine, or a value that was made of the text of the middle parts.
-pub matcher_asks : {E : Type 0} (engine : Engine E) (Keeps : Keeping) (Fits : Room) (Took : Taking E) → HasRoomForFewer Fits → TookAsKept Took Keeps
-    → (options : OptionsView) (flags : List ℕ) (parts : List PartView) (matcher : MatcherView E) (made : IsTakenAlone engine Fits Took options flags parts matcher)
+pub matcher_asks : {E : Type 0} (engine : Engine E) (Keeps : Keeping) (Fits : Room) (Accepted : Acceptance E) → HasRoomForFewer Fits → TookAsKept Accepted Keeps
+    → (options : OptionsView) (flags : List ℕ) (parts : List PartView) (matcher : MatcherView E) (made : IsTakenAlone engine Fits Accepted options flags parts matcher)
     → (Is : Type 0) → (IsFast matcher.inner → Is)
     → ((value : E) → matcher.inner ≡ RegExp (Ok value) → Keeps flags → HasEnds options matcher (end_text made.is_made.front) (end_text made.is_made.back)
     → IsOfMiddle engine Fits options flags made.is_made.middle value → Is)
     → Is
-matcher_asks {E} engine Keeps Fits Took shorter took options flags parts matcher made Is fast asks = by_inner matcher.inner refl (took options flags matcher.inner made.case_kept made.took)
+matcher_asks {E} engine Keeps Fits Accepted shorter took options flags parts matcher made Is fast asks = by_inner matcher.inner refl (took options flags matcher.inner made.case_kept made.took)
   where
-    by_inner : (inner : InnerView E) → matcher.inner ≡ inner → TookText (λ value. Keeps flags) inner → Is
+    by_inner : (inner : InnerView E) → matcher.inner ≡ inner → AcceptedText (λ value. Keeps flags) inner → Is
     by_inner (Literal literal) e keeps = fast (subst (λ i. IsFast i) (sym e) tt)
     by_inner (SingleCapture filter allow_empty) e keeps = fast (subst (λ i. IsFast i) (sym e) tt)
     by_inner (RegExp (Err error)) e keeps = absurd keeps
@@ -253,18 +253,18 @@ matcher_asks {E} engine Keeps Fits Took shorter took options flags parts matcher
         let m = made.is_made in
         asks value e keeps (ends_of (IsEngineOf engine false flags) options (end_text m.front) m.middle (end_text m.back) matcher (Ok value) m.is_made e)
         (record {
-          alone = middle_all (λ part. StandsAlone part.kind part.value) parts m.front m.middle m.back m.are_peeled made.alone;
+          alone = middle_all (λ part. IsSelfContained part.kind part.value) parts m.front m.middle m.back m.are_peeled made.alone;
           fits = shorter options parts m.middle (middle_length options parts m.front m.middle m.back m.are_peeled) made.fits;
           is_made = made_between (IsEngineOf engine false flags) options (end_text m.front) m.middle (end_text m.back) matcher (Ok value) m.is_made e;
         })
 
 -- If the values of an engine return captures for the texts that the parts match, the matchers with
 -- accepted expressions do too.
-pub matchers_taken : {E : Type 0} (engine : Engine E) (Keeps : Keeping) (Fits : Room) (Took : Taking E) → ValuesAnswerTaken engine Keeps Fits → HasRoomForFewer Fits → TookAsKept Took Keeps
-    → MatchersAnswerTaken engine Fits Took
-matchers_taken engine Keeps Fits Took values shorter took options flags parts matcher made text result no_feed fine answers =
+pub matchers_taken : {E : Type 0} (engine : Engine E) (Keeps : Keeping) (Fits : Room) (Accepted : Acceptance E) → ValuesReturnIfMatched engine Keeps Fits → HasRoomForFewer Fits → TookAsKept Accepted Keeps
+    → MatchersReturnIfMatched engine Fits Accepted
+matchers_taken engine Keeps Fits Accepted values shorter took options flags parts matcher made text result no_feed fine answers =
     let m = made.is_made in
-    matcher_asks engine Keeps Fits Took shorter took options flags parts matcher made (IsSomeIfTaken options parts text result)
+    matcher_asks engine Keeps Fits Accepted shorter took options flags parts matcher made (IsSomeIfMatched options parts text result)
     (λ is. fast_taken engine.answer options parts matcher text result (all_plain parts m.front m.middle m.back m.are_peeled (fast_plain (IsEngineOf engine false flags) options (end_text m.front) m.middle (end_text m.back) matcher m.is_made is))
     (λ captures. fast_means engine.answer (IsEngineOf engine false flags) options parts matcher text captures m made.case_kept no_feed is) answers)
     (λ value e keeps ends of. engine_taken engine.answer options parts m.front m.middle m.back matcher value text result m.are_peeled ends e made.case_kept

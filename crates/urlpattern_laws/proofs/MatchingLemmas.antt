@@ -5,17 +5,17 @@ use Rattle.std.specs.Prelude.{⊤, Option, Some, None, String, string_bytes}
 use Rattle.std.specs.declared.alloc.Global.{Global}
 use Rattle.urlpattern_compare.specs.MeantTexts.{MeansText}
 use Rattle.urlpattern_matcher.specs.Components.{engine_flags}
-use Rattle.urlpattern_matcher.specs.FirstWays.{EachAnswersFirst, Taking}
+use Rattle.urlpattern_matcher.specs.FirstWays.{EachReturnsFirst, Acceptance}
 use Rattle.urlpattern_matcher.specs.declared.regexp.RegExp.{Ghosts as Engine}
 use Rattle.urlpattern_init.specs.UrlTexts.{EachIsLine, IsLine}
-use Rattle.urlpattern_meaning.specs.FirstAnswers.{TookText}
-use Rattle.urlpattern_meaning.specs.Matching.{Agrees, Answers, InnerView, IsMatched, MatcherView}
+use Rattle.urlpattern_meaning.specs.FirstResults.{AcceptedText}
+use Rattle.urlpattern_meaning.specs.Matching.{Agrees, Returns, InnerView, IsMatched, MatcherView}
 use Rattle.urlpattern_meaning.specs.PartMeaning.{Captures}
 use Rattle.urlpattern_pattern.proofs.MatchersDecide.{answered}
 use Rattle.urlpattern_pattern.specs.{Match.AreMatched, Patterns.PatternView, UrlPatterns.AreMadeOfParts}
 use Rattle.urlpattern_laws.specs.PartReadings.{ApartMatchNothing, AreItsParts, CommonAreMatched, CoveredAreMatched, CoveredByEngineAreMatched, CoveredByMeaningAreMatched, IsCoveredByMeaning, KnownAreCoveredByMeaning, OwnPartsMean, PartingsAreMatched, SameAreMatched}
 use Rattle.urlpattern_compare.proofs.SameParts.{known_or_not, same_within}
-use Rattle.urlpattern_compare.specs.Comparing.{AreSame, IsComponentCovered, IsKnown, IsMeantBy, TakesNoLine}
+use Rattle.urlpattern_compare.specs.Comparing.{AreSame, IsComponentCovered, IsKnown, IsMeantBy, MatchesNoLine}
 use Rattle.urlpattern_syntax.specs.declared.parts.ComponentParts.{ComponentParts}
 use Rattle.urlpattern_compare.specs.declared.pattern_parts.PatternParts.{PatternParts}
 use Rattle.urlpattern_components.proofs.EightLemmas.{at-each}
@@ -29,16 +29,16 @@ use Rattle.urlpattern_syntax.specs.Text.{text_of}
 
 -- A result that agrees with the parts says whether they mean the text.
 pub by_answer : {E : Type 0} (answer : E → List ℕ → Option Captures) (matcher : MatcherView E) (options : OptionsView) (parts : List PartView) (text : List ℕ) (found : Option Captures) →
-    Answers answer matcher text found → Agrees options parts text found → MeansText options parts text → IsMatched answer matcher text
+    Returns answer matcher text found → Agrees options parts text found → MeansText options parts text → IsMatched answer matcher text
 by_answer answer matcher options parts text (Some captures) answers agrees means = (captures, answers)
 by_answer answer matcher options parts text None answers agrees means = absurd (agrees means.0 means.1)
 
 -- ---- a whole pattern
 
 -- A pattern made of its parts matches what they mean, if the engine returns first ways.
-pub own_parts_mean : {E : Type 0} (engine : Engine E) (Took : Taking E) → EachAnswersFirst engine Took →
-    ((options : OptionsView) (inner : InnerView E) → TookText (λ value. ⊤) inner → Took options (engine_flags options) inner) → OwnPartsMean engine
-own_parts_mean engine Took firsts taken pattern parts made name known text line =
+pub own_parts_mean : {E : Type 0} (engine : Engine E) (Accepted : Acceptance E) → EachReturnsFirst engine Accepted →
+    ((options : OptionsView) (inner : InnerView E) → AcceptedText (λ value. ⊤) inner → Accepted options (engine_flags options) inner) → OwnPartsMean engine
+own_parts_mean engine Accepted firsts taken pattern parts made name known text line =
     let kept = at parts.components name in
     let options = options_view kept.options in
     let own = parts_view kept.parts.items in
@@ -50,7 +50,7 @@ own_parts_mean engine Took firsts taken pattern parts made name known text line 
       case_kept = known.case_kept;
       took = taken options matcher.inner is.has_engine.of_matcher;
     }) in
-    let agrees : (found : Option Captures) → Answers engine.answer matcher text found → Agrees options own text found =
+    let agrees : (found : Option Captures) → Returns engine.answer matcher text found → Agrees options own text found =
     λ found is_answer. (answers text found line.no_line_feed line.characters is_answer).1 in
     let whole = answered engine.answer matcher text in (
       λ matched. (matched.0, agrees (Some matched.0) matched.1),
@@ -86,7 +86,7 @@ covered_component answer pattern asked parts asked_parts name text are asked_are
 ]
 
 nothing_matched : {E : Type 0} (answer : E → List ℕ → Option Captures) (asked : PatternView E) (parts : PatternParts) (name : ComponentName) → AreItsParts answer asked parts →
-    TakesNoLine (at parts.components name) → (texts : Texts) → EachIsLine texts → ¬ AreMatched answer asked texts
+    MatchesNoLine (at parts.components name) → (texts : Texts) → EachIsLine texts → ¬ AreMatched answer asked texts
 nothing_matched answer asked parts name are nothing texts lines matched =
     let line = lines name in
     nothing.takes_none (at texts name) line.characters line.no_line_feed ((are name nothing.known (at texts name) line).0 (matched name))

@@ -10,7 +10,7 @@ use Rattle.urlpattern_laws.proofs.PartCharacters.{IsOfCharacters, no_fixed, part
 use Rattle.urlpattern_laws.proofs.PieceItems.{fixed_items, piece_inside}
 use Rattle.urlpattern_laws.proofs.Senses.{Sense, joined, no_text, quiet}
 use Rattle.urlpattern_laws.specs.PartCaptures.{PartCaptures, PartsCapture}
-use Rattle.urlpattern_laws.specs.TakenPartTexts.{AllCaptureNothing, AllStandAlone, CapturesNothing, IsTakenPiece, PartTakes, PartsTake, StandsAlone}
+use Rattle.urlpattern_laws.specs.MatchedPartTexts.{AllCaptureNothing, AllStandAlone, CapturesNothing, IsMatchedPiece, PartMatches, PartsMatch, IsSelfContained}
 use Rattle.urlpattern_laws.specs.PartWays.{fixed_ways, part_ways_by, parts_ways, piece_ways}
 use Rattle.urlpattern_meaning.specs.PartMeaning.{Allows, Captures, IsCapture, capture_of_none}
 use Rattle.urlpattern_meaning.proofs.Copies.{GroupMeans, IsBetween, core_copies}
@@ -31,20 +31,20 @@ empty_by : (text : List ℕ) → is_empty text ≡ true → text ≡ []
 empty_by [] h = refl
 empty_by (c ∷ text) h = absurd (true≢false (sym h))
 
-group_by : (is_bare : Bool) (options : OptionsView) (kind : PartType) (modifier : PartModifier) (value prefix suffix : List ℕ) → is_empty prefix && is_empty suffix ≡ is_bare → kind ≢ FixedText → StandsAlone kind value
+group_by : (is_bare : Bool) (options : OptionsView) (kind : PartType) (modifier : PartModifier) (value prefix suffix : List ℕ) → is_empty prefix && is_empty suffix ≡ is_bare → kind ≢ FixedText → IsSelfContained kind value
     → scalars prefix ≡ true → scalars suffix ≡ true
     → AreItemsOf (if is_bare then bare_regexp modifier (matched_by options kind value) else affixed_regexp modifier (escaped_regexp options prefix) (matched_by options kind value) (escaped_regexp options suffix))
-    (group_sense is_bare modifier prefix suffix (CapturesNothing kind value) (IsTakenPiece options kind value) (piece_ways options kind value))
+    (group_sense is_bare modifier prefix suffix (CapturesNothing kind value) (IsMatchedPiece options kind value) (piece_ways options kind value))
 group_by true options kind modifier value prefix suffix h group stands p s =
     let both = and_parts _ _ h in
     let no_prefix : prefix ≡ [] = empty_by prefix both.0 in
     let no_suffix : suffix ≡ [] = empty_by suffix both.1 in
-    rw (no_prefix, no_suffix) (bare_group modifier _ (CapturesNothing kind value) (IsTakenPiece options kind value) (piece_ways options kind value) (piece_inside options kind value group stands))
+    rw (no_prefix, no_suffix) (bare_group modifier _ (CapturesNothing kind value) (IsMatchedPiece options kind value) (piece_ways options kind value) (piece_inside options kind value group stands))
 group_by false options kind modifier value prefix suffix h group stands p s =
-    affixed_group options prefix suffix p s modifier _ (CapturesNothing kind value) (IsTakenPiece options kind value) (piece_ways options kind value) (piece_inside options kind value group stands)
+    affixed_group options prefix suffix p s modifier _ (CapturesNothing kind value) (IsMatchedPiece options kind value) (piece_ways options kind value) (piece_inside options kind value group stands)
 
-group_items : (options : OptionsView) (kind : PartType) (modifier : PartModifier) (value name prefix suffix : List ℕ) → kind ≢ FixedText → StandsAlone kind value → scalars prefix ≡ true → scalars suffix ≡ true
-    → AreItemsOf (group_regexp options (part_of kind modifier value name prefix suffix)) (group_sense (is_empty prefix && is_empty suffix) modifier prefix suffix (CapturesNothing kind value) (IsTakenPiece options kind value) (piece_ways options kind value))
+group_items : (options : OptionsView) (kind : PartType) (modifier : PartModifier) (value name prefix suffix : List ℕ) → kind ≢ FixedText → IsSelfContained kind value → scalars prefix ≡ true → scalars suffix ≡ true
+    → AreItemsOf (group_regexp options (part_of kind modifier value name prefix suffix)) (group_sense (is_empty prefix && is_empty suffix) modifier prefix suffix (CapturesNothing kind value) (IsMatchedPiece options kind value) (piece_ways options kind value))
 group_items options kind modifier value name prefix suffix group stands p s = group_by (is_empty prefix && is_empty suffix) options kind modifier value prefix suffix refl group stands p s
 
 -- Copies of a group, with their capture.
@@ -59,9 +59,9 @@ part_count kind = 1
 
 abbrev pub part_sense : OptionsView → PartView → Sense
 part_sense options part =
-    record { Is = PartTakes options part; count = part_count part.kind; Cap = PartCaptures options part; Known = CapturesNothing part.kind part.value; ways = part_ways_by part.kind options part }
+    record { Is = PartMatches options part; count = part_count part.kind; Cap = PartCaptures options part; Known = CapturesNothing part.kind part.value; ways = part_ways_by part.kind options part }
 
-part_by : (options : OptionsView) (kind : PartType) (modifier : PartModifier) (value name prefix suffix : List ℕ) → StandsAlone kind value → IsOfCharacters (part_of kind modifier value name prefix suffix)
+part_by : (options : OptionsView) (kind : PartType) (modifier : PartModifier) (value name prefix suffix : List ℕ) → IsSelfContained kind value → IsOfCharacters (part_of kind modifier value name prefix suffix)
     → AreItemsOf (part_regexp options (part_of kind modifier value name prefix suffix)) (part_sense options (part_of kind modifier value name prefix suffix))
 unfolding part_regexp
 part_by options FixedText modifier value name prefix suffix stands good =
@@ -81,18 +81,18 @@ part_by options kind modifier value name prefix suffix stands good =
       texts = same_texts _;
       count = refl;
       caps = λ text captures fine means.
-          let c = group_copies (IsTakenPiece options kind value) kind modifier value name prefix suffix text captures means in
+          let c = group_copies (IsMatchedPiece options kind value) kind modifier value name prefix suffix text captures means in
           record { count = c.0; allowed = c.1; are_copies = c.2; are_captures = c.3 };
       known = λ k. k;
       ways = refl;
     })
     (group_items options kind modifier value name prefix suffix group stands (good.prefix group) (good.suffix group))
 
-pub part_items : (options : OptionsView) (part : PartView) → StandsAlone part.kind part.value → scalars (part_regexp options part) ≡ true → AreItemsOf (part_regexp options part) (part_sense options part)
+pub part_items : (options : OptionsView) (part : PartView) → IsSelfContained part.kind part.value → scalars (part_regexp options part) ≡ true → AreItemsOf (part_regexp options part) (part_sense options part)
 part_items options part stands good = part_by options part.kind part.modifier part.value part.name part.prefix part.suffix stands (part_characters options part good)
 
 abbrev IsAlone : PartView → Type 0
-IsAlone part = StandsAlone part.kind part.value
+IsAlone part = IsSelfContained part.kind part.value
 
 abbrev IsSilent : PartView → Type 0
 IsSilent part = CapturesNothing part.kind part.value
@@ -102,7 +102,7 @@ parts_count [] = 0
 parts_count (part ∷ parts) = part_count part.kind + parts_count parts
 
 abbrev pub parts_sense : OptionsView → List PartView → Sense
-parts_sense options parts = record { Is = PartsTake options parts; count = parts_count parts; Cap = PartsCapture options parts; Known = AllCaptureNothing parts; ways = parts_ways options parts }
+parts_sense options parts = record { Is = PartsMatch options parts; count = parts_count parts; Cap = PartsCapture options parts; Known = AllCaptureNothing parts; ways = parts_ways options parts }
 
 pub parts_items : (options : OptionsView) (parts : List PartView) → AllStandAlone parts → scalars (flat_map (part_regexp options) parts) ≡ true → AreItemsOf (flat_map (part_regexp options) parts) (parts_sense options parts)
 parts_items options [] stands good =

@@ -23,7 +23,7 @@ use Rattle.urlpattern_laws.proofs.Denoting.{Denotes, Joined, Quantified, AreSame
 use Rattle.urlpattern_laws.proofs.GroupsOf.{IsInside, items_inside}
 use Rattle.urlpattern_laws.proofs.ItemsOf.{AreItemsOf, IsItemOf, no_items, append_items, same_items, quantified_items, once_items, atom_item}
 use Rattle.urlpattern_laws.proofs.Senses.{Sense, joined_quiet, quiet, quiet_same}
-use Rattle.urlpattern_laws.specs.TakenPartTexts.{CapturesNothing, IsTakenPiece, StandsAlone}
+use Rattle.urlpattern_laws.specs.MatchedPartTexts.{CapturesNothing, IsMatchedPiece, IsSelfContained}
 use Rattle.urlpattern_laws.specs.PartWays.{exactly, piece_ways}
 use Rattle.urlpattern_meaning.specs.Ways.{Choice, one_that, quantified_ways}
 use Rattle.urlpattern_meaning.specs.Dialect.{Character, Plain, Escaped, character_of, character_text, ZeroOrMore, LazyOneOrMore, Dot, AnyBut, Literal, AtomMeans, IsCharacter, IsClassCharacter, IsOneBut, atom_text}
@@ -206,9 +206,9 @@ full_same options text good =
 -- ---- the content of groups
 
 abbrev pub piece_sense : OptionsView → PartType → (value : List ℕ) → Sense
-piece_sense options kind value = quiet (CapturesNothing kind value) (IsTakenPiece options kind value) (piece_ways options kind value)
+piece_sense options kind value = quiet (CapturesNothing kind value) (IsMatchedPiece options kind value) (piece_ways options kind value)
 
-pub piece_inside : (options : OptionsView) (kind : PartType) (value : List ℕ) → kind ≢ FixedText → StandsAlone kind value → IsInside (matched_by options kind value) (piece_sense options kind value)
+pub piece_inside : (options : OptionsView) (kind : PartType) (value : List ℕ) → kind ≢ FixedText → IsSelfContained kind value → IsInside (matched_by options kind value) (piece_sense options kind value)
 piece_inside options FixedText value h stands = absurd (h refl)
 piece_inside options Regexp value h stands = custom_inside value stands
 piece_inside options SegmentWildcard value h stands =

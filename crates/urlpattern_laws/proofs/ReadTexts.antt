@@ -8,19 +8,19 @@ use Rattle.std.specs.Prelude.{Option, IsTrue, codes, encode_utf8_all, false}
 use Rattle.std.specs.Str.{chars}
 use Rattle.url.specs.Parser.{Parsed}
 use Rattle.urlpattern_pattern.proofs.MeaningLemmas.{none_custom}
-use Rattle.urlpattern_compile.specs.Compiled.{IsComponentCompiled, Manner, canonical_encoding}
+use Rattle.urlpattern_compile.specs.Compiled.{IsComponentCompiled, ParseSettings, canonical_encoding}
 use Rattle.urlpattern_pattern.specs.MatchMeaning.{ReadsAs}
 use Rattle.urlpattern_matcher.proofs.FirstMatchers.{flags_agree}
 use Rattle.urlpattern_matcher.specs.Components.{ComponentView, engine_flags, has_regexp}
 use Rattle.urlpattern_engine.proofs.EngineLaws.{taken_first}
-use Rattle.urlpattern_engine.specs.PatternRegexps.{pattern_answer, pattern_engine}
+use Rattle.urlpattern_engine.specs.PatternRegexps.{pattern_result, pattern_engine}
 use Rattle.urlpattern_engine.specs.declared.pattern_regexp.PatternRegexp.{PatternRegexp}
 use Rattle.urlpattern_meaning.proofs.PlainTexts.{parts_of}
 use Rattle.urlpattern_init.specs.UrlTexts.{IsLine}
 use Rattle.urlpattern_meaning.proofs.MatchingLaws.{middle_cancel}
 use Rattle.urlpattern_meaning.proofs.MeaningExamples.{alone_means, part_alone}
 use Rattle.urlpattern_meaning.proofs.MeaningLaws.{one_copy, peeled_means, plain_means}
-use Rattle.urlpattern_meaning.specs.Matching.{Agrees, Answers, ArePeeled}
+use Rattle.urlpattern_meaning.specs.Matching.{Agrees, Returns, AreStripped}
 use Rattle.urlpattern_meaning.specs.PartMeaning.{AreGenerated, Captures, IsWildcardText, PartsMean}
 use Rattle.urlpattern_syntax.proofs.PieceExamples.{PieceCut, bare, ends, piece, pieces_of}
 use Rattle.urlpattern_syntax.proofs.ReadingExamples.{tokens_of, unnamed}
@@ -139,7 +139,7 @@ segment_means options prefix name text captures = (
 abbrev pub text_and_segment : (front prefix name : List ℕ) → List PartView
 text_and_segment front prefix name = fixed_text front modifiers.None ∷ segment prefix name ∷ []
 
-segment_peeled : (front prefix name : List ℕ) → ArePeeled (text_and_segment front prefix name) (Some (fixed_text front modifiers.None)) (segment prefix name ∷ []) None
+segment_peeled : (front prefix name : List ℕ) → AreStripped (text_and_segment front prefix name) (Some (fixed_text front modifiers.None)) (segment prefix name ∷ []) None
 segment_peeled front prefix name = record { cut = refl; front_removed = refl; back_removed = no }
 
 -- The meaning of a text and a segment: the text, the prefix and the segment, which is captured.
@@ -167,24 +167,24 @@ text_and_segment_mean options front prefix name text captures =
 -- A component that returns what these parts mean for each text without line feeds, and has their
 -- names.
 pub record IsOfParts (options : OptionsView) (parts : List PartView) (compiled : ComponentView PatternRegexp) : Type 0 where
-  pub means : (text : List ℕ) (result : Option Captures) → IsLine text → Answers pattern_answer compiled.matcher text result → Agrees options parts text result
+  pub means : (text : List ℕ) (result : Option Captures) → IsLine text → Returns pattern_result compiled.matcher text result → Agrees options parts text result
   pub names : compiled.group_name_list ≡ group_names parts
 
 -- A compiled component, case kept, whose text reads as these parts alone, none of them custom.
-pub of_parts : (manner : Manner) (expected : List PartView) (compiled : ComponentView PatternRegexp) → IsComponentCompiled pattern_engine manner compiled →
-    manner.options.ignore_case ≡ false → has_regexp expected ≡ false → ((parts : List PartView) → ReadsAs manner parts → parts ≡ expected) →
-    IsOfParts manner.options expected compiled
-of_parts manner expected compiled is kept generated read =
+pub of_parts : (settings : ParseSettings) (expected : List PartView) (compiled : ComponentView PatternRegexp) → IsComponentCompiled pattern_engine settings compiled →
+    settings.options.ignore_case ≡ false → has_regexp expected ≡ false → ((parts : List PartView) → ReadsAs settings parts → parts ≡ expected) →
+    IsOfParts settings.options expected compiled
+of_parts settings expected compiled is kept generated read =
     let (parts, reads, made) = is.0 in
     let same : expected ≡ parts = sym (read parts reads) in
     record {
       means = λ text result line answers.
-          subst (λ (of : List PartView). Agrees manner.options of text result) (sym same)
-          (taken_first manner.options (engine_flags manner.options) parts compiled.matcher (record {
+          subst (λ (of : List PartView). Agrees settings.options of text result) (sym same)
+          (taken_first settings.options (engine_flags settings.options) parts compiled.matcher (record {
             is_made = made.has_matcher;
             generated = subst (λ (of : List PartView). AreGenerated of) same (none_custom expected generated);
             case_kept = kept;
-            took = flags_agree manner.options;
+            took = flags_agree settings.options;
           }) text result line.no_line_feed line.characters answers).1;
       names = made.has_names ∙ ap (λ (of : List PartView). group_names of) (sym same);
     }

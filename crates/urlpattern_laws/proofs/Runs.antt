@@ -7,7 +7,7 @@ use Rattle.regex_hir.specs.Looks.{holds}
 use Rattle.regex_hir.specs.Matches.{Matches, Rounds, one_round, next_round}
 use Rattle.regex_hir.specs.Re.{Re, empty, literal, byte_in, char_in, look, cat, alt, group, plus, Trace, Rest, rounds, more_rounds, attempt}
 use Rattle.regex_hir.specs.Text.{char_at, has_bytes_at, is_some_and}
-use Rattle.urlpattern_engine.proofs.WayAnswers.{Writes, after_writes}
+use Rattle.urlpattern_engine.proofs.WayResults.{Writes, after_writes}
 
 -- At least one round leads from `i` to the last number, with these writes.
 pub data RunRounds (R : ℕ → ℕ → Writes → Type 0) (i : ℕ) : ℕ → Writes → Type 0 where

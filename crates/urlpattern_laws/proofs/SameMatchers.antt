@@ -6,11 +6,11 @@ use Rattle.std.specs.Str.{all_scalars}
 use Rattle.urlpattern_matcher.specs.Components.{IsEngineOf, engine_flags}
 use Rattle.urlpattern_matcher.specs.declared.regexp.RegExp.{Ghosts as Engine}
 use Rattle.urlpattern_components.specs.Eight.{at}
-use Rattle.urlpattern_engine.specs.GrammarReadings.{ExpressionsAnswerAlike}
+use Rattle.urlpattern_engine.specs.GrammarReadings.{ExpressionsReturnAlike}
 use Rattle.urlpattern_meaning.proofs.MatcherMeaning.{all_left, all_right, scalars_middle}
 use Rattle.urlpattern_meaning.proofs.PartTrees.{IsNotCustom}
-use Rattle.urlpattern_meaning.specs.FirstAnswers.{TookText}
-use Rattle.urlpattern_meaning.specs.Matching.{Accepts, ArePeeled, IsMadeBetween, IsMadeByEngine, IsMadeOf, IsMadeOfOne, IsMatched, MatcherView, RegExp, end_text}
+use Rattle.urlpattern_meaning.specs.FirstResults.{AcceptedText}
+use Rattle.urlpattern_meaning.specs.Matching.{Accepts, AreStripped, IsMadeBetween, IsMadeByEngine, IsMadeOf, IsMadeOfOne, IsMatched, MatcherView, RegExp, end_text}
 use Rattle.urlpattern_meaning.specs.PartMeaning.{AreGenerated, Captures}
 use Rattle.urlpattern_pattern.proofs.MadeAlike.{AreAlike, made_alike}
 use Rattle.urlpattern_pattern.specs.UrlPatterns.{IsMadeOfParts}
@@ -84,11 +84,11 @@ module _ {E : Type 0} (IsEngine : List ℕ → Result E ErrorView → Type 0) (o
 
 -- ---- the texts that are matched
 
-middle_generated : (parts : List PartView) (front : Option PartView) (middle : List PartView) (back : Option PartView) → ArePeeled parts front middle back → AreGenerated parts → AreGenerated middle
+middle_generated : (parts : List PartView) (front : Option PartView) (middle : List PartView) (back : Option PartView) → AreStripped parts front middle back → AreGenerated parts → AreGenerated middle
 middle_generated parts front middle back peeled generated =
     all_right (option_to_list front) middle (all_left (option_to_list front ++ middle) (option_to_list back) (subst (λ (ps : List PartView). All IsNotCustom ps) peeled.cut generated))
 
-module _ {E : Type 0} (engine : Engine E) (alike : ExpressionsAnswerAlike engine) (options : OptionsView) where
+module _ {E : Type 0} (engine : Engine E) (alike : ExpressionsReturnAlike engine) (options : OptionsView) where
   abbrev IsEngine : List ℕ → Result E ErrorView → Type 0
   IsEngine = IsEngineOf engine false (engine_flags options)
 
@@ -96,7 +96,7 @@ module _ {E : Type 0} (engine : Engine E) (alike : ExpressionsAnswerAlike engine
   Settled parts = (options.ignore_case ≡ false) ⊎ AreGenerated parts
 
   accepted_too : (middle : List PartView) (own other : Result E ErrorView) → Settled middle → IsEngine (regexp_text options middle) own → IsEngine (regexp_text options middle) other →
-      TookText (λ value. ⊤) (RegExp own) → (text : List ℕ) (captures : Captures) → IsTrue (all_scalars text) →
+      AcceptedText (λ value. ⊤) (RegExp own) → (text : List ℕ) (captures : Captures) → IsTrue (all_scalars text) →
       Accepts engine.answer options.ignore_case (RegExp other) text captures → Accepts engine.answer options.ignore_case (RegExp own) text captures
   accepted_too middle (Ok own) (Ok other) settled is also took text captures fine accepts = alike options middle own other text settled is also fine ∙ accepts
   accepted_too middle (Ok own) (Err error) settled is also took text captures fine accepts = absurd accepts
@@ -104,9 +104,9 @@ module _ {E : Type 0} (engine : Engine E) (alike : ExpressionsAnswerAlike engine
 
   matched_by_engine : (prefix : List ℕ) (middle : List PartView) (suffix : List ℕ) (matcher other : MatcherView E) → Settled middle →
       IsMadeByEngine IsEngine options prefix middle suffix matcher → IsMadeByEngine IsEngine options prefix middle suffix other →
-      TookText (λ value. ⊤) matcher.inner → MatchesEachLineOf engine.answer matcher other
+      AcceptedText (λ value. ⊤) matcher.inner → MatchesEachLineOf engine.answer matcher other
   matched_by_engine prefix middle suffix matcher other settled (own, is, made) (others, also, made_too) took text line matched =
-      let took_own : TookText (λ value. ⊤) (RegExp own) = subst (λ (m : MatcherView E). TookText (λ value. ⊤) m.inner) made took in
+      let took_own : AcceptedText (λ value. ⊤) (RegExp own) = subst (λ (m : MatcherView E). AcceptedText (λ value. ⊤) m.inner) made took in
       let (captures, matches) = subst (λ (m : MatcherView E). IsMatched engine.answer m text) made_too matched in
       let (between, has, accepts) = matches in
       let (front, back, cut, begins, ends) = has in
@@ -115,7 +115,7 @@ module _ {E : Type 0} (engine : Engine E) (alike : ExpressionsAnswerAlike engine
       (captures, (between, (front, back, cut, begins, ends), accepted_too middle own others settled is also took_own between captures fine accepts))
 
   pub same_matched : (parts : List PartView) (matcher other : MatcherView E) → Settled parts → IsMadeOf IsEngine options parts matcher → IsMadeOf IsEngine options parts other →
-      TookText (λ value. ⊤) matcher.inner → MatchesEachLineOf engine.answer matcher other
+      AcceptedText (λ value. ⊤) matcher.inner → MatchesEachLineOf engine.answer matcher other
   same_matched parts matcher other settled made also took text line matched = by (made_alike IsEngine options parts matcher other made also)
     where
       settled_middle : Settled parts → Settled made.middle

@@ -12,7 +12,7 @@ use Rattle.urlpattern_laws.specs.Expressions.{is_groupless}
 use Rattle.urlpattern_laws.specs.PartWays.{captured_whole, followed_by}
 use Rattle.urlpattern_meaning.specs.Dialect.{Quantifier, Optional, ZeroOrMore}
 use Rattle.urlpattern_meaning.specs.PartMeaning.{Captures}
-use Rattle.urlpattern_meaning.specs.Ways.{Choice, idle, quantified_ways}
+use Rattle.urlpattern_meaning.specs.Ways.{Choice, empty_way, quantified_ways}
 use Rattle.urlpattern_engine.proofs.ItemsRead.{repeated_as}
 
 -- The texts of a pattern, and, if `Known` holds: the number of captures, the captures and the ways,
@@ -92,7 +92,7 @@ fulfils_quiet K Is ways g re d h cuts tries =
 
 -- The empty text, in a single way.
 abbrev pub no_text : Choice
-no_text text = idle 0 text ∷ []
+no_text text = empty_way 0 text ∷ []
 
 pub fulfils_empty : (g : ℕ) → Fulfils (quiet (Unit {0}) Nothing no_text) g empty
 fulfils_empty g = fulfils_quiet (Unit {0}) Nothing no_text g empty denotes_empty (λ k. refl) (λ k. cuts_idle 0) (λ k. tries_idle g 0)

@@ -11,10 +11,10 @@ use Rattle.urlpattern_laws.proofs.Choices.{HasCaptures, Cuts, cuts_captured, cut
 use Rattle.urlpattern_laws.proofs.PartItems.{part_count, parts_count}
 use Rattle.urlpattern_laws.specs.PartWays.{affixed_ways, bare_ways, between_ways, captured_whole, copies_ways, exactly, fixed_ways, followed_by, part_ways_by, parts_ways, pattern_ways, piece_ways, several_ways, ways_of_reading}
 use Rattle.urlpattern_meaning.proofs.WayLists.{every-weaker}
-use Rattle.urlpattern_meaning.proofs.WaysCut.{Falls, IsCut, cut-append, cut-continued, cut-idle, cut-map, one-cut, taken-cut}
+use Rattle.urlpattern_meaning.proofs.WaysCut.{Falls, IsCut, cut-append, cut-continued, cut-empty_way, cut-map, one-cut, taken-cut}
 use Rattle.urlpattern_meaning.proofs.WaysSound.{IsSound}
 use Rattle.urlpattern_meaning.specs.Dialect.{AllowsGroups, Quantifier, Optional, ZeroOrMore, OneOrMore, LazyOneOrMore}
-use Rattle.urlpattern_meaning.specs.Ways.{Choice, capturing, looped, one_that, idle, quantified_ways}
+use Rattle.urlpattern_meaning.specs.Ways.{Choice, capturing, looped, one_that, empty_way, quantified_ways}
 use Rattle.urlpattern_syntax.specs.Options.{OptionsView}
 use Rattle.urlpattern_syntax.specs.Parts.{PartView}
 use Rattle.urlpattern_syntax.specs.RegexpText.{is_empty}
@@ -36,8 +36,8 @@ pub record Steady (choice : Choice) (count : ℕ) : Type 0 where
 
 -- ---- choices
 
-steady_idle : (groups : ℕ) → Steady (λ text. idle groups text ∷ []) groups
-steady_idle groups = record { cuts = cuts_idle groups; same = λ s inner. cut-idle s groups inner }
+steady_idle : (groups : ℕ) → Steady (λ text. empty_way groups text ∷ []) groups
+steady_idle groups = record { cuts = cuts_idle groups; same = λ s inner. cut-empty_way s groups inner }
 
 steady_nothing : Steady (λ text. []) 0
 steady_nothing = record { cuts = λ text. tt; same = λ s inner. refl }

@@ -11,8 +11,8 @@ use Rattle.regex_hir.proofs.TextLemmas.{char_at_from, char_at_parts, char_at_pas
 use Rattle.regex_hir.specs.Matches.{Matches, Rounds, one_round, next_round}
 use Rattle.regex_hir.specs.Re.{Re, empty, literal, byte_in, char_in, look, cat, alt, group, plus}
 use Rattle.regex_hir.specs.Text.{char_at, is_some_and}
-use Rattle.urlpattern_laws.specs.Expressions.{is_one_character, takes_characters}
-use Rattle.urlpattern_engine.proofs.WayAnswers.{at}
+use Rattle.urlpattern_laws.specs.Expressions.{is_one_character, matches_characters}
+use Rattle.urlpattern_engine.proofs.WayResults.{at}
 use Rattle.urlpattern_syntax.specs.Text.{IsRepeated}
 use Rattle.urlpattern_engine.proofs.LoopAttempts.{scalars_after}
 
@@ -113,7 +113,7 @@ module _ (whole : List ℕ) (good : scalars whole ≡ true) where
         (suc front.4.0, repeated_push (Takes a) (suc front.4.0) front.0 last.0 front.4.1 last.4),
       )
 
-  pub matches_takes : (re : Re) → takes_characters re ≡ true → (before text : List ℕ) → before ++ text ≡ whole → (j : ℕ) → Matches hay re (at before) j → IsTakenFrom re before text j
+  pub matches_takes : (re : Re) → matches_characters re ≡ true → (before text : List ℕ) → before ++ text ≡ whole → (j : ℕ) → Matches hay re (at before) j → IsTakenFrom re before text j
   matches_takes empty h before text e j m = ([], text, refl, m ∙ ap at (sym (append-nil before)), refl)
   matches_takes (literal bytes) h before text e j m =
       let c = character_of bytes h in
@@ -174,7 +174,7 @@ module _ (whole : List ℕ) (good : scalars whole ≡ true) where
   one_stands : (before taken rest : List ℕ) (c : ℕ) → StandsIn before taken rest → taken ≡ c ∷ [] → char_at hay (at before) ≡ Some c
   one_stands before taken rest c e is = char_here before c rest (ap (λ t. before ++ (t ++ rest)) (sym is) ∙ e)
 
-  pub takes_matches : (re : Re) → takes_characters re ≡ true → (before taken rest : List ℕ) → StandsIn before taken rest → Takes re taken → Matches hay re (at before) (at (before ++ taken))
+  pub takes_matches : (re : Re) → matches_characters re ≡ true → (before taken rest : List ℕ) → StandsIn before taken rest → Takes re taken → Matches hay re (at before) (at (before ++ taken))
   takes_matches empty h before taken rest e is = ap (λ t. at (before ++ t)) is ∙ ap at (append-nil before)
   takes_matches (literal bytes) h before taken rest e (c, is, here) =
       let other = character_of bytes h in

@@ -5,7 +5,7 @@ use Rattle.std.specs.Prelude.{codes}
 use Rattle.std.specs.Str.{chars}
 use Rattle.url.proofs.OnLiterals.{url_on_literals}
 use Rattle.urlpattern_laws.proofs.ReadTexts.{IsOfParts, anything, anything_read, canonical_value, literal, literal_read, nothing_read, of_parts, text_and_segment}
-use Rattle.urlpattern_compile.specs.Compiled.{AreCompiled, EachIsCompiled, IsPathKind, Manner, canonical_encoding, manner_of}
+use Rattle.urlpattern_compile.specs.Compiled.{AreCompiled, EachIsCompiled, IsPathKind, ParseSettings, canonical_encoding, settings_of}
 use Rattle.urlpattern_compile.specs.FromString.{IsPatternOfText}
 use Rattle.urlpattern_pattern.specs.KeptParts.{KeepsPartsOfText}
 use Rattle.urlpattern_pattern.specs.Patterns.{PatternView, pattern_view}
@@ -130,19 +130,19 @@ users_parts Port = []
 users_parts Pathname = user_parts
 users_parts component = anything
 
-abbrev manner : ComponentName → Manner
-manner = manner_of default_asked users_values true
+abbrev settings : ComponentName → ParseSettings
+settings = settings_of default_asked users_values true
 
-each_of_parts : (pattern : PatternView PatternRegexp) → EachIsCompiled pattern_engine manner pattern → (component : ComponentName) →
+each_of_parts : (pattern : PatternView PatternRegexp) → EachIsCompiled pattern_engine settings pattern → (component : ComponentName) →
     IsOfParts (users_options component) (users_parts component) (pattern component)
-each_of_parts pattern each Protocol = of_parts (manner Protocol) (users_parts Protocol) (pattern Protocol) (each Protocol) refl refl protocol_read
-each_of_parts pattern each Username = of_parts (manner Username) anything (pattern Username) (each Username) refl refl (λ parts. anything_read canonical_username parts refl)
-each_of_parts pattern each Password = of_parts (manner Password) anything (pattern Password) (each Password) refl refl (λ parts. anything_read canonical_password parts refl)
-each_of_parts pattern each Hostname = of_parts (manner Hostname) (users_parts Hostname) (pattern Hostname) (each Hostname) refl refl hostname_read
-each_of_parts pattern each Port = of_parts (manner Port) [] (pattern Port) (each Port) refl refl (nothing_read default_options _)
-each_of_parts pattern each Pathname = of_parts (manner Pathname) user_parts (pattern Pathname) (each Pathname) refl refl pathname_read
-each_of_parts pattern each Search = of_parts (manner Search) anything (pattern Search) (each Search) refl refl (λ parts. anything_read canonical_search parts refl)
-each_of_parts pattern each Hash = of_parts (manner Hash) anything (pattern Hash) (each Hash) refl refl (λ parts. anything_read canonical_hash parts refl)
+each_of_parts pattern each Protocol = of_parts (settings Protocol) (users_parts Protocol) (pattern Protocol) (each Protocol) refl refl protocol_read
+each_of_parts pattern each Username = of_parts (settings Username) anything (pattern Username) (each Username) refl refl (λ parts. anything_read canonical_username parts refl)
+each_of_parts pattern each Password = of_parts (settings Password) anything (pattern Password) (each Password) refl refl (λ parts. anything_read canonical_password parts refl)
+each_of_parts pattern each Hostname = of_parts (settings Hostname) (users_parts Hostname) (pattern Hostname) (each Hostname) refl refl hostname_read
+each_of_parts pattern each Port = of_parts (settings Port) [] (pattern Port) (each Port) refl refl (nothing_read default_options _)
+each_of_parts pattern each Pathname = of_parts (settings Pathname) user_parts (pattern Pathname) (each Pathname) refl refl pathname_read
+each_of_parts pattern each Search = of_parts (settings Search) anything (pattern Search) (each Search) refl refl (λ parts. anything_read canonical_search parts refl)
+each_of_parts pattern each Hash = of_parts (settings Hash) anything (pattern Hash) (each Hash) refl refl (λ parts. anything_read canonical_hash parts refl)
 
 -- Each component is made of these parts. The pathname is hierarchical, as it begins with a slash.
 pub users_of_parts : (pattern : PatternView PatternRegexp) → IsPatternOfText pattern_engine users_text None default_asked pattern → (component : ComponentName) →
@@ -163,5 +163,5 @@ users_path pattern (init, constructed, kept) =
     let same : kept.values ≡ users_values = cc (users_processed, processed) in
     let kind = subst (λ (of : Values). IsPathKind pattern_engine.answer of (pattern_view pattern Protocol).matcher kept.hierarchical) same kept.path_kind in
     let hierarchical : kept.hierarchical ≡ true = kind.1 (inr (inr refl)) in
-    (kept.are_read Pathname).options_are ∙ ap (λ (of : Values). (manner_of default_asked of kept.hierarchical Pathname).options) same
-    ∙ ap (λ (is : Bool). (manner_of default_asked users_values is Pathname).options) hierarchical
+    (kept.are_read Pathname).options_are ∙ ap (λ (of : Values). (settings_of default_asked of kept.hierarchical Pathname).options) same
+    ∙ ap (λ (is : Bool). (settings_of default_asked users_values is Pathname).options) hierarchical

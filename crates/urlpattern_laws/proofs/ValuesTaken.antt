@@ -22,16 +22,16 @@ use Rattle.urlpattern_laws.proofs.PartItems.{parts_count, parts_items, parts_sen
 use Rattle.urlpattern_laws.proofs.ItemsOf.{values}
 use Rattle.urlpattern_laws.proofs.Senses.{Fulfils}
 use Rattle.urlpattern_laws.proofs.WholeRead.{between_lines, found_captures, search_is, whole_read}
-use Rattle.urlpattern_laws.specs.LawsOfTexts.{HasNumbers, IsCapturedByParts, IsSomeIfTaken, Room, ValuesAnswerTaken, ValuesCapture}
-use Rattle.urlpattern_laws.specs.LawsOfWays.{FirstWaysAreCaptured, ValuesAnswerFirstOfParts}
+use Rattle.urlpattern_laws.specs.LawsOfTexts.{HasNumbers, IsCapturedByParts, IsSomeIfMatched, Room, ValuesReturnIfMatched, ValuesCapture}
+use Rattle.urlpattern_laws.specs.LawsOfWays.{FirstWaysAreCaptured, ValuesReturnFirstOfParts}
 use Rattle.urlpattern_laws.specs.PartCaptures.{PartsCapture}
-use Rattle.urlpattern_laws.specs.TakenPartTexts.{AllCaptureNothing, AllStandAlone, PartsTake}
+use Rattle.urlpattern_laws.specs.MatchedPartTexts.{AllCaptureNothing, AllStandAlone, PartsMatch}
 use Rattle.urlpattern_laws.specs.PartWays.{parts_first_way, parts_ways}
 use Rattle.urlpattern_engine.proofs.EngineLaws.{expression_good, form_of, pattern_values_read, regex_values_read, text_good}
-use Rattle.urlpattern_engine.proofs.ReadAnswers.{read_by_default, regex_some}
+use Rattle.urlpattern_engine.proofs.GrammarResults.{read_by_default, regex_some}
 use Rattle.urlpattern_engine.specs.Automatons.{config_for}
 use Rattle.urlpattern_engine.specs.PatternRegexps.{IsExpressionOf, pattern_engine}
-use Rattle.urlpattern_engine.specs.GrammarReadings.{re_answer}
+use Rattle.urlpattern_engine.specs.GrammarReadings.{re_result}
 use Rattle.urlpattern_engine.specs.declared.strategy.Strategy.{Strategy}
 use Rattle.urlpattern_engine.specs.declared.pattern_regexp.PatternRegexp.{PatternRegexp}
 use Rattle.urlpattern_meaning.specs.Dialect.{Atom, Items, Nothing, Item, Captured, Grouped, IsTreeOf, atom_group_count, atom_text, group_count, items_text, quantifier_text}
@@ -50,23 +50,23 @@ record IsReadFor (regexp : List ℕ) (answer : List ℕ → Option Captures) : T
   good : scalars regexp ≡ true
   found : Nested Re × Names
   is_read : read default_config regexp ≡ Some found
-  answers : (text : List ℕ) → IsTrue (all_scalars text) → answer text ≡ re_answer found.0.value (length found.1) text
+  answers : (text : List ℕ) → IsTrue (all_scalars text) → answer text ≡ re_result found.0.value (length found.1) text
 
 read_for : (regexp : List ℕ) (answer : List ℕ → Option Captures) → scalars regexp ≡ true → IsSome (read default_config regexp)
-    → IfSome (read default_config regexp) (λ (pattern, names). (text : List ℕ) → IsTrue (all_scalars text) → answer text ≡ re_answer pattern.value (length names) text) → IsReadFor regexp answer
+    → IfSome (read default_config regexp) (λ (pattern, names). (text : List ℕ) → IsTrue (all_scalars text) → answer text ≡ re_result pattern.value (length names) text) → IsReadFor regexp answer
 read_for regexp answer good some reads =
     let found = value_of_IsSome (read default_config regexp) some in
     record { good = good; found = found.0; is_read = found.1; answers = rw (found.1) at reads }
 
 -- A result by what the grammar reads has captures exactly if the parts match the text.
 answers_taken : (options : OptionsView) (parts : List PartView) (answer : List ℕ → Option Captures) → AllStandAlone parts → IsReadFor (regexp_text options parts) answer
-    → (text : List ℕ) → IsTrue (all_scalars text) → IsSomeIfTaken options parts text (answer text)
+    → (text : List ℕ) → IsTrue (all_scalars text) → IsSomeIfMatched options parts text (answer text)
 answers_taken options parts answer alone r text fine =
     let t = flat_map (part_regexp options) parts in
     let inside = scalars_parts t (codes "$") (scalars_parts (codes "^") (t ++ codes "$") r.good).1 in
     let whole = (whole_read t (parts_sense options parts) (parts_items options parts alone inside.0) r.found r.is_read).pattern in
-    let search = search_is whole.own (PartsTake options parts) whole.fulfils.denotes text fine in
-    let found : is_some (re_answer r.found.0.value (length r.found.1) text) ≡ is_some (find_str r.found.0.value (encode_utf8_all text) 0) = mapped _ (find_str r.found.0.value (encode_utf8_all text) 0) in
+    let search = search_is whole.own (PartsMatch options parts) whole.fulfils.denotes text fine in
+    let found : is_some (re_result r.found.0.value (length r.found.1) text) ≡ is_some (find_str r.found.0.value (encode_utf8_all text) 0) = mapped _ (find_str r.found.0.value (encode_utf8_all text) 0) in
     let same : is_some (answer text) ≡ is_some (find_str (between_lines whole.own).value (encode_utf8_all text) 0) =
     ap is_some (r.answers text fine) ∙ found ∙ ap (λ (tree : Nested Re). is_some (find_str tree.value (encode_utf8_all text) 0)) whole.is in
     (λ some. search.0 (sym same ∙ some), λ is. same ∙ search.1 is)
@@ -76,7 +76,7 @@ answers_taken options parts answer alone r text fine =
 -- The captures found in the text are those of the parts.
 captured_by : (options : OptionsView) (parts : List PartView) (own : List (Nested Re)) → Fulfils (parts_sense options parts) 1 (cat_all (values own)) → AllCaptureNothing parts → (count : ℕ) → count ≡ parts_count parts
     → (text : List ℕ) → IsTrue (all_scalars text) → (o : Option Match) → find_str (between_lines own).value (encode_utf8_all text) 0 ≡ o
-    → IsSomeIfTaken options parts text (option_map (λ m. group_texts (encode_utf8_all text) count (group_of m)) o) → IsCapturedByParts options parts text (option_map (λ m. group_texts (encode_utf8_all text) count (group_of m)) o)
+    → IsSomeIfMatched options parts text (option_map (λ m. group_texts (encode_utf8_all text) count (group_of m)) o) → IsCapturedByParts options parts text (option_map (λ m. group_texts (encode_utf8_all text) count (group_of m)) o)
 captured_by options parts own f silent count is text fine None e taken = λ takes. true≢false (sym (taken.1 takes))
 captured_by options parts own f silent count is text fine (Some m) e taken =
     subst (λ n. PartsCapture options parts text (group_texts (encode_utf8_all text) n (group_of m))) (sym is) (found_captures own (parts_sense options parts) f silent text fine m e)
@@ -110,14 +110,14 @@ first_captured options parts text alone silent good fine =
     let count = parts_count parts in
     let bytes = encode_utf8_all text in
     let found = find_str (between_lines is.0).value bytes 0 in
-    let search = search_is is.0 (PartsTake options parts) is.1.denotes text fine in
+    let search = search_is is.0 (PartsMatch options parts) is.1.denotes text fine in
     let texts : Match → Captures = λ m. group_texts bytes count (group_of m) in
     let same = mapped texts found in
     subst (IsCapturedByParts options parts text) (found_first is.0 (parts_ways options parts) count (is.1.cuts silent) (is.1.tries silent) text fine)
     (captured_by options parts is.0 is.1 silent count refl text fine found refl (λ some. search.0 (sym same ∙ some), λ takes. same ∙ search.1 takes))
 
 -- A value that returns the first way returns what the parts capture.
-captured_as_first : {E : Type 0} (engine : Engine E) (Keeps : Keeping) (Fits : Room) → ValuesAnswerFirstOfParts engine Keeps Fits
+captured_as_first : {E : Type 0} (engine : Engine E) (Keeps : Keeping) (Fits : Room) → ValuesReturnFirstOfParts engine Keeps Fits
     → ((value : E) (regexp flags : List ℕ) → engine.IsMade value regexp flags → scalars regexp ≡ true) → ValuesCapture engine Keeps Fits
 captured_as_first engine Keeps Fits first good options flags parts value keeps alone silent fits made text fine =
     subst (IsCapturedByParts options parts text) (sym (first options flags parts value keeps alone silent fits made text fine))
@@ -130,10 +130,10 @@ regex_read regexp flags regex made =
     read_for regexp (regex_engine.answer regex) (text_good regex.pattern.source regexp made.of_text) (regex_some false regexp regex (read_by_default regexp regex made))
     (regex_values_read regexp flags regex tt made)
 
-pub regex_values_taken : ValuesAnswerTaken regex_engine (λ flags. ⊤) (λ regexp. ⊤)
+pub regex_values_taken : ValuesReturnIfMatched regex_engine (λ flags. ⊤) (λ regexp. ⊤)
 regex_values_taken options flags parts regex any alone fits made = answers_taken options parts (regex_engine.answer regex) alone (regex_read (regexp_text options parts) flags regex made)
 
-pub regex_values_first : ValuesAnswerFirstOfParts regex_engine (λ flags. ⊤) (λ regexp. ⊤)
+pub regex_values_first : ValuesReturnFirstOfParts regex_engine (λ flags. ⊤) (λ regexp. ⊤)
 regex_values_first options flags parts regex any alone silent fits made = answers_first options parts (regex_engine.answer regex) alone silent (regex_read (regexp_text options parts) flags regex made)
 
 pub regex_values_capture : ValuesCapture regex_engine (λ flags. ⊤) (λ regexp. ⊤)
@@ -172,11 +172,11 @@ pattern_read regexp flags value keeps room made =
     read_for regexp (pattern_engine.answer value) (expression_good value.ignore_case regexp value.strategy made.of_text)
     (expression_some value.ignore_case regexp value.strategy (made.by_flags ∙ keeps) made.of_text room) (pattern_values_read regexp flags value keeps made)
 
-pub pattern_values_taken : ValuesAnswerTaken pattern_engine KeepsCase HasNumbers
+pub pattern_values_taken : ValuesReturnIfMatched pattern_engine KeepsCase HasNumbers
 pattern_values_taken options flags parts value keeps alone room made =
     answers_taken options parts (pattern_engine.answer value) alone (pattern_read (regexp_text options parts) flags value keeps room made)
 
-pub pattern_values_first : ValuesAnswerFirstOfParts pattern_engine KeepsCase HasNumbers
+pub pattern_values_first : ValuesReturnFirstOfParts pattern_engine KeepsCase HasNumbers
 pattern_values_first options flags parts value keeps alone silent room made =
     answers_first options parts (pattern_engine.answer value) alone silent (pattern_read (regexp_text options parts) flags value keeps room made)
 

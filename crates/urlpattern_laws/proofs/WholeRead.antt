@@ -36,7 +36,7 @@ use Rattle.urlpattern_engine.proofs.ItemsRead.{Free, at_text, quantified}
 use Rattle.urlpattern_engine.proofs.TreeSearch.{ends, not_end, not_start, starts, texts-shown}
 use Rattle.urlpattern_engine.proofs.TreeTextsRead.{first_line, last_line}
 use Rattle.urlpattern_engine.proofs.GroupSlots.{Shown, Spans, text_at}
-use Rattle.urlpattern_engine.proofs.WayAnswers.{Writes, at}
+use Rattle.urlpattern_engine.proofs.WayResults.{Writes, at}
 use Rattle.urlpattern_meaning.specs.PartMeaning.{Captures}
 use Rattle.regex.specs.Writes.{group_of}
 use Rattle.std.specs.List.{range_with_len}

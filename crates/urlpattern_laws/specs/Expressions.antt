@@ -12,12 +12,12 @@ use Rattle.regex_syntax.specs.Verdict.{default_config}
 use Rattle.urlpattern_syntax.specs.Text.{lacks}
 
 -- The pattern matches the whole text, from its first byte to its last.
-abbrev pub TakesWhole : Re → (text : List ℕ) → Type 0
-TakesWhole pattern text = Matches (encode_utf8_all text) pattern 0 (length (encode_utf8_all text))
+abbrev pub MatchesWhole : Re → (text : List ℕ) → Type 0
+MatchesWhole pattern text = Matches (encode_utf8_all text) pattern 0 (length (encode_utf8_all text))
 
 -- The grammar reads the expression as a pattern that matches the whole text.
-abbrev pub ExpressionTakes : (expression text : List ℕ) → Type 0
-ExpressionTakes expression text = IsSomeAnd (read default_config expression) (λ (pattern, names). TakesWhole pattern.value text)
+abbrev pub ExpressionMatches : (expression text : List ℕ) → Type 0
+ExpressionMatches expression text = IsSomeAnd (read default_config expression) (λ (pattern, names). MatchesWhole pattern.value text)
 
 -- ---- expressions that mean the same by themselves and in a longer expression
 
@@ -31,16 +31,16 @@ is_nothing [] = true
 is_nothing ranges = false
 
 -- Whether the pattern matches whole characters only: it has no byte classes and no assertions.
-abbrev pub takes_characters : Re → Bool
-takes_characters empty = true
-takes_characters (literal bytes) = is_one_character bytes
-takes_characters (byte_in ranges) = is_nothing ranges
-takes_characters (char_in ranges) = true
-takes_characters (look assertion) = false
-takes_characters (cat first second) = takes_characters first && takes_characters second
-takes_characters (alt first second) = takes_characters first && takes_characters second
-takes_characters (group number inner) = takes_characters inner
-takes_characters (plus greedy inner) = takes_characters inner
+abbrev pub matches_characters : Re → Bool
+matches_characters empty = true
+matches_characters (literal bytes) = is_one_character bytes
+matches_characters (byte_in ranges) = is_nothing ranges
+matches_characters (char_in ranges) = true
+matches_characters (look assertion) = false
+matches_characters (cat first second) = matches_characters first && matches_characters second
+matches_characters (alt first second) = matches_characters first && matches_characters second
+matches_characters (group number inner) = matches_characters inner
+matches_characters (plus greedy inner) = matches_characters inner
 
 -- The character `#`, which begins a comment under the flag `x`.
 abbrev pub comment_sign : ℕ
@@ -48,9 +48,9 @@ comment_sign = 0x23
 
 -- Whether the grammar reads the expression as steps that match characters, and no `#` can hide the
 -- text after it in a comment.
-unfoldable pub stands_alone : (expression : List ℕ) → Bool
-stands_alone expression =
-    lacks comment_sign expression && is_some_and (read default_config expression) (λ (pattern, names). takes_characters pattern.value)
+unfoldable pub is_self_contained : (expression : List ℕ) → Bool
+is_self_contained expression =
+    lacks comment_sign expression && is_some_and (read default_config expression) (λ (pattern, names). matches_characters pattern.value)
 
 -- ---- expressions that capture nothing
 

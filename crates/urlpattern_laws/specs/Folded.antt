@@ -4,11 +4,11 @@ use Rattle.std.specs.Prelude.{◌≡◌, ◌⊎◌, All, ℕ, true, false, List,
 use Rattle.urlpattern_matcher.specs.Components.{ComponentView}
 use Rattle.urlpattern_matcher.specs.declared.regexp.RegExp.{Ghosts as Engine}
 use Rattle.urlpattern_init.specs.UrlTexts.{IsLine}
-use Rattle.urlpattern_meaning.specs.{Dialect.IsTreeOf, Dialect.Items, FirstAnswers.IsFirstOf, PartMeaning.Captures, PartMeaning.PartMeans, Ways.first_way_by}
-use Rattle.urlpattern_meaning.specs.Matching.{Answers, ArePeeled, InnerView, IsSame, Literal, RegExp, SingleCapture, end_text, folded, folded_captures, folded_character}
+use Rattle.urlpattern_meaning.specs.{Dialect.IsTreeOf, Dialect.Items, FirstResults.IsFirstOf, PartMeaning.Captures, PartMeaning.PartMeans, Ways.first_way_by}
+use Rattle.urlpattern_meaning.specs.Matching.{Returns, AreStripped, InnerView, IsSame, Literal, RegExp, SingleCapture, end_text, folded, folded_captures, folded_character}
 use Rattle.urlpattern_syntax.specs.{Options.OptionsView, Parts.PartView, RegexpText.regexp_text}
 use Rattle.urlpattern_pattern.specs.{ByText.ReadsNoCustom, MatchMeaning.ReadsAs}
-use Rattle.urlpattern_compile.specs.{Compiled.IsComponentCompiled, Compiled.Manner}
+use Rattle.urlpattern_compile.specs.{Compiled.IsComponentCompiled, Compiled.ParseSettings}
 
 -- ---- folded parts
 
@@ -28,16 +28,16 @@ folded_options options = record options { delimiter = option_map (folded_charact
 
 -- The capture is the substring after as many characters as the prefix has, and before as many as
 -- the suffix has.
-abbrev pub IsWithinStretch : PartView → (stretch : List ℕ) → Option (List ℕ) → Type 0
-IsWithinStretch part stretch None = Unit {0}
-IsWithinStretch part stretch (Some piece) =
-    (before after : List ℕ) × (stretch ≡ before ++ piece ++ after)
+abbrev pub IsWithinCopy : PartView → (substring : List ℕ) → Option (List ℕ) → Type 0
+IsWithinCopy part substring None = Unit {0}
+IsWithinCopy part substring (Some piece) =
+    (before after : List ℕ) × (substring ≡ before ++ piece ++ after)
     × (length before ≡ length part.prefix) × (length after ≡ length part.suffix)
 
 -- The part means the substring but for case, with these captures of the substring.
-pub record IsFoldedStretch (options : OptionsView) (part : PartView) (stretch : List ℕ) (captures : Captures) : Type 0 where
-  pub means : PartMeans (folded_options options) (folded_part part) (folded true stretch) (folded_captures captures)
-  pub are_pieces : All (IsWithinStretch part stretch) captures
+pub record IsFoldedMatch (options : OptionsView) (part : PartView) (substring : List ℕ) (captures : Captures) : Type 0 where
+  pub means : PartMeans (folded_options options) (folded_part part) (folded true substring) (folded_captures captures)
+  pub are_pieces : All (IsWithinCopy part substring) captures
 
 -- The text is split into one substring for each part, which the part means but for case, with these
 -- captures.
@@ -45,7 +45,7 @@ abbrev pub FoldedMean : OptionsView → List PartView → List ℕ → Captures 
 FoldedMean options [] text captures = (text ≡ []) × (captures ≡ [])
 FoldedMean options (part ∷ parts) text captures =
     (first rest : List ℕ) × (own others : Captures) × (text ≡ first ++ rest) × (captures ≡ own ++ others)
-    × IsFoldedStretch options part first own × FoldedMean options parts rest others
+    × IsFoldedMatch options part first own × FoldedMean options parts rest others
 
 -- Folded, the captures are those of the first way in which the folded parts match the folded text,
 -- or `None` if they do not match it. Unfolded, the captures are substrings of the text.
@@ -54,10 +54,10 @@ pub record IsFoldedFirst (options : OptionsView) (parts : List PartView) (text :
   pub are_pieces : IfSome captures (FoldedMean options parts text)
 
 -- The captures are those of the first way, case ignored, of the parts of the pattern text.
-pub record IsFoldedWay (manner : Manner) (text : List ℕ) (captures : Option Captures) : Type 0 where
+pub record IsFoldedWay (settings : ParseSettings) (text : List ℕ) (captures : Option Captures) : Type 0 where
   pub parts : List PartView
-  pub reads : ReadsAs manner parts
-  pub is_first : IsFoldedFirst manner.options parts text captures
+  pub reads : ReadsAs settings parts
+  pub is_first : IsFoldedFirst settings.options parts text captures
 
 -- ---- components
 
@@ -68,17 +68,17 @@ HoldsNoEngine (SingleCapture filter allow_empty) = Unit {0}
 HoldsNoEngine (RegExp engine) = ⊥
 
 -- The component ignores case, and needs no engine: none of the parts of its pattern text is custom.
-pub record IgnoresCase {E : Type 0} (manner : Manner) (compiled : ComponentView E) : Type 0 where
-  pub case_ignored : manner.options.ignore_case ≡ true
-  pub generated : ReadsNoCustom manner
+pub record IgnoresCase {E : Type 0} (settings : ParseSettings) (compiled : ComponentView E) : Type 0 where
+  pub case_ignored : settings.options.ignore_case ≡ true
+  pub generated : ReadsNoCustom settings
   pub no_engine : HoldsNoEngine compiled.matcher.inner
 
 -- For each text without line feeds, a component that ignores case without an engine returns the
 -- captures of the first way, case ignored, of the parts of its pattern text.
-abbrev pub FoldedWaysAreAnswered : {E : Type 0} → Engine E → Type 0
-FoldedWaysAreAnswered {E} engine = (manner : Manner) (compiled : ComponentView E) (text : List ℕ) (result : Option Captures) →
-    IsComponentCompiled engine manner compiled → IgnoresCase manner compiled → IsLine text →
-    Answers engine.answer compiled.matcher text result → IsFoldedWay manner text result
+abbrev pub FoldedWaysAreReturned : {E : Type 0} → Engine E → Type 0
+FoldedWaysAreReturned {E} engine = (settings : ParseSettings) (compiled : ComponentView E) (text : List ℕ) (result : Option Captures) →
+    IsComponentCompiled engine settings compiled → IgnoresCase settings compiled → IsLine text →
+    Returns engine.answer compiled.matcher text result → IsFoldedWay settings text result
 
 -- The captures are those of the first way, case ignored, of the parts between an initial and a
 -- final plain fixed text, for the text between these two.
@@ -86,7 +86,7 @@ pub record IsFirstBetween (options : OptionsView) (parts : List PartView) (text 
   pub front : Option PartView
   pub middle : List PartView
   pub back : Option PartView
-  pub are_peeled : ArePeeled parts front middle back
+  pub are_peeled : AreStripped parts front middle back
   pub head : List ℕ
   pub inner : List ℕ
   pub tail : List ℕ
@@ -104,15 +104,15 @@ AreInPlace options parts text captures = FoldedMean options parts text captures 
 -- Folded, the captures are those of the first way in which the folded parts of the pattern text
 -- match the folded text, or `None` if they do not match it. Unfolded, the captures are at their
 -- places.
-pub record IsFoldedAnswer (manner : Manner) (text : List ℕ) (captures : Option Captures) : Type 0 where
+pub record IsFoldedResult (settings : ParseSettings) (text : List ℕ) (captures : Option Captures) : Type 0 where
   pub parts : List PartView
-  pub reads : ReadsAs manner parts
-  pub is_first : IsFirstOf (folded_options manner.options) (folded_parts parts) (folded true text) (option_map folded_captures captures)
-  pub are_in_place : IfSome captures (AreInPlace manner.options parts text)
+  pub reads : ReadsAs settings parts
+  pub is_first : IsFirstOf (folded_options settings.options) (folded_parts parts) (folded true text) (option_map folded_captures captures)
+  pub are_in_place : IfSome captures (AreInPlace settings.options parts text)
 
 -- A component that ignores case and has no custom part returns, for each text without line feeds,
 -- the first way of the folded parts, with captures at their places.
-abbrev pub FoldedFirstsAreAnswered : {E : Type 0} → Engine E → Type 0
-FoldedFirstsAreAnswered {E} engine = (manner : Manner) (compiled : ComponentView E) (text : List ℕ) (result : Option Captures) →
-    IsComponentCompiled engine manner compiled → manner.options.ignore_case ≡ true → ReadsNoCustom manner → IsLine text →
-    Answers engine.answer compiled.matcher text result → IsFoldedAnswer manner text result
+abbrev pub FoldedFirstsAreReturned : {E : Type 0} → Engine E → Type 0
+FoldedFirstsAreReturned {E} engine = (settings : ParseSettings) (compiled : ComponentView E) (text : List ℕ) (result : Option Captures) →
+    IsComponentCompiled engine settings compiled → settings.options.ignore_case ≡ true → ReadsNoCustom settings → IsLine text →
+    Returns engine.answer compiled.matcher text result → IsFoldedResult settings text result

@@ -7,14 +7,14 @@ use Rattle.regex_syntax.specs.Grammar.{Names, branches}
 use Rattle.regex_syntax.specs.Verdict.{default_config}
 use Rattle.regex_hir.specs.Meaning.{alt_all}
 use Rattle.urlpattern_matcher.specs.Components.{ComponentView, FlagsAgree, IsComponentOf, IsEngineOf}
-use Rattle.urlpattern_matcher.specs.FirstWays.{Keeping, Taking}
+use Rattle.urlpattern_matcher.specs.FirstWays.{Keeping, Acceptance}
 use Rattle.urlpattern_printing.specs.Generated.{AreGenerated}
 use Rattle.urlpattern_matcher.specs.declared.regexp.RegExp.{Ghosts as Engine}
-use Rattle.urlpattern_laws.specs.Expressions.{ExpressionTakes, TakesWhole, stands_alone}
-use Rattle.urlpattern_laws.specs.TakenPartTexts.{AllCaptureNothing, AllStandAlone, PartsTake}
+use Rattle.urlpattern_laws.specs.Expressions.{ExpressionMatches, MatchesWhole, is_self_contained}
+use Rattle.urlpattern_laws.specs.MatchedPartTexts.{AllCaptureNothing, AllStandAlone, PartsMatch}
 use Rattle.urlpattern_laws.specs.PartCaptures.{PartsCapture}
-use Rattle.urlpattern_meaning.specs.FirstAnswers.{TookText}
-use Rattle.urlpattern_meaning.specs.Matching.{EachAnswerIs, IsMadeOf, MatcherView}
+use Rattle.urlpattern_meaning.specs.FirstResults.{AcceptedText}
+use Rattle.urlpattern_meaning.specs.Matching.{EachResultIs, IsMadeOf, MatcherView}
 use Rattle.urlpattern_meaning.specs.PartMeaning.{Captures, PartsMean}
 use Rattle.urlpattern_syntax.specs.{Options.OptionsView, Parts.PartView, RegexpText.group_names, RegexpText.regexp_text}
 
@@ -23,16 +23,16 @@ use Rattle.urlpattern_syntax.specs.{Options.OptionsView, Parts.PartView, RegexpT
 -- reads nothing.
 abbrev pub ReadsInGroups : Type 0
 ReadsInGroups =
-    (expression rest : List ℕ) (steps : ℕ) (names : Names) → IsTrue (stands_alone expression) →
+    (expression rest : List ℕ) (steps : ℕ) (names : Names) → IsTrue (is_self_contained expression) →
     IfSome (branches steps (record { config = default_config; names = names; text = expression ++ (codes ")" ++ rest) })) (λ (patterns, end).
     (end.text ≡ codes ")" ++ rest)
-    × ((text : List ℕ) → IsTrue (all_scalars text) → TakesWhole (join alt_all patterns).value text ↔ ExpressionTakes expression text))
+    × ((text : List ℕ) → IsTrue (all_scalars text) → MatchesWhole (join alt_all patterns).value text ↔ ExpressionMatches expression text))
 
 -- Parts without a custom one match the texts that they mean.
-abbrev pub PartsTakeMeanings : Type 0
-PartsTakeMeanings =
+abbrev pub PartsMatchMeanings : Type 0
+PartsMatchMeanings =
     (options : OptionsView) (parts : List PartView) (text : List ℕ) → AreGenerated parts →
-    PartsTake options parts text ↔ ((captures : Captures) × PartsMean options parts text captures)
+    PartsMatch options parts text ↔ ((captures : Captures) × PartsMean options parts text captures)
 
 -- Parts without a custom one capture what they mean.
 abbrev pub PartsCaptureMeanings : Type 0
@@ -47,13 +47,13 @@ CapturesAreAsNames =
     length captures ≡ length (group_names parts)
 
 -- The result has captures exactly if the parts match the text.
-abbrev pub IsSomeIfTaken : OptionsView → List PartView → (text : List ℕ) → Option Captures → Type 0
-IsSomeIfTaken options parts text result = IsSome result ↔ PartsTake options parts text
+abbrev pub IsSomeIfMatched : OptionsView → List PartView → (text : List ℕ) → Option Captures → Type 0
+IsSomeIfMatched options parts text result = IsSome result ↔ PartsMatch options parts text
 
 -- The result is the captures of the parts, or `None` if they do not match the text.
 abbrev pub IsCapturedByParts : OptionsView → List PartView → (text : List ℕ) → Option Captures → Type 0
 IsCapturedByParts options parts text (Some captures) = PartsCapture options parts text captures
-IsCapturedByParts options parts text None = ¬ PartsTake options parts text
+IsCapturedByParts options parts text None = ¬ PartsMatch options parts text
 
 -- A limit on the length of a regular expression.
 abbrev pub Room : Type 1
@@ -65,12 +65,12 @@ HasNumbers regexp = length regexp ≤ 2 ^ 32
 
 -- A value that the engine made of parts returns captures exactly if the parts match. Custom
 -- expressions stand alone.
-abbrev pub ValuesAnswerTaken : {E : Type 0} → Engine E → Keeping → Room → Type 0
-ValuesAnswerTaken {E} engine Keeps Fits =
+abbrev pub ValuesReturnIfMatched : {E : Type 0} → Engine E → Keeping → Room → Type 0
+ValuesReturnIfMatched {E} engine Keeps Fits =
     (options : OptionsView) (flags : List ℕ) (parts : List PartView) (value : E) → Keeps flags →
     AllStandAlone parts → Fits (regexp_text options parts) →
     engine.IsMade value (regexp_text options parts) flags →
-    (text : List ℕ) → IsTrue (all_scalars text) → IsSomeIfTaken options parts text (engine.answer value text)
+    (text : List ℕ) → IsTrue (all_scalars text) → IsSomeIfMatched options parts text (engine.answer value text)
 
 -- A value that the engine made of parts returns their captures. Custom expressions stand alone and
 -- capture nothing themselves.
@@ -83,33 +83,33 @@ ValuesCapture {E} engine Keeps Fits =
 
 -- The engine made the matcher of parts whose custom expressions stand alone, case is kept, and the
 -- engine, where one is needed, accepted its text.
-pub record IsTakenAlone {E : Type 0} (engine : Engine E) (Fits : (regexp : List ℕ) → Type 0) (Took : Taking E)
+pub record IsTakenAlone {E : Type 0} (engine : Engine E) (Fits : (regexp : List ℕ) → Type 0) (Accepted : Acceptance E)
     (options : OptionsView) (flags : List ℕ) (parts : List PartView) (matcher : MatcherView E) : Type 0 where
   pub is_made : IsMadeOf (IsEngineOf engine false flags) options parts matcher
   pub alone : AllStandAlone parts
   pub fits : Fits (regexp_text options parts)
   pub case_kept : options.ignore_case ≡ false
-  pub took : Took options flags matcher.inner
+  pub took : Accepted options flags matcher.inner
 
 -- A matcher made of parts returns captures for a text without line feeds exactly if the parts match
 -- the text.
-abbrev pub MatchersAnswerTaken : {E : Type 0} → Engine E → Room → Taking E → Type 0
-MatchersAnswerTaken {E} engine Fits Took =
+abbrev pub MatchersReturnIfMatched : {E : Type 0} → Engine E → Room → Acceptance E → Type 0
+MatchersReturnIfMatched {E} engine Fits Accepted =
     (options : OptionsView) (flags : List ℕ) (parts : List PartView) (matcher : MatcherView E) →
-    IsTakenAlone engine Fits Took options flags parts matcher →
-    EachAnswerIs engine.answer matcher (IsSomeIfTaken options parts)
+    IsTakenAlone engine Fits Accepted options flags parts matcher →
+    EachResultIs engine.answer matcher (IsSomeIfMatched options parts)
 
 -- A matcher made of parts returns their captures for a text without line feeds. Custom expressions
 -- capture nothing themselves.
-abbrev pub MatchersCapture : {E : Type 0} → Engine E → Room → Taking E → Type 0
-MatchersCapture {E} engine Fits Took =
+abbrev pub MatchersCapture : {E : Type 0} → Engine E → Room → Acceptance E → Type 0
+MatchersCapture {E} engine Fits Accepted =
     (options : OptionsView) (flags : List ℕ) (parts : List PartView) (matcher : MatcherView E) →
-    IsTakenAlone engine Fits Took options flags parts matcher → AllCaptureNothing parts →
-    EachAnswerIs engine.answer matcher (IsCapturedByParts options parts)
+    IsTakenAlone engine Fits Accepted options flags parts matcher → AllCaptureNothing parts →
+    EachResultIs engine.answer matcher (IsCapturedByParts options parts)
 
 -- The flags ignore case as the options do, and the engine, where one is needed, accepted its text.
-abbrev pub TookAlone : {E : Type 0} → Taking E
-TookAlone options flags inner = FlagsAgree options flags × TookText (λ value. ⊤) inner
+abbrev pub AcceptedAlone : {E : Type 0} → Acceptance E
+AcceptedAlone options flags inner = FlagsAgree options flags × AcceptedText (λ value. ⊤) inner
 
 -- A component compiled to parts returns their captures, if case is kept and the engine, where one
 -- is needed, accepted its text.
@@ -117,4 +117,4 @@ abbrev pub ComponentsCapture : {E : Type 0} → Engine E → Room → Type 0
 ComponentsCapture {E} engine Fits =
     (options : OptionsView) (parts : List PartView) (component : ComponentView E) → IsComponentOf engine options parts component →
     AllStandAlone parts → AllCaptureNothing parts → Fits (regexp_text options parts) →
-    options.ignore_case ≡ false → TookText (λ value. ⊤) component.matcher.inner → EachAnswerIs engine.answer component.matcher (IsCapturedByParts options parts)
+    options.ignore_case ≡ false → AcceptedText (λ value. ⊤) component.matcher.inner → EachResultIs engine.answer component.matcher (IsCapturedByParts options parts)

@@ -3,15 +3,15 @@
 use Rattle.std.specs.Prelude.{◌≡◌, ⊤, ℕ, false, List, IsTrue}
 use Rattle.std.specs.Str.{all_scalars}
 use Rattle.urlpattern_matcher.specs.Components.{ComponentView, IsComponentOf}
-use Rattle.urlpattern_matcher.specs.FirstWays.{Keeping, Taking}
+use Rattle.urlpattern_matcher.specs.FirstWays.{Keeping, Acceptance}
 use Rattle.urlpattern_printing.specs.Generated.{AreGenerated}
 use Rattle.urlpattern_matcher.specs.declared.regexp.RegExp.{Ghosts as Engine}
 use Rattle.urlpattern_laws.specs.LawsOfTexts.{IsCapturedByParts, IsTakenAlone, Room}
-use Rattle.urlpattern_laws.specs.TakenPartTexts.{AllCaptureNothing, AllStandAlone}
+use Rattle.urlpattern_laws.specs.MatchedPartTexts.{AllCaptureNothing, AllStandAlone}
 use Rattle.urlpattern_laws.specs.PartWays.{parts_first_way}
 use Rattle.urlpattern_meaning.specs.Dialect.{IsTreeOf, Items}
-use Rattle.urlpattern_meaning.specs.FirstAnswers.{TookText}
-use Rattle.urlpattern_meaning.specs.Matching.{EachAnswerIs, MatcherView}
+use Rattle.urlpattern_meaning.specs.FirstResults.{AcceptedText}
+use Rattle.urlpattern_meaning.specs.Matching.{EachResultIs, MatcherView}
 use Rattle.urlpattern_meaning.specs.Ways.{first_way}
 use Rattle.urlpattern_syntax.specs.{Options.OptionsView, Parts.PartView, RegexpText.regexp_text}
 
@@ -31,25 +31,25 @@ FirstWaysAreCaptured =
 
 -- A value that the engine made of parts returns their first way. Custom expressions stand alone and
 -- capture nothing themselves.
-abbrev pub ValuesAnswerFirstOfParts : {E : Type 0} → Engine E → Keeping → Room → Type 0
-ValuesAnswerFirstOfParts {E} engine Keeps Fits =
+abbrev pub ValuesReturnFirstOfParts : {E : Type 0} → Engine E → Keeping → Room → Type 0
+ValuesReturnFirstOfParts {E} engine Keeps Fits =
     (options : OptionsView) (flags : List ℕ) (parts : List PartView) (value : E) → Keeps flags →
     AllStandAlone parts → AllCaptureNothing parts → Fits (regexp_text options parts) →
     engine.IsMade value (regexp_text options parts) flags →
     (text : List ℕ) → IsTrue (all_scalars text) → engine.answer value text ≡ parts_first_way options parts text
 
 -- A matcher made of parts returns their first way for each text without line feeds.
-abbrev pub MatchersAnswerFirstOfParts : {E : Type 0} → Engine E → Room → Taking E → Type 0
-MatchersAnswerFirstOfParts {E} engine Fits Took =
+abbrev pub MatchersReturnFirstOfParts : {E : Type 0} → Engine E → Room → Acceptance E → Type 0
+MatchersReturnFirstOfParts {E} engine Fits Accepted =
     (options : OptionsView) (flags : List ℕ) (parts : List PartView) (matcher : MatcherView E) →
-    IsTakenAlone engine Fits Took options flags parts matcher → AllCaptureNothing parts →
-    EachAnswerIs engine.answer matcher (λ text result. result ≡ parts_first_way options parts text)
+    IsTakenAlone engine Fits Accepted options flags parts matcher → AllCaptureNothing parts →
+    EachResultIs engine.answer matcher (λ text result. result ≡ parts_first_way options parts text)
 
 -- A component compiled to parts returns their first way, if case is kept and the engine, where one
 -- is needed, accepted its regular expression.
-abbrev pub ComponentsAnswerFirstOfParts : {E : Type 0} → Engine E → Room → Type 0
-ComponentsAnswerFirstOfParts {E} engine Fits =
+abbrev pub ComponentsReturnFirstOfParts : {E : Type 0} → Engine E → Room → Type 0
+ComponentsReturnFirstOfParts {E} engine Fits =
     (options : OptionsView) (parts : List PartView) (component : ComponentView E) → IsComponentOf engine options parts component →
     AllStandAlone parts → AllCaptureNothing parts → Fits (regexp_text options parts) →
-    options.ignore_case ≡ false → TookText (λ value. ⊤) component.matcher.inner →
-    EachAnswerIs engine.answer component.matcher (λ text result. result ≡ parts_first_way options parts text)
+    options.ignore_case ≡ false → AcceptedText (λ value. ⊤) component.matcher.inner →
+    EachResultIs engine.answer component.matcher (λ text result. result ≡ parts_first_way options parts text)

@@ -4,7 +4,7 @@ pub mod MatchLinks
 pub mod Outcomes
 pub mod PatternLaws
 pub mod Expressions
-pub mod TakenPartTexts
+pub mod MatchedPartTexts
 pub mod PartCaptures
 pub mod PartWays
 pub mod LawsOfTexts

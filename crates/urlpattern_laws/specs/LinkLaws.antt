@@ -4,16 +4,16 @@ use Rattle.url.specs.Parser.{Parsed}
 use Rattle.url.specs.Parts.{Parts}
 use Rattle.urlpattern_components.specs.declared.eight.ComponentName.{ComponentName}
 use Rattle.urlpattern_components.specs.Eight.{Texts, at}
-use Rattle.urlpattern_generate.specs.Asked.{AreAsked}
+use Rattle.urlpattern_generate.specs.Requested.{AreRequested}
 use Rattle.urlpattern_generate.specs.Generating.{IsCanonical}
-use Rattle.urlpattern_generate.specs.Manners.{GivenView, WritingManner}
+use Rattle.urlpattern_generate.specs.WriteSettings.{GivenView, WriteSettings}
 use Rattle.urlpattern_init.specs.Inheritance.{texts_of_url}
 use Rattle.urlpattern_generate.specs.LawsOfLinks.{HavePlainTexts}
-use Rattle.urlpattern_meaning.specs.Matching.{Answers, MatcherView}
+use Rattle.urlpattern_meaning.specs.Matching.{Returns, MatcherView}
 use Rattle.urlpattern_meaning.specs.PartMeaning.{Captures, PartsMean}
-use Rattle.urlpattern_pattern.specs.ComponentTexts.{manner_in, parts_in}
+use Rattle.urlpattern_pattern.specs.ComponentTexts.{settings_in, parts_in}
 use Rattle.urlpattern_pattern.specs.LinkedUrls.{IsLink}
-use Rattle.urlpattern_pattern.specs.Match.{AreAnswers}
+use Rattle.urlpattern_pattern.specs.Match.{AreResults}
 use Rattle.urlpattern_pattern.specs.Patterns.{pattern_view}
 use Rattle.urlpattern_pattern.specs.UrlPatterns.{UrlPattern}
 use Rattle.urlpattern_compare.specs.declared.pattern_parts.PatternParts.{PatternParts}
@@ -21,20 +21,20 @@ use Rattle.urlpattern_syntax.specs.{Parts.PartView, RegexpText.group_names}
 
 -- `Is` holds of the parts of a component, with the manner in which its text is written for the
 -- groups.
-abbrev pub OfItsParts : {E : Type 0} → UrlPattern E → List GivenView → ComponentName → (Is : WritingManner → List PartView → Type 0) → Type 0
-OfItsParts pattern groups component Is = (parts : PatternParts) → pattern.parts ≡ Some parts → Is (manner_in parts groups component) (parts_in parts component)
+abbrev pub OfItsParts : {E : Type 0} → UrlPattern E → List GivenView → ComponentName → (Is : WriteSettings → List PartView → Type 0) → Type 0
+OfItsParts pattern groups component Is = (parts : PatternParts) → pattern.parts ≡ Some parts → Is (settings_in parts groups component) (parts_in parts component)
 
 -- ---- links with different groups
 
 -- The groups of a component are to capture this.
-abbrev pub AskFor : {E : Type 0} → UrlPattern E → List GivenView → ComponentName → Captures → Type 0
-AskFor pattern groups component captures = OfItsParts pattern groups component (λ manner parts. AreAsked manner parts captures)
+abbrev pub AreToCapture : {E : Type 0} → UrlPattern E → List GivenView → ComponentName → Captures → Type 0
+AreToCapture pattern groups component captures = OfItsParts pattern groups component (λ settings parts. AreRequested settings parts captures)
 
 -- Links whose groups are to capture different texts of a component have different texts there.
 abbrev pub LinksDiffer : {E : Type 0} → (answer : E → List ℕ → Option Captures) → Type 0
 LinksDiffer {E} answer = (pattern : UrlPattern E) (groups others : List GivenView) (url other : Parts) (component : ComponentName) (captures different : Captures) →
     IsLink answer pattern groups url → IsLink answer pattern others other →
-    AskFor pattern groups component captures → AskFor pattern others component different →
+    AreToCapture pattern groups component captures → AreToCapture pattern others component different →
     captures ≢ different → at (texts_of_url url) component ≢ at (texts_of_url other) component
 
 -- Any two links with the same groups are equal.
@@ -55,20 +55,20 @@ AreCanonical canonical captures = All (IsCanonicalCapture canonical) captures
 -- The premises on parts, a text, its captures and the groups of a link: no fixed text has a
 -- modifier, a text matched with the captures has them by the meaning of the parts, and the groups
 -- are the captures, which are canonical.
-pub record IsWrittenBack {E : Type 0} (answer : E → List ℕ → Option Captures) (matcher : MatcherView E) (manner : WritingManner) (parts : List PartView) (text : List ℕ) (captures : Captures) : Type 0 where
+pub record IsWrittenBack {E : Type 0} (answer : E → List ℕ → Option Captures) (matcher : MatcherView E) (settings : WriteSettings) (parts : List PartView) (text : List ℕ) (captures : Captures) : Type 0 where
   pub plain : HavePlainTexts parts
-  pub means : Answers answer matcher text (Some captures) → PartsMean manner.options parts text captures
-  pub are_given : map manner.given (group_names parts) ≡ captures
-  pub are_canonical : AreCanonical manner.canonical captures
+  pub means : Returns answer matcher text (Some captures) → PartsMean settings.options parts text captures
+  pub are_given : map settings.given (group_names parts) ≡ captures
+  pub are_canonical : AreCanonical settings.canonical captures
 
 -- The parts of a component, its text and its captures meet the premises.
 abbrev pub TextIsWrittenBack : {E : Type 0} → (answer : E → List ℕ → Option Captures) → UrlPattern E → List GivenView → ComponentName → (text : List ℕ) → Captures → Type 0
 TextIsWrittenBack answer pattern groups component text captures =
-    OfItsParts pattern groups component (λ manner parts. IsWrittenBack answer (pattern_view pattern component).matcher manner parts text captures)
+    OfItsParts pattern groups component (λ settings parts. IsWrittenBack answer (pattern_view pattern component).matcher settings parts text captures)
 
 -- A link with the captures of eight texts has these texts.
 abbrev pub LinksOfCapturesAreTheTexts : {E : Type 0} → (answer : E → List ℕ → Option Captures) → Type 0
 LinksOfCapturesAreTheTexts {E} answer = (pattern : UrlPattern E) (groups : List GivenView) (url : Parts) (texts : Texts) (captures : ComponentName → Captures) →
-    IsLink answer pattern groups url → AreAnswers answer (pattern_view pattern) texts captures →
+    IsLink answer pattern groups url → AreResults answer (pattern_view pattern) texts captures →
     ((component : ComponentName) → TextIsWrittenBack answer pattern groups component (at texts component) (captures component)) →
     texts_of_url url ≡ texts

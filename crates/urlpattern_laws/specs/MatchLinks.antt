@@ -5,16 +5,16 @@ use Rattle.url.specs.Parts.{Parts}
 use Rattle.urlpattern_matcher.specs.Components.{ComponentView}
 use Rattle.urlpattern_compile.specs.Compiled.{AreCompiled}
 use Rattle.urlpattern_matcher.specs.declared.regexp.RegExp.{Ghosts as Engine}
-use Rattle.urlpattern_generate.specs.Manners.{GivenView, WritingManner, given_groups, text_given}
+use Rattle.urlpattern_generate.specs.WriteSettings.{GivenView, WriteSettings, given_groups, text_given}
 use Rattle.urlpattern_init.specs.Inheritance.{texts_of_url}
 use Rattle.urlpattern_inputs.specs.declared.options.UrlPatternOptions.{UrlPatternOptions}
 use Rattle.urlpattern_laws.specs.LinkLaws.{AreCanonical, OfItsParts}
 use Rattle.urlpattern_generate.specs.LawsOfLinks.{HavePlainTexts}
-use Rattle.urlpattern_matches.specs.BorrowedMatches.{HasDistinctGroups, all_groups_view, all_listed_groups, groups_view, lent_group, pattern_captures_view, texts_captured}
+use Rattle.urlpattern_matches.specs.BorrowedMatches.{HasDistinctGroups, all_groups_view, all_listed_groups, groups_view, borrowed_group, pattern_captures_view, texts_captured}
 use Rattle.urlpattern_matches.specs.ResultViews.{ResultView, captured_text, result_view}
 use Rattle.urlpattern_matches.specs.declared.captures.UrlPatternCaptures.{UrlPatternCaptures}
 use Rattle.urlpattern_matches.specs.declared.result.UrlPatternResult.{UrlPatternResult}
-use Rattle.urlpattern_meaning.specs.Matching.{Answers}
+use Rattle.urlpattern_meaning.specs.Matching.{Returns}
 use Rattle.urlpattern_meaning.specs.PartMeaning.{Captures, PartsMean}
 use Rattle.urlpattern_pattern.specs.LinkedUrls.{IsLink}
 use Rattle.urlpattern_pattern.specs.Match.{AreGroupsInOrder, IsMatchOf}
@@ -27,8 +27,8 @@ use Rattle.urlpattern_syntax.specs.{Parts.PartView, RegexpText.group_names}
 -- ---- the groups of a match
 
 -- A group that is passed to a link: its component, its name and its text.
-abbrev pub Lent : Type 0
-Lent = ComponentName × Bor (List ℕ) × Bor (List ℕ)
+abbrev pub BorrowedGroup : Type 0
+BorrowedGroup = ComponentName × Bor (List ℕ) × Bor (List ℕ)
 
 -- The groups of the result are given with their captures, and no group is given that did not
 -- capture.
@@ -43,15 +43,15 @@ NamesDiffer names = AllPairs (λ name other. name ≢ other) names
 -- `to_groups` of captures returns the groups with their captures, if no two groups of a component
 -- have the same name.
 abbrev pub GroupsOfCapturesAreGiven : Type 0
-GroupsOfCapturesAreGiven = (found : UrlPatternCaptures) (groups : List Lent) →
-    map lent_group groups ≡ texts_captured (all_groups_view found components) →
+GroupsOfCapturesAreGiven = (found : UrlPatternCaptures) (groups : List BorrowedGroup) →
+    map borrowed_group groups ≡ texts_captured (all_groups_view found components) →
     ((component : ComponentName) → NamesDiffer (keys_of (groups_view found component))) →
     AreGroupsOfResult (pattern_captures_view found) (given_groups groups)
 
 -- `to_groups` of a result returns the groups with their captures.
 abbrev pub GroupsOfResultsAreGiven : Type 0
-GroupsOfResultsAreGiven = (result : UrlPatternResult) (groups : List Lent) →
-    map lent_group groups ≡ texts_captured (all_listed_groups result components) →
+GroupsOfResultsAreGiven = (result : UrlPatternResult) (groups : List BorrowedGroup) →
+    map borrowed_group groups ≡ texts_captured (all_listed_groups result components) →
     ((component : ComponentName) → HasDistinctGroups result component) →
     AreGroupsOfResult (result_view result) (given_groups groups)
 
@@ -67,17 +67,17 @@ GroupsOfMatchesDiffer {E} engine =
 -- The premises on a component, its parts, a text and its captures: no fixed text has a modifier, a
 -- text matched with the captures has them by the meaning of the parts, the names are those of the
 -- parts and differ, and the captures are canonical.
-pub record IsReadBackFrom {E : Type 0} (answer : E → List ℕ → Option Captures) (compiled : ComponentView E) (manner : WritingManner) (parts : List PartView) (text : List ℕ) (captures : Captures) : Type 0 where
+pub record IsReadBackFrom {E : Type 0} (answer : E → List ℕ → Option Captures) (compiled : ComponentView E) (settings : WriteSettings) (parts : List PartView) (text : List ℕ) (captures : Captures) : Type 0 where
   pub plain : HavePlainTexts parts
-  pub means : Answers answer compiled.matcher text (Some captures) → PartsMean manner.options parts text captures
+  pub means : Returns answer compiled.matcher text (Some captures) → PartsMean settings.options parts text captures
   pub has_names : compiled.group_name_list ≡ group_names parts
   pub names_differ : NamesDiffer (group_names parts)
-  pub are_canonical : AreCanonical manner.canonical captures
+  pub are_canonical : AreCanonical settings.canonical captures
 
 -- A component, its parts, its text and its captures meet the premises.
 abbrev pub TextIsReadBack : {E : Type 0} → (answer : E → List ℕ → Option Captures) → UrlPattern E → List GivenView → ComponentName → (text : List ℕ) → Captures → Type 0
 TextIsReadBack answer pattern groups component text captures =
-    OfItsParts pattern groups component (λ manner parts. IsReadBackFrom answer (pattern_view pattern component) manner parts text captures)
+    OfItsParts pattern groups component (λ settings parts. IsReadBackFrom answer (pattern_view pattern component) settings parts text captures)
 
 -- A link with the groups of a match of eight texts has these texts.
 abbrev pub LinksOfMatchesAreTheTexts : {E : Type 0} → (answer : E → List ℕ → Option Captures) → Type 0

@@ -6,7 +6,7 @@ use Rattle.urlpattern_matcher.specs.declared.regexp.RegExp.{Ghosts as Engine}
 use Rattle.urlpattern_init.specs.SpecialProtocol.{AcceptsSpecialScheme}
 use Rattle.urlpattern_init.specs.declared.init.UrlPatternInit.{UrlPatternInit}
 use Rattle.urlpattern_inputs.specs.declared.options.UrlPatternOptions.{UrlPatternOptions}
-use Rattle.urlpattern_meaning.specs.Laws.{AnswersAsked}
+use Rattle.urlpattern_meaning.specs.Laws.{HasRequestedResults}
 use Rattle.urlpattern_components.specs.declared.eight.ComponentName.{ComponentName}
 use Rattle.urlpattern_components.specs.declared.eight.ComponentName.TheVariants.{Protocol}
 use Rattle.urlpattern_components.specs.Eight.{Values}
@@ -15,7 +15,7 @@ use Rattle.urlpattern_syntax.specs.Parts.{PartView}
 use Rattle.urlpattern_syntax.specs.Reading.{Encoding}
 use Rattle.urlpattern_syntax.specs.RegexpText.{regexp_text}
 use Rattle.urlpattern_pattern.specs.{ByText.MakesFirstWays, ByText.ReadsNoCustom, MatchMeaning.ReadsAs, Patterns.PatternView}
-use Rattle.urlpattern_compile.specs.Compiled.{IsComponentCompiled, IsPatternOfInit, Manner, RefusesInit, canonical_encoding, manner_of, pattern_values}
+use Rattle.urlpattern_compile.specs.Compiled.{IsComponentCompiled, IsPatternOfInit, ParseSettings, RejectsInit, canonical_encoding, settings_of, pattern_values}
 
 -- ---- errors
 
@@ -30,45 +30,45 @@ of_texts encoding text answer = encoding text answer × ((error : ErrorView) →
 -- ---- premises on an engine
 
 -- The engine does not both accept and reject this regular expression of a whole component.
-abbrev pub TakesOrRefuses : {E : Type 0} → Engine E → (has_regexp_group : Bool) → (flags regexp : List ℕ) → Type 0
-TakesOrRefuses {E} engine has_regexp_group flags regexp =
+abbrev pub NeverAcceptsAndRejects : {E : Type 0} → Engine E → (has_regexp_group : Bool) → (flags regexp : List ℕ) → Type 0
+NeverAcceptsAndRejects {E} engine has_regexp_group flags regexp =
     (value : E) (error : ErrorView) → IsWholeEngineOf engine has_regexp_group flags regexp (Ok value) →
     ¬ IsWholeEngineOf engine has_regexp_group flags regexp (Err error)
 
 -- The engine does not both accept and reject this regular expression of parts that a matcher leaves
 -- to it.
-abbrev pub TakesOrRefusesPart : {E : Type 0} → Engine E → (flags regexp : List ℕ) → Type 0
-TakesOrRefusesPart {E} engine flags regexp =
+abbrev pub NeverAcceptsAndRejectsPart : {E : Type 0} → Engine E → (flags regexp : List ℕ) → Type 0
+NeverAcceptsAndRejectsPart {E} engine flags regexp =
     (value : E) (error : ErrorView) → IsEngineOf engine false flags regexp (Ok value) → ¬ IsEngineOf engine false flags regexp (Err error)
 
 -- The engine does not both accept and reject a regular expression of the parts of the pattern text,
 -- or of some of them in a row.
-pub record TakesOrRefusesText {E : Type 0} (engine : Engine E) (manner : Manner) : Type 0 where
-  pub whole : (parts : List PartView) → ReadsAs manner parts →
-      TakesOrRefuses engine (has_regexp parts) (engine_flags manner.options) (regexp_text manner.options parts)
-  pub of_matcher : (parts before middle after : List PartView) → ReadsAs manner parts → parts ≡ before ++ middle ++ after →
-      TakesOrRefusesPart engine (engine_flags manner.options) (regexp_text manner.options middle)
+pub record NeverAcceptsAndRejectsText {E : Type 0} (engine : Engine E) (settings : ParseSettings) : Type 0 where
+  pub whole : (parts : List PartView) → ReadsAs settings parts →
+      NeverAcceptsAndRejects engine (has_regexp parts) (engine_flags settings.options) (regexp_text settings.options parts)
+  pub of_matcher : (parts before middle after : List PartView) → ReadsAs settings parts → parts ≡ before ++ middle ++ after →
+      NeverAcceptsAndRejectsPart engine (engine_flags settings.options) (regexp_text settings.options middle)
 
 -- Two components compiled in the same manner accept a special scheme alike.
-abbrev pub AcceptsAlike : {E : Type 0} → Engine E → Manner → Type 0
-AcceptsAlike {E} engine manner = (compiled other : ComponentView E) →
-    IsComponentCompiled engine manner compiled → IsComponentCompiled engine manner other →
+abbrev pub AcceptsAlike : {E : Type 0} → Engine E → ParseSettings → Type 0
+AcceptsAlike {E} engine settings = (compiled other : ComponentView E) →
+    IsComponentCompiled engine settings compiled → IsComponentCompiled engine settings other →
     AcceptsSpecialScheme engine.answer compiled.matcher → AcceptsSpecialScheme engine.answer other.matcher
 
 -- The engine decides the outcome of these values: whether the protocol is special, and which texts
 -- are accepted.
 pub record Decides {E : Type 0} (engine : Engine E) (asked : UrlPatternOptions) (values : Values) : Type 0 where
-  pub accepts_alike : AcceptsAlike engine (manner_of asked values false Protocol)
+  pub accepts_alike : AcceptsAlike engine (settings_of asked values false Protocol)
   pub takes_or_refuses : (hierarchical : Bool) (component : ComponentName)
-      → TakesOrRefusesText engine (manner_of asked values hierarchical component)
+      → NeverAcceptsAndRejectsText engine (settings_of asked values hierarchical component)
 
 -- No pattern text of these values has a custom regular expression.
 abbrev pub NoneIsCustom : UrlPatternOptions → Values → Type 0
-NoneIsCustom asked values = (hierarchical : Bool) (component : ComponentName) → ReadsNoCustom (manner_of asked values hierarchical component)
+NoneIsCustom asked values = (hierarchical : Bool) (component : ComponentName) → ReadsNoCustom (settings_of asked values hierarchical component)
 
 -- The engine does not both accept and reject a regular expression of parts without a custom one.
-abbrev pub TakesOrRefusesGenerated : {E : Type 0} → Engine E → Type 0
-TakesOrRefusesGenerated engine = (manner : Manner) → ReadsNoCustom manner → TakesOrRefusesText engine manner
+abbrev pub NeverAcceptsAndRejectsGenerated : {E : Type 0} → Engine E → Type 0
+NeverAcceptsAndRejectsGenerated engine = (settings : ParseSettings) → ReadsNoCustom settings → NeverAcceptsAndRejectsText engine settings
 
 -- The engine decides the outcome of values without a custom regular expression.
 abbrev pub DecidesGenerated : {E : Type 0} → Engine E → Type 0
@@ -77,23 +77,23 @@ DecidesGenerated engine = (asked : UrlPatternOptions) (values : Values) → None
 -- An engine that makes first ways, and does not both accept and reject an expression, decides the
 -- outcome of values without a custom regular expression.
 abbrev pub FirstWaysDecide : {E : Type 0} → Engine E → Type 0
-FirstWaysDecide engine = MakesFirstWays engine → TakesOrRefusesGenerated engine → DecidesGenerated engine
+FirstWaysDecide engine = MakesFirstWays engine → NeverAcceptsAndRejectsGenerated engine → DecidesGenerated engine
 
 -- ---- one outcome
 
 -- An init is not both compiled to a pattern and rejected.
-abbrev pub PatternsExcludeRefusals : {E : Type 0} → Engine E → Type 0
-PatternsExcludeRefusals {E} engine =
+abbrev pub PatternsExcludeRejections : {E : Type 0} → Engine E → Type 0
+PatternsExcludeRejections {E} engine =
     (init : UrlPatternInit) (asked : UrlPatternOptions) (values : Values) (pattern : PatternView E) (error : ErrorView) →
     pattern_values init ≡ Ok values → Decides engine asked values → IsOfTexts error →
-    IsPatternOfInit engine init asked pattern → ¬ RefusesInit engine init asked error
+    IsPatternOfInit engine init asked pattern → ¬ RejectsInit engine init asked error
 
 -- An init is rejected with one error only.
-abbrev pub InitRefusalsAreOne : {E : Type 0} → Engine E → Type 0
-InitRefusalsAreOne engine =
+abbrev pub InitRejectionsAreOne : {E : Type 0} → Engine E → Type 0
+InitRejectionsAreOne engine =
     (init : UrlPatternInit) (asked : UrlPatternOptions) (values : Values) (error other : ErrorView) →
     pattern_values init ≡ Ok values → Decides engine asked values → IsOfTexts error → IsOfTexts other →
-    RefusesInit engine init asked error → RefusesInit engine init asked other → error ≡ other
+    RejectsInit engine init asked error → RejectsInit engine init asked other → error ≡ other
 
 -- ---- an outcome exists
 
@@ -102,24 +102,24 @@ abbrev pub InitsHaveValues : Type 0
 InitsHaveValues = (init : UrlPatternInit) → (values : Values) × (pattern_values init ≡ Ok values)
 
 -- `url` has a result for each text of the pattern texts that it is called with.
-abbrev pub UrlAnswers : UrlPatternOptions → Values → Type 0
-UrlAnswers asked values = (hierarchical : Bool) (component : ComponentName) →
-    let manner = manner_of asked values hierarchical component in
-    AnswersAsked manner.text manner.options (of_texts (canonical_encoding manner.canonical))
+abbrev pub UrlHasResults : UrlPatternOptions → Values → Type 0
+UrlHasResults asked values = (hierarchical : Bool) (component : ComponentName) →
+    let settings = settings_of asked values hierarchical component in
+    HasRequestedResults settings.text settings.options (of_texts (canonical_encoding settings.canonical))
 
 -- For any consecutive parts of a component's pattern text, the engine makes a value of their
 -- regular expression, or may reject it.
-abbrev pub EngineAnswers : {E : Type 0} → Engine E → UrlPatternOptions → Values → Type 0
-EngineAnswers {E} engine asked values =
+abbrev pub EngineHasResults : {E : Type 0} → Engine E → UrlPatternOptions → Values → Type 0
+EngineHasResults {E} engine asked values =
     (hierarchical : Bool) (component : ComponentName) (parts before middle after : List PartView) →
-    let manner = manner_of asked values hierarchical component in
-    ReadsAs manner parts → parts ≡ before ++ middle ++ after →
-    (made : Result E ErrorView) × IsEngineOf engine false (engine_flags manner.options) (regexp_text manner.options middle) made
+    let settings = settings_of asked values hierarchical component in
+    ReadsAs settings parts → parts ≡ before ++ middle ++ after →
+    (made : Result E ErrorView) × IsEngineOf engine false (engine_flags settings.options) (regexp_text settings.options middle) made
 
 -- An init is compiled to a pattern, or it is rejected.
 abbrev pub InitsHaveOutcomes : {E : Type 0} → Engine E → Type 0
 InitsHaveOutcomes {E} engine =
     (init : UrlPatternInit) (asked : UrlPatternOptions) (values : Values) →
-    pattern_values init ≡ Ok values → EngineAnswers engine asked values → UrlAnswers asked values →
+    pattern_values init ≡ Ok values → EngineHasResults engine asked values → UrlHasResults asked values →
     ((pattern : PatternView E) × IsPatternOfInit engine init asked pattern)
-    ⊎ ((error : ErrorView) × IsOfTexts error × RefusesInit engine init asked error)
+    ⊎ ((error : ErrorView) × IsOfTexts error × RejectsInit engine init asked error)

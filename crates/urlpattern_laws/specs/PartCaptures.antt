@@ -1,6 +1,6 @@
 -- The captures of parts, custom parts included.
 use Rattle.std.specs.Prelude.{◌≡◌, ℕ, List, [], ◌∷◌, ◌++◌, Option}
-use Rattle.urlpattern_laws.specs.TakenPartTexts.{IsTakenCopy}
+use Rattle.urlpattern_laws.specs.MatchedPartTexts.{IsMatchedCopy}
 use Rattle.urlpattern_meaning.specs.PartMeaning.{Allows, Captures, IsCapture}
 use Rattle.urlpattern_syntax.specs.{Options.OptionsView, Parts.PartView}
 use Rattle.urlpattern_syntax.specs.declared.parser.PartType.{PartType}
@@ -15,7 +15,7 @@ AreCapturesOf kind part n text captures = (capture : Option (List ℕ)) × IsCap
 pub record PartCaptures (options : OptionsView) (part : PartView) (text : List ℕ) (captures : Captures) : Type 0 where
   pub count : ℕ
   pub allowed : Allows part.modifier count
-  pub are_copies : IsRepeated (IsTakenCopy options part.kind part) count text
+  pub are_copies : IsRepeated (IsMatchedCopy options part.kind part) count text
   pub are_captures : AreCapturesOf part.kind part count text captures
 
 -- The text is split into one substring for each part, and the parts have these captures.

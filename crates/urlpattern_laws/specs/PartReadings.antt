@@ -5,12 +5,12 @@ use Rattle.urlpattern_matcher.specs.declared.regexp.RegExp.{Ghosts as Engine}
 use Rattle.urlpattern_init.specs.UrlTexts.{EachIsLine, IsLine}
 use Rattle.urlpattern_init.specs.declared.init.UrlPatternInit.{UrlPatternInit}
 use Rattle.urlpattern_inputs.specs.declared.options.UrlPatternOptions.{UrlPatternOptions}
-use Rattle.urlpattern_engine.specs.GrammarReadings.{ExpressionsAnswerAlike}
+use Rattle.urlpattern_engine.specs.GrammarReadings.{ExpressionsReturnAlike}
 use Rattle.urlpattern_meaning.specs.Matching.{IsMatched, MatcherView}
 use Rattle.urlpattern_meaning.specs.PartMeaning.{Captures}
-use Rattle.urlpattern_pattern.specs.{ByText.AnswersByItsText, KeptParts.KeepsPartsOf, Match.AreMatched, Patterns.PatternView, Patterns.pattern_view}
+use Rattle.urlpattern_pattern.specs.{ByText.ReturnsByItsText, KeptParts.KeepsPartsOf, Match.AreMatched, Patterns.PatternView, Patterns.pattern_view}
 use Rattle.urlpattern_pattern.specs.UrlPatterns.{AreMadeOfParts, UrlPattern}
-use Rattle.urlpattern_compare.specs.Comparing.{AreApart, AreSame, IsCovered, IsKnown, IsParting, MeansAllOf, MeansEach, MeansIn, TakesEachLine, TakesNoLine}
+use Rattle.urlpattern_compare.specs.Comparing.{AreApart, AreSame, IsCovered, IsKnown, IsParting, MeansAllOf, MeansEach, MeansIn, MatchesEveryLine, MatchesNoLine}
 use Rattle.urlpattern_compare.specs.declared.pattern_parts.{Parting.Parting, PatternParts.PatternParts}
 use Rattle.urlpattern_syntax.specs.declared.parts.ComponentParts.{ComponentParts}
 use Rattle.urlpattern_components.specs.declared.eight.ComponentName.{ComponentName}
@@ -53,12 +53,12 @@ CoveredAreMatched {E} answer =
 
 -- The component covers the other by the meaning of the parts.
 abbrev pub IsCoveredByMeaning : (component asked : ComponentParts) → Type 0
-IsCoveredByMeaning component asked = TakesEachLine component ⊎ MeansAllOf component asked
+IsCoveredByMeaning component asked = MatchesEveryLine component ⊎ MeansAllOf component asked
 
 -- Each component covers the other's by meaning, or a component of the other means nothing.
 abbrev pub AreCoveredByMeaning : (pattern asked : PatternParts) → Type 0
 AreCoveredByMeaning pattern asked =
-    ((name : ComponentName) × TakesNoLine (at asked.components name))
+    ((name : ComponentName) × MatchesNoLine (at asked.components name))
     ⊎ ((name : ComponentName) → IsCoveredByMeaning (at pattern.components name) (at asked.components name))
 
 -- A pattern matches what the patterns that it covers by meaning match.
@@ -79,7 +79,7 @@ KnownAreCoveredByMeaning = (pattern asked : PatternParts) → SameAreKnown patte
 -- Components made of equal parts match the same texts, if equal expressions of the engine return
 -- the same results.
 abbrev pub MadeAreMatched : {E : Type 0} → Engine E → Type 0
-MadeAreMatched {E} engine = ExpressionsAnswerAlike engine →
+MadeAreMatched {E} engine = ExpressionsReturnAlike engine →
     (pattern asked : PatternView E) (parts asked_parts : PatternParts) → AreMadeOfParts engine parts pattern → AreMadeOfParts engine asked_parts asked →
     SameAreMatched engine.answer pattern asked parts asked_parts
 
@@ -90,7 +90,7 @@ OwnPartsMean {E} engine = (pattern : PatternView E) (parts : PatternParts) → A
 -- The parts that a compiled pattern keeps say what it matches, if it matches by its texts.
 abbrev pub KeptPartsMean : {E : Type 0} → Engine E → Type 0
 KeptPartsMean {E} engine =
-    (init : UrlPatternInit) (asked : UrlPatternOptions) (pattern : UrlPattern E) → AnswersByItsText engine.answer init asked (pattern_view pattern) →
+    (init : UrlPatternInit) (asked : UrlPatternOptions) (pattern : UrlPattern E) → ReturnsByItsText engine.answer init asked (pattern_view pattern) →
     (kept : KeepsPartsOf engine init asked pattern) → AreItsParts engine.answer (pattern_view pattern) kept.parts
 
 -- A pattern made of its parts matches what the patterns that it covers match, with or without

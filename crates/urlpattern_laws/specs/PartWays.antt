@@ -10,7 +10,7 @@ use Rattle.regex_syntax.specs.Grammar.{Names, read}
 use Rattle.regex_syntax.specs.Verdict.{default_config}
 use Rattle.urlpattern_meaning.specs.Dialect.{Optional, ZeroOrMore, OneOrMore}
 use Rattle.urlpattern_meaning.specs.PartMeaning.{Captures}
-use Rattle.urlpattern_meaning.specs.Ways.{Choice, capturing, continued, idle, looped, one_that, quantified_ways}
+use Rattle.urlpattern_meaning.specs.Ways.{Choice, capturing, continued, empty_way, looped, one_that, quantified_ways}
 use Rattle.urlpattern_syntax.specs.{Options.OptionsView, Parts.PartView, RegexpText.is_empty}
 use Rattle.urlpattern_syntax.specs.declared.parser.{PartModifier.PartModifier, PartType.PartType}
 use Rattle.urlpattern_syntax.specs.Text.{line_feed}
@@ -27,7 +27,7 @@ captured_whole choice text = map capturing (choice text)
 
 -- The given text, character by character.
 abbrev pub exactly : (given : List ℕ) → Choice
-exactly [] text = idle 0 text ∷ []
+exactly [] text = empty_way 0 text ∷ []
 exactly (c ∷ given) text = continued (exactly given) (one_that (λ other. other == c) text)
 
 -- ---- custom expressions
@@ -35,7 +35,7 @@ exactly (c ∷ given) text = continued (exactly given) (one_that (λ other. othe
 -- The ways of a pattern whose steps match characters: the first alternative is preferred, and a
 -- further round of a loop if the loop is greedy. Groups capture nothing here.
 abbrev pub pattern_ways : Re → Choice
-pattern_ways empty text = idle 0 text ∷ []
+pattern_ways empty text = empty_way 0 text ∷ []
 pattern_ways (literal bytes) text = one_that (λ c. is_some_and (char_at bytes 0) (λ written. c == written)) text
 pattern_ways (byte_in ranges) text = []
 pattern_ways (char_in ranges) text = one_that (in_ranges ranges) text
@@ -109,7 +109,7 @@ part_ways_by kind options part text =
 
 -- The ways of parts, one after the other.
 abbrev pub parts_ways : OptionsView → List PartView → Choice
-parts_ways options [] text = idle 0 text ∷ []
+parts_ways options [] text = empty_way 0 text ∷ []
 parts_ways options (part ∷ parts) text = continued (parts_ways options parts) (part_ways_by part.kind options part text)
 
 -- The captures of the first way that matches the whole text, or `None` if no way does.

@@ -8,7 +8,7 @@ use Rattle.urlpattern_meaning.specs.PartMeaning.{Captures}
 use Rattle.urlpattern_inputs.specs.declared.options.UrlPatternOptions.{UrlPatternOptions}
 use Rattle.urlpattern_components.specs.declared.eight.ComponentName.{ComponentName}
 use Rattle.urlpattern_components.specs.Eight.{Texts, Values, at}
-use Rattle.urlpattern_compile.specs.Compiled.{AreCompiled, Manner, manner_of}
+use Rattle.urlpattern_compile.specs.Compiled.{AreCompiled, ParseSettings, settings_of}
 use Rattle.urlpattern_pattern.specs.Match.{HasMatch, HasNoMatch, IsLongInput, IsMatch}
 use Rattle.urlpattern_matches.specs.ResultViews.{IsSameResult, ResultView}
 use Rattle.urlpattern_matches.specs.MatchInput.{input_texts}
@@ -17,11 +17,11 @@ use Rattle.urlpattern_pattern.specs.Patterns.{PatternView}
 use Rattle.urlpattern_pattern.specs.MatchMeaning.{IsExecuted, IsFoundByMeaning, MeaningPremises, RegexPremises}
 
 -- The result of a compiled pattern for an input is what its pattern texts mean.
-abbrev pub AnswersMeanTheParts : {E : Type 0} → Engine E → Type 0
-AnswersMeanTheParts {E} engine = (asked : UrlPatternOptions) (values : Values) (pattern : PatternView E) (input : UrlPatternMatchInput) (texts : Texts)
+abbrev pub ResultsMeanTheParts : {E : Type 0} → Engine E → Type 0
+ResultsMeanTheParts {E} engine = (asked : UrlPatternOptions) (values : Values) (pattern : PatternView E) (input : UrlPatternMatchInput) (texts : Texts)
     (found : Option (ComponentName → ResultView)) → (compiled : AreCompiled engine asked values pattern) →
     input_texts input ≡ Ok texts → ¬ IsLongInput input → IsExecuted engine.answer pattern input found →
-    IsFoundByMeaning engine.answer (manner_of asked values compiled.hierarchical) pattern texts found
+    IsFoundByMeaning engine.answer (settings_of asked values compiled.hierarchical) pattern texts found
 
 -- A test is true exactly if there is a match.
 abbrev pub TestsAgree : {E : Type 0} → (answer : E → List ℕ → Option Captures) → Type 0
@@ -42,18 +42,18 @@ TestsAreOne {E} answer = (pattern : PatternView E) (input : UrlPatternMatchInput
 -- `regex::Regex` meets the premises on a component's engine, if it accepted the regular expression.
 abbrev pub RegexMeetsPremises : Type 0
 RegexMeetsPremises = (asked : UrlPatternOptions) (values : Values) (pattern : PatternView Regex) (component : ComponentName) (text : List ℕ) →
-    (compiled : AreCompiled regex_engine asked values pattern) → let manner = manner_of asked values compiled.hierarchical component in
-    RegexPremises manner (pattern component) text → MeaningPremises regex_engine.answer manner (pattern component) text
+    (compiled : AreCompiled regex_engine asked values pattern) → let settings = settings_of asked values compiled.hierarchical component in
+    RegexPremises settings (pattern component) text → MeaningPremises regex_engine.answer settings (pattern component) text
 
 -- In a match by `regex::Regex`, the result of a component is that of the first way.
 abbrev pub RegexResultsAreFirst : Type 0
 RegexResultsAreFirst = (asked : UrlPatternOptions) (values : Values) (pattern : PatternView Regex) (input : UrlPatternMatchInput) (texts : Texts)
     (result : ComponentName → ResultView) (component : ComponentName) →
-    (compiled : AreCompiled regex_engine asked values pattern) → let manner = manner_of asked values compiled.hierarchical component in
+    (compiled : AreCompiled regex_engine asked values pattern) → let settings = settings_of asked values compiled.hierarchical component in
     input_texts input ≡ Ok texts → IsMatch regex_engine.answer pattern input result →
-    RegexPremises manner (pattern component) (at texts component) → IsFirstResult manner (at texts component) (result component)
+    RegexPremises settings (pattern component) (at texts component) → IsFirstResult settings (at texts component) (result component)
 
 -- Any two results of the first way are equal.
 abbrev pub FirstResultsAreOne : Type 0
-FirstResultsAreOne = (manner : Manner) (text : List ℕ) (result other : ResultView) →
-    IsFirstResult manner text result → IsFirstResult manner text other → IsSameResult result other
+FirstResultsAreOne = (settings : ParseSettings) (text : List ℕ) (result other : ResultView) →
+    IsFirstResult settings text result → IsFirstResult settings text other → IsSameResult result other

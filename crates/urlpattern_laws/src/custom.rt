@@ -6,10 +6,10 @@
 ghost use Rattle.std.specs.Prelude.{⊤};
 ghost use Rattle.urlpattern_matcher.specs.Regexes.{regex_engine};
 ghost use Rattle.urlpattern_matcher.specs.FirstWays.{KeepsCase};
-ghost use Rattle.urlpattern_laws.specs.LawsOfTexts.{CapturesAreAsNames, ComponentsCapture, HasNumbers, MatchersAnswerTaken, MatchersCapture, PartsCaptureMeanings, PartsTakeMeanings, ReadsInGroups, TookAlone, ValuesAnswerTaken, ValuesCapture};
-ghost use Rattle.urlpattern_laws.specs.LawsOfWays.{ComponentsAnswerFirstOfParts, FirstWaysAreCaptured, FirstWaysAreOfTrees, MatchersAnswerFirstOfParts, ValuesAnswerFirstOfParts};
+ghost use Rattle.urlpattern_laws.specs.LawsOfTexts.{CapturesAreAsNames, ComponentsCapture, HasNumbers, MatchersReturnIfMatched, MatchersCapture, PartsCaptureMeanings, PartsMatchMeanings, ReadsInGroups, AcceptedAlone, ValuesReturnIfMatched, ValuesCapture};
+ghost use Rattle.urlpattern_laws.specs.LawsOfWays.{ComponentsReturnFirstOfParts, FirstWaysAreCaptured, FirstWaysAreOfTrees, MatchersReturnFirstOfParts, ValuesReturnFirstOfParts};
 ghost use Rattle.urlpattern_engine.specs.PatternRegexps.{pattern_engine};
-ghost use Rattle.urlpattern_meaning.specs.FirstAnswers.{TookText};
+ghost use Rattle.urlpattern_meaning.specs.FirstResults.{AcceptedText};
 
 /// The grammar of the crate `regex` composes. In a group, with any text before and after, it reads
 /// an expression that stands alone up to the closing parenthesis, and what it reads matches the
@@ -26,7 +26,7 @@ pub fn expressions_are_read_in_groups()
 /// Parts without a custom one match exactly the texts that they mean, and capture what they mean.
 #[tactic(auto, using(crate::proofs::MatchersCapture::parts_capture_meanings, crate::proofs::TakenMeanings::parts_take_meanings))]
 pub fn parts_take_the_texts_that_they_mean()
-    ensures takes { PartsTakeMeanings }
+    ensures takes { PartsMatchMeanings }
     ensures captures { PartsCaptureMeanings }
 {}
 
@@ -38,8 +38,8 @@ pub fn parts_take_the_texts_that_they_mean()
 /// the regular expression has at most 2³² characters.
 #[tactic(auto, using(crate::proofs::ValuesTaken::pattern_values_taken, crate::proofs::ValuesTaken::regex_values_taken))]
 pub fn values_answer_the_texts_that_parts_take()
-    ensures own { ValuesAnswerTaken pattern_engine KeepsCase HasNumbers }
-    ensures regex { ValuesAnswerTaken regex_engine (λ flags. ⊤) (λ regexp. ⊤) }
+    ensures own { ValuesReturnIfMatched pattern_engine KeepsCase HasNumbers }
+    ensures regex { ValuesReturnIfMatched regex_engine (λ flags. ⊤) (λ regexp. ⊤) }
 {}
 
 /// A matcher returns captures for a text without line feeds exactly if its parts match the text,
@@ -49,8 +49,8 @@ pub fn values_answer_the_texts_that_parts_take()
 /// needed, accepted its regular expression. For `PatternRegexp`, the regular expression has at most
 /// 2³² characters.
 pub fn matchers_answer_the_texts_that_parts_take()
-    ensures own { MatchersAnswerTaken pattern_engine HasNumbers TookAlone }
-    ensures regex { MatchersAnswerTaken regex_engine (λ regexp. ⊤) (λ options flags. TookText (λ value. ⊤)) }
+    ensures own { MatchersReturnIfMatched pattern_engine HasNumbers AcceptedAlone }
+    ensures regex { MatchersReturnIfMatched regex_engine (λ regexp. ⊤) (λ options flags. AcceptedText (λ value. ⊤)) }
 {}
 
 /// A value of an engine returns what the parts capture, or `None` if they do not match the text. A
@@ -71,8 +71,8 @@ pub fn values_answer_what_parts_capture()
 /// engine, where one is needed, accepted its regular expression. For `PatternRegexp`, the regular
 /// expression has at most 2³² characters.
 pub fn matchers_answer_what_parts_capture()
-    ensures own { MatchersCapture pattern_engine HasNumbers TookAlone }
-    ensures regex { MatchersCapture regex_engine (λ regexp. ⊤) (λ options flags. TookText (λ value. ⊤)) }
+    ensures own { MatchersCapture pattern_engine HasNumbers AcceptedAlone }
+    ensures regex { MatchersCapture regex_engine (λ regexp. ⊤) (λ options flags. AcceptedText (λ value. ⊤)) }
 {}
 
 /// The matcher of a compiled component returns what the component's parts capture of a text without
@@ -98,8 +98,8 @@ pub fn components_answer_what_parts_capture()
 pub fn values_answer_the_first_way_of_parts()
     ensures trees { FirstWaysAreOfTrees }
     ensures captured { FirstWaysAreCaptured }
-    ensures own { ValuesAnswerFirstOfParts pattern_engine KeepsCase HasNumbers }
-    ensures regex { ValuesAnswerFirstOfParts regex_engine (λ flags. ⊤) (λ regexp. ⊤) }
+    ensures own { ValuesReturnFirstOfParts pattern_engine KeepsCase HasNumbers }
+    ensures regex { ValuesReturnFirstOfParts regex_engine (λ flags. ⊤) (λ regexp. ⊤) }
 {}
 
 /// A matcher returns the first way of its parts for a text without line feeds, or `None` if there
@@ -109,8 +109,8 @@ pub fn values_answer_the_first_way_of_parts()
 /// engine, where one is needed, accepted its regular expression. For `PatternRegexp`, the regular
 /// expression has at most 2³² characters.
 pub fn matchers_answer_the_first_way_of_parts()
-    ensures own { MatchersAnswerFirstOfParts pattern_engine HasNumbers TookAlone }
-    ensures regex { MatchersAnswerFirstOfParts regex_engine (λ regexp. ⊤) (λ options flags. TookText (λ value. ⊤)) }
+    ensures own { MatchersReturnFirstOfParts pattern_engine HasNumbers AcceptedAlone }
+    ensures regex { MatchersReturnFirstOfParts regex_engine (λ regexp. ⊤) (λ options flags. AcceptedText (λ value. ⊤)) }
 {}
 
 /// The matcher of a compiled component returns the first way of the component's parts for a text
@@ -120,6 +120,6 @@ pub fn matchers_answer_the_first_way_of_parts()
 /// engine, where one is needed, accepted its regular expression. For `PatternRegexp`, the regular
 /// expression has at most 2³² characters.
 pub fn components_answer_the_first_way_of_parts()
-    ensures own { ComponentsAnswerFirstOfParts pattern_engine HasNumbers }
-    ensures regex { ComponentsAnswerFirstOfParts regex_engine (λ regexp. ⊤) }
+    ensures own { ComponentsReturnFirstOfParts pattern_engine HasNumbers }
+    ensures regex { ComponentsReturnFirstOfParts regex_engine (λ regexp. ⊤) }
 {}

@@ -5,16 +5,16 @@
 ghost use Rattle.std.specs.Prelude.{⊤, ℕ, List, Option};
 ghost use Rattle.urlpattern_pattern.specs.ByText.{MakesFirstWays};
 ghost use Rattle.urlpattern_engine.specs.EcmaRegexps.{KeepsRegex, ecma_engine};
-ghost use Rattle.urlpattern_laws.specs.PatternLaws.{AnswersMeanTheParts, FirstResultsAreOne, MatchesAreOne, RegexMeetsPremises, RegexResultsAreFirst, TestsAgree, TestsAreOne};
-ghost use Rattle.urlpattern_laws.specs.Folded.{FoldedFirstsAreAnswered, FoldedWaysAreAnswered};
+ghost use Rattle.urlpattern_laws.specs.PatternLaws.{ResultsMeanTheParts, FirstResultsAreOne, MatchesAreOne, RegexMeetsPremises, RegexResultsAreFirst, TestsAgree, TestsAreOne};
+ghost use Rattle.urlpattern_laws.specs.Folded.{FoldedFirstsAreReturned, FoldedWaysAreReturned};
 ghost use Rattle.urlpattern_laws.specs.LinkLaws.{LinksAreOne, LinksDiffer, LinksOfCapturesAreTheTexts};
 ghost use Rattle.urlpattern_laws.specs.MatchLinks.{GroupsOfCapturesAreGiven, GroupsOfMatchesDiffer, GroupsOfResultsAreGiven, LinksOfMatchesAreTheTexts};
-ghost use Rattle.urlpattern_laws.specs.Outcomes.{DecidesGenerated, FirstWaysDecide, InitRefusalsAreOne, InitsHaveOutcomes, InitsHaveValues, PatternsExcludeRefusals};
-ghost use Rattle.urlpattern_pattern.specs.ByTextLaws.{CompiledHaveMeaning, FindingsAreByText, FindingsAreOne, InputFindingsAreByText, PatternsAnswerAlike, PatternsAnswerByText, ReadingsAsAreOne, TakenPatternsAnswerByText};
-ghost use Rattle.urlpattern_matcher.specs.FirstWays.{EachAnswersFirst};
+ghost use Rattle.urlpattern_laws.specs.Outcomes.{DecidesGenerated, FirstWaysDecide, InitRejectionsAreOne, InitsHaveOutcomes, InitsHaveValues, PatternsExcludeRejections};
+ghost use Rattle.urlpattern_pattern.specs.ByTextLaws.{CompiledHaveMeaning, FindingsAreByText, FindingsAreOne, InputFindingsAreByText, PatternsReturnAlike, PatternsReturnByText, ReadingsAsAreOne, AcceptedPatternsReturnByText};
+ghost use Rattle.urlpattern_matcher.specs.FirstWays.{EachReturnsFirst};
 ghost use Rattle.urlpattern_matcher.specs.Regexes.{regex_engine};
 ghost use Rattle.urlpattern_engine.specs.PatternRegexps.{pattern_engine};
-ghost use Rattle.urlpattern_meaning.specs.FirstAnswers.{TookText};
+ghost use Rattle.urlpattern_meaning.specs.FirstResults.{AcceptedText};
 ghost use Rattle.urlpattern_meaning.specs.PartMeaning.{Captures};
 
 pub use crate::custom::{
@@ -59,7 +59,7 @@ pub use urlpattern_plain::json_laws::reading_undoes_writing;
 /// the engine, where one is needed, accepted its regular expression and follows it. No text of the
 /// input is longer than `url` is certain to accept.
 pub fn groups_mean_the_parts<R: RegExp>()
-    ensures { AnswersMeanTheParts R.RegExp }
+    ensures { ResultsMeanTheParts R.RegExp }
 {}
 
 /// A test is true exactly if there is a match, and there is at most one match. With a match, a test
@@ -84,7 +84,7 @@ pub fn groups_by_regex_are_of_the_first_way()
 /// their meanings, or `None` if they have none. Where an engine is needed, it has to hold a value
 /// of `regex`.
 pub fn matchers_by_ecma_regexp_answer_the_first_way()
-    ensures { EachAnswersFirst ecma_engine (λ options flags. TookText KeepsRegex) }
+    ensures { EachReturnsFirst ecma_engine (λ options flags. AcceptedText KeepsRegex) }
 {}
 
 /// A compiled pattern matches by its texts. Each component without a custom regular expression
@@ -94,7 +94,7 @@ pub fn matchers_by_ecma_regexp_answer_the_first_way()
 ///
 /// Premise: the engine's values return the first way of the parts that are left to them.
 pub fn patterns_answer_by_their_texts<R: RegExp>()
-    ensures by_text { PatternsAnswerByText R.RegExp }
+    ensures by_text { PatternsReturnByText R.RegExp }
     ensures found { FindingsAreByText R.answer }
     ensures executed { InputFindingsAreByText R.answer }
     ensures one { FindingsAreOne }
@@ -105,7 +105,7 @@ pub fn patterns_answer_by_their_texts<R: RegExp>()
 /// Two patterns of one init, over any engines, have the same findings in eight texts, if both match
 /// by the init's pattern texts and all of these texts have a meaning.
 pub fn patterns_of_one_init_answer_alike<R: RegExp, S: RegExp>()
-    ensures { PatternsAnswerAlike R.answer S.answer }
+    ensures { PatternsReturnAlike R.answer S.answer }
 {}
 
 /// The premise on the engine, for each of three engines: none for `PatternRegexp`; `regex::Regex`
@@ -113,8 +113,8 @@ pub fn patterns_of_one_init_answer_alike<R: RegExp, S: RegExp>()
 /// value of `regex` for them.
 pub fn patterns_by_these_engines_answer_by_their_texts()
     ensures pattern_regexp { MakesFirstWays pattern_engine }
-    ensures regex { TakenPatternsAnswerByText regex_engine (TookText (λ value. ⊤)) }
-    ensures ecma_regexp { TakenPatternsAnswerByText ecma_engine (TookText KeepsRegex) }
+    ensures regex { AcceptedPatternsReturnByText regex_engine (AcceptedText (λ value. ⊤)) }
+    ensures ecma_regexp { AcceptedPatternsReturnByText ecma_engine (AcceptedText KeepsRegex) }
 {}
 
 /// An init has one outcome: it is compiled to a pattern, or it is rejected with one error. The
@@ -127,8 +127,8 @@ pub fn patterns_by_these_engines_answer_by_their_texts()
 /// alike. An engine that makes first ways meets the second if no pattern text has a custom regular
 /// expression; `PatternRegexp` then meets both.
 pub fn inits_have_one_outcome<R: RegExp>()
-    ensures not_both { PatternsExcludeRefusals R.RegExp }
-    ensures refusals { InitRefusalsAreOne R.RegExp }
+    ensures not_both { PatternsExcludeRejections R.RegExp }
+    ensures refusals { InitRejectionsAreOne R.RegExp }
     ensures values { InitsHaveValues }
     ensures exist { InitsHaveOutcomes R.RegExp }
     ensures by_first_ways { FirstWaysDecide R.RegExp }
@@ -143,14 +143,14 @@ pub fn inits_have_one_outcome<R: RegExp>()
 /// Prefix and suffix around an engine are compared with case folded. The text between them is left
 /// to the engine: `PatternRegexp` folds it too, `regex::Regex` does not.
 pub fn folded_ways_are_answered<R: RegExp>()
-    ensures { FoldedWaysAreAnswered R.RegExp }
+    ensures { FoldedWaysAreReturned R.RegExp }
 {}
 
 /// A component over `PatternRegexp` that ignores case and has no custom part matches by its pattern
 /// text, with any matcher. For a text without line feeds it returns captures exactly if the folded
 /// parts match the folded text. Folded, the captures are those of the first way.
 pub fn first_ways_are_answered_where_case_is_ignored()
-    ensures { FoldedFirstsAreAnswered pattern_engine }
+    ensures { FoldedFirstsAreReturned pattern_engine }
 {}
 
 /// A link is determined by its groups. Links whose groups are to capture different texts of a

@@ -8,7 +8,7 @@ use Rattle.regex.specs.Strings.{IsCapturesOf, captures_haystack, captures_names,
 use Rattle.regex.specs.Writes.{group_of}
 use Rattle.regex.specs.declared.string.captures.Captures.{Captures}
 use Rattle.regex.specs.declared.string.regex.Regex.{Regex}
-use Rattle.urlpattern_matcher.specs.Regexes.{group_texts, regex_answer, text_between}
+use Rattle.urlpattern_matcher.specs.Regexes.{group_texts, regex_result, text_between}
 use Rattle.urlpattern_meaning.specs.PartMeaning as meaning
 
 -- Groups of equal spans, from group 1 on, have equal texts.
@@ -29,8 +29,8 @@ group_texts-captures bytes count found captures shown =
 pub answer_of_captures : (regex : Regex) (bytes : List ℕ) (found : Match) (captures : Captures) (texts : meaning.Captures) → IsUtf8 bytes
     → find_str (regex_pattern regex) bytes 0 ≡ Some found → IsCapturesOf bytes found captures → captures_names captures ≡ regex_names regex
     → texts ≡ group_texts (captures_haystack captures) (length (captures_names captures) - 1) (captures_span captures)
-    → Some texts ≡ regex_answer regex (chars bytes)
-unfolding regex_answer
+    → Some texts ≡ regex_result regex (chars bytes)
+unfolding regex_result
 answer_of_captures regex bytes found captures texts utf8 is_found shown names is =
     let of_match : texts ≡ group_texts bytes (length (regex_names regex) - 1) (group_of found) =
     is ∙ ap (λ all. group_texts (captures_haystack captures) (length all - 1) (captures_span captures)) names
@@ -39,6 +39,6 @@ answer_of_captures regex bytes found captures texts utf8 is_found shown names is
     rw (encodes-chars bytes utf8, is_found) (ap (λ (t : meaning.Captures). Some t) of_match)
 
 -- Without a match the result is None.
-pub answer_of_none : (regex : Regex) (bytes : List ℕ) → IsUtf8 bytes → find_str (regex_pattern regex) bytes 0 ≡ None → None ≡ regex_answer regex (chars bytes)
-unfolding regex_answer
+pub answer_of_none : (regex : Regex) (bytes : List ℕ) → IsUtf8 bytes → find_str (regex_pattern regex) bytes 0 ≡ None → None ≡ regex_result regex (chars bytes)
+unfolding regex_result
 answer_of_none regex bytes utf8 none = rw (encodes-chars bytes utf8, none)

@@ -3,5 +3,5 @@ pub mod FirstMatchers
 pub mod EngineLemmas
 pub mod FoldedEnds
 pub mod MatcherTexts
-pub mod MatcherAnswers
-pub mod PeeledMatchers
+pub mod MatcherResults
+pub mod StrippedMatchers

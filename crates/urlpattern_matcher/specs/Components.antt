@@ -4,13 +4,13 @@ use Rattle.std.specs.{Borrow.Bor, List.list_any}
 use Rattle.urlpattern_matcher.specs.declared.component.{Component.Component, ComponentWithParts.ComponentWithParts}
 use Rattle.urlpattern_matcher.specs.declared.regexp.RegExp.{Ghosts as Engine}
 use Rattle.urlpattern_matcher.specs.Matchers.{engine_view, matcher_view}
-use Rattle.urlpattern_meaning.specs.Matching.{AnswersByMeaning, IsMadeOf, MatcherView}
+use Rattle.urlpattern_meaning.specs.Matching.{ReturnsByMeaning, IsMadeOf, MatcherView}
 use Rattle.urlpattern_meaning.specs.Printing.{printed}
 use Rattle.urlpattern_syntax.specs.declared.error.Error.{Error}
 use Rattle.urlpattern_syntax.specs.Errors.{ErrorView, MemoryOr}
 use Rattle.urlpattern_syntax.specs.declared.parser.{RegexSyntax.RegexSyntax, PartType.PartType}
 use Rattle.urlpattern_syntax.specs.{ComponentParts.kept_options, ComponentParts.kept_parts, Options.OptionsView, Parts.PartView}
-use Rattle.urlpattern_syntax.specs.Reading.{Encoding, Reads, Refuses}
+use Rattle.urlpattern_syntax.specs.Reading.{Encoding, Reads, Rejects}
 use Rattle.urlpattern_syntax.specs.RegexpText.{group_names, regexp_text}
 use Rattle.urlpattern_syntax.specs.Text.{chars, lacks, text_of}
 
@@ -58,22 +58,22 @@ abbrev pub has_regexp : List PartView → Bool
 has_regexp parts = list_any (λ part. is_custom part.kind) parts
 
 -- Whether an engine of this syntax, after it accepted the text, is called again with `force_eval`.
-abbrev pub is_asked_again : RegexSyntax → (has_regexp_group : Bool) → Bool
-is_asked_again RegexSyntax.EcmaScript has_regexp_group = has_regexp_group
-is_asked_again RegexSyntax.Rust has_regexp_group = false
+abbrev pub is_called_again : RegexSyntax → (has_regexp_group : Bool) → Bool
+is_called_again RegexSyntax.EcmaScript has_regexp_group = has_regexp_group
+is_called_again RegexSyntax.Rust has_regexp_group = false
 
 -- What an engine returns for a regular expression with this `force_eval`: a value, or an error if
 -- it may reject the expression.
 abbrev pub IsEngineOf : {E : Type 0} → Engine E → (force_eval : Bool) → (flags regexp : List ℕ) → Result E ErrorView → Type 0
 IsEngineOf engine force_eval flags regexp (Ok value) = engine.IsMade value regexp flags
-IsEngineOf engine force_eval flags regexp (Err error) = (error ≡ ErrorView.RegExp) × engine.MayRefuse regexp flags force_eval
+IsEngineOf engine force_eval flags regexp (Err error) = (error ≡ ErrorView.RegExp) × engine.MayReject regexp flags force_eval
 
 -- What an engine returns for the regular expression of a whole component, when it is called first
 -- or again.
 abbrev pub IsWholeEngineOf : {E : Type 0} → Engine E → (has_regexp_group : Bool) → (flags regexp : List ℕ) → Result E ErrorView → Type 0
 IsWholeEngineOf engine has_regexp_group flags regexp made =
     IsEngineOf engine false flags regexp made
-    ⊎ (IsTrue (is_asked_again engine.syntax_of has_regexp_group) × IsEngineOf engine true flags regexp made)
+    ⊎ (IsTrue (is_called_again engine.syntax_of has_regexp_group) × IsEngineOf engine true flags regexp made)
 
 -- The five fields are made of one list of parts, by this engine.
 pub record IsComponentOf {E : Type 0} (engine : Engine E) (options : OptionsView) (parts : List PartView) (component : ComponentView E) : Type 0 where
@@ -97,9 +97,9 @@ pub record IsCompiledKeeping {E : Type 0} (engine : Engine E) (text : List ℕ) 
 
 -- The error is one with which the text is rejected, or that memory ran out.
 abbrev pub FailsToRead : (text : List ℕ) → OptionsView → Encoding → Error → Type 0
-FailsToRead text options encoding error = MemoryOr (Refuses text options encoding) error
+FailsToRead text options encoding error = MemoryOr (Rejects text options encoding) error
 
 -- If the component is made of some parts, its matcher returns what they mean.
-abbrev pub AnswersByItsParts : {E : Type 0} → Engine E → OptionsView → ComponentView E → Type 0
-AnswersByItsParts engine options component =
-    (parts : List PartView) → IsComponentOf engine options parts component → AnswersByMeaning engine.answer options parts component.matcher
+abbrev pub ReturnsByItsParts : {E : Type 0} → Engine E → OptionsView → ComponentView E → Type 0
+ReturnsByItsParts engine options component =
+    (parts : List PartView) → IsComponentOf engine options parts component → ReturnsByMeaning engine.answer options parts component.matcher

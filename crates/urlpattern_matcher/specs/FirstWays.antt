@@ -1,8 +1,8 @@
 -- Values and matchers that return first ways, of any engine.
 use Rattle.std.specs.Prelude.{◌≡◌, ⊤, ℕ, false, List, Option, IsOk, IsTrue}
 use Rattle.std.specs.Str.{all_scalars}
-use Rattle.urlpattern_meaning.specs.FirstAnswers.{IsFirstOf, AnswersFirst, TookText}
-use Rattle.urlpattern_meaning.specs.Matching.{Agrees, Answers, EachAnswerIs, MatcherView, InnerView, IsMadeOf}
+use Rattle.urlpattern_meaning.specs.FirstResults.{IsFirstOf, ReturnsFirst, AcceptedText}
+use Rattle.urlpattern_meaning.specs.Matching.{Agrees, Returns, EachResultIs, MatcherView, InnerView, IsMadeOf}
 use Rattle.urlpattern_matcher.specs.Components.{ComponentView, IsComponentOf, IsEngineOf, ignores_case}
 use Rattle.urlpattern_matcher.specs.declared.regexp.RegExp.{Ghosts as Engine}
 use Rattle.urlpattern_printing.specs.Generated.{AreGenerated}
@@ -23,9 +23,9 @@ abbrev pub KeepsCase : Keeping
 KeepsCase flags = ignores_case flags ≡ false
 
 -- Each value that was made with flags that keep case returns the first way of the tree of its text.
-abbrev pub ValuesAnswerFirst : {E : Type 0} → Engine E → Keeping → Type 0
-ValuesAnswerFirst {E} engine Keeps =
-    (regexp flags : List ℕ) (value : E) → Keeps flags → engine.IsMade value regexp flags → AnswersFirst regexp (engine.answer value)
+abbrev pub ValuesReturnFirst : {E : Type 0} → Engine E → Keeping → Type 0
+ValuesReturnFirst {E} engine Keeps =
+    (regexp flags : List ℕ) (value : E) → Keeps flags → engine.IsMade value regexp flags → ReturnsFirst regexp (engine.answer value)
 
 -- Each value that was made with flags that keep case follows its text, if the text has a tree.
 abbrev pub ValuesFollowTexts : {E : Type 0} → Engine E → Keeping → Type 0
@@ -41,68 +41,68 @@ ValuesFollowParts {E} engine Keeps =
 
 -- Each value that was made of the regular expression of parts, none of them custom, returns the
 -- first way of its tree. The flags decide whether case is ignored.
-abbrev pub ValuesAnswerByFlags : {E : Type 0} → Engine E → Type 0
-ValuesAnswerByFlags {E} engine =
+abbrev pub ValuesReturnByFlags : {E : Type 0} → Engine E → Type 0
+ValuesReturnByFlags {E} engine =
     (options : OptionsView) (flags : List ℕ) (parts : List PartView) (tree : Items) (value : E) → AreGenerated parts → IsTreeOf (regexp_text options parts) tree →
     engine.IsMade value (regexp_text options parts) flags → (text : List ℕ) → engine.answer value text ≡ first_way_by (ignores_case flags) tree text
 
 -- Values of two engines that were made of the same text return the same for texts of characters.
-abbrev pub ValuesAnswerAlike : {E F : Type 0} → Engine E → (other : Engine F) → Keeping → Type 0
-ValuesAnswerAlike {E} {F} engine other Keeps =
+abbrev pub ValuesReturnAlike : {E F : Type 0} → Engine E → (other : Engine F) → Keeping → Type 0
+ValuesReturnAlike {E} {F} engine other Keeps =
     (regexp flags : List ℕ) (value : E) (another : F) (text : List ℕ) → Keeps flags → engine.IsMade value regexp flags → other.IsMade another regexp flags →
     IsTrue (all_scalars text) → engine.answer value text ≡ other.answer another text
 
 -- ---- matchers
 
 -- In which sense an engine accepted, with these options and flags, what a matcher needs.
-abbrev pub Taking : Type 0 → Type 1
-Taking E = OptionsView → (flags : List ℕ) → InnerView E → Type 0
+abbrev pub Acceptance : Type 0 → Type 1
+Acceptance E = OptionsView → (flags : List ℕ) → InnerView E → Type 0
 
 -- The engine made the matcher of parts, none of them custom, case is kept, and the engine accepted,
--- in the sense of `Took`, what the matcher needs.
-pub record IsTakenBy {E : Type 0} (engine : Engine E) (Took : Taking E) (options : OptionsView) (flags : List ℕ) (parts : List PartView) (matcher : MatcherView E) : Type 0 where
+-- in the sense of `Accepted`, what the matcher needs.
+pub record IsAcceptedBy {E : Type 0} (engine : Engine E) (Accepted : Acceptance E) (options : OptionsView) (flags : List ℕ) (parts : List PartView) (matcher : MatcherView E) : Type 0 where
   pub is_made : IsMadeOf (IsEngineOf engine false flags) options parts matcher
   pub generated : AreGenerated parts
   pub case_kept : options.ignore_case ≡ false
-  pub took : Took options flags matcher.inner
+  pub took : Accepted options flags matcher.inner
 
 -- Each result of the matcher for a text of characters without line feed is the first way of the
 -- tree of the parts: a meaning of the parts, or None if there is none.
-abbrev pub AnswersFirstWays : {E : Type 0} → (answer : E → List ℕ → Option Captures) → OptionsView → List PartView → MatcherView E → Type 0
-AnswersFirstWays answer options parts matcher =
-    EachAnswerIs answer matcher (λ text result. IsFirstOf options parts text result × Agrees options parts text result)
+abbrev pub ReturnsFirstWays : {E : Type 0} → (answer : E → List ℕ → Option Captures) → OptionsView → List PartView → MatcherView E → Type 0
+ReturnsFirstWays answer options parts matcher =
+    EachResultIs answer matcher (λ text result. IsFirstOf options parts text result × Agrees options parts text result)
 
 -- Two matchers return the same for each text of characters without line feed.
-abbrev pub AnswerAlike : {E : Type 0} → (answer : E → List ℕ → Option Captures) → (matcher another : MatcherView E) → Type 0
-AnswerAlike answer matcher another =
+abbrev pub ReturnAlike : {E : Type 0} → (answer : E → List ℕ → Option Captures) → (matcher another : MatcherView E) → Type 0
+ReturnAlike answer matcher another =
     (text : List ℕ) (result other : Option Captures) → IsTrue (lacks line_feed text) → IsTrue (all_scalars text) →
-    Answers answer matcher text result → Answers answer another text other → result ≡ other
+    Returns answer matcher text result → Returns answer another text other → result ≡ other
 
 -- Each matcher that the engine made, and for which it accepted what is needed, returns first ways.
-abbrev pub EachAnswersFirst : {E : Type 0} → (engine : Engine E) → (Took : Taking E) → Type 0
-EachAnswersFirst {E} engine Took =
+abbrev pub EachReturnsFirst : {E : Type 0} → (engine : Engine E) → (Accepted : Acceptance E) → Type 0
+EachReturnsFirst {E} engine Accepted =
     (options : OptionsView) (flags : List ℕ) (parts : List PartView) (matcher : MatcherView E) →
-    IsTakenBy engine Took options flags parts matcher → AnswersFirstWays engine.answer options parts matcher
+    IsAcceptedBy engine Accepted options flags parts matcher → ReturnsFirstWays engine.answer options parts matcher
 
 -- Two matchers that the engine made of the same parts, and for which it accepted what is needed,
 -- return the same.
-abbrev pub AllAnswerAlike : {E : Type 0} → (engine : Engine E) → (Took : Taking E) → Type 0
-AllAnswerAlike {E} engine Took =
+abbrev pub AllReturnAlike : {E : Type 0} → (engine : Engine E) → (Accepted : Acceptance E) → Type 0
+AllReturnAlike {E} engine Accepted =
     (options : OptionsView) (flags : List ℕ) (parts : List PartView) (matcher another : MatcherView E) →
-    IsTakenBy engine Took options flags parts matcher → IsTakenBy engine Took options flags parts another → AnswerAlike engine.answer matcher another
+    IsAcceptedBy engine Accepted options flags parts matcher → IsAcceptedBy engine Accepted options flags parts another → ReturnAlike engine.answer matcher another
 
 -- ---- expressions that are accepted
 
 -- The engine has a value wherever a matcher of parts needs one, if none of the parts is custom.
-abbrev pub MatchersTakeGenerated : {E : Type 0} → Engine E → Type 0
-MatchersTakeGenerated {E} engine =
+abbrev pub MatchersAcceptGenerated : {E : Type 0} → Engine E → Type 0
+MatchersAcceptGenerated {E} engine =
     (options : OptionsView) (flags : List ℕ) (parts : List PartView) (matcher : MatcherView E) →
-    IsMadeOf (IsEngineOf engine false flags) options parts matcher → AreGenerated parts → TookText (λ value. ⊤) matcher.inner
+    IsMadeOf (IsEngineOf engine false flags) options parts matcher → AreGenerated parts → AcceptedText (λ value. ⊤) matcher.inner
 
 -- The engine has a value for a component of parts, none of them custom, and wherever the
 -- component's matcher needs one.
-abbrev pub ComponentsTakeGenerated : {E : Type 0} → Engine E → Type 0
-ComponentsTakeGenerated {E} engine =
+abbrev pub ComponentsAcceptGenerated : {E : Type 0} → Engine E → Type 0
+ComponentsAcceptGenerated {E} engine =
     (options : OptionsView) (parts : List PartView) (component : ComponentView E) →
     IsComponentOf engine options parts component → AreGenerated parts →
-    IsOk component.regexp × TookText (λ value. ⊤) component.matcher.inner
+    IsOk component.regexp × AcceptedText (λ value. ⊤) component.matcher.inner

@@ -1,7 +1,7 @@
 -- The view of matchers.
 use Rattle.std.specs.Prelude.{◌≡◌, ℕ, Bool, true, false, List, [], Option, Some, None, Result, Ok, Err, option_to_list, ◌++◌, IfOk}
 use Rattle.urlpattern_matcher.specs.declared.matcher.{InnerMatcher.InnerMatcher, Matcher.Matcher}
-use Rattle.urlpattern_meaning.specs.Matching.{ArePeeled, BeginsPlain, EndsPlain, IsRemoved, InnerView, IsSame, Literal, MatcherView, RegExp, SingleCapture, end_text}
+use Rattle.urlpattern_meaning.specs.Matching.{AreStripped, BeginsPlain, EndsPlain, IsRemoved, InnerView, IsSame, Literal, MatcherView, RegExp, SingleCapture, end_text}
 use Rattle.urlpattern_syntax.specs.declared.error.Error.{Error}
 use Rattle.urlpattern_syntax.specs.Errors.{ErrorView, error_view}
 use Rattle.urlpattern_syntax.specs.{Options.OptionsView, Parts.PartView, Text.text_of}
@@ -36,18 +36,18 @@ abbrev pub literal_view : {E : Type 0} → (ignore_case : Bool) → (literal : L
 literal_view ignore_case literal = record { prefix = []; suffix = []; inner = Literal literal; ignore_case = ignore_case }
 
 -- The plain fixed texts that are removed from the ends of the parts, and the parts between them.
-abbrev pub PeelsTo : List PartView → (prefix : List ℕ) → List PartView → (suffix : List ℕ) → Type 0
-PeelsTo parts prefix middle suffix =
-    (front back : Option PartView) × ArePeeled parts front middle back × (prefix ≡ end_text front) × (suffix ≡ end_text back)
+abbrev pub StripsFixedTexts : List PartView → (prefix : List ℕ) → List PartView → (suffix : List ℕ) → Type 0
+StripsFixedTexts parts prefix middle suffix =
+    (front back : Option PartView) × AreStripped parts front middle back × (prefix ≡ end_text front) × (suffix ≡ end_text back)
 
 -- The plain fixed text that is removed from the start of the parts, and the parts after it.
-abbrev pub PeelsFront : List PartView → (prefix : List ℕ) → List PartView → Type 0
-PeelsFront parts prefix rest =
+abbrev pub StripsFixedPrefix : List PartView → (prefix : List ℕ) → List PartView → Type 0
+StripsFixedPrefix parts prefix rest =
     (front : Option PartView) × (parts ≡ option_to_list front ++ rest) × IsRemoved front (BeginsPlain parts) × (prefix ≡ end_text front)
 
 -- The plain fixed text that is removed from the end of the parts, and the parts before it.
-abbrev pub PeelsBack : List PartView → List PartView → (suffix : List ℕ) → Type 0
-PeelsBack parts middle suffix =
+abbrev pub StripsFixedSuffix : List PartView → List PartView → (suffix : List ℕ) → Type 0
+StripsFixedSuffix parts middle suffix =
     (back : Option PartView) × (parts ≡ middle ++ option_to_list back) × IsRemoved back (EndsPlain parts) × (suffix ≡ end_text back)
 
 -- What a wildcard without modifier captures: the character that the text may not contain, and

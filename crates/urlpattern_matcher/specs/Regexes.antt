@@ -40,8 +40,8 @@ found_texts found = group_texts (captures_haystack found) (length (captures_name
 
 -- What the groups of the first match in the text span, without group 0, the whole match, or None if
 -- there is no match.
-unfoldable pub regex_answer : Regex → List ℕ → Option Captures
-regex_answer regex text =
+unfoldable pub regex_result : Regex → List ℕ → Option Captures
+regex_result regex text =
     let bytes = encode_utf8_all text in
     let count = length (regex_names regex) - 1 in
     option_map (λ found. group_texts bytes count (group_of found)) (find_str (regex_pattern regex) bytes 0)
@@ -51,21 +51,21 @@ abbrev pub HasFewGroups : (regexp : List ℕ) → Type 0
 HasFewGroups regexp = IsTrue (all_scalars regexp) × ((tree : Items) × IsTreeOf regexp tree × (group_count tree < 2 ^ 32 - 1))
 
 -- The grammar rejects the text only because memory ran out.
-abbrev pub IsRefusedForMemory : (regexp : List ℕ) → Type 0
-IsRefusedForMemory regexp = (kind : ErrorKind) → Refuses default_syntax (encode_utf8_all regexp) kind → kind ≡ ErrorKind.OutOfMemory
+abbrev pub IsRejectedForMemory : (regexp : List ℕ) → Type 0
+IsRejectedForMemory regexp = (kind : ErrorKind) → Refuses default_syntax (encode_utf8_all regexp) kind → kind ≡ ErrorKind.OutOfMemory
 
 -- The regular expression of parts, none of them custom and with few groups, is rejected only
 -- because memory ran out.
-abbrev pub TakesGeneratedSyntax : Type 0
-TakesGeneratedSyntax = (options : OptionsView) (parts : List PartView) →
-    AreGenerated parts → HasFewGroups (regexp_text options parts) → IsRefusedForMemory (regexp_text options parts)
+abbrev pub AcceptsGeneratedSyntax : Type 0
+AcceptsGeneratedSyntax = (options : OptionsView) (parts : List PartView) →
+    AreGenerated parts → HasFewGroups (regexp_text options parts) → IsRejectedForMemory (regexp_text options parts)
 
 -- The engine `regex`: it ignores flags, and may reject any text.
 abbrev pub regex_engine : Engine Regex
 regex_engine = record {
   syntax_of = Rust;
   IsMade = λ regex regexp flags. IsRegexOf regexp regex;
-  MayRefuse = λ regexp flags force_eval. ⊤;
-  answer = regex_answer;
+  MayReject = λ regexp flags force_eval. ⊤;
+  answer = regex_result;
   text_made_of = regex_text;
 }

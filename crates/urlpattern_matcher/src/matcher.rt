@@ -4,7 +4,7 @@ ghost use Rattle.std.specs.Prelude.{◌≡◌, ◌↔◌, [], ℕ, List, IfErr, 
 ghost use Rattle.std.specs.{Char.to_ascii_lowercase, Str.chars};
 ghost use Rattle.urlpattern_meaning.specs.CaptureTexts.{captures_view};
 ghost use Rattle.urlpattern_matcher.specs.Matchers.{BeginsWithFolded, EndsWithFolded, matcher_view};
-ghost use Rattle.urlpattern_meaning.specs.Matching.{Answers, AsksEngine, HasMiddle, IsMatched, IsSame, MayBeEmpty, MayRunOutOfMemory, PassesFilter};
+ghost use Rattle.urlpattern_meaning.specs.Matching.{Returns, CallsEngine, HasMiddle, IsMatched, IsSame, MayBeEmpty, MayRunOutOfMemory, PassesFilter};
 ghost use Rattle.urlpattern_syntax.specs.{Errors.OnlyOutOfMemory, Text.lacks};
 
 mod look;
@@ -78,7 +78,7 @@ impl<R: RegExp> Matcher<R> {
         alloc: Global,
         input: &'a str,
     ) -> Result<Option<Vec<Option<&'a str>>>, Error>
-        ensures answer { IfOk result (λ found. Answers R.answer (matcher_view self.now) (chars input.now) (captures_view found)) }
+        ensures answer { IfOk result (λ found. Returns R.answer (matcher_view self.now) (chars input.now) (captures_view found)) }
         ensures memory { OnlyOutOfMemory result }
         ensures asked { IfErr result (λ _. MayRunOutOfMemory R.answer (matcher_view self.now) (chars input.now)) }
     {
@@ -96,7 +96,7 @@ impl<R: RegExp> Matcher<R> {
     pub fn accepts(&self, alloc: Global, input: &str) -> Result<bool, Error>
         ensures answer { IfOk result (λ accepted. IsTrue accepted ↔ IsMatched R.answer (matcher_view self.now) (chars input.now)) }
         ensures memory { OnlyOutOfMemory result }
-        ensures asked { IfErr result (λ _. AsksEngine (matcher_view self.now) (chars input.now)) }
+        ensures asked { IfErr result (λ _. CallsEngine (matcher_view self.now) (chars input.now)) }
     {
         match self.look(input) {
             None => Ok(false),

@@ -20,7 +20,7 @@ use urlpattern_syntax::error::{OutOfMemory, RegExpError};
 /// A regular expression, compiled by an engine.
 ///
 /// The ghost members say what an engine means: `syntax_of` is the syntax that it accepts, `IsMade`
-/// says which values are made of a text and flags, `MayRefuse` which texts, flags and `force_eval`
+/// says which values are made of a text and flags, `MayReject` which texts, flags and `force_eval`
 /// it may reject, `answer` what a value returns for a text, and `text_made_of` which text a value
 /// was made of.
 pub trait RegExp: Sized + Drop {
@@ -28,7 +28,7 @@ pub trait RegExp: Sized + Drop {
 
     ghost IsMade: { Self → (regexp flags : List ℕ) → Type 0 };
 
-    ghost MayRefuse: { (regexp flags : List ℕ) → (force_eval : Bool) → Type 0 };
+    ghost MayReject: { (regexp flags : List ℕ) → (force_eval : Bool) → Type 0 };
 
     ghost answer: { Self → List ℕ → Option Captures };
 
@@ -51,7 +51,7 @@ pub trait RegExp: Sized + Drop {
         force_eval: bool,
     ) -> Result<Self, RegExpError>
         ensures made { IfOk result (λ engine. IsMade engine (chars pattern.now) (chars flags.now)) }
-        ensures refused { result ≡ Err Pattern → MayRefuse (chars pattern.now) (chars flags.now) force_eval };
+        ensures refused { result ≡ Err Pattern → MayReject (chars pattern.now) (chars flags.now) force_eval };
 
     /// Compiles a text to a value that is kept and hardly ever matched, so that an engine may put
     /// off work until a match. `is_generated` says that the text was generated from parts, none of
@@ -65,7 +65,7 @@ pub trait RegExp: Sized + Drop {
     ) -> Result<Self, RegExpError>
         requires { is_generated ≡ true → IsGenerated (text_of pattern) }
         ensures made { IfOk result (λ engine. IsMade engine (text_of pattern) (chars flags.now)) }
-        ensures refused { result ≡ Err Pattern → MayRefuse (text_of pattern) (chars flags.now) force_eval }
+        ensures refused { result ≡ Err Pattern → MayReject (text_of pattern) (chars flags.now) force_eval }
     {
         Self::parse(alloc, &pattern, flags, force_eval)
     }
@@ -103,7 +103,7 @@ impl RegExp for Regex {
 
     ghost IsMade = { regex_engine.IsMade };
 
-    ghost MayRefuse = { regex_engine.MayRefuse };
+    ghost MayReject = { regex_engine.MayReject };
 
     ghost answer = { regex_engine.answer };
 

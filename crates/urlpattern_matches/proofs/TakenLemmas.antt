@@ -10,14 +10,14 @@ use Rattle.urlpattern_components.specs.Eight.{at}
 use Rattle.urlpattern_matches.specs.ResultViews.{results_of}
 use Rattle.urlpattern_matches.specs.declared.result.UrlPatternResult.{UrlPatternResult}
 use Rattle.urlpattern_components.specs.declared.eight.ComponentName.{ComponentName}
-use Rattle.urlpattern_matches.specs.BorrowedMatches.{GroupText, NamedGroup, all_listed_groups, lent_group, listed_entries, listed_groups, named_groups, text_captured, texts_captured}
+use Rattle.urlpattern_matches.specs.BorrowedMatches.{GroupText, NamedGroup, all_listed_groups, borrowed_group, listed_entries, listed_groups, named_groups, text_captured, texts_captured}
 
 abbrev pub Lent : Type 0
 Lent = ComponentName × Bor (List ℕ) × Bor (List ℕ)
 
-pub taken-end : (left : List NamedGroup) (gathered : List Lent) (all : List GroupText) → left ≡ [] → map lent_group gathered ++ texts_captured left ≡ all → map lent_group gathered ≡ all
+pub taken-end : (left : List NamedGroup) (gathered : List Lent) (all : List GroupText) → left ≡ [] → map borrowed_group gathered ++ texts_captured left ≡ all → map borrowed_group gathered ≡ all
 taken-end left gathered all ends was =
-    sym (append-nil (map lent_group gathered)) ∙ ap (λ groups. map lent_group gathered ++ texts_captured groups) (sym ends) ∙ was
+    sym (append-nil (map borrowed_group gathered)) ∙ ap (λ groups. map borrowed_group gathered ++ texts_captured groups) (sym ends) ∙ was
 
 -- ---- the groups of a map
 
@@ -25,17 +25,17 @@ abbrev pub Entries : Type 0
 Entries = List (String Global × Option (String Global))
 
 pub entry-end : (component : ComponentName) (left : Entries) (gathered : List Lent) (all : List GroupText) → left ≡ [] →
-    map lent_group gathered ++ texts_captured (named_groups component (listed_entries left)) ≡ all → map lent_group gathered ≡ all
+    map borrowed_group gathered ++ texts_captured (named_groups component (listed_entries left)) ≡ all → map borrowed_group gathered ≡ all
 entry-end component left gathered all ends was =
-    sym (append-nil (map lent_group gathered))
-    ∙ ap (λ entries. map lent_group gathered ++ texts_captured (named_groups component (listed_entries entries))) (sym ends) ∙ was
+    sym (append-nil (map borrowed_group gathered))
+    ∙ ap (λ entries. map borrowed_group gathered ++ texts_captured (named_groups component (listed_entries entries))) (sym ends) ∙ was
 
 -- ---- the groups of a further component
 
 pub component-more : (result : UrlPatternResult) (names : List ComponentName) (i : ℕ) (d : ComponentName) (old new : List Lent) → i < length names →
-    map lent_group old ≡ texts_captured (all_listed_groups result (take i names)) →
-    map lent_group new ≡ map lent_group old ++ texts_captured (named_groups (get_or names i d) (listed_groups (at (results_of result) (get_or names i d)).groups)) →
-    map lent_group new ≡ texts_captured (all_listed_groups result (take (i + 1) names))
+    map borrowed_group old ≡ texts_captured (all_listed_groups result (take i names)) →
+    map borrowed_group new ≡ map borrowed_group old ++ texts_captured (named_groups (get_or names i d) (listed_groups (at (results_of result) (get_or names i d)).groups)) →
+    map borrowed_group new ≡ texts_captured (all_listed_groups result (take (i + 1) names))
 component-more result names i d old new within was added =
     let groups_of = λ (component : ComponentName). named_groups component (listed_groups (at (results_of result) component).groups) in
     let before = flat_map groups_of (take i names) in

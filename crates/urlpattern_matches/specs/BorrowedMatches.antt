@@ -66,12 +66,12 @@ abbrev pub texts_captured : List NamedGroup → List GroupText
 texts_captured groups = filter_map text_captured groups
 
 -- A group with borrowed name and capture, as texts.
-abbrev pub lent_group : ComponentName × Bor (List ℕ) × Bor (List ℕ) → GroupText
-lent_group group = (group.0, chars group.1.now, chars group.2.now)
+abbrev pub borrowed_group : ComponentName × Bor (List ℕ) × Bor (List ℕ) → GroupText
+borrowed_group group = (group.0, chars group.1.now, chars group.2.now)
 
 -- The new list is the old one, followed by the groups of the component that took part.
-abbrev pub GetTaken : (old new : List (ComponentName × Bor (List ℕ) × Bor (List ℕ))) → ComponentName → List (List ℕ × Option (List ℕ)) → Type 0
-GetTaken old new component groups = map lent_group new ≡ map lent_group old ++ texts_captured (named_groups component groups)
+abbrev pub AddsParticipating : (old new : List (ComponentName × Bor (List ℕ) × Bor (List ℕ))) → ComponentName → List (List ℕ × Option (List ℕ)) → Type 0
+AddsParticipating old new component groups = map borrowed_group new ≡ map borrowed_group old ++ texts_captured (named_groups component groups)
 
 -- ---- the groups of a result
 

@@ -9,7 +9,7 @@ use Rattle.urlpattern_matches.specs.declared.captures.GroupCaptures.TheVariants 
 use Rattle.urlpattern_matches.specs.declared.captures.Missed.TheVariants as missed
 use Rattle.urlpattern_matches.specs.declared.result.UrlPatternResult.{UrlPatternResult}
 use Rattle.urlpattern_matches.specs.ResultViews.{group_in, group_of, result_view}
-use Rattle.urlpattern_matcher.specs.Looks.{look_answer, IsAsking}
+use Rattle.urlpattern_matcher.specs.Looks.{look_result, NeedsEngine}
 use Rattle.urlpattern_matcher.specs.declared.matcher.look.Look.{Look}
 use Rattle.urlpattern_meaning.specs.PartMeaning.{Captures}
 use Rattle.urlpattern_syntax.specs.Text.{option_text, text_of}
@@ -27,9 +27,9 @@ captures_of (captured.Groups captures) = map option_text captures.items
 
 -- The captures of a look: a match, no match, or an engine that was called and ran out of memory.
 abbrev pub IsCapturedOf : {E : Type 0} → (answer : E → List ℕ → Option Captures) → Look E → Result GroupCaptures Missed → Type 0
-IsCapturedOf answer look (Ok captured) = look_answer answer (Some look) ≡ Some (captures_of captured)
-IsCapturedOf answer look (Err missed.Unmatched) = look_answer answer (Some look) ≡ None
-IsCapturedOf answer look (Err missed.OutOfMemory) = IsAsking look
+IsCapturedOf answer look (Ok captured) = look_result answer (Some look) ≡ Some (captures_of captured)
+IsCapturedOf answer look (Err missed.Unmatched) = look_result answer (Some look) ≡ None
+IsCapturedOf answer look (Err missed.OutOfMemory) = NeedsEngine look
 
 -- The text is copied, unless memory ran out.
 abbrev pub IsTextCopied : List ℕ → Result (String Global) AllocError → Type 0
@@ -57,5 +57,5 @@ abbrev pub texts_of : List (String Global) → List (List ℕ)
 texts_of strings = map (λ text. text_of text) strings
 
 -- The bytes of borrowed texts.
-abbrev pub lent_bytes : List (Bor (List ℕ)) → List (List ℕ)
-lent_bytes texts = map (λ text. text.now) texts
+abbrev pub borrowed_bytes : List (Bor (List ℕ)) → List (List ℕ)
+borrowed_bytes texts = map (λ text. text.now) texts

@@ -3,8 +3,8 @@ use Rattle.std.specs.Prelude.{ℕ, List, [], Ok}
 use Rattle.url.specs.Parser.{Parsed, and_then}
 use Rattle.urlpattern_init.specs.declared.init.UrlPatternMatchInput.{UrlPatternMatchInput}
 use Rattle.urlpattern_init.specs.declared.init.UrlPatternMatchInput.TheVariants.{Init, Url as UrlInput}
-use Rattle.urlpattern_init.specs.Inheritance.{init_bytes, init_values, texts_of_url, texts_of_values}
-use Rattle.urlpattern_canonical.specs.Canonical.{IsRefusedByUrl}
+use Rattle.urlpattern_init.specs.Inheritance.{longest_init_bytes, init_values, texts_of_url, texts_of_values}
+use Rattle.urlpattern_canonical.specs.Canonical.{IsRejectedByUrl}
 use Rattle.urlpattern_canonical.specs.declared.canonicalize_and_process.ProcessType.TheVariants.{Url}
 use Rattle.urlpattern_inputs.specs.InputValues.{matched_texts}
 use Rattle.urlpattern_inputs.specs.declared.match_input.MatchInput.{MatchInput}
@@ -26,9 +26,9 @@ input_texts (UrlInput url) = Ok (texts_of_url url)
 
 -- The length, in bytes, of the longest text that is passed to `url`; 0 for a URL.
 abbrev pub input_bytes : UrlPatternMatchInput → ℕ
-input_bytes (Init init) = init_bytes Url init
+input_bytes (Init init) = longest_init_bytes Url init
 input_bytes (UrlInput url) = 0
 
 -- The input has no texts: `url` rejects one of them, or one of them is too long.
 abbrev pub IsNoInput : UrlPatternMatchInput → Type 0
-IsNoInput input = IsRefusedByUrl (input_texts input) (input_bytes input)
+IsNoInput input = IsRejectedByUrl (input_texts input) (input_bytes input)

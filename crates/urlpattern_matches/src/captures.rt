@@ -2,7 +2,7 @@
 ghost use Rattle.std.specs.Prelude.{◌≡◌, map, option_map, IfOk, IsSomeAnd};
 ghost use Rattle.std.specs.Str.{chars};
 ghost use Rattle.urlpattern_matches.specs.declared.captures.Missed.TheVariants as all_missed;
-ghost use Rattle.urlpattern_matches.specs.BorrowedMatches.{all_groups_left, all_groups_view, groups_left, groups_view, lent_group, pattern_captures_view, texts_captured, IsCopyOfMatch};
+ghost use Rattle.urlpattern_matches.specs.BorrowedMatches.{all_groups_left, all_groups_view, groups_left, groups_view, borrowed_group, pattern_captures_view, texts_captured, IsCopyOfMatch};
 ghost use Rattle.urlpattern_matches.specs.GroupTexts.{IsCapturedOf, captures_of, texts_of, HasNoGroups, IsWithoutGroups};
 ghost use Rattle.urlpattern_matches.specs.ResultViews.{captured_text, component_result_view, group_of, took_part, IsSameResult};
 ghost use Rattle.urlpattern_syntax.specs.Text.{option_text};
@@ -136,7 +136,7 @@ impl<'p, 'u> UrlPatternCaptures<'p, 'u> {
     /// Returns the groups that took part, in the order of `iter`: component, name and capture, as
     /// `UrlPattern::link` and `generate` expect them.
     pub fn to_groups(&self, alloc: Global) -> Result<Vec<(ComponentName, &'p str, &'u str)>, Error>
-        ensures all { IfOk result (λ groups. map lent_group groups.items ≡ texts_captured (all_groups_view self.now components)) }
+        ensures all { IfOk result (λ groups. map borrowed_group groups.items ≡ texts_captured (all_groups_view self.now components)) }
         ensures memory { OnlyOutOfMemory result }
     {
         let mut groups = Vec::new(alloc);

@@ -4,8 +4,8 @@ ghost use Rattle.std.specs.HashMap.{IsUnique, get_by_text, keys};
 ghost use Rattle.std.specs.Ordering.{nat_cmp};
 ghost use Rattle.std.specs.Prelude.{◌≡◌, map, option_copied, string_bytes, string_eq, IfOk, IsPermutation, IsSorted, OnOk};
 ghost use Rattle.std.specs.Str.{chars};
-ghost use Rattle.urlpattern_matches.specs.BorrowedMatches.{all_listed_groups, lent_group, listed_groups, texts_captured, GetTaken, HasDistinctGroups};
-ghost use Rattle.urlpattern_matches.specs.GroupTexts.{captured_bytes, lent_bytes, texts_of, AreGroups, HasNoGroups, IsWithoutGroups};
+ghost use Rattle.urlpattern_matches.specs.BorrowedMatches.{all_listed_groups, borrowed_group, listed_groups, texts_captured, AddsParticipating, HasDistinctGroups};
+ghost use Rattle.urlpattern_matches.specs.GroupTexts.{captured_bytes, borrowed_bytes, texts_of, AreGroups, HasNoGroups, IsWithoutGroups};
 ghost use Rattle.urlpattern_matches.specs.ResultViews.{captured_text, component_result_view, result_view, results_of, IsCopy};
 ghost use Rattle.urlpattern_components.specs.Eight.{at, components};
 ghost use Rattle.urlpattern_components.specs.declared.eight.ComponentName.{ComponentName as Name};
@@ -127,13 +127,13 @@ impl UrlPatternResult {
     ///
     /// Components are in the order of the standard, and the groups of each component in any order.
     pub fn to_groups(&self, alloc: Global) -> Result<Vec<(ComponentName, &str, &str)>, Error>
-        ensures all { IfOk result (λ groups. map lent_group groups.items ≡ texts_captured (all_listed_groups self.now components)) }
+        ensures all { IfOk result (λ groups. map borrowed_group groups.items ≡ texts_captured (all_listed_groups self.now components)) }
         ensures differ { IfOk result (λ groups. (component : Name) → HasDistinctGroups self.now component) }
         ensures memory { OnlyOutOfMemory result }
     {
         let mut taken = Vec::new(alloc);
         for component in ComponentName::all() {
-            add_taken(&mut taken, component, &self.component(component).groups)?;
+            add_participating(&mut taken, component, &self.component(component).groups)?;
         }
         Ok(taken)
     }
@@ -162,8 +162,8 @@ impl UrlPatternComponentResult {
     /// Returns the names of the groups, in the order of their bytes.
     pub fn sorted_names(&self, alloc: Global) -> Result<Vec<&str>, Error>
         ensures differ { IfOk result (λ names. IsUnique string_eq self.now.groups) }
-        ensures all { IfOk result (λ names. IsPermutation (map (λ name. string_bytes name) (keys self.now.groups)) (lent_bytes names.items)) }
-        ensures in_order { IfOk result (λ names. IsSorted (slice_cmp nat_cmp) (lent_bytes names.items)) }
+        ensures all { IfOk result (λ names. IsPermutation (map (λ name. string_bytes name) (keys self.now.groups)) (borrowed_bytes names.items)) }
+        ensures in_order { IfOk result (λ names. IsSorted (slice_cmp nat_cmp) (borrowed_bytes names.items)) }
         ensures memory { OnlyOutOfMemory result }
     {
         let mut names = names_of(alloc, &self.groups)?;
@@ -199,12 +199,12 @@ impl UrlPatternComponentResult {
 }
 
 /// Adds the groups of a component that took part.
-fn add_taken<'r>(
+fn add_participating<'r>(
     taken: &mut Vec<(ComponentName, &'r str, &'r str)>,
     component: ComponentName,
     groups: &'r Groups,
 ) -> Result<(), AllocError>
-    ensures added { OnOk result (GetTaken taken.old.items taken.new.items component (listed_groups groups.now)) }
+    ensures added { OnOk result (AddsParticipating taken.old.items taken.new.items component (listed_groups groups.now)) }
     ensures differ { OnOk result (IsUnique string_eq groups.now) }
 {
     for (name, capture) in groups {
@@ -217,7 +217,7 @@ fn add_taken<'r>(
 
 /// Returns the names of groups.
 fn names_of(alloc: Global, groups: &Groups) -> Result<Vec<&str>, AllocError>
-    ensures all { IfOk result (λ names. lent_bytes names.items ≡ map (λ name. string_bytes name) (keys groups.now)) }
+    ensures all { IfOk result (λ names. borrowed_bytes names.items ≡ map (λ name. string_bytes name) (keys groups.now)) }
     ensures differ { IfOk result (λ names. IsUnique string_eq groups.now) }
 {
     let mut names = Vec::with_capacity(alloc, groups.len())?;

@@ -3,16 +3,16 @@
 use Rattle.std.proofs.Common.{◌≡◌, ◌≢◌, ℕ, List, [], ◌∷◌, ap, inl, inr, refl}
 use Rattle.std.specs.Prelude.{Result, Ok, Err}
 use Rattle.urlpattern_meaning.proofs.ReadingLaws.{reading_one, reading_or_refusal, refusal_one}
-use Rattle.urlpattern_meaning.specs.Laws.{AnswersOnce, AnswersOnceGivenMemory, HasOutcome, Outcome}
+use Rattle.urlpattern_meaning.specs.Laws.{ReturnsOnce, ReturnsOnceGivenMemory, HasOutcome, Outcome}
 use Rattle.urlpattern_syntax.specs.Errors.{ErrorView, ErrorView as errors}
 use Rattle.urlpattern_syntax.specs.Options.{OptionsView}
 use Rattle.urlpattern_syntax.specs.Parts.{PartView}
-use Rattle.urlpattern_syntax.specs.Reading.{AreMet, AreParts, Capture, Demand, Encode, Encoding, Expect, Fails, FirstFails, Fixed, IsMet, Item, NewName, Reads, Refuses, demands, items_of}
+use Rattle.urlpattern_syntax.specs.Reading.{AreMet, AreParts, Capture, Demand, Encode, Encoding, Expect, Fails, FirstFails, Fixed, IsMet, Item, NewName, Reads, Rejects, demands, items_of}
 use Rattle.urlpattern_syntax.specs.Pieces.{Ending as endings}
 
 -- ---- one outcome
 
-pub outcome_one : (text : List ℕ) (options : OptionsView) (encoding : Encoding) (outcome other : Outcome) → AnswersOnce encoding →
+pub outcome_one : (text : List ℕ) (options : OptionsView) (encoding : Encoding) (outcome other : Outcome) → ReturnsOnce encoding →
     HasOutcome text options encoding outcome → HasOutcome text options encoding other → outcome ≡ other
 outcome_one text options encoding (Ok parts) (Ok others) once reads more = ap Ok (reading_one text options encoding parts others once reads more)
 outcome_one text options encoding (Ok parts) (Err error) once reads refuses = absurd (reading_or_refusal text options encoding parts error once reads refuses)
@@ -66,7 +66,7 @@ module _ (Passes : Result (List ℕ) ErrorView → Type 0) (texts_pass : (text :
   first_still_fails (demand ∷ rest) error passes (inr later) = inr (still_met demand later.0, first_still_fails rest error passes later.1)
 
   -- A rejection needs its own error alone.
-  pub still_refuses : (text : List ℕ) (options : OptionsView) (error : ErrorView) → Passes (Err error) → Refuses text options encoding error → Refuses text options (passing Passes encoding) error
+  pub still_refuses : (text : List ℕ) (options : OptionsView) (error : ErrorView) → Passes (Err error) → Rejects text options encoding error → Rejects text options (passing Passes encoding) error
   still_refuses text options error passes (inl fault) = inl fault
   still_refuses text options error passes (inr demand) = inr (record {
     tokens = demand.tokens;
@@ -87,7 +87,7 @@ module _ (Passes : Result (List ℕ) ErrorView → Type 0) (texts_pass : (text :
 abbrev IsGivenMemory : Result (List ℕ) ErrorView → Type 0
 IsGivenMemory answer = answer ≢ Err errors.OutOfMemory
 
-given_once : (encoding : Encoding) → AnswersOnceGivenMemory encoding → AnswersOnce (passing IsGivenMemory encoding)
+given_once : (encoding : Encoding) → ReturnsOnceGivenMemory encoding → ReturnsOnce (passing IsGivenMemory encoding)
 given_once encoding once text answer other one two = once text answer other one.0 two.0 one.1 two.1
 
 text_given : (text : List ℕ) → IsGivenMemory (Ok text)
@@ -96,7 +96,7 @@ text_given text same = cc
 error_given : (outcome : Outcome) → outcome ≢ Err errors.OutOfMemory → (error : ErrorView) → outcome ≡ Err error → IsGivenMemory (Err error)
 error_given outcome given error is same = given (let whole : outcome ≡ Err errors.OutOfMemory = cc in whole)
 
-pub outcome_one_given_memory : (text : List ℕ) (options : OptionsView) (encoding : Encoding) (outcome other : Outcome) → AnswersOnceGivenMemory encoding →
+pub outcome_one_given_memory : (text : List ℕ) (options : OptionsView) (encoding : Encoding) (outcome other : Outcome) → ReturnsOnceGivenMemory encoding →
     outcome ≢ Err errors.OutOfMemory → other ≢ Err errors.OutOfMemory →
     HasOutcome text options encoding outcome → HasOutcome text options encoding other → outcome ≡ other
 outcome_one_given_memory text options encoding outcome other once given another has more =
@@ -114,7 +114,7 @@ abbrev IsText : Result (List ℕ) ErrorView → Type 0
 IsText (Ok text) = Unit {0}
 IsText (Err error) = ⊥
 
-texts_once : (encoding : Encoding) → EncodesOnce encoding → AnswersOnce (passing IsText encoding)
+texts_once : (encoding : Encoding) → EncodesOnce encoding → ReturnsOnce (passing IsText encoding)
 texts_once encoding once text (Ok answer) (Ok other) one two = ap Ok (once text answer other one.0 two.0)
 texts_once encoding once text (Ok answer) (Err error) one two = absurd two.1
 texts_once encoding once text (Err error) other one two = absurd one.1

@@ -72,7 +72,7 @@ copies_core IsPiece prefix suffix (suc n) text (first, rest, cut, (piece, e, is)
 pub core_copies : (IsPiece : List ℕ → Type 0) (prefix suffix : List ℕ) (n : ℕ) (core text : List ℕ) → text ≡ prefix ++ core ++ suffix → IsCore IsPiece prefix suffix n core →
     IsRepeated (IsBetween IsPiece prefix suffix) (suc n) text
 core_copies IsPiece prefix suffix zero core text e is = (text, [], sym (append-nil text), (core, e, one_core IsPiece prefix suffix core is), refl)
-core_copies IsPiece prefix suffix (suc n) core text e (first, rest, cut, is, (stretch, behind, next_cut, (piece, f, next), more)) = (
+core_copies IsPiece prefix suffix (suc n) core text e (first, rest, cut, is, (substring, behind, next_cut, (piece, f, next), more)) = (
   prefix ++ first ++ suffix,
   prefix ++ (piece ++ behind) ++ suffix,
   e

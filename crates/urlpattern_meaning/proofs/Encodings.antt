@@ -3,7 +3,7 @@ use Rattle.std.proofs.Common.{ℕ, Result, Ok, Err, List, [], ◌∷◌, inl, in
 use Rattle.urlpattern_syntax.specs.Errors.{ErrorView}
 use Rattle.urlpattern_syntax.specs.Options.{OptionsView}
 use Rattle.urlpattern_syntax.specs.Parts.{PartView}
-use Rattle.urlpattern_syntax.specs.Reading.{AreMet, AreParts, Capture, Demand, Encode, Encoding, Expect, Fails, FirstFails, Fixed, IsMet, Item, NewName, Reads, Refuses, demands, items_of}
+use Rattle.urlpattern_syntax.specs.Reading.{AreMet, AreParts, Capture, Demand, Encode, Encoding, Expect, Fails, FirstFails, Fixed, IsMet, Item, NewName, Reads, Rejects, demands, items_of}
 use Rattle.urlpattern_syntax.specs.Pieces.{Ending as endings}
 
 -- The weak encoding may return all that the strong one may.
@@ -50,7 +50,7 @@ reads_weaker strong weak h text options parts r = record {
   are_parts = are_parts strong weak h options (items_of r.pieces) parts r.are_parts;
 }
 
-pub refuses_weaker : (strong weak : Encoding) → Weakens strong weak → (text : List ℕ) (options : OptionsView) (error : ErrorView) → Refuses text options strong error → Refuses text options weak error
+pub refuses_weaker : (strong weak : Encoding) → Weakens strong weak → (text : List ℕ) (options : OptionsView) (error : ErrorView) → Rejects text options strong error → Rejects text options weak error
 refuses_weaker strong weak h text options error r = elim r [
   | inl fault ↦ inl fault
   | inr demand ↦ inr (record {

@@ -5,7 +5,7 @@ use Rattle.std.proofs.lemmas.List.{length-map, map-append}
 use Rattle.std.specs.Char.{to_ascii_lowercase}
 use Rattle.urlpattern_meaning.specs.Dialect.{Quantifier, Once, Optional, ZeroOrMore, OneOrMore, LazyOneOrMore, Items, Nothing, Item, Atom, Literal, Dot, AnyBut, Captured, Grouped, Character, Plain, Escaped, character_of, atom_group_count, group_count}
 use Rattle.urlpattern_meaning.specs.Matching.{folded, folded_captures, folded_character, is_same_character}
-use Rattle.urlpattern_meaning.specs.Ways.{Way, Choice, atom_ways, atom_ways_by, capturing, continued, first_way, first_way_by, folded_atom, folded_items, folded_written, idle, is_shorter, joined_way, looped, more_rounds, one_that, ordered, quantified_ways, ways, ways_by}
+use Rattle.urlpattern_meaning.specs.Ways.{Way, Choice, atom_ways, atom_ways_by, capturing, continued, first_way, first_way_by, folded_atom, folded_items, folded_written, empty_way, is_shorter, joined_way, looped, more_rounds, one_that, ordered, quantified_ways, ways, ways_by}
 
 -- ---- trees
 
@@ -64,7 +64,7 @@ none_folded : (n : ℕ) → folded_captures (replicate n None) ≡ replicate n N
 none_folded zero = refl
 none_folded (suc n) = ap (λ l. None ∷ l) (none_folded n)
 
-idle_folded : (groups : ℕ) (text : List ℕ) → folded_way (idle groups text) ≡ idle groups (lower text)
+idle_folded : (groups : ℕ) (text : List ℕ) → folded_way (empty_way groups text) ≡ empty_way groups (lower text)
 idle_folded groups text = ap (λ c. record { taken = []; captures = c; rest = lower text }) (none_folded groups)
 
 joined_folded : (way next : Way) → folded_way (joined_way way next) ≡ joined_way (folded_way way) (folded_way next)
@@ -113,7 +113,7 @@ module _ (greedy : Bool) (atom other : Choice) (folds : Folds atom other) where
   rounds_folded : (n : ℕ) → Folds (more_rounds greedy atom n) (more_rounds greedy other n)
   rounds_folded zero text = ap (λ w. w ∷ []) (idle_folded 0 text)
   rounds_folded (suc n) text =
-      ordered_folded greedy (continued next (atom text)) (idle 0 text ∷ [])
+      ordered_folded greedy (continued next (atom text)) (empty_way 0 text ∷ [])
       ∙ ap₂ (ordered greedy)
       (continued_folded next also (λ rest. either_folded (is_shorter rest text) (is_shorter (lower rest) (lower text)) _ _ _ _ (shorter_folded rest text) (rounds_folded n rest) refl) (atom text)
       ∙ ap (continued also) (folds text))
@@ -136,14 +136,14 @@ module _ (greedy : Bool) (atom other : Choice) (folds : Folds atom other) where
       ∙ ap (continued also) (folds text)
     where
       next : Choice
-      next rest = cond (is_shorter rest text) (more_rounds greedy atom (length rest) rest) (idle 0 rest ∷ [])
+      next rest = cond (is_shorter rest text) (more_rounds greedy atom (length rest) rest) (empty_way 0 rest ∷ [])
 
       also : Choice
-      also rest = cond (is_shorter rest (lower text)) (more_rounds greedy other (length rest) rest) (idle 0 rest ∷ [])
+      also rest = cond (is_shorter rest (lower text)) (more_rounds greedy other (length rest) rest) (empty_way 0 rest ∷ [])
 
-or_idle : (groups : ℕ) (choice other : Choice) → Folds choice other → Folds (λ text. choice text ++ idle groups text ∷ []) (λ text. other text ++ idle groups text ∷ [])
+or_idle : (groups : ℕ) (choice other : Choice) → Folds choice other → Folds (λ text. choice text ++ empty_way groups text ∷ []) (λ text. other text ++ empty_way groups text ∷ [])
 or_idle groups choice other folds text =
-    map-append folded_way (choice text) (idle groups text ∷ []) ∙ ap₂ (λ xs w. xs ++ w ∷ []) (folds text) (idle_folded groups text)
+    map-append folded_way (choice text) (empty_way groups text ∷ []) ∙ ap₂ (λ xs w. xs ++ w ∷ []) (folds text) (idle_folded groups text)
 
 quantified_folded : (quantifier : Quantifier) (groups : ℕ) (atom other : Choice) → Folds atom other → Folds (quantified_ways quantifier groups atom) (quantified_ways quantifier groups other)
 quantified_folded Once groups atom other folds = folds

@@ -1,7 +1,7 @@
 pub mod PlaceholderForms
 pub mod BraceForms
 pub mod PiecesUnique
-pub mod FrontTokens
+pub mod BodyStartTokens
 pub mod TokensUnique
 pub mod TokensPlaced
 pub mod TokensExist
@@ -35,7 +35,7 @@ pub mod DialectLeads
 pub mod DialectUnique
 pub mod CaptureCount
 pub mod JoinedRegexp
-pub mod Peeling
+pub mod StrippedParts
 pub mod OneMeaning
 pub mod MatcherMeaning
 pub mod OneMeaningExamples
@@ -61,8 +61,8 @@ pub mod FirstWay
 pub mod WayExamples
 pub mod WaysJoined
 pub mod WaysCut
-pub mod FirstPeeled
+pub mod FirstStripped
 pub mod FoldedTrees
 pub mod Middles
-pub mod FirstAnswers
-pub mod FirstAnswerExamples
+pub mod FirstResults
+pub mod FirstResultExamples

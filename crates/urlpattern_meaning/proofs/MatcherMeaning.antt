@@ -3,7 +3,7 @@ use Rattle.std.proofs.Common.{◌≡◌, ℕ, List, [], ◌∷◌, ◌++◌, ref
 use Rattle.std.proofs.lemmas.List.Elements.{All-cons, All-head, All-nil, All-tail}
 use Rattle.std.specs.Prelude.{◌≢◌, ◌&&◌, All, IsTrue, Ok, Err, option_to_list}
 use Rattle.std.specs.Str.{all_scalars}
-use Rattle.urlpattern_meaning.specs.Matching.{Accepts, Agrees, AgreesInMiddle, Answers, ArePeeled, FollowsMiddle, InnerView, IsMadeBetween, IsMadeOf, IsMadeOfOne, Literal, MatcherView, Matches, RegExp, SingleCapture, end_text}
+use Rattle.urlpattern_meaning.specs.Matching.{Accepts, Agrees, AgreesInMiddle, Returns, AreStripped, FollowsMiddle, InnerView, IsMadeBetween, IsMadeOf, IsMadeOfOne, Literal, MatcherView, Matches, RegExp, SingleCapture, end_text}
 use Rattle.urlpattern_meaning.specs.PartMeaning.{Captures, PartsMean}
 use Rattle.urlpattern_syntax.specs.declared.parser.PartModifier.{PartModifier}
 use Rattle.urlpattern_syntax.specs.declared.parser.PartModifier.TheVariants as modifiers
@@ -17,7 +17,7 @@ use Rattle.urlpattern_meaning.proofs.MatchingLaws.{IsFast, and_right, fast_means
 use Rattle.urlpattern_meaning.proofs.MeaningLaws.{peeled_means}
 use Rattle.urlpattern_meaning.proofs.OneMeaning.{follows_agrees}
 use Rattle.urlpattern_meaning.proofs.PartTrees.{IsNotCustom}
-use Rattle.urlpattern_meaning.proofs.Peeling.{middle_one}
+use Rattle.urlpattern_meaning.proofs.StrippedParts.{middle_one}
 
 -- ---- texts of characters
 
@@ -62,8 +62,8 @@ ends_of IsEngine options front (part ∷ next ∷ parts) back matcher value made
 -- The result of a matcher is what the parts mean where the result of its engine is what the middle
 -- means.
 engine_agrees : {E : Type 0} (answer : E → List ℕ → Option Captures) (options : OptionsView) (parts : List PartView) (front : Option PartView) (middle : List PartView) (back : Option PartView) (matcher : MatcherView E) (engine : E) (text : List ℕ) (result : Option Captures) →
-    ArePeeled parts front middle back → HasEnds options matcher (end_text front) (end_text back) → matcher.inner ≡ RegExp (Ok engine) → options.ignore_case ≡ false →
-    ((t : List ℕ) → IsTrue (all_scalars t) → Agrees options middle t (answer engine t)) → IsTrue (all_scalars text) → Answers answer matcher text result → Agrees options parts text result
+    AreStripped parts front middle back → HasEnds options matcher (end_text front) (end_text back) → matcher.inner ≡ RegExp (Ok engine) → options.ignore_case ≡ false →
+    ((t : List ℕ) → IsTrue (all_scalars t) → Agrees options middle t (answer engine t)) → IsTrue (all_scalars text) → Returns answer matcher text result → Agrees options parts text result
 engine_agrees answer options parts front middle back matcher engine text (Some captures) peeled ends is case agrees scalars (inner, has_middle, accepts) =
     let e = (middle_kept matcher text inner (ends.2 ∙ case)).0 has_middle in
     let found : answer engine inner ≡ Some captures = subst (λ i. Accepts answer matcher.ignore_case i inner captures) is accepts in
@@ -85,7 +85,7 @@ engine_agrees answer options parts front middle back matcher engine text None pe
 
 -- A matcher that needs no engine.
 fast_agrees : {E : Type 0} (answer : E → List ℕ → Option Captures) (options : OptionsView) (parts : List PartView) (matcher : MatcherView E) (text : List ℕ) (result : Option Captures) →
-    ((captures : Captures) → Matches answer matcher text captures ↔ PartsMean options parts text captures) → Answers answer matcher text result → Agrees options parts text result
+    ((captures : Captures) → Matches answer matcher text captures ↔ PartsMean options parts text captures) → Returns answer matcher text result → Agrees options parts text result
 fast_agrees answer options parts matcher text None same never = λ captures means. never captures ((same captures).1 means)
 fast_agrees answer options parts matcher text (Some captures) same matches = (same captures).0 matches
 
@@ -93,7 +93,7 @@ fast_agrees answer options parts matcher text (Some captures) same matches = (sa
 -- kept, if its engine returns what the parts between the ends mean.
 pub matcher_agrees : {E : Type 0} (answer : E → List ℕ → Option Captures) (IsEngine : List ℕ → Result E ErrorView → Type 0) (options : OptionsView) (parts : List PartView) (matcher : MatcherView E) (text : List ℕ) (result : Option Captures) →
     IsMadeOf IsEngine options parts matcher → options.ignore_case ≡ false → IsTrue (lacks line_feed text) → IsTrue (all_scalars text) → AgreesInMiddle answer options parts matcher.inner →
-    Answers answer matcher text result → Agrees options parts text result
+    Returns answer matcher text result → Agrees options parts text result
 matcher_agrees {E} answer IsEngine options parts matcher text result made case no_feed scalars agrees answers = by_inner matcher.inner refl agrees
   where
     fast : IsFast matcher.inner → Agrees options parts text result
@@ -135,6 +135,6 @@ follows_in_middle answer options parts (RegExp (Ok engine)) h (front, middle, ba
 -- ends.
 pub matcher_means : {E : Type 0} (answer : E → List ℕ → Option Captures) (IsEngine : List ℕ → Result E ErrorView → Type 0) (options : OptionsView) (parts : List PartView) (matcher : MatcherView E) (text : List ℕ) (result : Option Captures) →
     IsMadeOf IsEngine options parts matcher → All (λ part. part.kind ≢ Regexp) parts → options.ignore_case ≡ false → IsTrue (lacks line_feed text) → IsTrue (all_scalars text) →
-    FollowsMiddle answer options parts matcher.inner → Answers answer matcher text result → Agrees options parts text result
+    FollowsMiddle answer options parts matcher.inner → Returns answer matcher text result → Agrees options parts text result
 matcher_means answer IsEngine options parts matcher text result made not_custom case no_feed scalars follows answers =
     matcher_agrees answer IsEngine options parts matcher text result made case no_feed scalars (follows_in_middle answer options parts matcher.inner not_custom follows) answers

@@ -7,7 +7,7 @@ use Rattle.urlpattern_syntax.specs.declared.parser.PartModifier.{PartModifier}
 use Rattle.urlpattern_syntax.specs.declared.parser.PartModifier.TheVariants as modifiers
 use Rattle.urlpattern_syntax.specs.declared.parser.PartType.{PartType}
 use Rattle.urlpattern_syntax.specs.declared.parser.PartType.TheVariants.{FixedText, SegmentWildcard, FullWildcard}
-use Rattle.urlpattern_meaning.specs.Matching.{ArePeeled, IsRemoved, end_text}
+use Rattle.urlpattern_meaning.specs.Matching.{AreStripped, IsRemoved, end_text}
 use Rattle.urlpattern_syntax.specs.Options.{OptionsView}
 use Rattle.urlpattern_meaning.specs.PartMeaning.{Allows, AreCaptures, AreCopies, Captures, IsCapture, IsCopyOf, PartMeans, PartsMean}
 use Rattle.urlpattern_syntax.specs.Parts.{PartView}
@@ -97,7 +97,7 @@ end_means options (Some part) IsThere text captures goes = (
 -- Parts from which plain fixed texts are removed match exactly prefix, a text that the remaining
 -- parts match, and suffix.
 pub peeled_means : (options : OptionsView) (parts : List PartView) (front : Option PartView) (middle : List PartView) (back : Option PartView) (text : List ℕ) (captures : Captures) →
-    ArePeeled parts front middle back →
+    AreStripped parts front middle back →
     PartsMean options parts text captures ↔ ((inner : List ℕ) × (text ≡ end_text front ++ inner ++ end_text back) × PartsMean options middle inner captures)
 peeled_means options parts front middle back text captures peeled = (
   λ means.

@@ -7,7 +7,7 @@ use Rattle.std.proofs.lemmas.List.Elements.{All-cons, All-nil}
 use Rattle.std.specs.Prelude.{◌==◌, All, IsTrue, codes, if◌then◌else◌, slice_index}
 use Rattle.urlpattern_meaning.specs.Dialect.{AnyBut, Captured, Escaped, Follows, Grouped, Item, Items, IsTreeOf, LazyOneOrMore, Means, Nothing, Optional, Once, Plain, ZeroOrMore}
 use Rattle.urlpattern_meaning.specs.Laws.{HasShapeOf}
-use Rattle.urlpattern_meaning.specs.Matching.{Agrees, Answers, FollowsMiddle, MatcherView, Literal, RegExp}
+use Rattle.urlpattern_meaning.specs.Matching.{Agrees, Returns, FollowsMiddle, MatcherView, Literal, RegExp}
 use Rattle.urlpattern_meaning.specs.PartMeaning.{Captures, PartsMean}
 use Rattle.urlpattern_syntax.specs.declared.parser.PartModifier.TheVariants as modifiers
 use Rattle.urlpattern_syntax.specs.declared.parser.PartType.TheVariants.{Regexp, SegmentWildcard}
@@ -58,7 +58,7 @@ optional_answer (c ∷ []) = if c == slice_index (codes "a") 0 then Some [] else
 optional_answer (c ∷ d ∷ text) = None
 
 -- The part `{a}?` matches only the empty text and `a`.
-optional_count : (n : ℕ) (text : List ℕ) → n ≤ 1 → IsRepeated (λ stretch. stretch ≡ codes "a") n text → (text ≡ []) ⊎ (text ≡ codes "a")
+optional_count : (n : ℕ) (text : List ℕ) → n ≤ 1 → IsRepeated (λ substring. substring ≡ codes "a") n text → (text ≡ []) ⊎ (text ≡ codes "a")
 optional_count zero text few is = inl is
 optional_count (suc zero) text few (first, rest, cut, is, ended) = inr (rw (cut, ended, is))
 optional_count (suc (suc n)) text few is = absurd (omega (arith, few))
@@ -66,7 +66,7 @@ optional_count (suc (suc n)) text few is = absurd (omega (arith, few))
 optional_only : (text : List ℕ) (captures : Captures) → PartsMean default_options optional_parts text captures → (text ≡ []) ⊎ (text ≡ codes "a")
 optional_only text captures means = let part = part_alone means in optional_count part.count text part.allowed part.are_copies
 
-optional_means : (text : List ℕ) → IsRepeated (λ stretch. stretch ≡ codes "a") 1 text → PartsMean default_options optional_parts text []
+optional_means : (text : List ℕ) → IsRepeated (λ substring. substring ≡ codes "a") 1 text → PartsMean default_options optional_parts text []
 optional_means text is = (text, [], [], [], sym (append-nil text), refl, record { count = 1; allowed = omega arith; are_copies = is; are_captures = refl }, (refl, refl))
 
 one_answer : (c : ℕ) (same : Bool) → (c == slice_index (codes "a") 0) ≡ same → Agrees default_options optional_parts (c ∷ []) (if same then Some [] else None)
@@ -120,13 +120,13 @@ custom_none text captures means = (part_alone means).are_captures
 pub feed_shape : (E : Type 0) → HasShapeOf default_options (wildcard (codes "0") ∷ []) (wildcard_matcher E [] [])
 feed_shape E = record { front = None; middle = wildcard (codes "0") ∷ []; back = None; are_peeled = record { cut = refl; front_removed = no; back_removed = no }; is_made = refl }
 
-pub feed_answered : (E : Type 0) (answer : E → List ℕ → Option Captures) → Answers answer (wildcard_matcher E [] []) (codes "\n") (Some (Some (codes "\n") ∷ []))
+pub feed_answered : (E : Type 0) (answer : E → List ℕ → Option Captures) → Returns answer (wildcard_matcher E [] []) (codes "\n") (Some (Some (codes "\n") ∷ []))
 feed_answered E answer = (codes "\n", ([], [], refl, refl, refl), (tt, tt, refl))
 
-feed_copies : (n : ℕ) → n ≡ 1 → ¬ IsRepeated (λ stretch. (piece : List ℕ) × (stretch ≡ piece ++ []) × IsTrue (lacks line_feed piece)) n (codes "\n")
+feed_copies : (n : ℕ) → n ≡ 1 → ¬ IsRepeated (λ substring. (piece : List ℕ) × (substring ≡ piece ++ []) × IsTrue (lacks line_feed piece)) n (codes "\n")
 feed_copies n e is = alone (rw e at is)
   where
-    alone : ¬ IsRepeated (λ stretch. (piece : List ℕ) × (stretch ≡ piece ++ []) × IsTrue (lacks line_feed piece)) 1 (codes "\n")
+    alone : ¬ IsRepeated (λ substring. (piece : List ℕ) × (substring ≡ piece ++ []) × IsTrue (lacks line_feed piece)) 1 (codes "\n")
     alone (first, rest, cut, (piece, e, lacking), ended) =
         let is : codes "\n" ≡ piece = cut ∙ ap (λ t. first ++ t) ended ∙ append-nil first ∙ e ∙ append-nil piece in
         no (rw (← is) at lacking)
@@ -144,7 +144,7 @@ letter_matcher E = record { prefix = []; suffix = []; inner = Literal (codes "A"
 pub letter_shape : (E : Type 0) → HasShapeOf ignoring_case (plain (codes "A") ∷ []) (letter_matcher E)
 letter_shape E = record { front = Some (plain (codes "A")); middle = []; back = None; are_peeled = record { cut = refl; front_removed = refl; back_removed = λ h. h }; is_made = refl }
 
-pub letter_answered : (E : Type 0) (answer : E → List ℕ → Option Captures) → Answers answer (letter_matcher E) (codes "a") (Some [])
+pub letter_answered : (E : Type 0) (answer : E → List ℕ → Option Captures) → Returns answer (letter_matcher E) (codes "a") (Some [])
 letter_answered E answer = (codes "a", ([], [], refl, refl, refl), (refl, refl))
 
 pub letter_differs : ¬ Agrees ignoring_case (plain (codes "A") ∷ []) (codes "a") (Some [])

@@ -3,7 +3,7 @@ use Rattle.std.proofs.Common.{◌≡◌, ℕ, zero, suc, List, [], ◌∷◌, �
 use Rattle.std.specs.Prelude.{codes, Result}
 use Rattle.std.proofs.lemmas.Bool.{false≢true}
 use Rattle.std.specs.Str.{bytes_eq}
-use Rattle.urlpattern_meaning.specs.Laws.{Asks, LacksAnswer, listed}
+use Rattle.urlpattern_meaning.specs.Laws.{CallsEncoding, LacksResult, listed}
 use Rattle.urlpattern_syntax.specs.declared.tokenizer.TokenType.TheVariants.{End}
 use Rattle.urlpattern_syntax.specs.Errors.{ErrorView}
 use Rattle.urlpattern_syntax.specs.Options.{default_options}
@@ -14,12 +14,12 @@ use Rattle.urlpattern_syntax.proofs.PieceExamples.{pieces_of}
 use Rattle.urlpattern_syntax.proofs.TokenExamples.{token}
 
 -- For `a{}?b` the encoding is called with a text where each demand before it is met.
-asks : (encoding : Encoding) (before : List Demand) (asked : List ℕ) (behind : List Demand) → demands (items_of apart_pieces) (Stops (token End 5 [])) ≡ before ++ Encode asked ∷ behind → AreMet encoding before → Asks (codes "a{}?b") default_options encoding asked
+asks : (encoding : Encoding) (before : List Demand) (asked : List ℕ) (behind : List Demand) → demands (items_of apart_pieces) (Stops (token End 5 [])) ≡ before ++ Encode asked ∷ behind → AreMet encoding before → CallsEncoding (codes "a{}?b") default_options encoding asked
 asks encoding before asked behind split met =
     record { tokens = _; pieces = apart_pieces; ending = Stops (token End 5 []); before = before; later = behind; are_tokens = apart_tokens; are_pieces = pieces_of apart_cut; asks = split; are_met = met }
 
 -- The encoding is called with `a` first.
-asks_first : LacksAnswer (codes "a{}?b") default_options (listed [])
+asks_first : LacksResult (codes "a{}?b") default_options (listed [])
 asks_first = (
   codes "a",
   asks (listed []) [] (codes "a") (Encode (codes "b") ∷ Expect End (token End 5 []) ∷ []) refl tt,
@@ -27,7 +27,7 @@ asks_first = (
 )
 
 -- The encoding is called with `b` next, where it returns a text for `a`.
-asks_next : LacksAnswer (codes "a{}?b") default_options (listed ((codes "a", Ok (codes "x")) ∷ []))
+asks_next : LacksResult (codes "a{}?b") default_options (listed ((codes "a", Ok (codes "x")) ∷ []))
 asks_next = (
   codes "b",
   asks (listed ((codes "a", Ok (codes "x")) ∷ [])) (Encode (codes "a") ∷ []) (codes "b") (Expect End (token End 5 []) ∷ []) refl

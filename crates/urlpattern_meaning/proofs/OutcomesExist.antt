@@ -7,7 +7,7 @@ use Rattle.std.proofs.lemmas.Bool.{false≢true}
 use Rattle.std.proofs.lemmas.Map.Made.{is_member-Decides}
 use Rattle.std.proofs.lemmas.Slice.Eq.{bytes_eq-Decides}
 use Rattle.urlpattern_meaning.proofs.TokensExist.{tokens_or_fault_exist}
-use Rattle.urlpattern_meaning.specs.Laws.{AnswersAsked, Asks, HasAnswer, HasSomeOutcome, LacksAnswer, listed}
+use Rattle.urlpattern_meaning.specs.Laws.{HasRequestedResults, CallsEncoding, HasResult, HasSomeOutcome, LacksResult, listed}
 use Rattle.urlpattern_syntax.proofs.PieceLemmas.{are_token_list}
 use Rattle.urlpattern_syntax.proofs.PiecesExist.{pieces_exist}
 use Rattle.urlpattern_syntax.specs.declared.parser.PartModifier.{PartModifier}
@@ -48,20 +48,20 @@ contained_or_not names name = by_test (is_member bytes_eq names name) refl
 abbrev Answered : Type 0
 Answered = List ℕ × Result (List ℕ) ErrorView
 
-more_answers : (first : Answered) (answers : List Answered) (text : List ℕ) (b : Bool) → bytes_eq first.0 text ≡ b → HasAnswer (listed answers) text ⊎ (¬ HasAnswer (listed answers) text) → HasAnswer (listed (first ∷ answers)) text ⊎ (¬ HasAnswer (listed (first ∷ answers)) text)
+more_answers : (first : Answered) (answers : List Answered) (text : List ℕ) (b : Bool) → bytes_eq first.0 text ≡ b → HasResult (listed answers) text ⊎ (¬ HasResult (listed answers) text) → HasResult (listed (first ∷ answers)) text ⊎ (¬ HasResult (listed (first ∷ answers)) text)
 more_answers first answers text true e more =
     let same = (bytes_eq-Decides first.0 text).0 e in
     inl (first.1, (0, omega arith, λ i. (same i, first.1)))
 more_answers first answers text false e (inl (answer, (k, below, same))) = inl (answer, (suc k, omega (arith, below), same))
 more_answers first answers text false e (inr none) = inr not_there
   where
-    not_there : ¬ HasAnswer (listed (first ∷ answers)) text
+    not_there : ¬ HasResult (listed (first ∷ answers)) text
     not_there (answer, (zero, below, same)) =
         false≢true (sym e ∙ (bytes_eq-Decides first.0 text).1 (ap (λ (pair : Answered). pair.0) same))
     not_there (answer, (suc k, below, same)) = none (answer, (k, omega (arith, below), same))
 
 -- A list of results has one for a text or not.
-answered_or_not : (answers : List Answered) (text : List ℕ) → HasAnswer (listed answers) text ⊎ (¬ HasAnswer (listed answers) text)
+answered_or_not : (answers : List Answered) (text : List ℕ) → HasResult (listed answers) text ⊎ (¬ HasResult (listed answers) text)
 answered_or_not [] text = inr (λ h. absurd (omega (arith, h.1.1)))
 answered_or_not (first ∷ answers) text = more_answers first answers text (bytes_eq first.0 text) refl (answered_or_not answers text)
 
@@ -77,7 +77,7 @@ data Verdict (encoding : Encoding) (Is : List ℕ → Type 0) (all : List Demand
 module _ (encoding : Encoding) (Is : List ℕ → Type 0) where
   -- Each text that the encoding is called with has a result, or `Is` holds of it.
   abbrev Reported : List Demand → Type 0
-  Reported all = (before behind : List Demand) (asked : List ℕ) → all ≡ before ++ Encode asked ∷ behind → AreMet encoding before → HasAnswer encoding asked ⊎ Is asked
+  Reported all = (before behind : List Demand) (asked : List ℕ) → all ≡ before ++ Encode asked ∷ behind → AreMet encoding before → HasResult encoding asked ⊎ Is asked
 
   later : (demand : Demand) (rest : List Demand) → IsMet encoding demand → Verdict encoding Is rest → Verdict encoding Is (demand ∷ rest)
   later demand rest met (Met more) = Met (met, more)
@@ -87,7 +87,7 @@ module _ (encoding : Encoding) (Is : List ℕ → Type 0) where
   first : (demand : Demand) (rest : List Demand) → Reported (demand ∷ rest) → (IsMet encoding demand → Verdict encoding Is rest) → Verdict encoding Is (demand ∷ rest)
   first (Encode text) rest reported more = by_answer (reported [] rest text refl tt)
     where
-      by_answer : HasAnswer encoding text ⊎ Is text → Verdict encoding Is (Encode text ∷ rest)
+      by_answer : HasResult encoding text ⊎ Is text → Verdict encoding Is (Encode text ∷ rest)
       by_answer (inl (Ok answer, h)) = later (Encode text) rest (answer, h) (more (answer, h))
       by_answer (inl (Err error, h)) = Failed error (inl h)
       by_answer (inr is) = Unanswered [] rest text refl tt is
@@ -160,7 +160,7 @@ ending_tokens point tokens (piece ∷ pieces) ending h = ending_tokens point h.1
 module _ (text : List ℕ) (options : OptionsView) (encoding : Encoding) (Is : List ℕ → Type 0) where
   -- The text has an outcome, or the encoding is called with a text of which `Is` holds.
   abbrev Outcome : Type 0
-  Outcome = HasSomeOutcome text options encoding ⊎ ((asked : List ℕ) × Asks text options encoding asked × Is asked)
+  Outcome = HasSomeOutcome text options encoding ⊎ ((asked : List ℕ) × CallsEncoding text options encoding asked × Is asked)
 
   judged : (tokens : List TokenView) (pieces : List Piece) (ending : Ending) → AreTokens text tokens → ArePieces options.prefix tokens pieces ending → Verdict encoding Is (demands (items_of pieces) ending) → Outcome
   judged tokens pieces ending h p (Failed error fails) =
@@ -177,7 +177,7 @@ module _ (text : List ℕ) (options : OptionsView) (encoding : Encoding) (Is : L
       let e = ending_tokens options.prefix tokens pieces (endings.LacksClose found) p in
       absurd (e.1.6 (met_close encoding [] (items_of pieces) found met))
 
-  outcome_reported : ((asked : List ℕ) → Asks text options encoding asked → HasAnswer encoding asked ⊎ Is asked) → Outcome
+  outcome_reported : ((asked : List ℕ) → CallsEncoding text options encoding asked → HasResult encoding asked ⊎ Is asked) → Outcome
   outcome_reported reported = elim (tokens_or_fault_exist text) [
     | inl t ↦
         let p = pieces_exist options.prefix t.0 (are_token_list text t.0 t.1) in
@@ -187,7 +187,7 @@ module _ (text : List ℕ) (options : OptionsView) (encoding : Encoding) (Is : L
   ]
 
 -- Where the encoding has a result for each text that it is called with, the text has an outcome.
-pub outcome_answered : (text : List ℕ) (options : OptionsView) (encoding : Encoding) → AnswersAsked text options encoding → HasSomeOutcome text options encoding
+pub outcome_answered : (text : List ℕ) (options : OptionsView) (encoding : Encoding) → HasRequestedResults text options encoding → HasSomeOutcome text options encoding
 outcome_answered text options encoding answered = elim (outcome_reported text options encoding (λ _. ⊥) (λ asked asks. inl (answered asked asks))) [
   | inl outcome ↦ outcome
   | inr lacks ↦ absurd lacks.2
@@ -195,6 +195,6 @@ outcome_answered text options encoding answered = elim (outcome_reported text op
 
 -- With a list of results, the text has an outcome, or the encoding is called with a text that is
 -- not in the list.
-pub outcome_listed : (text : List ℕ) (options : OptionsView) (answers : List (List ℕ × Result (List ℕ) ErrorView)) → HasSomeOutcome text options (listed answers) ⊎ LacksAnswer text options (listed answers)
+pub outcome_listed : (text : List ℕ) (options : OptionsView) (answers : List (List ℕ × Result (List ℕ) ErrorView)) → HasSomeOutcome text options (listed answers) ⊎ LacksResult text options (listed answers)
 outcome_listed text options answers =
-    outcome_reported text options (listed answers) (λ asked. ¬ HasAnswer (listed answers) asked) (λ asked asks. answered_or_not answers asked)
+    outcome_reported text options (listed answers) (λ asked. ¬ HasResult (listed answers) asked) (λ asked asks. answered_or_not answers asked)

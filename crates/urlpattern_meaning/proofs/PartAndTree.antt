@@ -2,7 +2,7 @@
 use Rattle.std.proofs.Common.{◌≡◌, ℕ, zero, suc, ◌+◌, ◌≤◌, List, [], ◌∷◌, refl, sym, subst, ap, arith, Bool, true, false, Some, None, ◌∙◌, ◌↔◌, ◌⊎◌, inl, inr}
 use Rattle.std.proofs.lemmas.List.{append-nil}
 use Rattle.std.specs.Prelude.{◌&&◌, IsTrue, replicate}
-use Rattle.urlpattern_meaning.specs.Dialect.{AtomMeans, Captured, Grouped, Items, Nothing, IsTaken, Means, OneOrMore, ZeroOrMore, atom_group_count, group_count}
+use Rattle.urlpattern_meaning.specs.Dialect.{AtomMeans, Captured, Grouped, Items, Nothing, IsQuantified, Means, OneOrMore, ZeroOrMore, atom_group_count, group_count}
 use Rattle.urlpattern_meaning.specs.PartMeaning.{Allows, Captures}
 use Rattle.urlpattern_syntax.specs.declared.parser.PartModifier.{PartModifier}
 use Rattle.urlpattern_syntax.specs.declared.parser.PartModifier.TheVariants as modifiers
@@ -78,7 +78,7 @@ sometimes A B C D same same_none = (
 )
 
 affixed_means : (modifier : PartModifier) (marks prefix : List ℕ) (piece : Items) (suffix : List ℕ) (IsPiece : List ℕ → Type 0) → StandsFor piece IsPiece → group_count piece ≡ 0 → (text : List ℕ) (captures : Captures) →
-    IsTaken (affixed_quantifier modifier) (group_count (between marks prefix (affixed_core modifier marks prefix piece suffix) suffix)) (Means (between marks prefix (affixed_core modifier marks prefix piece suffix) suffix)) text captures
+    IsQuantified (affixed_quantifier modifier) (group_count (between marks prefix (affixed_core modifier marks prefix piece suffix) suffix)) (Means (between marks prefix (affixed_core modifier marks prefix piece suffix) suffix)) text captures
     ↔ GroupMeans IsPiece false modifier prefix suffix text captures
 affixed_means modifiers.None marks prefix piece suffix IsPiece stands e text captures =
     always (TakesCopies IsPiece modifiers.None prefix suffix text captures) _ (TakesNone false modifiers.None text captures)
@@ -133,14 +133,14 @@ any_pieces : (IsPiece : List ℕ → Type 0) (n : ℕ) (text : List ℕ) (captur
 any_pieces IsPiece zero text captures are e = inl (tt, are, e ∙ ap (λ t. Some t ∷ []) are)
 any_pieces IsPiece (suc n) text captures are e = inr (several IsPiece modifiers.ZeroOrMore n text captures tt are e)
 
-to_pieces : (piece : Items) (IsPiece : List ℕ → Type 0) → StandsFor piece IsPiece → (n : ℕ) (text : List ℕ) → IsRepeated (λ stretch. Means piece stretch []) n text → IsRepeated IsPiece n text
+to_pieces : (piece : Items) (IsPiece : List ℕ → Type 0) → StandsFor piece IsPiece → (n : ℕ) (text : List ℕ) → IsRepeated (λ substring. Means piece substring []) n text → IsRepeated IsPiece n text
 to_pieces piece IsPiece stands = repeated_map (λ t. Means piece t []) IsPiece (λ t. (piece_means piece IsPiece stands t).0)
 
-of_pieces : (piece : Items) (IsPiece : List ℕ → Type 0) → StandsFor piece IsPiece → (n : ℕ) (text : List ℕ) → IsRepeated IsPiece n text → IsRepeated (λ stretch. Means piece stretch []) n text
+of_pieces : (piece : Items) (IsPiece : List ℕ → Type 0) → StandsFor piece IsPiece → (n : ℕ) (text : List ℕ) → IsRepeated IsPiece n text → IsRepeated (λ substring. Means piece substring []) n text
 of_pieces piece IsPiece stands = repeated_map IsPiece (λ t. Means piece t []) (λ t. (piece_means piece IsPiece stands t).1)
 
 bare_means : (modifier : PartModifier) (piece : Items) (IsPiece : List ℕ → Type 0) → StandsFor piece IsPiece → group_count piece ≡ 0 → (text : List ℕ) (captures : Captures) →
-    IsTaken (bare_quantifier modifier) (suc (group_count (bare_core modifier piece))) (AtomMeans (Captured (bare_core modifier piece))) text captures
+    IsQuantified (bare_quantifier modifier) (suc (group_count (bare_core modifier piece))) (AtomMeans (Captured (bare_core modifier piece))) text captures
     ↔ GroupMeans IsPiece true modifier [] [] text captures
 bare_means modifiers.None piece IsPiece stands e text captures =
     always (TakesCopies IsPiece modifiers.None [] [] text captures) _ (TakesNone true modifiers.None text captures)
@@ -180,7 +180,7 @@ empty_by [] h = refl
 empty_by (c ∷ text) h = absurd (no h)
 
 pub group_by : (is_bare : Bool) (modifier : PartModifier) (marks prefix : List ℕ) (piece : Items) (suffix : List ℕ) (IsPiece : List ℕ → Type 0) → is_empty prefix && is_empty suffix ≡ is_bare → StandsFor piece IsPiece → group_count piece ≡ 0 → (text : List ℕ) (captures : Captures) →
-    IsTaken (group_quantifier is_bare modifier) (atom_group_count (group_atom is_bare modifier marks prefix piece suffix)) (AtomMeans (group_atom is_bare modifier marks prefix piece suffix)) text captures
+    IsQuantified (group_quantifier is_bare modifier) (atom_group_count (group_atom is_bare modifier marks prefix piece suffix)) (AtomMeans (group_atom is_bare modifier marks prefix piece suffix)) text captures
     ↔ GroupMeans IsPiece is_bare modifier prefix suffix text captures
 group_by true modifier marks prefix piece suffix IsPiece h stands e text captures =
     let no_prefix : prefix ≡ [] = empty_by prefix (and_left (is_empty prefix) (is_empty suffix) h) in

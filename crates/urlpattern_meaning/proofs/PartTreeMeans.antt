@@ -3,7 +3,7 @@ use Rattle.std.proofs.Common.{◌≡◌, ℕ, zero, suc, ◌≤◌, List, [], �
 use Rattle.std.proofs.lemmas.List.{append-nil}
 use Rattle.std.proofs.lemmas.List.Elements.{All-head, All-tail}
 use Rattle.std.specs.Prelude.{◌≢◌, ◌&&◌, All, replicate}
-use Rattle.urlpattern_meaning.specs.Dialect.{Atom, AtomMeans, Grouped, Item, Items, IsTaken, Means, Nothing, Quantifier, atom_group_count, group_count}
+use Rattle.urlpattern_meaning.specs.Dialect.{Atom, AtomMeans, Grouped, Item, Items, IsQuantified, Means, Nothing, Quantifier, atom_group_count, group_count}
 use Rattle.urlpattern_meaning.specs.PartMeaning.{Captures, IsWildcardText, PartMeans, PartsMean}
 use Rattle.urlpattern_syntax.specs.declared.parser.PartModifier.{PartModifier}
 use Rattle.urlpattern_syntax.specs.declared.parser.PartModifier.TheVariants as modifiers
@@ -24,30 +24,30 @@ use Rattle.urlpattern_meaning.proofs.WildcardItems.{wildcard_stands}
 
 -- ---- fixed texts with a modifier
 
-texts_of : (marks value : List ℕ) (n : ℕ) (text : List ℕ) → IsRepeated (λ stretch. Means (put marks value Nothing) stretch []) n text → IsRepeated (λ stretch. stretch ≡ value) n text
+texts_of : (marks value : List ℕ) (n : ℕ) (text : List ℕ) → IsRepeated (λ substring. Means (put marks value Nothing) substring []) n text → IsRepeated (λ substring. substring ≡ value) n text
 texts_of marks value = repeated_map (λ t. Means (put marks value Nothing) t []) (λ t. t ≡ value) (λ t means. ((text_means marks value t []).0 means).0)
 
-of_texts : (marks value : List ℕ) (n : ℕ) (text : List ℕ) → IsRepeated (λ stretch. stretch ≡ value) n text → IsRepeated (λ stretch. Means (put marks value Nothing) stretch []) n text
+of_texts : (marks value : List ℕ) (n : ℕ) (text : List ℕ) → IsRepeated (λ substring. substring ≡ value) n text → IsRepeated (λ substring. Means (put marks value Nothing) substring []) n text
 of_texts marks value = repeated_map (λ t. t ≡ value) (λ t. Means (put marks value Nothing) t []) (λ t e. (text_means marks value t []).1 (e, refl))
 
-one_text : (value text : List ℕ) → text ≡ value → IsRepeated (λ stretch. stretch ≡ value) 1 text
+one_text : (value text : List ℕ) → text ≡ value → IsRepeated (λ substring. substring ≡ value) 1 text
 one_text value text e = (text, [], sym (append-nil text), e, refl)
 
-text_one : (value text : List ℕ) → IsRepeated (λ stretch. stretch ≡ value) 1 text → text ≡ value
+text_one : (value text : List ℕ) → IsRepeated (λ substring. substring ≡ value) 1 text → text ≡ value
 text_one value text (first, rest, cut, e, ended) = cut ∙ ap (λ t. first ++ t) ended ∙ append-nil first ∙ e
 
 no_groups : (marks value : List ℕ) → replicate {A = Option (List ℕ)} (group_count (put marks value Nothing)) None ≡ []
 no_groups marks value = ap (λ n. replicate {A = Option (List ℕ)} n None) (put_groups marks value Nothing)
 
 -- A text that may be left out.
-optional_text : (marks value text : List ℕ) (captures : Captures) (n : ℕ) → n ≤ 1 → IsRepeated (λ stretch. stretch ≡ value) n text → captures ≡ [] →
-    IsTaken (quantifier_of modifiers.Optional) (group_count (put marks value Nothing)) (Means (put marks value Nothing)) text captures
+optional_text : (marks value text : List ℕ) (captures : Captures) (n : ℕ) → n ≤ 1 → IsRepeated (λ substring. substring ≡ value) n text → captures ≡ [] →
+    IsQuantified (quantifier_of modifiers.Optional) (group_count (put marks value Nothing)) (Means (put marks value Nothing)) text captures
 optional_text marks value text captures zero few are e = inr (are, e ∙ sym (no_groups marks value))
 optional_text marks value text captures (suc zero) few are e = inl ((text_means marks value text captures).1 (text_one value text are, e))
 optional_text marks value text captures (suc (suc n)) few are e = absurd (omega (arith, few))
 
-some_texts : (marks value text : List ℕ) (captures : Captures) (n : ℕ) → 1 ≤ n → IsRepeated (λ stretch. stretch ≡ value) n text → captures ≡ [] →
-    IsTaken (quantifier_of modifiers.OneOrMore) (group_count (put marks value Nothing)) (Means (put marks value Nothing)) text captures
+some_texts : (marks value text : List ℕ) (captures : Captures) (n : ℕ) → 1 ≤ n → IsRepeated (λ substring. substring ≡ value) n text → captures ≡ [] →
+    IsQuantified (quantifier_of modifiers.OneOrMore) (group_count (put marks value Nothing)) (Means (put marks value Nothing)) text captures
 some_texts marks value text captures zero some are e = absurd (omega (arith, some))
 some_texts marks value text captures (suc n) some are e = (n, of_texts marks value (suc n) text are, e)
 
@@ -61,7 +61,7 @@ MeansBefore options part items text captures =
 
 -- An atom before items, where the atom means what the part means.
 atom_before : (options : OptionsView) (part : PartView) (atom : Atom) (quantifier : Quantifier) (items : Items) →
-    ((text : List ℕ) (captures : Captures) → IsTaken quantifier (atom_group_count atom) (AtomMeans atom) text captures ↔ PartMeans options part text captures) →
+    ((text : List ℕ) (captures : Captures) → IsQuantified quantifier (atom_group_count atom) (AtomMeans atom) text captures ↔ PartMeans options part text captures) →
     (text : List ℕ) (captures : Captures) → Means (Item atom quantifier items) text captures ↔ MeansBefore options part items text captures
 atom_before options part atom quantifier items same text captures = (
   λ (first, rest, own, others, e, f, taken, means). (first, rest, own, others, e, f, (same first own).0 taken, means),

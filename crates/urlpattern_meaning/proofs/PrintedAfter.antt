@@ -10,7 +10,7 @@ use Rattle.urlpattern_syntax.specs.Reading.{items_from, joined_items}
 use Rattle.urlpattern_syntax.specs.RegexpText.{is_empty, is_fixed_text, is_unmodified}
 use Rattle.urlpattern_syntax.specs.Text.{BeginsWith, byte_len, is_name_part}
 use Rattle.urlpattern_syntax.specs.Tokens.{TokenView, end_of}
-use Rattle.urlpattern_meaning.specs.Printing.{first_part, goes_on, is_name_alone, last_of, printed_after, takes_next}
+use Rattle.urlpattern_meaning.specs.Printing.{first_part, continues_name, is_name_alone, last_of, printed_after, absorbs_next}
 use Rattle.urlpattern_meaning.proofs.PrintedTokens.{Run, done}
 use Rattle.urlpattern_meaning.proofs.RoundTripWords.{AreItemsOf}
 
@@ -18,8 +18,8 @@ use Rattle.urlpattern_meaning.proofs.RoundTripWords.{AreItemsOf}
 pub record Behind (options : OptionsView) (before : PartView) (next : Option PartView) (text : List ℕ) (tokens : List TokenView) : Type 0 where
   pub no_modifier : is_fixed_text before.kind ≡ false → IsTrue (is_unmodified before.modifier) → ¬ BeginsWithKind is_modifier tokens
   pub no_placeholder : IsTrue (is_fixed_text before.kind) → before.value ≢ [] → last_of before.value ≡ options.prefix → ¬ BeginsWithKind is_placeholder tokens
-  pub no_regexp : IsTrue (is_name_alone before) → IsTrue (is_unmodified before.modifier) → takes_next before next ≡ false → ¬ BeginsWithKind is_regexp tokens
-  pub no_name_part : IsTrue (is_name_alone before) → IsTrue (is_unmodified before.modifier) → takes_next before next ≡ false → ¬ BeginsWith is_name_part text
+  pub no_regexp : IsTrue (is_name_alone before) → IsTrue (is_unmodified before.modifier) → absorbs_next before next ≡ false → ¬ BeginsWithKind is_regexp tokens
+  pub no_name_part : IsTrue (is_name_alone before) → IsTrue (is_unmodified before.modifier) → absorbs_next before next ≡ false → ¬ BeginsWith is_name_part text
 
 -- The text after a part, if there is one, takes nothing from the part.
 abbrev pub AfterAny : OptionsView → (before next : Option PartView) → List ℕ → List TokenView → Type 0
@@ -72,8 +72,8 @@ third true false c e f h = absurd (false≢true f)
 third false b c e f h = absurd (false≢true e)
 
 -- The next part does not go on with a name alone before it, where the name does not take it.
-pub goes_not : (before next : PartView) → IsTrue (is_name_alone before) → IsTrue (is_unmodified before.modifier) → takes_next before (Some next) ≡ false → goes_on next ≡ false
-goes_not before next alone plain h = third (is_name_alone before) (is_unmodified before.modifier) (goes_on next) alone plain h
+pub goes_not : (before next : PartView) → IsTrue (is_name_alone before) → IsTrue (is_unmodified before.modifier) → absorbs_next before (Some next) ≡ false → continues_name next ≡ false
+goes_not before next alone plain h = third (is_name_alone before) (is_unmodified before.modifier) (continues_name next) alone plain h
 
 -- A part without prefix and suffix goes on exactly where its value or its name does.
 pub goes_by : (prefix suffix : List ℕ) (last : Bool) → prefix ≡ [] → suffix ≡ [] → (is_empty prefix && is_empty suffix && last) ≡ last

@@ -13,7 +13,7 @@ use Rattle.urlpattern_syntax.specs.Reading.{Capture, placeholder_regexp, items_f
 use Rattle.urlpattern_syntax.specs.RegexpText.{is_empty, is_fixed_text, is_unmodified}
 use Rattle.urlpattern_syntax.specs.Text.{BeginsWith, begins_with, byte_len, is_name_part}
 use Rattle.urlpattern_syntax.specs.Tokens.{TokenView, end_of}
-use Rattle.urlpattern_meaning.specs.Printing.{admits_asterisk, first_part, goes_on, has_custom_name, has_other_prefix, has_suffix, last_of, needs_braces, printed_after, printed_fixed, printed_group, printed_part, takes_before, takes_next}
+use Rattle.urlpattern_meaning.specs.Printing.{admits_asterisk, first_part, continues_name, has_custom_name, has_other_prefix, has_suffix, last_of, needs_braces, printed_after, printed_fixed, printed_group, printed_part, absorbs_before, absorbs_next}
 use Rattle.urlpattern_meaning.specs.RoundTrip.{IsPrefixPoint, following_number}
 use Rattle.urlpattern_meaning.proofs.PrintedAfter.{Behind, ReadsBack, are_more, after_any, goes_by, goes_not}
 use Rattle.urlpattern_meaning.proofs.PrintedGroups.{GroupPiece, IsGroup, group_bare, group_braced}
@@ -52,13 +52,13 @@ admits_none before group plain = ap (λ b. b || not (is_unmodified before.modifi
 
 -- A fixed text that ends with the prefix code point would lose it to a group without braces and
 -- prefix.
-before_taken : (options : OptionsView) (before part : PartView) → part.prefix ≡ [] → IsTrue (is_fixed_text before.kind) → before.value ≢ [] → last_of before.value ≡ options.prefix → takes_before options (Some before) part ≡ true
+before_taken : (options : OptionsView) (before part : PartView) → part.prefix ≡ [] → IsTrue (is_fixed_text before.kind) → before.value ≢ [] → last_of before.value ≡ options.prefix → absorbs_before options (Some before) part ≡ true
 before_taken options before part e fixed filled f =
     and_from _ _ (and_from _ _ (and_from _ _ (ap is_empty e) fixed) (filled_text before.value filled)) ((bytes_eq-Decides (last_of before.value) options.prefix).1 f)
 
 -- A group that does not go on with a name alone, without prefix and suffix, has a name that the
 -- pattern gives.
-own_name : (part : PartView) → is_fixed_text part.kind ≡ false → part.prefix ≡ [] → part.suffix ≡ [] → goes_on part ≡ false → IsTrue (has_custom_name part)
+own_name : (part : PartView) → is_fixed_text part.kind ≡ false → part.prefix ≡ [] → part.suffix ≡ [] → continues_name part ≡ false → IsTrue (has_custom_name part)
 own_name part group e f h =
     not-false (has_custom_name part)
     (sym (goes_by part.prefix part.suffix _ e f ∙ ap (λ b. if b then begins_with is_name_part part.value else not (has_custom_name part)) group) ∙ h)
@@ -69,12 +69,12 @@ own_name part group e f h =
 record NeedsNone (options : OptionsView) (before : Option PartView) (part : PartView) (next : Option PartView) : Type 0 where
   pub no_suffix : part.suffix ≡ []
   pub no_other_prefix : has_other_prefix options part ≡ false
-  pub takes_none : takes_next part next ≡ false
+  pub takes_none : absorbs_next part next ≡ false
 
 needs_none : (options : OptionsView) (before : Option PartView) (part : PartView) (next : Option PartView) → needs_braces options before part next ≡ false → NeedsNone options before part next
 needs_none options before part next h =
-    let three = (or_parts (has_suffix part || has_other_prefix options part || takes_next part next) (takes_before options before part) h).0 in
-    let two = or_parts (has_suffix part || has_other_prefix options part) (takes_next part next) three in
+    let three = (or_parts (has_suffix part || has_other_prefix options part || absorbs_next part next) (absorbs_before options before part) h).0 in
+    let two = or_parts (has_suffix part || has_other_prefix options part) (absorbs_next part next) three in
     let one = or_parts (has_suffix part) (has_other_prefix options part) two.0 in
     record { no_suffix = empty_text part.suffix one.0; no_other_prefix = one.1; takes_none = two.1 }
 
@@ -99,7 +99,7 @@ module _ (options : OptionsView) (whole : List ℕ) (before : Option PartView) (
       Behind options earlier (Some part) (printed_part options before part (first_part parts) ++ rest) ((piece.tokens ++ more.tokens) ++ end_of whole ∷ [])
   after_by braces e piece earlier f = record {
     no_modifier = λ group plain. by_tokens is_modifier (piece.no_modifier (ap admits_asterisk f ∙ admits_none earlier group plain));
-    no_placeholder = λ fixed filled g. by_tokens is_placeholder (piece.no_placeholder (λ prefix. sym e ∙ or_right _ _ (ap (λ b. takes_before options b part) f ∙ before_taken options earlier part prefix fixed filled g)));
+    no_placeholder = λ fixed filled g. by_tokens is_placeholder (piece.no_placeholder (λ prefix. sym e ∙ or_right _ _ (ap (λ b. absorbs_before options b part) f ∙ before_taken options earlier part prefix fixed filled g)));
     no_regexp = λ alone plain free. by_tokens is_regexp (piece.no_regexp (own (goes_not earlier part alone plain free)));
     no_name_part = λ alone plain free. subst (λ t. ¬ BeginsWith is_name_part (t ++ rest)) (sym (group_printed options before part (first_part parts) braces is.group e))
         (piece.no_name_part (own (goes_not earlier part alone plain free)));
@@ -108,7 +108,7 @@ module _ (options : OptionsView) (whole : List ℕ) (before : Option PartView) (
       by_tokens : (test : TokenType → Bool) → ¬ BeginsWithKind test (piece.tokens ++ last) → ¬ BeginsWithKind test ((piece.tokens ++ more.tokens) ++ end_of whole ∷ [])
       by_tokens test h = subst (λ ts. ¬ BeginsWithKind test ts) (sym (append_assoc piece.tokens more.tokens (end_of whole ∷ []))) h
 
-      own : goes_on part ≡ false → part.prefix ≡ [] → braces ≡ false → IsTrue (has_custom_name part)
+      own : continues_name part ≡ false → part.prefix ≡ [] → braces ≡ false → IsTrue (has_custom_name part)
       own goes prefix none = own_name part is.group prefix (needs_none options before part (first_part parts) (e ∙ none)).no_suffix goes
 
   step_by : (braces : Bool) → needs_braces options before part (first_part parts) ≡ braces → GroupPiece options (byte_len whole) number before part braces rest last → ReadsBack options whole before number (part ∷ parts)

@@ -15,7 +15,7 @@ use Rattle.urlpattern_syntax.specs.Reading.{Fixed, Item, items_from, joined_item
 use Rattle.urlpattern_syntax.specs.RegexpText.{is_fixed_text, is_plain, is_unmodified, modifier_text}
 use Rattle.urlpattern_syntax.specs.Text.{BeginsWith, begins_with, byte_len, is_name_part}
 use Rattle.urlpattern_syntax.specs.Tokens.{TokenView, end_of}
-use Rattle.urlpattern_meaning.specs.Printing.{escaped_pattern, first_part, goes_on, has_custom_name, in_braces, needs_braces, printed_after, printed_fixed, printed_group, printed_part}
+use Rattle.urlpattern_meaning.specs.Printing.{escaped_pattern, first_part, continues_name, has_custom_name, in_braces, needs_braces, printed_after, printed_fixed, printed_group, printed_part}
 use Rattle.urlpattern_meaning.specs.RoundTrip.{IsUnskipped}
 use Rattle.urlpattern_meaning.proofs.PrintedAfter.{Behind, ReadsBack, are_more, after_any, goes_by, goes_not}
 use Rattle.urlpattern_meaning.proofs.PrintedBraces.{braced_run, braced_tokens, closing_text, is_braced, text_ends}
@@ -62,7 +62,7 @@ text_apart options part (next ∷ parts) (c ∷ text) items plain filled apart a
 
 -- ---- a plain fixed text
 
-fixed_goes : (part : PartView) → IsTrue (is_fixed_text part.kind) → part.prefix ≡ [] → part.suffix ≡ [] → goes_on part ≡ begins_with is_name_part part.value
+fixed_goes : (part : PartView) → IsTrue (is_fixed_text part.kind) → part.prefix ≡ [] → part.suffix ≡ [] → continues_name part ≡ begins_with is_name_part part.value
 fixed_goes part fixed e f =
     goes_by part.prefix part.suffix _ e f ∙ ap (λ b. if b then begins_with is_name_part part.value else not (has_custom_name part)) fixed
 

@@ -8,7 +8,7 @@ use Rattle.urlpattern_syntax.specs.declared.parser.PartType.{PartType}
 use Rattle.urlpattern_syntax.specs.declared.parser.PartType.TheVariants.{FixedText}
 use Rattle.urlpattern_syntax.specs.Options.{OptionsView}
 use Rattle.urlpattern_syntax.specs.Parts.{PartView}
-use Rattle.urlpattern_meaning.specs.Printing.{HaveTexts, admits_asterisk, escaped_pattern, first_part, has_custom_name, has_other_prefix, has_suffix, in_braces, is_name_alone, joined, joined_with, last_of, pattern_marks, printed, printed_after, printed_fixed, printed_match, printed_name, printed_part, printed_suffix, takes_before, takes_next}
+use Rattle.urlpattern_meaning.specs.Printing.{HaveTexts, admits_asterisk, escaped_pattern, first_part, has_custom_name, has_other_prefix, has_suffix, in_braces, is_name_alone, joined, joined_with, last_of, pattern_marks, printed, printed_after, printed_fixed, printed_match, printed_name, printed_part, printed_suffix, absorbs_before, absorbs_next}
 use Rattle.urlpattern_syntax.specs.RegexpText.{is_empty, is_fixed_text, is_plain, is_unmodified, modifier_text}
 use Rattle.urlpattern_syntax.specs.Text.{begins_with, is_name_part}
 use Rattle.urlpattern_syntax.proofs.Escaped.{escaped-append}
@@ -29,7 +29,7 @@ shaped options part next_taken before_taken admits =
     ++ modifier_text part.modifier)
 
 printed-shaped : (options : OptionsView) (before : Option PartView) (part : PartView) (next : Option PartView) →
-    printed_part options before part next ≡ shaped options part (takes_next part next) (takes_before options before part) (admits_asterisk before)
+    printed_part options before part next ≡ shaped options part (absorbs_next part next) (absorbs_before options before part) (admits_asterisk before)
 unfolding printed_part
 printed-shaped options before part next = refl
 
@@ -77,30 +77,30 @@ plain_printed options before part next h =
 
 -- Parts before with equal tests print alike.
 same_before : (options : OptionsView) (a b : Option PartView) (part : PartView) (next : Option PartView) →
-    takes_before options a part ≡ takes_before options b part → admits_asterisk a ≡ admits_asterisk b → printed_part options a part next ≡ printed_part options b part next
+    absorbs_before options a part ≡ absorbs_before options b part → admits_asterisk a ≡ admits_asterisk b → printed_part options a part next ≡ printed_part options b part next
 same_before options a b part next e f =
     printed-shaped options a part next
-    ∙ ap (λ t. shaped options part (takes_next part next) t (admits_asterisk a)) e
-    ∙ ap (λ t. shaped options part (takes_next part next) (takes_before options b part) t) f
+    ∙ ap (λ t. shaped options part (absorbs_next part next) t (admits_asterisk a)) e
+    ∙ ap (λ t. shaped options part (absorbs_next part next) (absorbs_before options b part) t) f
     ∙ sym (printed-shaped options b part next)
 
 same_after : (options : OptionsView) (a b : Option PartView) (parts : List PartView) →
-    ((part : PartView) → takes_before options a part ≡ takes_before options b part) → admits_asterisk a ≡ admits_asterisk b → printed_after options a parts ≡ printed_after options b parts
+    ((part : PartView) → absorbs_before options a part ≡ absorbs_before options b part) → admits_asterisk a ≡ admits_asterisk b → printed_after options a parts ≡ printed_after options b parts
 same_after options a b [] e f = refl
 same_after options a b (part ∷ parts) e f =
     ap (λ t. t ++ printed_after options (Some part) parts) (same_before options a b part (first_part parts) (e part) f)
 
 -- Parts after with equal tests print alike.
 same_next : (options : OptionsView) (before : Option PartView) (part : PartView) (a b : Option PartView) →
-    takes_next part a ≡ takes_next part b → printed_part options before part a ≡ printed_part options before part b
+    absorbs_next part a ≡ absorbs_next part b → printed_part options before part a ≡ printed_part options before part b
 same_next options before part a b e =
     printed-shaped options before part a
-    ∙ ap (λ t. shaped options part t (takes_before options before part) (admits_asterisk before)) e
+    ∙ ap (λ t. shaped options part t (absorbs_before options before part) (admits_asterisk before)) e
     ∙ sym (printed-shaped options before part b)
 
 -- Two texts in one end as the second does.
 one_before : (options : OptionsView) (part next : PartView) → IsTrue (is_plain part) → IsTrue (is_plain next) → next.value ≢ [] →
-    (behind : PartView) → takes_before options (Some (with_value part (part.value ++ next.value))) behind ≡ takes_before options (Some next) behind
+    (behind : PartView) → absorbs_before options (Some (with_value part (part.value ++ next.value))) behind ≡ absorbs_before options (Some next) behind
 one_before options part next plain plain_next filled behind =
     rw (plain_fixed part plain, plain_fixed next plain_next, empty-append part.value next.value filled, empty-append [] next.value filled, last-append part.value next.value filled)
 
@@ -151,7 +151,7 @@ joined_texts (part ∷ parts) filled = texts_first part (joined parts) filled.0 
 
 -- A joined list begins as the list does.
 goes_pair : (part next : PartView) (parts : List PartView) (both : Bool) (before : PartView) → (IsTrue (is_fixed_text part.kind) → part.value ≢ []) →
-    takes_next before (first_part (if both then with_value part (part.value ++ next.value) ∷ parts else part ∷ next ∷ parts)) ≡ takes_next before (Some part)
+    absorbs_next before (first_part (if both then with_value part (part.value ++ next.value) ∷ parts else part ∷ next ∷ parts)) ≡ absorbs_next before (Some part)
 goes_pair part next parts true before filled = ap (λ t. is_name_alone before && is_unmodified before.modifier && t) (goes_value (is_fixed_text part.kind) filled)
   where
     goes_value : (fixed : Bool) → (IsTrue fixed → part.value ≢ []) →
@@ -162,11 +162,11 @@ goes_pair part next parts true before filled = ap (λ t. is_name_alone before &&
 goes_pair part next parts false before filled = refl
 
 goes_first : (part : PartView) (parts : List PartView) (before : PartView) → (IsTrue (is_fixed_text part.kind) → part.value ≢ []) →
-    takes_next before (first_part (joined_with part parts)) ≡ takes_next before (Some part)
+    absorbs_next before (first_part (joined_with part parts)) ≡ absorbs_next before (Some part)
 goes_first part [] before filled = refl
 goes_first part (next ∷ parts) before filled = goes_pair part next parts (is_plain part && is_plain next) before filled
 
-goes_joined : (parts : List PartView) (before : PartView) → HaveTexts parts → takes_next before (first_part (joined parts)) ≡ takes_next before (first_part parts)
+goes_joined : (parts : List PartView) (before : PartView) → HaveTexts parts → absorbs_next before (first_part (joined parts)) ≡ absorbs_next before (first_part parts)
 goes_joined [] before filled = refl
 goes_joined (part ∷ parts) before filled = goes_first part (joined parts) before filled.0
 

@@ -4,14 +4,14 @@ use Rattle.std.specs.Prelude.{Ok, Err}
 use Rattle.urlpattern_meaning.proofs.PiecesUnique.{pieces_one}
 use Rattle.urlpattern_meaning.proofs.TokensUnique.{fault_one, tokens_one, tokens_or_fault}
 use Rattle.urlpattern_syntax.specs.Errors.{ErrorView, ErrorView as views}
-use Rattle.urlpattern_meaning.specs.Laws.{AnswersOnce}
+use Rattle.urlpattern_meaning.specs.Laws.{ReturnsOnce}
 use Rattle.urlpattern_syntax.specs.Options.{OptionsView}
 use Rattle.urlpattern_syntax.specs.Parts.{PartView, fixed_text}
 use Rattle.urlpattern_syntax.specs.Pieces.{ArePieces, Ending, Piece, Ending as endings}
-use Rattle.urlpattern_syntax.specs.Reading.{AreMet, AreParts, Capture, Demand, Encode, Encoding, Expect, Fails, FailsDemand, FirstFails, Fixed, IsMet, Item, NewName, Reads, Refuses, capture_part, demands, items_of}
+use Rattle.urlpattern_syntax.specs.Reading.{AreMet, AreParts, Capture, Demand, Encode, Encoding, Expect, Fails, FailsDemand, FirstFails, Fixed, IsMet, Item, NewName, Reads, Rejects, capture_part, demands, items_of}
 use Rattle.urlpattern_syntax.specs.Tokens.{AreTokens, TokenView}
 
-module _ (options : OptionsView) (encoding : Encoding) (once : AnswersOnce encoding) where
+module _ (options : OptionsView) (encoding : Encoding) (once : ReturnsOnce encoding) where
   answer_one : (text answer other : List ℕ) → encoding text (Ok answer) → encoding text (Ok other) → answer ≡ other
   answer_one text answer other h g = let e : Ok answer ≡ Ok other = once text (Ok answer) (Ok other) h g in cc e
 
@@ -54,18 +54,18 @@ text_pieces_one text point tokens others pieces more ending other h g p q =
     pieces_one point others pieces more ending other (subst (λ x. ArePieces point x pieces ending) (tokens_one text tokens others h g) p) q
 
 module _ (text : List ℕ) (options : OptionsView) (encoding : Encoding) where
-  pub reading_one : (parts others : List PartView) → AnswersOnce encoding → Reads text options encoding parts → Reads text options encoding others → parts ≡ others
+  pub reading_one : (parts others : List PartView) → ReturnsOnce encoding → Reads text options encoding parts → Reads text options encoding others → parts ≡ others
   reading_one parts others once h g =
       let e = text_pieces_one text options.prefix h.tokens g.tokens h.pieces g.pieces (endings.Stops h.found) (endings.Stops g.found) h.are_tokens g.are_tokens h.are_pieces g.are_pieces in
       parts_one options encoding once (items_of g.pieces) parts others (subst (λ x. AreParts options encoding (items_of x) parts) e.0 h.are_parts) g.are_parts
 
-  demand_one : (error other : ErrorView) → AnswersOnce encoding → FailsDemand text options encoding error → FailsDemand text options encoding other → error ≡ other
+  demand_one : (error other : ErrorView) → ReturnsOnce encoding → FailsDemand text options encoding error → FailsDemand text options encoding other → error ≡ other
   demand_one error other once h g =
       let e = text_pieces_one text options.prefix h.tokens g.tokens h.pieces g.pieces h.ending g.ending h.are_tokens g.are_tokens h.are_pieces g.are_pieces in
       first_one options encoding once (demands (items_of g.pieces) g.ending) error other
       (subst (λ x. FirstFails encoding (demands (items_of g.pieces) x) error) e.1 (subst (λ x. FirstFails encoding (demands (items_of x) h.ending) error) e.0 h.fails)) g.fails
 
-  pub refusal_one : (error other : ErrorView) → AnswersOnce encoding → Refuses text options encoding error → Refuses text options encoding other → error ≡ other
+  pub refusal_one : (error other : ErrorView) → ReturnsOnce encoding → Rejects text options encoding error → Rejects text options encoding other → error ≡ other
   refusal_one error other once (inl h) (inl g) =
       let e = fault_one text h.0 g.0 h.1 g.1 h.2 g.2 in
       h.3 ∙ ap (λ x. views.Tokenizer x h.1) e.0 ∙ ap (λ x. views.Tokenizer g.0 x) e.1 ∙ sym g.3
@@ -73,7 +73,7 @@ module _ (text : List ℕ) (options : OptionsView) (encoding : Encoding) where
   refusal_one error other once (inr h) (inl g) = absurd (tokens_or_fault text h.tokens g.0 g.1 h.are_tokens g.2)
   refusal_one error other once (inr h) (inr g) = demand_one error other once h g
 
-  pub reading_or_refusal : (parts : List PartView) (error : ErrorView) → AnswersOnce encoding → Reads text options encoding parts → Refuses text options encoding error → ⊥
+  pub reading_or_refusal : (parts : List PartView) (error : ErrorView) → ReturnsOnce encoding → Reads text options encoding parts → Rejects text options encoding error → ⊥
   reading_or_refusal parts error once h (inl g) = tokens_or_fault text h.tokens g.0 g.1 h.are_tokens g.2
   reading_or_refusal parts error once h (inr g) =
       let e = text_pieces_one text options.prefix g.tokens h.tokens g.pieces h.pieces g.ending (endings.Stops h.found) g.are_tokens h.are_tokens g.are_pieces h.are_pieces in

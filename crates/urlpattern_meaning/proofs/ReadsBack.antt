@@ -8,11 +8,11 @@ use Rattle.urlpattern_syntax.specs.Errors.{ErrorView}
 use Rattle.urlpattern_syntax.specs.Options.{OptionsView}
 use Rattle.urlpattern_syntax.specs.Parts.{PartView}
 use Rattle.urlpattern_syntax.specs.Pieces.{Ending as endings}
-use Rattle.urlpattern_syntax.specs.Reading.{AreParts, Encoding, FirstFails, Item, Reads, Refuses, demands, items_of}
+use Rattle.urlpattern_syntax.specs.Reading.{AreParts, Encoding, FirstFails, Item, Reads, Rejects, demands, items_of}
 use Rattle.urlpattern_syntax.specs.RegexpText.{group_names}
 use Rattle.urlpattern_syntax.specs.Tokens.{end_of}
 use Rattle.urlpattern_meaning.specs.Printing.{HaveTexts, Keeps, KeepsTexts, encoded_texts, joined, printed}
-use Rattle.urlpattern_meaning.specs.RoundTrip.{ArePatternParts, AreUnskipped, IsPrefixPoint, IsPrintable, IsStandard, KeepsAnswered, MayKeep, ReadsBack, WereRead}
+use Rattle.urlpattern_meaning.specs.RoundTrip.{ArePatternParts, AreUnskipped, IsPrefixPoint, IsPrintable, IsStandard, KeepsOrFails, MayKeep, ReadsBack, WereRead}
 use Rattle.urlpattern_meaning.proofs.JoinedParts.{joined_apart, joined_pattern_parts, joined_unskipped}
 use Rattle.urlpattern_meaning.proofs.NameLaws.{Differ, NewNames}
 use Rattle.urlpattern_meaning.proofs.PrintedParts.{prints_its_parts}
@@ -65,7 +65,7 @@ module _ (options : OptionsView) (encoding : Encoding) (Of : List ℕ → Type 0
 
   -- The printed pattern is rejected only by an error that the encoding may return for one of the
   -- texts.
-  reads_refused : (error : ErrorView) → Refuses (printed options parts) options encoding error → (text : List ℕ) × Of text × encoding text (Err error)
+  reads_refused : (error : ErrorView) → Rejects (printed options parts) options encoding error → (text : List ℕ) × Of text × encoding text (Err error)
   reads_refused error (inl fault) = absurd (tokens_or_fault (printed options parts) prints.tokens fault.0 fault.1 prints.are_tokens fault.2)
   reads_refused error (inr refused) =
       let e = text_pieces_one (printed options parts) options.prefix refused.tokens prints.tokens refused.pieces prints.pieces refused.ending (endings.Stops (end_of (printed options parts)))
@@ -102,10 +102,10 @@ module _ (options : OptionsView) (encoding : Encoding) (Of : List ℕ → Type 0
 
   -- The printed pattern is rejected only by an error that the encoding may return for one of the
   -- texts.
-  pub refused_back : (error : ErrorView) → Refuses (printed options parts) options encoding error → (text : List ℕ) × Of text × encoding text (Err error)
+  pub refused_back : (error : ErrorView) → Rejects (printed options parts) options encoding error → (text : List ℕ) × Of text × encoding text (Err error)
   refused_back error refuses =
       reads_refused options encoding Of (joined parts) joined_prints (joined_pattern_parts options parts printable.pattern_parts) (joined_texts parts printable.texts) texts error
-      (subst (λ x. Refuses x options encoding error) (sym same_printed) refuses)
+      (subst (λ x. Rejects x options encoding error) (sym same_printed) refuses)
 
   -- The parts that the printed pattern reads as print as the same text.
   pub same_back : ((text other : List ℕ) → Of text → encoding text (Ok other) → other ≡ text) → (others : List PartView) → Reads (printed options parts) options encoding others → printed options others ≡ printed options parts
@@ -137,7 +137,7 @@ module _ (options : OptionsView) (encoding : Encoding) (parts : List PartView) (
   pub kept_reads_only : (others : List PartView) → Reads (printed options parts) options encoding others → others ≡ joined parts
   kept_reads_only = reads_back_only options encoding (IsKept encoding) parts printable (each_kept encoding (encoded_texts (joined parts)) keeps.1) (kept_only encoding)
 
-  pub kept_unrefused : (error : ErrorView) → ¬ Refuses (printed options parts) options encoding error
+  pub kept_unrefused : (error : ErrorView) → ¬ Rejects (printed options parts) options encoding error
   kept_unrefused error refuses =
       let answered = refused_back options encoding (IsKept encoding) parts printable (each_kept encoding (encoded_texts (joined parts)) keeps.1) error refuses in
       kept_answered encoding answered.0 error answered.1 answered.2
@@ -157,12 +157,12 @@ module _ (options : OptionsView) (encoding : Encoding) (parts : List PartView) (
   answered_reads keeps = reads_back options encoding (Contains (encoded_texts (joined parts))) parts printable (each_contained (encoded_texts (joined parts))) keeps
 
   -- The joined parts are all that the printed pattern may read as.
-  pub answered_only : KeepsAnswered encoding parts → (others : List PartView) → Reads (printed options parts) options encoding others → others ≡ joined parts
+  pub answered_only : KeepsOrFails encoding parts → (others : List PartView) → Reads (printed options parts) options encoding others → others ≡ joined parts
   answered_only only = reads_back_only options encoding (Contains (encoded_texts (joined parts))) parts printable (each_contained (encoded_texts (joined parts))) only
 
   -- The printed pattern is rejected only by an error that the encoding may return for one of the
   -- texts of the joined parts.
-  pub answered_refused : (error : ErrorView) → Refuses (printed options parts) options encoding error → (text : List ℕ) × Contains (encoded_texts (joined parts)) text × encoding text (Err error)
+  pub answered_refused : (error : ErrorView) → Rejects (printed options parts) options encoding error → (text : List ℕ) × Contains (encoded_texts (joined parts)) text × encoding text (Err error)
   answered_refused = refused_back options encoding (Contains (encoded_texts (joined parts))) parts printable (each_contained (encoded_texts (joined parts)))
 
 -- ---- parts that were read

@@ -10,7 +10,7 @@ use Rattle.urlpattern_syntax.specs.Errors.{ErrorView as views}
 use Rattle.urlpattern_syntax.specs.Options.{OptionsView, default_options, pathname_options, standard_options}
 use Rattle.urlpattern_syntax.specs.Parts.{PartView}
 use Rattle.urlpattern_syntax.specs.Pieces.{Piece, Text, Bare, Anything, Custom, Placeholder, Stops}
-use Rattle.urlpattern_syntax.specs.Reading.{Encoding, Reads, Refuses}
+use Rattle.urlpattern_syntax.specs.Reading.{Encoding, Reads, Rejects}
 use Rattle.urlpattern_syntax.specs.RegexpText.{escaped}
 use Rattle.urlpattern_syntax.specs.Tokens.{AreTokens, IsRegexpBody, InvalidRegex, NoBody, Nothing, Plain, reason}
 use Rattle.urlpattern_syntax.proofs.PieceExamples.{PieceCut, bare, ends, piece}
@@ -157,7 +157,7 @@ pub twice_text : printed default_options (segment [] (codes "a") [] ∷ segment 
 unfolding printing
 twice_text = refl
 
-pub twice_refused : Refuses (codes ":a:a") default_options keeping (views.DuplicateName (codes "a"))
+pub twice_refused : Rejects (codes ":a:a") default_options keeping (views.DuplicateName (codes "a"))
 twice_refused = same_name
 
 -- An empty name.
@@ -173,7 +173,7 @@ pub bodiless_text : printed default_options (custom [] ∷ []) ≡ codes "()"
 unfolding printing
 bodiless_text = refl
 
-pub bodiless_refused : Refuses (codes "()") default_options keeping (views.Tokenizer (InvalidRegex (reason NoBody)) 0)
+pub bodiless_refused : Rejects (codes "()") default_options keeping (views.Tokenizer (InvalidRegex (reason NoBody)) 0)
 unfolding literals
 bodiless_refused = inl (InvalidRegex (reason NoBody), 0, record { front = []; left = codes "()"; cut = none; place = refl; fault = (codes ")", NoBody, refl, ([], refl), refl) }, refl)
 

@@ -11,7 +11,7 @@ use Rattle.urlpattern_syntax.specs.declared.tokenizer.TokenType.{TokenType}
 use Rattle.urlpattern_syntax.specs.declared.tokenizer.TokenType.TheVariants.{Asterisk, Char, Close, EscapedChar, InvalidChar, Name, Open, OtherModifier, Regexp}
 use Rattle.urlpattern_meaning.specs.Laws.{HasLenientTokens, HasTokensOrFault}
 use Rattle.urlpattern_syntax.specs.Text.{byte_len, BeginsAt, BeginsWith, is_among, is_name_start, is_name_part}
-use Rattle.urlpattern_syntax.specs.Tokens.{FaultView, IncompleteEscapeCode, InvalidName, InvalidRegex, StartsWithQuestionMark, NotAscii, EscapedNotAscii, GroupAtEnd, CapturingGroup, NotClosed, NoBody, reason, IsFaultAt, is_question_mark, EndsThere, IsCut, IsLexed, IsTokenOf, Skips, SkipsBy, Spells, TokenView, end_of, is_ignored, marks}
+use Rattle.urlpattern_syntax.specs.Tokens.{FaultView, IncompleteEscapeCode, InvalidName, InvalidRegex, StartsWithQuestionMark, NotAscii, EscapedNotAscii, GroupAtEnd, CapturingGroup, NotClosed, NoBody, reason, IsFaultAt, is_question_mark, IsMaximal, IsCut, IsLexed, IsTokenOf, Skips, SkipsBy, Spells, TokenView, end_of, is_ignored, marks}
 use Rattle.urlpattern_meaning.proofs.TokensUnique.{LenientItem}
 
 -- ---- characters that are skipped
@@ -150,7 +150,7 @@ regexp_lexing (c ∷ text) = by_question_mark (is_question_mark c) refl
 -- ---- the beginning of any text
 
 -- A token of a single character.
-single : (kind : TokenType) (c : ℕ) (text : List ℕ) → ((spelling : List ℕ) → spelling ≡ c ∷ [] → Spells kind spelling spelling) → ((rest : List ℕ) → EndsThere kind rest) → Lexing (c ∷ text)
+single : (kind : TokenType) (c : ℕ) (text : List ℕ) → ((spelling : List ℕ) → spelling ≡ c ∷ [] → Spells kind spelling spelling) → ((rest : List ℕ) → IsMaximal kind rest) → Lexing (c ∷ text)
 single kind c text spells ends = Lexed kind (c ∷ []) text (character_lexed kind (c ∷ text) (c ∷ []) text c refl refl spells (ends text))
 
 marked_lexing : (c : ℕ) (text : List ℕ) → IsTrue (is_among marks c) → Lexing (c ∷ text)

@@ -4,7 +4,7 @@ use Rattle.std.proofs.lemmas.Bool.{false≢true}
 use Rattle.urlpattern_syntax.specs.declared.tokenizer.TokenType.TheVariants.{InvalidChar}
 use Rattle.urlpattern_syntax.specs.Text.{BeginsAt, BeginsWith}
 use Rattle.urlpattern_syntax.specs.Tokens.{AreLenientTokens, AreTokens, FaultView, IsCut, IsFault, IsFaultAt, IsInvalidCharOf, IsTokenOf, TokenView, end_of, is_ignored}
-use Rattle.urlpattern_meaning.proofs.FrontTokens.{fault_at_one, fault_counts, lexed_counts, lexed_one, lexed_or_fault, no_fault, nothing_lexed, skips_one}
+use Rattle.urlpattern_meaning.proofs.BodyStartTokens.{fault_at_one, fault_counts, lexed_counts, lexed_one, lexed_or_fault, no_fault, nothing_lexed, skips_one}
 
 -- ---- one list of tokens or one first fault
 

@@ -3,7 +3,7 @@
 use Rattle.std.proofs.Common.{◌≡◌, ℕ, List, [], ◌∷◌, ◌++◌, refl, sym, subst, ap, Bool, true, false, Some, append_assoc, ◌∙◌, ◌↔◌}
 use Rattle.std.proofs.lemmas.List.{append-nil}
 use Rattle.std.specs.Prelude.{if◌then◌else◌}
-use Rattle.urlpattern_meaning.specs.Dialect.{Atom, AtomMeans, Captured, Grouped, Items, Nothing, Item, IsTaken, Means, Once, Plain, Quantifier, Escaped, ZeroOrMore, atom_group_count, character_of}
+use Rattle.urlpattern_meaning.specs.Dialect.{Atom, AtomMeans, Captured, Grouped, Items, Nothing, Item, IsQuantified, Means, Once, Plain, Quantifier, Escaped, ZeroOrMore, atom_group_count, character_of}
 use Rattle.urlpattern_meaning.specs.PartMeaning.{Captures}
 use Rattle.urlpattern_syntax.specs.Text.{is_among}
 use Rattle.urlpattern_meaning.proofs.Copies.{IsCore, IsFurther, repeated_map}
@@ -43,15 +43,15 @@ text_means marks front text captures = (
 -- ---- an atom alone
 
 pub alone_means : (atom : Atom) (quantifier : Quantifier) (text : List ℕ) (captures : Captures) →
-    Means (alone atom quantifier) text captures ↔ IsTaken quantifier (atom_group_count atom) (AtomMeans atom) text captures
+    Means (alone atom quantifier) text captures ↔ IsQuantified quantifier (atom_group_count atom) (AtomMeans atom) text captures
 alone_means atom quantifier text captures = (λ means. there means, λ taken. (text, [], captures, [], sym (append-nil text), sym (append-nil captures), taken, (refl, refl)))
   where
-    there : Means (alone atom quantifier) text captures → IsTaken quantifier (atom_group_count atom) (AtomMeans atom) text captures
+    there : Means (alone atom quantifier) text captures → IsQuantified quantifier (atom_group_count atom) (AtomMeans atom) text captures
     there (first, rest, own, others, e, f, taken, (g, h)) =
         let same_text : first ≡ text = sym (e ∙ ap (λ t. first ++ t) g ∙ append-nil first) in
         let same_captures : own ≡ captures = sym (f ∙ ap (λ c. own ++ c) h ∙ append-nil own) in
-        subst (λ c. IsTaken quantifier (atom_group_count atom) (AtomMeans atom) text c) same_captures
-        (subst (λ t. IsTaken quantifier (atom_group_count atom) (AtomMeans atom) t own) same_text taken)
+        subst (λ c. IsQuantified quantifier (atom_group_count atom) (AtomMeans atom) text c) same_captures
+        (subst (λ t. IsQuantified quantifier (atom_group_count atom) (AtomMeans atom) t own) same_text taken)
 
 -- ---- a capture between prefix and suffix
 

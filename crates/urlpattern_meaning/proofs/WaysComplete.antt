@@ -1,10 +1,10 @@
 -- The meanings of a tree are among its ways, whatever text follows.
 use Rattle.std.proofs.Common.{◌≡◌, ℕ, zero, suc, ◌≤◌, ◌<◌, List, [], ◌∷◌, ◌++◌, length, Bool, true, false, if◌then◌else◌, not, ◌==◌, refl, sym, ap, subst, append_assoc, length-append, inl, inr, arith, lt-ltb, le-ltb, eq-eqb}
 use Rattle.std.proofs.lemmas.Bool.{cond-true, cond-false}
-use Rattle.urlpattern_meaning.specs.Dialect.{character_of, Quantifier, Once, Optional, ZeroOrMore, OneOrMore, LazyOneOrMore, Items, Nothing, Item, Atom, Literal, Dot, AnyBut, Captured, Grouped, atom_group_count, AllowsGroups, AreItems, IsAtom, IsTaken, Means, AtomMeans}
+use Rattle.urlpattern_meaning.specs.Dialect.{character_of, Quantifier, Once, Optional, ZeroOrMore, OneOrMore, LazyOneOrMore, Items, Nothing, Item, Atom, Literal, Dot, AnyBut, Captured, Grouped, atom_group_count, AllowsGroups, AreItems, IsAtom, IsQuantified, Means, AtomMeans}
 use Rattle.urlpattern_meaning.specs.PartMeaning.{Captures}
 use Rattle.urlpattern_syntax.specs.Text.{line_feed, IsRepeated}
-use Rattle.urlpattern_meaning.specs.Ways.{Way, Choice, idle, continued, one_that, is_shorter, more_rounds, looped, quantified_ways, capturing, ways, atom_ways}
+use Rattle.urlpattern_meaning.specs.Ways.{Way, Choice, empty_way, continued, one_that, is_shorter, more_rounds, looped, quantified_ways, capturing, ways, atom_ways}
 use Rattle.urlpattern_meaning.proofs.WayLists.{Has, has-left, has-right, has-map, has-round, has-leave, has-continued}
 
 abbrev pub way_of : List ℕ → Captures → List ℕ → Way
@@ -37,45 +37,45 @@ module _ (atom : Choice) (IsA : List ℕ → Captures → Type 0) (complete : Is
   leaves : (greedy : Bool) (m : ℕ) (rest : List ℕ) → Has (way_of [] [] rest) (more_rounds greedy atom (suc m) rest)
   leaves greedy m rest =
       let round = continued (λ r. if is_shorter r rest then more_rounds greedy atom m r else []) (atom rest) in
-      has-leave (way_of [] [] rest) greedy round (idle 0 rest ∷ []) (inl refl)
+      has-leave (way_of [] [] rest) greedy round (empty_way 0 rest ∷ []) (inl refl)
 
-  more_rounds-complete : (greedy : Bool) (n : ℕ) (taken rest : List ℕ) (m : ℕ) → length taken ≤ m → IsRepeated (λ stretch. IsA stretch []) n taken
+  more_rounds-complete : (greedy : Bool) (n : ℕ) (taken rest : List ℕ) (m : ℕ) → length taken ≤ m → IsRepeated (λ substring. IsA substring []) n taken
       → Has (way_of taken [] rest) (more_rounds greedy atom m (taken ++ rest))
   more_rounds-complete greedy zero taken rest zero le e = rw e (inl refl)
   more_rounds-complete greedy zero taken rest (suc m) le e = rw e (leaves greedy m rest)
-  more_rounds-complete greedy (suc n) taken rest m le ([], later, e, p, q) = more_rounds-complete greedy n taken rest m le (subst (IsRepeated (λ stretch. IsA stretch []) n) (sym e) q)
+  more_rounds-complete greedy (suc n) taken rest m le ([], later, e, p, q) = more_rounds-complete greedy n taken rest m le (subst (IsRepeated (λ substring. IsA substring []) n) (sym e) q)
   more_rounds-complete greedy (suc n) taken rest zero le (c ∷ first, later, e, p, q) = absurd (omega (arith, ap length e))
   more_rounds-complete greedy (suc n) taken rest (suc m) le (c ∷ first, later, e, p, q) =
       let fits : length later ≤ m = omega (arith, ap length e, length-append first later) in
       rw e (round_here greedy m c first later rest p (more_rounds-complete greedy n later rest m fits q))
 
   -- A loop whose first round matches something.
-  loop_here : (greedy : Bool) (n : ℕ) (c : ℕ) (first later rest : List ℕ) → IsA (c ∷ first) [] → IsRepeated (λ stretch. IsA stretch []) n later
+  loop_here : (greedy : Bool) (n : ℕ) (c : ℕ) (first later rest : List ℕ) → IsA (c ∷ first) [] → IsRepeated (λ substring. IsA substring []) n later
       → Has (way_of ((c ∷ first) ++ later) [] rest) (looped greedy atom (((c ∷ first) ++ later) ++ rest))
   loop_here greedy n c first later rest p q =
       let text = ((c ∷ first) ++ later) ++ rest in
       let longer : length (later ++ rest) < length text = omega (arith, length-append first later, length-append (first ++ later) rest, length-append later rest) in
-      has-behind (λ r. if is_shorter r text then more_rounds greedy atom (length r) r else idle 0 r ∷ []) atom (c ∷ first) later [] [] rest (complete (c ∷ first) [] (later ++ rest) p)
-      (subst (Has (way_of later [] rest)) (sym (cond-true _ (more_rounds greedy atom (length (later ++ rest)) (later ++ rest)) (idle 0 (later ++ rest) ∷ []) (lt-ltb _ _ longer)))
+      has-behind (λ r. if is_shorter r text then more_rounds greedy atom (length r) r else empty_way 0 r ∷ []) atom (c ∷ first) later [] [] rest (complete (c ∷ first) [] (later ++ rest) p)
+      (subst (Has (way_of later [] rest)) (sym (cond-true _ (more_rounds greedy atom (length (later ++ rest)) (later ++ rest)) (empty_way 0 (later ++ rest) ∷ []) (lt-ltb _ _ longer)))
       (more_rounds-complete greedy n later rest (length (later ++ rest)) (omega (arith, length-append later rest)) q))
 
   -- A loop of one empty round.
   nothing_here : (greedy : Bool) (rest : List ℕ) → IsA [] [] → Has (way_of [] [] rest) (looped greedy atom rest)
   nothing_here greedy rest p =
-      has-behind (λ r. if is_shorter r rest then more_rounds greedy atom (length r) r else idle 0 r ∷ []) atom [] [] [] [] rest (complete [] [] rest p)
-      (subst (Has (way_of [] [] rest)) (sym (cond-false (is_shorter rest rest) (more_rounds greedy atom (length rest) rest) (idle 0 rest ∷ []) (le-ltb _ _ (omega arith)))) (inl refl))
+      has-behind (λ r. if is_shorter r rest then more_rounds greedy atom (length r) r else empty_way 0 r ∷ []) atom [] [] [] [] rest (complete [] [] rest p)
+      (subst (Has (way_of [] [] rest)) (sym (cond-false (is_shorter rest rest) (more_rounds greedy atom (length rest) rest) (empty_way 0 rest ∷ []) (le-ltb _ _ (omega arith)))) (inl refl))
 
-  looped-complete : (greedy : Bool) (n : ℕ) (taken rest : List ℕ) → IsRepeated (λ stretch. IsA stretch []) (suc n) taken
+  looped-complete : (greedy : Bool) (n : ℕ) (taken rest : List ℕ) → IsRepeated (λ substring. IsA substring []) (suc n) taken
       → Has (way_of taken [] rest) (looped greedy atom (taken ++ rest))
   looped-complete greedy n taken rest (c ∷ first, later, e, p, q) = rw e (loop_here greedy n c first later rest p q)
   looped-complete greedy zero taken rest ([], later, e, p, q) = rw (e, q) (nothing_here greedy rest p)
   looped-complete greedy (suc n) taken rest ([], later, e, p, q) =
-      looped-complete greedy n taken rest (subst (IsRepeated (λ stretch. IsA stretch []) (suc n)) (sym e) q)
+      looped-complete greedy n taken rest (subst (IsRepeated (λ substring. IsA substring []) (suc n)) (sym e) q)
 
 -- ---- atoms and items
 
 taken-complete : (quantifier : Quantifier) (groups : ℕ) (atom : Choice) (Is : List ℕ → Captures → Type 0) → AllowsGroups quantifier groups
-    → IsComplete atom Is → IsComplete (quantified_ways quantifier groups atom) (IsTaken quantifier groups Is)
+    → IsComplete atom Is → IsComplete (quantified_ways quantifier groups atom) (IsQuantified quantifier groups Is)
 taken-complete Once groups atom Is allowed complete taken captures rest m = complete taken captures rest m
 taken-complete Optional groups atom Is allowed complete taken captures rest (inl m) = has-left _ (atom (taken ++ rest)) _ (complete taken captures rest m)
 taken-complete Optional groups atom Is allowed complete taken captures rest (inr m) = has-right _ (atom (taken ++ rest)) _ (inl (rw (m.0, m.1) refl))

@@ -5,7 +5,7 @@ use Rattle.std.proofs.lemmas.Bool.{cases_Bool, cond-false, ltb-false, ltb-true}
 use Rattle.urlpattern_meaning.specs.Dialect.{character_of, Quantifier, Once, Optional, ZeroOrMore, OneOrMore, LazyOneOrMore, Items, Nothing, Item, Atom, Literal, Dot, AnyBut, Captured, Grouped, atom_group_count, AreItems, IsAtom, Means, AtomMeans}
 use Rattle.urlpattern_meaning.specs.PartMeaning.{Captures}
 use Rattle.urlpattern_syntax.specs.Text.{line_feed}
-use Rattle.urlpattern_meaning.specs.Ways.{Way, Choice, idle, joined_way, continued, one_that, ordered, is_shorter, more_rounds, looped, quantified_ways, capturing, ways, atom_ways}
+use Rattle.urlpattern_meaning.specs.Ways.{Way, Choice, empty_way, joined_way, continued, one_that, ordered, is_shorter, more_rounds, looped, quantified_ways, capturing, ways, atom_ways}
 use Rattle.urlpattern_meaning.proofs.WayLists.{Every, every-weaker, every-cond, every-ordered, every-continued}
 use Rattle.urlpattern_meaning.proofs.WaysSound.{IsSound, ways-sound, atom-sound}
 
@@ -83,8 +83,8 @@ module _ (s : List ℕ) where
   cut-ordered true xs ys us vs p q = cut-append xs ys us vs p q
   cut-ordered false xs ys us vs p q = cut-append ys xs vs us q p
 
-  pub cut-idle : (groups : ℕ) (inner : List ℕ) → Cut (idle groups (inner ++ s) ∷ []) (idle groups inner ∷ [])
-  cut-idle groups inner = inr (idle groups inner, [], refl, refl, refl)
+  pub cut-empty_way : (groups : ℕ) (inner : List ℕ) → Cut (empty_way groups (inner ++ s) ∷ []) (empty_way groups inner ∷ [])
+  cut-empty_way groups inner = inr (empty_way groups inner, [], refl, refl, refl)
 
   -- ---- characters
 
@@ -133,15 +133,15 @@ module _ (s : List ℕ) where
     no_more (way ∷ xs) next none = rw (none way.rest) (no_more xs next none)
 
     -- In the empty text no round follows, however many are allowed.
-    rounds-over : (n : ℕ) → more_rounds greedy atom n [] ≡ idle 0 [] ∷ []
+    rounds-over : (n : ℕ) → more_rounds greedy atom n [] ≡ empty_way 0 [] ∷ []
     rounds-over zero = refl
     rounds-over (suc n) =
-        ap (λ going_on. ordered greedy going_on (idle 0 [] ∷ []))
+        ap (λ going_on. ordered greedy going_on (empty_way 0 [] ∷ []))
         (no_more (atom []) (λ rest. if is_shorter rest [] then more_rounds greedy atom n rest else [])
         (λ rest. cond-false (is_shorter rest []) (more_rounds greedy atom n rest) [] (le-ltb (length rest) 0 (omega arith))))
         ∙ either greedy
       where
-        either : (b : Bool) → ordered b [] (idle 0 [] ∷ []) ≡ idle 0 [] ∷ []
+        either : (b : Bool) → ordered b [] (empty_way 0 [] ∷ []) ≡ empty_way 0 [] ∷ []
         either true = refl
         either false = refl
 
@@ -151,10 +151,10 @@ module _ (s : List ℕ) where
         cut-ordered greedy _ _ _ _
         (cut-continued _ _ (λ text. every-cond _ (is_shorter text (inner ++ s)) _ _ (rounds-fall greedy atom falls n text) tt)
         (goes_on (more_rounds greedy atom n) (more_rounds greedy atom m) (λ rest. []) inner (λ rest. refl) goes) (atom (inner ++ s)) (atom inner) (cut inner))
-        (cut-idle 0 inner)
+        (cut-empty_way 0 inner)
 
     rounds-cut : (n m : ℕ) (inner : List ℕ) → length inner ≤ n → length inner ≤ m → Cut (more_rounds greedy atom n (inner ++ s)) (more_rounds greedy atom m inner)
-    rounds-cut zero m [] le ge = subst (Cut (idle 0 s ∷ [])) (sym (rounds-over m)) (cut-idle 0 [])
+    rounds-cut zero m [] le ge = subst (Cut (empty_way 0 s ∷ [])) (sym (rounds-over m)) (cut-empty_way 0 [])
     rounds-cut zero m (c ∷ inner) le ge = absurd (omega arith)
     rounds-cut (suc n) zero (c ∷ inner) le ge = absurd (omega arith)
     rounds-cut (suc n) zero [] le ge =
@@ -164,7 +164,7 @@ module _ (s : List ℕ) where
     loop-cut : IsCut (looped greedy atom) (looped greedy atom)
     loop-cut inner =
         cut-continued _ _ (λ text. every-cond _ (is_shorter text (inner ++ s)) _ _ (rounds-fall greedy atom falls (length text) text) (omega arith, tt))
-        (goes_on (λ rest. more_rounds greedy atom (length rest) rest) (λ rest. more_rounds greedy atom (length rest) rest) (λ rest. idle 0 rest ∷ []) inner (cut-idle 0)
+        (goes_on (λ rest. more_rounds greedy atom (length rest) rest) (λ rest. more_rounds greedy atom (length rest) rest) (λ rest. empty_way 0 rest ∷ []) inner (cut-empty_way 0)
         (λ rest less. rounds-cut (length (rest ++ s)) (length rest) rest (omega (arith, length-append rest s)) (omega arith)))
         (atom (inner ++ s)) (atom inner) (cut inner)
 
@@ -172,15 +172,15 @@ module _ (s : List ℕ) where
 
   pub taken-cut : (quantifier : Quantifier) (groups : ℕ) (atom : Choice) → Falls atom → IsCut atom atom → IsCut (quantified_ways quantifier groups atom) (quantified_ways quantifier groups atom)
   taken-cut Once groups atom falls cut inner = cut inner
-  taken-cut Optional groups atom falls cut inner = cut-append (atom (inner ++ s)) _ (atom inner) _ (cut inner) (cut-idle groups inner)
+  taken-cut Optional groups atom falls cut inner = cut-append (atom (inner ++ s)) _ (atom inner) _ (cut inner) (cut-empty_way groups inner)
   taken-cut ZeroOrMore groups atom falls cut inner =
-      cut-append (looped true atom (inner ++ s)) _ (looped true atom inner) _ (loop-cut true atom falls cut inner) (cut-idle groups inner)
+      cut-append (looped true atom (inner ++ s)) _ (looped true atom inner) _ (loop-cut true atom falls cut inner) (cut-empty_way groups inner)
   taken-cut OneOrMore groups atom falls cut inner = loop-cut true atom falls cut inner
   taken-cut LazyOneOrMore groups atom falls cut inner = loop-cut false atom falls cut inner
 
   mutual
     pub items-cut : (tree : Items) → AreItems tree → IsCut (ways tree) (ways tree)
-    items-cut Nothing h inner = cut-idle 0 inner
+    items-cut Nothing h inner = cut-empty_way 0 inner
     items-cut (Item atom quantifier items) h inner =
         cut-continued (ways items) (ways items) (λ text. sound-falls text (Means items) (ways items text) (ways-sound items h.2 text)) (items-cut items h.2) _ _
         (taken-cut quantifier (atom_group_count atom) (atom_ways atom) (λ text. sound-falls text (AtomMeans atom) (atom_ways atom text) (atom-sound atom h.0 text)) (atom-cut atom h.0) inner)

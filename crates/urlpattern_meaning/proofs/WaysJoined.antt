@@ -5,7 +5,7 @@ use Rattle.std.proofs.lemmas.List.{map-append, map-id}
 use Rattle.std.proofs.lemmas.Simd.{map-map}
 use Rattle.urlpattern_meaning.specs.Dialect.{Items, Nothing, Item, Literal, Once, character_of, atom_group_count}
 use Rattle.urlpattern_meaning.specs.PartMeaning.{Captures}
-use Rattle.urlpattern_meaning.specs.Ways.{Way, Choice, idle, joined_way, continued, quantified_ways, ways, atom_ways, first_way, first_way_by}
+use Rattle.urlpattern_meaning.specs.Ways.{Way, Choice, empty_way, joined_way, continued, quantified_ways, ways, atom_ways, first_way, first_way_by}
 use Rattle.urlpattern_meaning.proofs.PartTrees.{character, put}
 use Rattle.urlpattern_meaning.proofs.TreeMeaning.{character_same}
 use Rattle.urlpattern_meaning.proofs.WaysComplete.{way_of}
@@ -54,7 +54,7 @@ both_items (Item atom quantifier items) others = Item atom quantifier (both_item
 
 pub both_ways : (items others : Items) (text : List ℕ) → ways (both_items items others) text ≡ continued (ways others) (ways items text)
 both_ways Nothing others text =
-    sym (append-nil (map (joined_way (idle 0 text)) (ways others text)) ∙ map-id (ways others text))
+    sym (append-nil (map (joined_way (empty_way 0 text)) (ways others text)) ∙ map-id (ways others text))
 both_ways (Item atom quantifier items) others text =
     let front = quantified_ways quantifier (atom_group_count atom) (atom_ways atom) text in
     continued-same (ways (both_items items others)) (λ t. continued (ways others) (ways items t)) front (both_ways items others)

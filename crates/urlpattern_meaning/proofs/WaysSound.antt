@@ -1,10 +1,10 @@
 -- The ways of a tree are meanings: the tree means the text that a way matches, with the way's
 -- captures.
 use Rattle.std.proofs.Common.{◌≡◌, ℕ, zero, suc, ◌+◌, List, [], ◌∷◌, ◌++◌, replicate, length, Option, None, Bool, true, false, cond, refl, sym, ap, ap₂, ◌∙◌, subst, append_assoc, length-append, eqb-true, inl, inr}
-use Rattle.urlpattern_meaning.specs.Dialect.{character_of, Quantifier, Once, Optional, ZeroOrMore, OneOrMore, LazyOneOrMore, Items, Nothing, Item, Atom, Literal, Dot, AnyBut, Captured, Grouped, group_count, atom_group_count, AllowsGroups, AreItems, IsAtom, IsTaken, Means, AtomMeans}
+use Rattle.urlpattern_meaning.specs.Dialect.{character_of, Quantifier, Once, Optional, ZeroOrMore, OneOrMore, LazyOneOrMore, Items, Nothing, Item, Atom, Literal, Dot, AnyBut, Captured, Grouped, group_count, atom_group_count, AllowsGroups, AreItems, IsAtom, IsQuantified, Means, AtomMeans}
 use Rattle.urlpattern_meaning.specs.PartMeaning.{Captures}
 use Rattle.urlpattern_syntax.specs.Text.{IsRepeated}
-use Rattle.urlpattern_meaning.specs.Ways.{Way, Choice, idle, one_that, is_shorter, more_rounds, looped, quantified_ways, capturing, ways, atom_ways}
+use Rattle.urlpattern_meaning.specs.Ways.{Way, Choice, empty_way, one_that, is_shorter, more_rounds, looped, quantified_ways, capturing, ways, atom_ways}
 use Rattle.urlpattern_meaning.proofs.WayLists.{Every, every-append, every-map, every-weaker, every-cond, every-ordered, every-continued}
 
 -- The way cuts the text in two, and `IsA` allows the first part with its captures.
@@ -20,10 +20,10 @@ behind text way more p q = p ∙ ap (λ r. way.taken ++ r) q ∙ sym (append_ass
 
 -- Any number of rounds without captures.
 abbrev AreRounds : (List ℕ → Captures → Type 0) → List ℕ → Captures → Type 0
-AreRounds IsA text captures = (n : ℕ) × IsRepeated (λ stretch. IsA stretch []) n text × (captures ≡ [])
+AreRounds IsA text captures = (n : ℕ) × IsRepeated (λ substring. IsA substring []) n text × (captures ≡ [])
 
 abbrev AreMoreRounds : (List ℕ → Captures → Type 0) → List ℕ → Captures → Type 0
-AreMoreRounds IsA text captures = (n : ℕ) × IsRepeated (λ stretch. IsA stretch []) (suc n) text × (captures ≡ [])
+AreMoreRounds IsA text captures = (n : ℕ) × IsRepeated (λ substring. IsA substring []) (suc n) text × (captures ≡ [])
 
 module _ (atom : Choice) (IsA : List ℕ → Captures → Type 0) (sound : AreSound atom IsA) (bare : (text : List ℕ) (captures : Captures) → IsA text captures → captures ≡ []) where
   one_more : (way more : Way) → IsA way.taken way.captures → AreRounds IsA more.taken more.captures → AreMoreRounds IsA (way.taken ++ more.taken) (way.captures ++ more.captures)
@@ -52,7 +52,7 @@ module _ (atom : Choice) (IsA : List ℕ → Captures → Type 0) (sound : AreSo
       (every-weaker (IsSound way.rest (AreRounds IsA)) _ _
       (λ more q. (behind text way more p.0 q.0, one_more way more p.1 q.1))
       (more_rounds-sound greedy (length way.rest) way.rest))
-      ((behind text way (idle 0 way.rest) p.0 refl, one_more way (idle 0 way.rest) p.1 (zero, refl, refl)), tt))
+      ((behind text way (empty_way 0 way.rest) p.0 refl, one_more way (empty_way 0 way.rest) p.1 (zero, refl, refl)), tt))
 
 pub nil_of_zero : (captures : Captures) → length captures ≡ 0 → captures ≡ []
 nil_of_zero [] e = refl
@@ -65,7 +65,7 @@ count-replicate (suc n) = ap suc (count-replicate n)
 -- A meaning has as many captures as there are groups.
 pub taken-count : (quantifier : Quantifier) (groups : ℕ) (Is : List ℕ → Captures → Type 0) → AllowsGroups quantifier groups
     → ((text : List ℕ) (captures : Captures) → Is text captures → length captures ≡ groups)
-    → (text : List ℕ) (captures : Captures) → IsTaken quantifier groups Is text captures → length captures ≡ groups
+    → (text : List ℕ) (captures : Captures) → IsQuantified quantifier groups Is text captures → length captures ≡ groups
 taken-count Once groups Is allowed count text captures m = count text captures m
 taken-count Optional groups Is allowed count text captures (inl m) = count text captures m
 taken-count Optional groups Is allowed count text captures (inr m) = ap length m.1 ∙ count-replicate groups
@@ -91,7 +91,7 @@ mutual
 
 pub taken-sound : (quantifier : Quantifier) (groups : ℕ) (atom : Choice) (Is : List ℕ → Captures → Type 0) → AllowsGroups quantifier groups
     → ((text : List ℕ) (captures : Captures) → Is text captures → length captures ≡ groups)
-    → AreSound atom Is → AreSound (quantified_ways quantifier groups atom) (IsTaken quantifier groups Is)
+    → AreSound atom Is → AreSound (quantified_ways quantifier groups atom) (IsQuantified quantifier groups Is)
 taken-sound Once groups atom Is allowed count sound text = sound text
 taken-sound Optional groups atom Is allowed count sound text =
     every-append _ (atom text) _ (every-weaker (IsSound text Is) _ (atom text) (λ way p. (p.0, inl p.1)) (sound text)) ((refl, inr (refl, refl)), tt)
@@ -115,7 +115,7 @@ mutual
   pub ways-sound : (tree : Items) → AreItems tree → AreSound (ways tree) (Means tree)
   ways-sound Nothing h text = ((refl, (refl, refl)), tt)
   ways-sound (Item atom quantifier items) h text =
-      let Taken = IsTaken quantifier (atom_group_count atom) (AtomMeans atom) in
+      let Taken = IsQuantified quantifier (atom_group_count atom) (AtomMeans atom) in
       every-continued (IsSound text Taken) (IsSound text (Means (Item atom quantifier items))) (ways items)
       (quantified_ways quantifier (atom_group_count atom) (atom_ways atom) text)
       (taken-sound quantifier (atom_group_count atom) (atom_ways atom) (AtomMeans atom) h.1 (atom-count atom h.0) (atom-sound atom h.0) text)

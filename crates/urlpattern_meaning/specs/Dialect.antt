@@ -132,12 +132,12 @@ IsOneBut c text = (other : ℕ) × (text ≡ other ∷ []) × IsTrue (not (other
 
 -- The text matches an atom of meaning `Atom`, with this number of groups, under the quantifier. An
 -- atom that is skipped leaves its groups None.
-abbrev pub IsTaken : Quantifier → (groups : ℕ) → (List ℕ → Captures → Type 0) → List ℕ → Captures → Type 0
-IsTaken Once groups Atom text captures = Atom text captures
-IsTaken Optional groups Atom text captures = Atom text captures ⊎ ((text ≡ []) × (captures ≡ replicate groups None))
-IsTaken ZeroOrMore groups Atom text captures = (n : ℕ) × IsRepeated (λ stretch. Atom stretch []) n text × (captures ≡ [])
-IsTaken OneOrMore groups Atom text captures = (n : ℕ) × IsRepeated (λ stretch. Atom stretch []) (suc n) text × (captures ≡ [])
-IsTaken LazyOneOrMore groups Atom text captures = (n : ℕ) × IsRepeated (λ stretch. Atom stretch []) (suc n) text × (captures ≡ [])
+abbrev pub IsQuantified : Quantifier → (groups : ℕ) → (List ℕ → Captures → Type 0) → List ℕ → Captures → Type 0
+IsQuantified Once groups Atom text captures = Atom text captures
+IsQuantified Optional groups Atom text captures = Atom text captures ⊎ ((text ≡ []) × (captures ≡ replicate groups None))
+IsQuantified ZeroOrMore groups Atom text captures = (n : ℕ) × IsRepeated (λ substring. Atom substring []) n text × (captures ≡ [])
+IsQuantified OneOrMore groups Atom text captures = (n : ℕ) × IsRepeated (λ substring. Atom substring []) (suc n) text × (captures ≡ [])
+IsQuantified LazyOneOrMore groups Atom text captures = (n : ℕ) × IsRepeated (λ substring. Atom substring []) (suc n) text × (captures ≡ [])
 
 abbrev mutual
   -- The items match the whole text, with these captures in the order of the opening brackets.
@@ -145,7 +145,7 @@ abbrev mutual
   Means Nothing text captures = (text ≡ []) × (captures ≡ [])
   Means (Item atom quantifier items) text captures =
       (first rest : List ℕ) × (own others : Captures) × (text ≡ first ++ rest) × (captures ≡ own ++ others)
-      × IsTaken quantifier (atom_group_count atom) (AtomMeans atom) first own × Means items rest others
+      × IsQuantified quantifier (atom_group_count atom) (AtomMeans atom) first own × Means items rest others
 
   -- The atom matches the whole text, with these captures.
   pub AtomMeans : Atom → List ℕ → Captures → Type 0

@@ -4,7 +4,7 @@ use Rattle.std.specs.{Char.is_ascii_digit, List.list_all}
 use Rattle.urlpattern_meaning.specs.Matching.{IsMadeOf, MatcherView}
 use Rattle.urlpattern_syntax.specs.{Errors.ErrorView, Options.OptionsView, Parts.PartView}
 use Rattle.urlpattern_syntax.specs.Pieces.{ArePieces, Ending, Piece}
-use Rattle.urlpattern_syntax.specs.Reading.{AreMet, Demand, Encode, Encoding, Reads, Refuses, demands, items_of}
+use Rattle.urlpattern_syntax.specs.Reading.{AreMet, Demand, Encode, Encoding, Reads, Rejects, demands, items_of}
 use Rattle.urlpattern_syntax.specs.Text.{begins_with, byte_len}
 use Rattle.urlpattern_syntax.specs.declared.tokenizer.TokenType.{TokenType}
 use Rattle.urlpattern_syntax.specs.Tokens.{AreLenientTokens, AreTokens, FaultView, IsFault, TokenView, is_ignored}
@@ -51,30 +51,30 @@ HasLenientTokens text = (tokens : List TokenView) × AreLenientTokens text token
 -- ---- encodings
 
 -- Texts with the results of an encoding.
-abbrev pub Answered : Type 0
-Answered = List (List ℕ × Result (List ℕ) ErrorView)
+abbrev pub EncodingResults : Type 0
+EncodingResults = List (List ℕ × Result (List ℕ) ErrorView)
 
 -- The encoding that has these results and no others.
-abbrev pub listed : Answered → Encoding
+abbrev pub listed : EncodingResults → Encoding
 listed answers text answer = Contains answers (text, answer)
 
 -- The encoding has at most one result for each text.
-abbrev pub AnswersOnce : Encoding → Type 0
-AnswersOnce encoding = (text : List ℕ) → AtMostOne (encoding text)
+abbrev pub ReturnsOnce : Encoding → Type 0
+ReturnsOnce encoding = (text : List ℕ) → AtMostOne (encoding text)
 
 -- The encoding has at most one result for each text other than that memory ran out.
-abbrev pub AnswersOnceGivenMemory : Encoding → Type 0
-AnswersOnceGivenMemory encoding =
+abbrev pub ReturnsOnceGivenMemory : Encoding → Type 0
+ReturnsOnceGivenMemory encoding =
     (text : List ℕ) (answer other : Result (List ℕ) ErrorView) → encoding text answer → encoding text other →
     answer ≢ Err ErrorView.OutOfMemory → other ≢ Err ErrorView.OutOfMemory → answer ≡ other
 
 -- The encoding has a result for the text.
-abbrev pub HasAnswer : Encoding → (text : List ℕ) → Type 0
-HasAnswer encoding text = (answer : Result (List ℕ) ErrorView) × encoding text answer
+abbrev pub HasResult : Encoding → (text : List ℕ) → Type 0
+HasResult encoding text = (answer : Result (List ℕ) ErrorView) × encoding text answer
 
 -- The encoding is called with the text `asked`, which is among the demands of the pieces of the
 -- text; each demand before it is met.
-pub record Asks (text : List ℕ) (options : OptionsView) (encoding : Encoding) (asked : List ℕ) : Type 0 where
+pub record CallsEncoding (text : List ℕ) (options : OptionsView) (encoding : Encoding) (asked : List ℕ) : Type 0 where
   pub tokens : List TokenView
   pub pieces : List Piece
   pub ending : Ending
@@ -86,12 +86,12 @@ pub record Asks (text : List ℕ) (options : OptionsView) (encoding : Encoding) 
   pub are_met : AreMet encoding before
 
 -- The encoding has a result for each text that it is called with.
-abbrev pub AnswersAsked : (text : List ℕ) → OptionsView → Encoding → Type 0
-AnswersAsked text options encoding = (asked : List ℕ) → Asks text options encoding asked → HasAnswer encoding asked
+abbrev pub HasRequestedResults : (text : List ℕ) → OptionsView → Encoding → Type 0
+HasRequestedResults text options encoding = (asked : List ℕ) → CallsEncoding text options encoding asked → HasResult encoding asked
 
 -- The encoding is called with a text for which it has no result.
-abbrev pub LacksAnswer : (text : List ℕ) → OptionsView → Encoding → Type 0
-LacksAnswer text options encoding = (asked : List ℕ) × Asks text options encoding asked × ¬ HasAnswer encoding asked
+abbrev pub LacksResult : (text : List ℕ) → OptionsView → Encoding → Type 0
+LacksResult text options encoding = (asked : List ℕ) × CallsEncoding text options encoding asked × ¬ HasResult encoding asked
 
 -- ---- outcomes
 
@@ -102,7 +102,7 @@ Outcome = Result (List PartView) ErrorView
 -- The text reads as these parts, or is rejected with this error.
 abbrev pub HasOutcome : (text : List ℕ) → OptionsView → Encoding → Outcome → Type 0
 HasOutcome text options encoding (Ok parts) = Reads text options encoding parts
-HasOutcome text options encoding (Err error) = Refuses text options encoding error
+HasOutcome text options encoding (Err error) = Rejects text options encoding error
 
 -- The text reads as some parts, or is rejected with some error.
 abbrev pub HasSomeOutcome : (text : List ℕ) → OptionsView → Encoding → Type 0

@@ -2,9 +2,9 @@
 use Rattle.std.specs.Prelude.{◌≡◌, ◌↔◌, ◌⊎◌, ℕ, suc, false, List, [], ◌∷◌, ◌++◌, length, Contains, IsTrue, Option, Some}
 use Rattle.std.specs.Str.{all_scalars}
 use Rattle.urlpattern_meaning.specs.Dialect.{AreItems, Follows, IsTreeOf, Items, Means}
-use Rattle.urlpattern_meaning.specs.FirstAnswers.{IsFirstOf}
+use Rattle.urlpattern_meaning.specs.FirstResults.{IsFirstOf}
 use Rattle.urlpattern_meaning.specs.Laws.{AtMostOne, HasShapeOf}
-use Rattle.urlpattern_meaning.specs.Matching.{Agrees, AgreesInMiddle, ArePeeled, EachAnswerIs, MatcherView, end_text}
+use Rattle.urlpattern_meaning.specs.Matching.{Agrees, AgreesInMiddle, AreStripped, EachResultIs, MatcherView, end_text}
 use Rattle.urlpattern_meaning.specs.PartMeaning.{Allows, AreCopies, AreGenerated, Captures, PartMeans, PartsMean, capture_of_no_copies}
 use Rattle.urlpattern_meaning.specs.Ways.{Way, ways}
 use Rattle.urlpattern_syntax.specs.{Options.OptionsView, Parts.PartView}
@@ -17,7 +17,7 @@ use Rattle.urlpattern_syntax.specs.RegexpText.{IsWildcard, group_names, regexp_t
 abbrev pub PlainEndsAreRemoved : Type 0
 PlainEndsAreRemoved =
     (options : OptionsView) (parts : List PartView) (front : Option PartView) (middle : List PartView) (back : Option PartView)
-    (text : List ℕ) (captures : Captures) → ArePeeled parts front middle back →
+    (text : List ℕ) (captures : Captures) → AreStripped parts front middle back →
     PartsMean options parts text captures
     ↔ ((inner : List ℕ) × (text ≡ end_text front ++ inner ++ end_text back) × PartsMean options middle inner captures)
 
@@ -90,6 +90,6 @@ OfEachMatcher E Says =
 
 -- The matcher returns what the parts mean, custom or not, if an engine that is called returns what
 -- the parts left to it mean.
-abbrev pub AnswersWhereEnginesAgree : {E : Type 0} → (answer : E → List ℕ → Option Captures) → OptionsView → List PartView → MatcherView E → Type 0
-AnswersWhereEnginesAgree answer options parts matcher =
-    options.ignore_case ≡ false → AgreesInMiddle answer options parts matcher.inner → EachAnswerIs answer matcher (Agrees options parts)
+abbrev pub ReturnsWhereEnginesAgree : {E : Type 0} → (answer : E → List ℕ → Option Captures) → OptionsView → List PartView → MatcherView E → Type 0
+ReturnsWhereEnginesAgree answer options parts matcher =
+    options.ignore_case ≡ false → AgreesInMiddle answer options parts matcher.inner → EachResultIs answer matcher (Agrees options parts)

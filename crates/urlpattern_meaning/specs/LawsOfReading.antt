@@ -1,12 +1,12 @@
 -- Laws of tokens, pieces, readings and printed patterns. For a statement about an encoding, the law
 -- says for which encodings it holds.
 use Rattle.std.specs.Prelude.{◌≡◌, ◌≢◌, ◌⊎◌, ℕ, ◌<◌, List, ◌∷◌, ◌++◌, Err}
-use Rattle.urlpattern_meaning.specs.Laws.{Answered, AnswersAsked, AnswersOnce, AnswersOnceGivenMemory, HasOutcome, HasSomeOutcome, LacksAnswer, Outcome, listed}
+use Rattle.urlpattern_meaning.specs.Laws.{EncodingResults, HasRequestedResults, ReturnsOnce, ReturnsOnceGivenMemory, HasOutcome, HasSomeOutcome, LacksResult, Outcome, listed}
 use Rattle.urlpattern_meaning.specs.Printing.{Keeps, encoded_texts, joined, printed}
-use Rattle.urlpattern_meaning.specs.RoundTrip.{FailsText, IsPrintable, KeepsAnswered, MayKeep, ReadsAsJoined, ReadsOnlyAsJoined, WereRead}
+use Rattle.urlpattern_meaning.specs.RoundTrip.{FailsText, IsPrintable, KeepsOrFails, MayKeep, ReadsAsJoined, ReadsOnlyAsJoined, WereRead}
 use Rattle.urlpattern_syntax.specs.{Errors.ErrorView, Options.OptionsView, Parts.PartView}
 use Rattle.urlpattern_syntax.specs.Pieces.{ArePieces, Ending, Piece}
-use Rattle.urlpattern_syntax.specs.Reading.{Calls, Encoding, Reads, Refuses, encoding_by}
+use Rattle.urlpattern_syntax.specs.Reading.{Calls, Encoding, Reads, Rejects, encoding_by}
 use Rattle.urlpattern_syntax.specs.Tokens.{AreTokens, FaultView, IsFault, TokenView}
 
 -- ---- tokens
@@ -46,7 +46,7 @@ TokensHavePieces = (point text : List ℕ) (tokens : List TokenView) →
 
 -- The statement holds of each encoding that is a list of texts with their results.
 abbrev pub UnderEachList : (Sentence : Encoding → Type 0) → Type 0
-UnderEachList Sentence = (answers : Answered) → Sentence (listed answers)
+UnderEachList Sentence = (answers : EncodingResults) → Sentence (listed answers)
 
 -- The statement holds of the results that each callback of a type may return.
 abbrev pub UnderEachCallback : {F : Type 0} → Calls F → (Sentence : Encoding → Type 0) → Type 0
@@ -57,7 +57,7 @@ UnderEachCallback {F} calls Sentence = (callback : F) → Sentence (encoding_by 
 -- At most one value has the property for a text, where the encoding has at most one result for each
 -- text.
 abbrev pub HaveOneAtMost : {A : Type 0} → (Has : (text : List ℕ) → OptionsView → Encoding → A → Type 0) → Encoding → Type 0
-HaveOneAtMost {A} Has encoding = (text : List ℕ) (options : OptionsView) (value other : A) → AnswersOnce encoding →
+HaveOneAtMost {A} Has encoding = (text : List ℕ) (options : OptionsView) (value other : A) → ReturnsOnce encoding →
     Has text options encoding value → Has text options encoding other → value ≡ other
 
 -- A text has at most one outcome, where the encoding has at most one result for each text.
@@ -66,26 +66,26 @@ OutcomesAreOne encoding = HaveOneAtMost HasOutcome encoding
 
 -- No text has both a reading and a rejection, where the encoding has at most one result for each
 -- text.
-abbrev pub ReadingsExcludeRefusals : Encoding → Type 0
-ReadingsExcludeRefusals encoding = (text : List ℕ) (options : OptionsView) (parts : List PartView) (error : ErrorView) →
-    AnswersOnce encoding → Reads text options encoding parts → ¬ Refuses text options encoding error
+abbrev pub ReadingsExcludeRejections : Encoding → Type 0
+ReadingsExcludeRejections encoding = (text : List ℕ) (options : OptionsView) (parts : List PartView) (error : ErrorView) →
+    ReturnsOnce encoding → Reads text options encoding parts → ¬ Rejects text options encoding error
 
 -- Other than that memory ran out, a text has at most one outcome where the encoding has at most one
 -- result for each text.
 abbrev pub OutcomesAreOneGivenMemory : Encoding → Type 0
-OutcomesAreOneGivenMemory encoding = (text : List ℕ) (options : OptionsView) (outcome other : Outcome) → AnswersOnceGivenMemory encoding →
+OutcomesAreOneGivenMemory encoding = (text : List ℕ) (options : OptionsView) (outcome other : Outcome) → ReturnsOnceGivenMemory encoding →
     outcome ≢ Err ErrorView.OutOfMemory → other ≢ Err ErrorView.OutOfMemory →
     HasOutcome text options encoding outcome → HasOutcome text options encoding other → outcome ≡ other
 
 -- Every text has an outcome, or else the encoding is called with a text for which it has no result.
-abbrev pub OutcomesLackOnlyAnswers : Encoding → Type 0
-OutcomesLackOnlyAnswers encoding = (text : List ℕ) (options : OptionsView) →
-    HasSomeOutcome text options encoding ⊎ LacksAnswer text options encoding
+abbrev pub OutcomesLackOnlyResults : Encoding → Type 0
+OutcomesLackOnlyResults encoding = (text : List ℕ) (options : OptionsView) →
+    HasSomeOutcome text options encoding ⊎ LacksResult text options encoding
 
 -- Every text has an outcome where the encoding has a result for each text that it is called with.
-abbrev pub AnsweredTextsHaveOutcomes : Encoding → Type 0
-AnsweredTextsHaveOutcomes encoding = (text : List ℕ) (options : OptionsView) →
-    AnswersAsked text options encoding → HasSomeOutcome text options encoding
+abbrev pub TextsWithResultsHaveOutcomes : Encoding → Type 0
+TextsWithResultsHaveOutcomes encoding = (text : List ℕ) (options : OptionsView) →
+    HasRequestedResults text options encoding → HasSomeOutcome text options encoding
 
 -- `Says` holds of the parts of each reading.
 abbrev pub OfEachReading : (Says : OptionsView → List PartView → Type 0) → Encoding → Type 0
@@ -105,13 +105,13 @@ Saying = (text : List ℕ) → OptionsView → Encoding → List PartView → Ty
 -- `Says` holds of the printed pattern of all printable parts, under each list of results that keeps
 -- their texts.
 abbrev pub OfPrintableParts : Saying → Type 0
-OfPrintableParts Says = (options : OptionsView) (answers : Answered) (parts : List PartView) →
+OfPrintableParts Says = (options : OptionsView) (answers : EncodingResults) (parts : List PartView) →
     IsPrintable options parts → Keeps (listed answers) parts → Says (printed options parts) options (listed answers) parts
 
 -- `Says` holds of the printed pattern of parts that were read under one list of results, under each
 -- list that keeps their texts.
 abbrev pub OfPartsThatWereRead : Saying → Type 0
-OfPartsThatWereRead Says = (text : List ℕ) (options : OptionsView) (first answers : Answered) (parts : List PartView) →
+OfPartsThatWereRead Says = (text : List ℕ) (options : OptionsView) (first answers : EncodingResults) (parts : List PartView) →
     WereRead text options (listed first) parts → Keeps (listed answers) parts → Says (printed options parts) options (listed answers) parts
 
 -- The printed pattern may be read as the joined parts, where the encoding may return each of their
@@ -124,10 +124,10 @@ PrintedMayReadAsJoined encoding = (options : OptionsView) (parts : List PartView
 -- joined parts.
 abbrev pub PrintedReadsOnlyAsJoined : Encoding → Type 0
 PrintedReadsOnlyAsJoined encoding = (options : OptionsView) (parts : List PartView) →
-    IsPrintable options parts → KeepsAnswered encoding parts → ReadsOnlyAsJoined (printed options parts) options encoding parts
+    IsPrintable options parts → KeepsOrFails encoding parts → ReadsOnlyAsJoined (printed options parts) options encoding parts
 
 -- The printed pattern is rejected only by an error that the encoding may return for one of the
 -- texts of the joined parts.
 abbrev pub PrintedFailsByTheEncoding : Encoding → Type 0
 PrintedFailsByTheEncoding encoding = (options : OptionsView) (parts : List PartView) (error : ErrorView) →
-    IsPrintable options parts → Refuses (printed options parts) options encoding error → FailsText encoding (encoded_texts (joined parts)) error
+    IsPrintable options parts → Rejects (printed options parts) options encoding error → FailsText encoding (encoded_texts (joined parts)) error

@@ -1,6 +1,6 @@
 pub mod CaptureTexts
 pub mod Dialect
-pub mod FirstAnswers
+pub mod FirstResults
 pub mod GeneratedTexts
 pub mod Laws
 pub mod LawsOfMeaning

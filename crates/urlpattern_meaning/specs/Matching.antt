@@ -47,7 +47,7 @@ end_text (Some part) = part.value
 end_text None = []
 
 -- A plain fixed text is removed from the start of the parts, and one from the end of what remains.
-pub record ArePeeled (parts : List PartView) (front : Option PartView) (middle : List PartView) (back : Option PartView) : Type 0 where
+pub record AreStripped (parts : List PartView) (front : Option PartView) (middle : List PartView) (back : Option PartView) : Type 0 where
   pub cut : parts ≡ option_to_list front ++ middle ++ option_to_list back
   pub front_removed : IsRemoved front (BeginsPlain parts)
   pub back_removed : IsRemoved back (EndsPlain middle)
@@ -91,7 +91,7 @@ pub record IsMadeOf {E : Type 0} (IsEngine : (regexp : List ℕ) → Result E Er
   pub front : Option PartView
   pub middle : List PartView
   pub back : Option PartView
-  pub are_peeled : ArePeeled parts front middle back
+  pub are_peeled : AreStripped parts front middle back
   pub is_made : IsMadeBetween IsEngine options (end_text front) middle (end_text back) matcher
 
 -- ---- matching
@@ -148,9 +148,9 @@ Matches answer matcher text captures =
 
 -- The result of a matcher for a text, where `answer` is the result of an engine: captures, or None
 -- where there are none.
-abbrev pub Answers : {E : Type 0} → (answer : E → List ℕ → Option Captures) → MatcherView E → List ℕ → Option Captures → Type 0
-Answers answer matcher text (Some captures) = Matches answer matcher text captures
-Answers answer matcher text None = (captures : Captures) → ¬ Matches answer matcher text captures
+abbrev pub Returns : {E : Type 0} → (answer : E → List ℕ → Option Captures) → MatcherView E → List ℕ → Option Captures → Type 0
+Returns answer matcher text (Some captures) = Matches answer matcher text captures
+Returns answer matcher text None = (captures : Captures) → ¬ Matches answer matcher text captures
 
 -- The text matches, with some captures.
 abbrev pub IsMatched : {E : Type 0} → (answer : E → List ℕ → Option Captures) → MatcherView E → List ℕ → Type 0
@@ -169,12 +169,12 @@ CapturesOne (SingleCapture filter allow_empty) = Unit {0}
 CapturesOne other = ⊥
 
 -- An engine is called, as the text begins with the prefix and ends with the suffix.
-abbrev pub AsksEngine : {E : Type 0} → MatcherView E → List ℕ → Type 0
-AsksEngine matcher text = (middle : List ℕ) × HasMiddle matcher text middle × HoldsEngine matcher.inner
+abbrev pub CallsEngine : {E : Type 0} → MatcherView E → List ℕ → Type 0
+CallsEngine matcher text = (middle : List ℕ) × HasMiddle matcher text middle × HoldsEngine matcher.inner
 
 -- Memory is allocated, by an engine or for the list of one capture.
 abbrev pub MayRunOutOfMemory : {E : Type 0} → (answer : E → List ℕ → Option Captures) → MatcherView E → List ℕ → Type 0
-MayRunOutOfMemory answer matcher text = AsksEngine matcher text ⊎ (CapturesOne matcher.inner × IsMatched answer matcher text)
+MayRunOutOfMemory answer matcher text = CallsEngine matcher text ⊎ (CapturesOne matcher.inner × IsMatched answer matcher text)
 
 -- ---- agreeing with the parts
 
@@ -197,7 +197,7 @@ ValuesAgreeWithParts {E} IsMade answer =
 -- error fails this.
 abbrev pub IsOfMiddle : {E : Type 0} → (Is : E → (middle : List PartView) → Type 0) → List PartView → InnerView E → Type 0
 IsOfMiddle Is parts (RegExp (Ok engine)) =
-    (front : Option PartView) × (middle : List PartView) × (back : Option PartView) × ArePeeled parts front middle back × Is engine middle
+    (front : Option PartView) × (middle : List PartView) × (back : Option PartView) × AreStripped parts front middle back × Is engine middle
 IsOfMiddle Is parts (RegExp (Err error)) = ⊥
 IsOfMiddle Is parts inner = Unit {0}
 
@@ -211,14 +211,14 @@ AgreesInMiddle answer options parts inner =
     IsOfMiddle (λ engine middle. (text : List ℕ) → IsTrue (all_scalars text) → Agrees options middle text (answer engine text)) parts inner
 
 -- `Is` holds of each result of the matcher for a text of characters without line feed.
-abbrev pub EachAnswerIs : {E : Type 0} → (answer : E → List ℕ → Option Captures) → MatcherView E → (Is : (text : List ℕ) → Option Captures → Type 0) → Type 0
-EachAnswerIs answer matcher Is =
+abbrev pub EachResultIs : {E : Type 0} → (answer : E → List ℕ → Option Captures) → MatcherView E → (Is : (text : List ℕ) → Option Captures → Type 0) → Type 0
+EachResultIs answer matcher Is =
     (text : List ℕ) (result : Option Captures) → IsTrue (lacks line_feed text) → IsTrue (all_scalars text) →
-    Answers answer matcher text result → Is text result
+    Returns answer matcher text result → Is text result
 
 -- The matcher returns what the parts mean, where none of them is custom and case is kept, if an
 -- engine that is called follows the regular expression of the parts that are left to it.
-abbrev pub AnswersByMeaning : {E : Type 0} → (answer : E → List ℕ → Option Captures) → OptionsView → List PartView → MatcherView E → Type 0
-AnswersByMeaning answer options parts matcher =
+abbrev pub ReturnsByMeaning : {E : Type 0} → (answer : E → List ℕ → Option Captures) → OptionsView → List PartView → MatcherView E → Type 0
+ReturnsByMeaning answer options parts matcher =
     AreGenerated parts → options.ignore_case ≡ false → FollowsMiddle answer options parts matcher.inner →
-    EachAnswerIs answer matcher (Agrees options parts)
+    EachResultIs answer matcher (Agrees options parts)

@@ -45,25 +45,25 @@ has_other_prefix options part = not (is_empty part.prefix) && not (bytes_eq part
 
 -- The text of the next part, printed without braces, begins with a name character or a bracket,
 -- which a name before it would take.
-abbrev pub goes_on : PartView → Bool
-goes_on next =
+abbrev pub continues_name : PartView → Bool
+continues_name next =
     is_empty next.prefix && is_empty next.suffix
     && (if is_fixed_text next.kind then begins_with is_name_part next.value else not (has_custom_name next))
 
 -- The part is a name alone, and would take the beginning of the next part.
-abbrev pub takes_next : PartView → Option PartView → Bool
-takes_next part None = false
-takes_next part (Some next) = is_name_alone part && is_unmodified part.modifier && goes_on next
+abbrev pub absorbs_next : PartView → Option PartView → Bool
+absorbs_next part None = false
+absorbs_next part (Some next) = is_name_alone part && is_unmodified part.modifier && continues_name next
 
 -- The part has no prefix, and would take the last character of the fixed text before it as one.
-abbrev pub takes_before : OptionsView → Option PartView → PartView → Bool
-takes_before options None part = false
-takes_before options (Some before) part =
+abbrev pub absorbs_before : OptionsView → Option PartView → PartView → Bool
+absorbs_before options None part = false
+absorbs_before options (Some before) part =
     is_empty part.prefix && is_fixed_text before.kind && not (is_empty before.value) && bytes_eq (last_of before.value) options.prefix
 
 abbrev pub needs_braces : OptionsView → (before : Option PartView) → PartView → (next : Option PartView) → Bool
 needs_braces options before part next =
-    has_suffix part || has_other_prefix options part || takes_next part next || takes_before options before part
+    has_suffix part || has_other_prefix options part || absorbs_next part next || absorbs_before options before part
 
 -- ---- the text of a part
 

@@ -5,7 +5,7 @@ use Rattle.std.specs.List.{list_all}
 use Rattle.urlpattern_syntax.specs.{Errors.ErrorView, Parts.PartView}
 use Rattle.urlpattern_syntax.specs.Options.{OptionsView, default_options, hostname_options, pathname_options}
 use Rattle.urlpattern_syntax.specs.declared.parser.PartType.{PartType}
-use Rattle.urlpattern_syntax.specs.Reading.{Encoding, Reads, Refuses}
+use Rattle.urlpattern_syntax.specs.Reading.{Encoding, Reads, Rejects}
 use Rattle.urlpattern_syntax.specs.RegexpText.{full_wildcard, group_names, segment_wildcard}
 use Rattle.urlpattern_syntax.specs.Text.{is_among, is_name_part}
 use Rattle.urlpattern_syntax.specs.Tokens.{IsName, IsRegexpBody, is_ignored}
@@ -100,8 +100,8 @@ pub record WereRead (text : List ℕ) (options : OptionsView) (encoding : Encodi
 
 -- The encoding changes no text of the joined parts. It may have an error for one, as a callback
 -- that runs out of memory does.
-abbrev pub KeepsAnswered : Encoding → List PartView → Type 0
-KeepsAnswered encoding parts = (text other : List ℕ) → Contains (encoded_texts (joined parts)) text → encoding text (Ok other) → other ≡ text
+abbrev pub KeepsOrFails : Encoding → List PartView → Type 0
+KeepsOrFails encoding parts = (text other : List ℕ) → Contains (encoded_texts (joined parts)) text → encoding text (Ok other) → other ≡ text
 
 -- The encoding may return each text of the joined parts unchanged.
 abbrev pub MayKeep : Encoding → List PartView → Type 0
@@ -122,8 +122,8 @@ abbrev pub ReadsOnlyAsJoined : (text : List ℕ) → OptionsView → Encoding �
 ReadsOnlyAsJoined text options encoding parts = (others : List PartView) → Reads text options encoding others → others ≡ joined parts
 
 -- The text is not rejected.
-abbrev pub IsNotRefused : (text : List ℕ) → OptionsView → Encoding → List PartView → Type 0
-IsNotRefused text options encoding parts = (error : ErrorView) → ¬ Refuses text options encoding error
+abbrev pub IsNotRejected : (text : List ℕ) → OptionsView → Encoding → List PartView → Type 0
+IsNotRejected text options encoding parts = (error : ErrorView) → ¬ Rejects text options encoding error
 
 -- Printing what the text reads as returns the text.
 abbrev pub PrintsTheSame : (text : List ℕ) → OptionsView → Encoding → List PartView → Type 0
@@ -133,5 +133,5 @@ PrintsTheSame text options encoding parts = (others : List PartView) → Reads t
 pub record ReadsBack (text : List ℕ) (options : OptionsView) (encoding : Encoding) (parts : List PartView) : Type 0 where
   pub reads : ReadsAsJoined text options encoding parts
   pub only : ReadsOnlyAsJoined text options encoding parts
-  pub not_refused : IsNotRefused text options encoding parts
+  pub not_refused : IsNotRejected text options encoding parts
   pub same : PrintsTheSame text options encoding parts

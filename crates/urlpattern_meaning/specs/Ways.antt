@@ -18,8 +18,8 @@ Choice = List ℕ → List Way
 -- ---- one way after another
 
 -- The empty text is matched, and each of these groups captures nothing.
-abbrev pub idle : (groups : ℕ) → List ℕ → Way
-idle groups text = record { taken = []; captures = replicate groups None; rest = text }
+abbrev pub empty_way : (groups : ℕ) → List ℕ → Way
+empty_way groups text = record { taken = []; captures = replicate groups None; rest = text }
 
 -- A way and the next as one.
 abbrev pub joined_way : (way next : Way) → Way
@@ -48,23 +48,23 @@ is_shorter rest text = nat_lt (length rest) (length text)
 
 -- At most n more rounds, none of them empty.
 abbrev pub more_rounds : (greedy : Bool) → Choice → (n : ℕ) → Choice
-more_rounds greedy atom zero text = idle 0 text ∷ []
+more_rounds greedy atom zero text = empty_way 0 text ∷ []
 more_rounds greedy atom (suc n) text =
-    ordered greedy (continued (λ rest. if is_shorter rest text then more_rounds greedy atom n rest else []) (atom text)) (idle 0 text ∷ [])
+    ordered greedy (continued (λ rest. if is_shorter rest text then more_rounds greedy atom n rest else []) (atom text)) (empty_way 0 text ∷ [])
 
 -- A round and, where it matched something, more rounds: no more than the characters that are left,
 -- since none is empty.
 abbrev pub looped : (greedy : Bool) → Choice → Choice
 looped greedy atom text =
-    continued (λ rest. if is_shorter rest text then more_rounds greedy atom (length rest) rest else idle 0 rest ∷ []) (atom text)
+    continued (λ rest. if is_shorter rest text then more_rounds greedy atom (length rest) rest else empty_way 0 rest ∷ []) (atom text)
 
 -- ---- trees
 
 -- An atom with its quantifier.
 abbrev pub quantified_ways : Quantifier → (groups : ℕ) → Choice → Choice
 quantified_ways Once groups atom text = atom text
-quantified_ways Optional groups atom text = atom text ++ idle groups text ∷ []
-quantified_ways ZeroOrMore groups atom text = looped true atom text ++ idle groups text ∷ []
+quantified_ways Optional groups atom text = atom text ++ empty_way groups text ∷ []
+quantified_ways ZeroOrMore groups atom text = looped true atom text ++ empty_way groups text ∷ []
 quantified_ways OneOrMore groups atom text = looped true atom text
 quantified_ways LazyOneOrMore groups atom text = looped false atom text
 
@@ -75,7 +75,7 @@ capturing way = record way { captures = Some way.taken ∷ way.captures }
 abbrev mutual
   -- The ways of items; where case is ignored, an ASCII letter is compared as its lower case.
   pub ways_by : (ignore_case : Bool) → Items → Choice
-  ways_by ignore_case Nothing text = idle 0 text ∷ []
+  ways_by ignore_case Nothing text = empty_way 0 text ∷ []
   ways_by ignore_case (Item atom quantifier items) text =
       continued (ways_by ignore_case items) (quantified_ways quantifier (atom_group_count atom) (atom_ways_by ignore_case atom) text)
 

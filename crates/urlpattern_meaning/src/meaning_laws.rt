@@ -4,16 +4,16 @@
 
 ghost use Rattle.std.specs.Prelude.{◌≡◌, ◌≢◌, ℕ, List, [], ◌++◌, All, AllPairs, None, Some, length};
 ghost use Rattle.std.specs.Char.{is_ascii_digit};
-ghost use Rattle.urlpattern_meaning.specs.{FirstAnswers.AnswersByFirstWay, Matching.AnswersByMeaning, Ways.FirstWaysFold, Ways.first_way};
+ghost use Rattle.urlpattern_meaning.specs.{FirstResults.ReturnsByFirstWay, Matching.ReturnsByMeaning, Ways.FirstWaysFold, Ways.first_way};
 ghost use Rattle.urlpattern_meaning.specs.Dialect.{Follows, HasMeaningOf, IsTreeOf, Items, Means, group_count};
-ghost use Rattle.urlpattern_meaning.specs.Laws.{Answered, AtMostOne, CountFrom, HasLenientTokens, HasTokensOrFault, IsSpelledAt, Lays, listed, numbers_among};
-ghost use Rattle.urlpattern_meaning.specs.LawsOfMeaning.{AnswersWhereEnginesAgree, CapturesHaveNames, CopiesAreOneCapture, FirstWayIsMeant, FirstWayIsOne, FollowingIsAgreeing, NoCopiesAreOneCapture, OfEachMatcher, OfEachTree, PlainEndsAreRemoved, TreesMeanTheParts, WaysAreMeanings, WildcardsCaptureNothingElse};
-ghost use Rattle.urlpattern_meaning.specs.LawsOfReading.{AnsweredTextsHaveOutcomes, FaultsAreOne, HaveOneAtMost, IndicesRise, OfEachReading, OfEachToken, OfPartsThatWereRead, OfPrintableParts, OutcomesAreOneGivenMemory, OutcomesLackOnlyAnswers, PiecesAreOne, PrintedFailsByTheEncoding, PrintedMayReadAsJoined, PrintedReadsOnlyAsJoined, ReadPartsArePrintable, ReadingsExcludeRefusals, TokensExcludeFaults, TokensHavePieces, UnderEachCallback, UnderEachList};
+ghost use Rattle.urlpattern_meaning.specs.Laws.{EncodingResults, AtMostOne, CountFrom, HasLenientTokens, HasTokensOrFault, IsSpelledAt, Lays, listed, numbers_among};
+ghost use Rattle.urlpattern_meaning.specs.LawsOfMeaning.{ReturnsWhereEnginesAgree, CapturesHaveNames, CopiesAreOneCapture, FirstWayIsMeant, FirstWayIsOne, FollowingIsAgreeing, NoCopiesAreOneCapture, OfEachMatcher, OfEachTree, PlainEndsAreRemoved, TreesMeanTheParts, WaysAreMeanings, WildcardsCaptureNothingElse};
+ghost use Rattle.urlpattern_meaning.specs.LawsOfReading.{TextsWithResultsHaveOutcomes, FaultsAreOne, HaveOneAtMost, IndicesRise, OfEachReading, OfEachToken, OfPartsThatWereRead, OfPrintableParts, OutcomesAreOneGivenMemory, OutcomesLackOnlyResults, PiecesAreOne, PrintedFailsByTheEncoding, PrintedMayReadAsJoined, PrintedReadsOnlyAsJoined, ReadPartsArePrintable, ReadingsExcludeRejections, TokensExcludeFaults, TokensHavePieces, UnderEachCallback, UnderEachList};
 ghost use Rattle.urlpattern_meaning.specs.PartMeaning.{AreGenerated, MeanTheSame};
 ghost use Rattle.urlpattern_meaning.specs.Printing.{HaveTexts, Keeps, joined, printed};
-ghost use Rattle.urlpattern_meaning.specs.RoundTrip.{ArePatternParts, IsNotRefused, PrintsTheSame, ReadsAsJoined, ReadsOnlyAsJoined};
+ghost use Rattle.urlpattern_meaning.specs.RoundTrip.{ArePatternParts, IsNotRejected, PrintsTheSame, ReadsAsJoined, ReadsOnlyAsJoined};
 ghost use Rattle.urlpattern_syntax.specs.{Options.OptionsView, Parts.PartView, Text.BeginsWith};
-ghost use Rattle.urlpattern_syntax.specs.Reading.{Reads, Refuses};
+ghost use Rattle.urlpattern_syntax.specs.Reading.{Reads, Rejects};
 ghost use Rattle.urlpattern_syntax.specs.RegexpText.{group_names, regexp_text};
 ghost use Rattle.urlpattern_syntax.specs.Tokens.{AreLenientTokens, AreTokens, TokenView, end_of};
 ghost use Rattle.urlpattern_syntax.specs.declared.tokenizer.TokenType.TheVariants.{End, Name};
@@ -83,8 +83,8 @@ pub fn pieces_are_one()
 /// list of texts with their results.
 pub fn readings_are_one()
     ensures readings { UnderEachList (HaveOneAtMost Reads) }
-    ensures refusals { UnderEachList (HaveOneAtMost Refuses) }
-    ensures not_both { UnderEachList ReadingsExcludeRefusals }
+    ensures refusals { UnderEachList (HaveOneAtMost Rejects) }
+    ensures not_both { UnderEachList ReadingsExcludeRejections }
 {}
 
 /// Under a callback a text has at most one outcome other than that memory ran out, where the
@@ -99,9 +99,9 @@ pub fn readings_by_callbacks_are_one<F: Fn(&str) -> Result<String, Error>>()
 /// encoding has a result for each text that it is called with. The encoding is any list of texts
 /// with their results or, in the last clause, any callback: `F` is the callback's type.
 pub fn every_text_has_an_outcome<F: Fn(&str) -> Result<String, Error>>()
-    ensures listed { UnderEachList OutcomesLackOnlyAnswers }
-    ensures answered { UnderEachList AnsweredTextsHaveOutcomes }
-    ensures called { UnderEachCallback F.Fn AnsweredTextsHaveOutcomes }
+    ensures listed { UnderEachList OutcomesLackOnlyResults }
+    ensures answered { UnderEachList TextsWithResultsHaveOutcomes }
+    ensures called { UnderEachCallback F.Fn TextsWithResultsHaveOutcomes }
 {}
 
 /// The names of the groups of a reading are not empty, and no two are equal. Those that begin with
@@ -158,8 +158,8 @@ pub fn captures_are_as_many_as_names()
 /// expression of the parts that are left between the ends, none of them custom, or returns what
 /// those parts mean. `E` is any type of engines' values.
 pub fn matchers_answer_what_parts_mean<E>()
-    ensures follows { OfEachMatcher E AnswersByMeaning }
-    ensures agrees { OfEachMatcher E AnswersWhereEnginesAgree }
+    ensures follows { OfEachMatcher E ReturnsByMeaning }
+    ensures agrees { OfEachMatcher E ReturnsWhereEnginesAgree }
 {}
 
 /// A matcher of parts returns the first way of the tree of their regular expression. At most one
@@ -168,7 +168,7 @@ pub fn matchers_answer_what_parts_mean<E>()
 /// returns the first way of the tree of its own text; where none is called, this holds of every
 /// matcher. `E` is any type of engines' values.
 pub fn matchers_answer_the_first_way<E>()
-    ensures first { OfEachMatcher E AnswersByFirstWay }
+    ensures first { OfEachMatcher E ReturnsByFirstWay }
     ensures one { FirstWayIsOne }
     ensures meant { FirstWayIsMeant }
 {}
@@ -192,9 +192,9 @@ pub fn read_parts_are_pattern_parts()
 pub fn printed_patterns_read_back()
     ensures reads { OfPrintableParts ReadsAsJoined }
     ensures only { OfPrintableParts ReadsOnlyAsJoined }
-    ensures not_refused { OfPrintableParts IsNotRefused }
+    ensures not_refused { OfPrintableParts IsNotRejected }
     ensures same { OfPrintableParts PrintsTheSame }
-    ensures kept { (parts : List PartView) → (answers : Answered) × Keeps (listed answers) parts }
+    ensures kept { (parts : List PartView) → (answers : EncodingResults) × Keeps (listed answers) parts }
 {}
 
 /// A printed pattern is rejected only by an error that the encoding has for one of the texts of the
@@ -223,6 +223,6 @@ pub fn printed_patterns_read_back_by_callbacks<F: Fn(&str) -> Result<String, Err
 pub fn parts_that_were_read_print_and_read_back()
     ensures reads { OfPartsThatWereRead ReadsAsJoined }
     ensures only { OfPartsThatWereRead ReadsOnlyAsJoined }
-    ensures not_refused { OfPartsThatWereRead IsNotRefused }
+    ensures not_refused { OfPartsThatWereRead IsNotRejected }
     ensures same { OfPartsThatWereRead PrintsTheSame }
 {}

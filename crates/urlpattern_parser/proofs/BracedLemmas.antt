@@ -4,7 +4,7 @@ use Rattle.urlpattern_syntax.specs.declared.parser.PartModifier.{PartModifier}
 use Rattle.urlpattern_parser.specs.declared.parser.pieces.Reader.{Reader}
 use Rattle.urlpattern_syntax.specs.declared.tokenizer.TokenType.TheVariants.{Close, Open}
 use Rattle.urlpattern_syntax.specs.Parsing.{BeginsWithClose, BeginsWithPiece, BeginsWithPlaceholder, BeginsWithTexts, HasEndingAt}
-use Rattle.urlpattern_parser.specs.Readers.{Takes}
+use Rattle.urlpattern_parser.specs.Readers.{Consumes}
 use Rattle.urlpattern_syntax.specs.Pieces.{BeginsWithKind, IsFilled, Placeholder, is_placeholder, is_text, Ending as endings, Piece as pieces}
 use Rattle.urlpattern_syntax.specs.Tokens.{TokenView, token_view}
 use Rattle.urlpattern_syntax.proofs.PieceLemmas.{filled, filled_cut, filled_group, not_first, open_ending, text_group}
@@ -24,17 +24,17 @@ pub record BeginsWithInner (opening : TokenView) (before : List ℕ) (placeholde
   pub is_filled : IsFilled inner before placeholder after rest
   pub all : ¬ BeginsWithKind is_text rest
 
-pub takes_front : (a b c : Reader) (opening : TokenView) (before : List ℕ) → Takes a b (λ tokens rest. tokens ≡ opening ∷ rest) → Takes b c (λ tokens rest. BeginsWithTexts tokens before rest) →
-    Takes a c (BeginsWithFront opening before)
+pub takes_front : (a b c : Reader) (opening : TokenView) (before : List ℕ) → Consumes a b (λ tokens rest. tokens ≡ opening ∷ rest) → Consumes b c (λ tokens rest. BeginsWithTexts tokens before rest) →
+    Consumes a c (BeginsWithFront opening before)
 takes_front a b c opening before brace texts =
     takes_then a b c (λ tokens rest. tokens ≡ opening ∷ rest) (λ tokens rest. BeginsWithTexts tokens before rest) (BeginsWithFront opening before) brace texts
     (λ x y z gx gy gz p q. (y, p, q))
 
-pub takes_inner : (a b c d : Reader) (opening : TokenView) (before : List ℕ) (placeholder : Placeholder) (after : List ℕ) → Takes a b (BeginsWithFront opening before) →
-    Takes b c (λ tokens rest. BeginsWithPlaceholder tokens placeholder rest) → Takes c d (λ tokens rest. BeginsWithTexts tokens after rest) → Takes a d (BeginsWithInner opening before placeholder after)
+pub takes_inner : (a b c d : Reader) (opening : TokenView) (before : List ℕ) (placeholder : Placeholder) (after : List ℕ) → Consumes a b (BeginsWithFront opening before) →
+    Consumes b c (λ tokens rest. BeginsWithPlaceholder tokens placeholder rest) → Consumes c d (λ tokens rest. BeginsWithTexts tokens after rest) → Consumes a d (BeginsWithInner opening before placeholder after)
 takes_inner a b c d opening before placeholder after front middle back =
     let Half : List TokenView → List TokenView → Type 0 = λ tokens rest. (behind others : List TokenView) × (tokens ≡ opening ∷ behind) × BeginsWithTexts behind before others × BeginsWithPlaceholder others placeholder rest in
-    let half : Takes a c Half =
+    let half : Consumes a c Half =
     takes_then a b c (BeginsWithFront opening before) (λ tokens rest. BeginsWithPlaceholder tokens placeholder rest) Half front middle
     (λ x y z gx gy gz p q. (p.0, y, p.1, p.2, q)) in
     takes_then a c d Half (λ tokens rest. BeginsWithTexts tokens after rest) (BeginsWithInner opening before placeholder after) half back
@@ -51,8 +51,8 @@ takes_inner a b c d opening before placeholder after front middle back =
 
 -- Texts in braces, and a modifier.
 pub takes_text_group : (old mid new : Reader) (before : List ℕ) (modifier : PartModifier) → old.token.kind ≡ Open →
-    Takes old mid (BeginsWithFront (token_view old.token) before) → Takes mid new (λ tokens rest. BeginsWithClose tokens modifier rest) →
-    Takes old new (λ tokens rest. (point : List ℕ) → BeginsWithPiece point tokens (pieces.TextGroup before modifier) rest)
+    Consumes old mid (BeginsWithFront (token_view old.token) before) → Consumes mid new (λ tokens rest. BeginsWithClose tokens modifier rest) →
+    Consumes old new (λ tokens rest. (point : List ℕ) → BeginsWithPiece point tokens (pieces.TextGroup before modifier) rest)
 takes_text_group old mid new before modifier is_open front closes =
     takes_then old mid new (BeginsWithFront (token_view old.token) before) (λ tokens rest. BeginsWithClose tokens modifier rest)
     (λ tokens rest. (point : List ℕ) → BeginsWithPiece point tokens (pieces.TextGroup before modifier) rest) front closes
@@ -61,8 +61,8 @@ takes_text_group old mid new before modifier is_open front closes =
 
 -- Texts after a brace that is not closed.
 pub takes_open_texts : (old mid new : Reader) (before : List ℕ) → old.token.kind ≡ Open → is_placeholder mid.token.kind ≡ false → new.token.kind ≢ Close →
-    Takes old mid (BeginsWithFront (token_view old.token) before) → Takes mid new (λ tokens rest. tokens ≡ rest) →
-    Takes old new (λ tokens rest. List ℕ → HasEndingAt tokens endings.LacksClose rest)
+    Consumes old mid (BeginsWithFront (token_view old.token) before) → Consumes mid new (λ tokens rest. tokens ≡ rest) →
+    Consumes old new (λ tokens rest. List ℕ → HasEndingAt tokens endings.LacksClose rest)
 takes_open_texts old mid new before is_open none other front lacks =
     takes_then old mid new (BeginsWithFront (token_view old.token) before) (λ tokens rest. tokens ≡ rest)
     (λ tokens rest. List ℕ → HasEndingAt tokens endings.LacksClose rest) front lacks
@@ -79,8 +79,8 @@ takes_open_texts old mid new before is_open none other front lacks =
 
 -- A placeholder between texts in braces, and a modifier.
 pub takes_filled_group : (old mid new : Reader) (before : List ℕ) (placeholder : Placeholder) (after : List ℕ) (modifier : PartModifier) → old.token.kind ≡ Open →
-    Takes old mid (BeginsWithInner (token_view old.token) before placeholder after) → Takes mid new (λ tokens rest. BeginsWithClose tokens modifier rest) →
-    Takes old new (λ tokens rest. (point : List ℕ) → BeginsWithPiece point tokens (pieces.Group before placeholder after modifier) rest)
+    Consumes old mid (BeginsWithInner (token_view old.token) before placeholder after) → Consumes mid new (λ tokens rest. BeginsWithClose tokens modifier rest) →
+    Consumes old new (λ tokens rest. (point : List ℕ) → BeginsWithPiece point tokens (pieces.Group before placeholder after modifier) rest)
 takes_filled_group old mid new before placeholder after modifier is_open inner closes =
     let Piece : List TokenView → List TokenView → Type 0 = λ tokens rest. (point : List ℕ) → BeginsWithPiece point tokens (pieces.Group before placeholder after modifier) rest in
     takes_then old mid new (BeginsWithInner (token_view old.token) before placeholder after) (λ tokens rest. BeginsWithClose tokens modifier rest) Piece inner closes
@@ -89,8 +89,8 @@ takes_filled_group old mid new before placeholder after modifier is_open inner c
 
 -- A placeholder between texts after a brace that is not closed.
 pub takes_open_filled : (old mid new : Reader) (before : List ℕ) (placeholder : Placeholder) (after : List ℕ) → old.token.kind ≡ Open → new.token.kind ≢ Close →
-    Takes old mid (BeginsWithInner (token_view old.token) before placeholder after) → Takes mid new (λ tokens rest. tokens ≡ rest) →
-    Takes old new (λ tokens rest. List ℕ → HasEndingAt tokens endings.LacksClose rest)
+    Consumes old mid (BeginsWithInner (token_view old.token) before placeholder after) → Consumes mid new (λ tokens rest. tokens ≡ rest) →
+    Consumes old new (λ tokens rest. List ℕ → HasEndingAt tokens endings.LacksClose rest)
 takes_open_filled old mid new before placeholder after is_open other inner lacks =
     takes_then old mid new (BeginsWithInner (token_view old.token) before placeholder after) (λ tokens rest. tokens ≡ rest)
     (λ tokens rest. List ℕ → HasEndingAt tokens endings.LacksClose rest) inner lacks

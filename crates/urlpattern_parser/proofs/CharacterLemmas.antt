@@ -9,9 +9,9 @@ use Rattle.std.proofs.lemmas.List.{append_cancel_right}
 use Rattle.urlpattern_parser.specs.declared.parser.pieces.Reader.{Reader}
 use Rattle.urlpattern_syntax.specs.declared.tokenizer.TokenType.{TokenType}
 use Rattle.urlpattern_syntax.specs.declared.tokenizer.TokenType.TheVariants.{Asterisk, Char, Close, End, EscapedChar, InvalidChar, Name, Open, OtherModifier, Regexp}
-use Rattle.urlpattern_syntax.specs.Cursors.{AreCharactersBefore, AreTokensAfter, IsPlace, IsTokenAfter, stands_for_itself, tokens_left}
+use Rattle.urlpattern_syntax.specs.Cursors.{AreCharactersBefore, AreTokensAfter, IsPlace, IsTokenAfter, is_char_token, tokens_left}
 use Rattle.urlpattern_syntax.specs.Parsing.{BeginsWithRow, BeginsWithCharacters}
-use Rattle.urlpattern_parser.specs.Readers.{HasTokensLeft, Stands, Takes, reader_left, reader_text}
+use Rattle.urlpattern_parser.specs.Readers.{HasTokensLeft, IsAtPlace, Consumes, reader_left, reader_text}
 use Rattle.urlpattern_syntax.specs.Pieces.{AreTexts, BeginsWithKind, is_text}
 use Rattle.urlpattern_syntax.specs.Text.{BeginsAt, BeginsWith, byte_len, is_among}
 use Rattle.urlpattern_syntax.specs.Tokens.{IsLexed, Spells, TokenView, is_ignored, marks, token_view}
@@ -25,45 +25,45 @@ use Rattle.urlpattern_syntax.proofs.TokenLemmas.{SkipsBy-none, Spells-char, char
 pub record LeavesLast (text last rest : List ℕ) : Type 0 where
   pub characters : List ℕ
   pub cut : text ≡ characters ++ last
-  pub stand : IsTrue (list_all stands_for_itself characters)
-  pub one : ((characters ≡ []) × (last ≡ rest)) ⊎ ((c : ℕ) × (last ≡ c ∷ rest) × IsTrue (stands_for_itself c))
+  pub stand : IsTrue (list_all is_char_token characters)
+  pub one : ((characters ≡ []) × (last ≡ rest)) ⊎ ((c : ℕ) × (last ≡ c ∷ rest) × IsTrue (is_char_token c))
 
 -- The next character stands for itself too.
-pub leaves_next : (text last rest after : List ℕ) (c : ℕ) → LeavesLast text last rest → rest ≡ c ∷ after → stands_for_itself c ≡ true → LeavesLast text rest after
+pub leaves_next : (text last rest after : List ℕ) (c : ℕ) → LeavesLast text last rest → rest ≡ c ∷ after → is_char_token c ≡ true → LeavesLast text rest after
 leaves_next text last rest after c h e stands = by_one h.one
   where
-    by_one : ((h.characters ≡ []) × (last ≡ rest)) ⊎ ((d : ℕ) × (last ≡ d ∷ rest) × IsTrue (stands_for_itself d)) → LeavesLast text rest after
+    by_one : ((h.characters ≡ []) × (last ≡ rest)) ⊎ ((d : ℕ) × (last ≡ d ∷ rest) × IsTrue (is_char_token d)) → LeavesLast text rest after
     by_one (inl g) = record { characters = h.characters; cut = h.cut ∙ ap (λ x. h.characters ++ x) g.1; stand = h.stand; one = inr (c, e, stands) }
     by_one (inr g) = record {
       characters = h.characters ++ g.0 ∷ [];
       cut = h.cut ∙ ap (λ x. h.characters ++ x) g.1 ∙ sym (append_assoc h.characters (g.0 ∷ []) rest);
-      stand = list_all-append stands_for_itself h.characters (g.0 ∷ []) ∙ and_from _ _ h.stand (and_from _ _ g.2 refl);
+      stand = list_all-append is_char_token h.characters (g.0 ∷ []) ∙ and_from _ _ h.stand (and_from _ _ g.2 refl);
       one = inr (c, e, stands);
     }
 
 pub characters_before : (text value last rest : List ℕ) → LeavesLast text last rest → text ≡ value ++ last → AreCharactersBefore text value last
 characters_before text value last rest h e = record {
   cut = e;
-  stand = subst (λ x. IsTrue (list_all stands_for_itself x)) (sym same) h.stand;
+  stand = subst (λ x. IsTrue (list_all is_char_token x)) (sym same) h.stand;
   more = by_one h.one;
 }
   where
     same : value ≡ h.characters
     same = append_cancel_right value h.characters last (sym e ∙ h.cut)
 
-    by_one : ((h.characters ≡ []) × (last ≡ rest)) ⊎ ((c : ℕ) × (last ≡ c ∷ rest) × IsTrue (stands_for_itself c)) → (value ≡ []) ⊎ BeginsWith stands_for_itself last
+    by_one : ((h.characters ≡ []) × (last ≡ rest)) ⊎ ((c : ℕ) × (last ≡ c ∷ rest) × IsTrue (is_char_token c)) → (value ≡ []) ⊎ BeginsWith is_char_token last
     by_one (inl g) = inl (same ∙ g.0)
-    by_one (inr g) = inr (subst (BeginsWith stands_for_itself) (sym g.1) g.2)
+    by_one (inr g) = inr (subst (BeginsWith is_char_token) (sym g.1) g.2)
 
 -- ---- tokens of characters
 
-not_mark : (c : ℕ) → stands_for_itself c ≡ true → is_among marks c ≡ false
+not_mark : (c : ℕ) → is_char_token c ≡ true → is_among marks c ≡ false
 not_mark c h = search rules
 
-not_skipped : (c : ℕ) → stands_for_itself c ≡ true → is_ignored c ≡ false
+not_skipped : (c : ℕ) → is_char_token c ≡ true → is_ignored c ≡ false
 not_skipped c h = search rules
 
-pub stands_there : (text : List ℕ) → BeginsWith stands_for_itself text → ¬ BeginsWith is_ignored text
+pub stands_there : (text : List ℕ) → BeginsWith is_char_token text → ¬ BeginsWith is_ignored text
 stands_there [] h g = both_ways false refl h
 stands_there (c ∷ text) h g = both_ways (is_ignored c) (not_skipped c h) g
 
@@ -88,16 +88,16 @@ module _ (whole rest characters next : List ℕ) (c : ℕ) (place : IsPlace whol
   abbrev behind : List ℕ
   behind = characters ++ next
 
-  first_stands : stands_for_itself c ≡ true
+  first_stands : is_char_token c ≡ true
   first_stands = (and_parts _ _ h.stand).0
 
-  others_stand : IsTrue (list_all stands_for_itself characters)
+  others_stand : IsTrue (list_all is_char_token characters)
   others_stand = (and_parts _ _ h.stand).1
 
-  next_stands : BeginsWith stands_for_itself next
+  next_stands : BeginsWith is_char_token next
   next_stands = by_more h.more
     where
-      by_more : (c ∷ characters ≡ []) ⊎ BeginsWith stands_for_itself next → BeginsWith stands_for_itself next
+      by_more : (c ∷ characters ≡ []) ⊎ BeginsWith is_char_token next → BeginsWith is_char_token next
       by_more (inl e) = absurd (cc e)
       by_more (inr g) = g
 
@@ -115,7 +115,7 @@ module _ (whole rest characters next : List ℕ) (c : ℕ) (place : IsPlace whol
   lexed : IsLexed rest Char (c ∷ []) behind
   lexed = character_lexed Char rest (c ∷ []) behind c h.cut h.cut (Spells-char c (not_mark c first_stands) (both_ways (is_ignored c) (not_skipped c first_stands))) tt
 
-  after_stands : (text : List ℕ) → IsTrue (list_all stands_for_itself text) → BeginsWith stands_for_itself (text ++ next)
+  after_stands : (text : List ℕ) → IsTrue (list_all is_char_token text) → BeginsWith is_char_token (text ++ next)
   after_stands [] g = next_stands
   after_stands (d ∷ text) g = (and_parts _ _ g).0
 
@@ -142,10 +142,10 @@ character_tokens whole rest (c ∷ characters) next place h =
 first_of : (m c : ℕ) (value spelling rest more : List ℕ) → spelling ≡ m ∷ value → spelling ++ rest ≡ c ∷ more → m ≡ c
 first_of m c value spelling rest more e f = cc (sym (ap (λ x. x ++ rest) e) ∙ f)
 
-no_mark : (m c : ℕ) → stands_for_itself m ≡ false → m ≡ c → ¬ IsTrue (stands_for_itself c)
-no_mark m c none e h = both_ways (stands_for_itself m) none (subst (λ x. stands_for_itself x ≡ true) (sym e) h)
+no_mark : (m c : ℕ) → is_char_token m ≡ false → m ≡ c → ¬ IsTrue (is_char_token c)
+no_mark m c none e h = both_ways (is_char_token m) none (subst (λ x. is_char_token x ≡ true) (sym e) h)
 
-spelled_text : (kind : TokenType) (value spelling rest more : List ℕ) (c : ℕ) → Spells kind value spelling → spelling ++ rest ≡ c ∷ more → IsTrue (stands_for_itself c) → IsTrue (is_text kind)
+spelled_text : (kind : TokenType) (value spelling rest more : List ℕ) (c : ℕ) → Spells kind value spelling → spelling ++ rest ≡ c ∷ more → IsTrue (is_char_token c) → IsTrue (is_text kind)
 unfolding literals
 spelled_text Char value spelling rest more c h e stands = refl
 spelled_text EscapedChar value spelling rest more c h e stands = refl
@@ -159,7 +159,7 @@ spelled_text Regexp value spelling rest more c h e stands = absurd (no_mark _ c 
 spelled_text End value spelling rest more c h e stands = absurd h
 spelled_text InvalidChar value spelling rest more c h e stands = absurd h
 
-pub text_after : (whole rest next : List ℕ) (token : TokenView) → IsTokenAfter whole rest token next → BeginsWith stands_for_itself rest → IsTrue (is_text token.kind)
+pub text_after : (whole rest next : List ℕ) (token : TokenView) → IsTokenAfter whole rest token next → BeginsWith is_char_token rest → IsTrue (is_text token.kind)
 text_after whole [] next token h stands = absurd (both_ways false refl stands)
 text_after whole (c ∷ rest) next token (inl h) stands = absurd (cc h.0)
 text_after whole (c ∷ rest) next token (inr h) stands =
@@ -176,18 +176,18 @@ row_less old new middle le len other =
 module _ (old new : Reader) (middle : List ℕ) (more : List ℕ) (whole : new.cursor.input.now ≡ old.cursor.input.now)
     (before : AreCharactersBefore (chars old.cursor.rest.now) more (chars middle)) (place : IsPlace (reader_text old) (chars new.cursor.rest.now))
     (after : IsTokenAfter (reader_text old) (chars middle) (token_view new.token) (chars new.cursor.rest.now))
-    (le : length middle ≤ length old.cursor.rest.now) (len : length new.cursor.rest.now + tokens_left new.token.kind ≤ length middle) (stands : Stands old) (other : old.token.kind ≢ End) where
+    (le : length middle ≤ length old.cursor.rest.now) (len : length new.cursor.rest.now + tokens_left new.token.kind ≤ length middle) (stands : IsAtPlace old) (other : old.token.kind ≢ End) where
   begins : BeginsWithTokens (reader_text old) (chars old.cursor.rest.now) more (chars middle)
   begins = character_tokens (reader_text old) (chars old.cursor.rest.now) more (chars middle) stands.place before
 
   goes_on : (rest : List TokenView) → HasTokensLeft new rest → (more ≡ []) ⊎ BeginsWithKind is_text rest
   goes_on rest g = by_more before.more
     where
-      by_more : (more ≡ []) ⊎ BeginsWith stands_for_itself (chars middle) → (more ≡ []) ⊎ BeginsWithKind is_text rest
+      by_more : (more ≡ []) ⊎ BeginsWith is_char_token (chars middle) → (more ≡ []) ⊎ BeginsWithKind is_text rest
       by_more (inl e) = inl e
       by_more (inr h) = inr (subst (BeginsWithKind is_text) (sym g.first) (text_after (reader_text old) (chars middle) (chars new.cursor.rest.now) (token_view new.token) after h))
 
-  pub takes_row : Takes old new (λ tokens rest. BeginsWithCharacters tokens (token_view old.token) more rest)
+  pub takes_row : Consumes old new (λ tokens rest. BeginsWithCharacters tokens (token_view old.token) more rest)
   takes_row = record {
     whole = whole;
     stands = record {
@@ -216,13 +216,13 @@ module _ (old new : Reader) (middle : List ℕ) (more : List ℕ) (whole : new.c
   }
 
 -- No character is consumed after the first.
-pub row_alone : (old new : Reader) (more : List ℕ) → Takes old new (λ tokens rest. BeginsWithCharacters tokens (token_view old.token) more rest) → more ≡ [] → Takes old new (λ tokens rest. tokens ≡ token_view old.token ∷ rest)
+pub row_alone : (old new : Reader) (more : List ℕ) → Consumes old new (λ tokens rest. BeginsWithCharacters tokens (token_view old.token) more rest) → more ≡ [] → Consumes old new (λ tokens rest. tokens ≡ token_view old.token ∷ rest)
 row_alone old new more t e =
     takes_weaker old new (λ tokens rest. BeginsWithCharacters tokens (token_view old.token) more rest) (λ tokens rest. tokens ≡ token_view old.token ∷ rest) t
     (λ tokens rest g h r. r.cut ∙ ap (λ row. token_view old.token ∷ row ++ rest) (r.none e))
 
 -- Characters are consumed after the first.
-pub row_texts : (old new : Reader) (first more : List ℕ) → Takes old new (λ tokens rest. BeginsWithCharacters tokens (token_view old.token) more rest) → ¬ (more ≡ []) → first ≡ (token_view old.token).value → IsTrue (is_text old.token.kind) → Takes old new (λ tokens rest. BeginsWithRow tokens (first ++ more) rest)
+pub row_texts : (old new : Reader) (first more : List ℕ) → Consumes old new (λ tokens rest. BeginsWithCharacters tokens (token_view old.token) more rest) → ¬ (more ≡ []) → first ≡ (token_view old.token).value → IsTrue (is_text old.token.kind) → Consumes old new (λ tokens rest. BeginsWithRow tokens (first ++ more) rest)
 row_texts old new first more t some value text =
     takes_weaker old new (λ tokens rest. BeginsWithCharacters tokens (token_view old.token) more rest) (λ tokens rest. BeginsWithRow tokens (first ++ more) rest) t
     (λ tokens rest g h r. record {

@@ -6,7 +6,7 @@ use Rattle.urlpattern_syntax.specs.declared.tokenizer.TokenType.{TokenType}
 use Rattle.urlpattern_syntax.specs.declared.tokenizer.TokenType.TheVariants.{End}
 use Rattle.urlpattern_syntax.specs.Cursors.{AreTokensAfter, IsPlace, IsTokenAfter, tokens_left}
 use Rattle.urlpattern_syntax.specs.Parsing.{IsModifierSpelled, IsNameSpelled}
-use Rattle.urlpattern_parser.specs.Readers.{HasTokensLeft, Stands, StartsText, Takes, reader_left, reader_text}
+use Rattle.urlpattern_parser.specs.Readers.{HasTokensLeft, IsAtPlace, StartsText, Consumes, reader_left, reader_text}
 use Rattle.urlpattern_syntax.specs.Text.{BeginsAt, BeginsWith, byte_len}
 use Rattle.urlpattern_syntax.specs.Tokens.{AreTokens, IsCut, IsLexed, IsTokenOf, Skips, Spells, TokenView, is_ignored, token_view}
 use Rattle.urlpattern_syntax.proofs.NameCharacters.{name_given}
@@ -87,7 +87,7 @@ given_after reader before tokens after g = subst (AreTokensAfter (reader_text re
     by_others (inr h) = after_other (reader_text reader) before (chars reader.cursor.rest.now) (token_view reader.token) g.more after h.0 h.1
 
 -- Where the rest has tokens, tokens are left.
-pub gives_some : (reader : Reader) (more : List TokenView) → Stands reader → AreTokensAfter (reader_text reader) (chars reader.cursor.rest.now) more → (tokens : List TokenView) × HasTokensLeft reader tokens
+pub gives_some : (reader : Reader) (more : List TokenView) → IsAtPlace reader → AreTokensAfter (reader_text reader) (chars reader.cursor.rest.now) more → (tokens : List TokenView) × HasTokensLeft reader tokens
 gives_some reader more stands t = by_kind reader.token.kind refl
   where
     first : TokenView
@@ -134,13 +134,13 @@ left_within rest behind next kind u v less le =
     omega (arith, e, f, most, less, le)
 
 -- A token is consumed.
-module _ (old new : Reader) (whole : new.cursor.input.now ≡ old.cursor.input.now) (place : IsPlace (reader_text old) (chars new.cursor.rest.now)) (after : IsTokenAfter (reader_text old) (chars old.cursor.rest.now) (token_view new.token) (chars new.cursor.rest.now)) (len : length new.cursor.rest.now + tokens_left new.token.kind ≤ length old.cursor.rest.now) (stands : Stands old) (other : old.token.kind ≢ End) where
+module _ (old new : Reader) (whole : new.cursor.input.now ≡ old.cursor.input.now) (place : IsPlace (reader_text old) (chars new.cursor.rest.now)) (after : IsTokenAfter (reader_text old) (chars old.cursor.rest.now) (token_view new.token) (chars new.cursor.rest.now)) (len : length new.cursor.rest.now + tokens_left new.token.kind ≤ length old.cursor.rest.now) (stands : IsAtPlace old) (other : old.token.kind ≢ End) where
   pub takes_less : reader_left new < reader_left old
   takes_less =
       let one = one_left old.token.kind other in
       omega (arith, one, len)
 
-  pub takes_token : Takes old new (λ tokens rest. tokens ≡ token_view old.token ∷ rest)
+  pub takes_token : Consumes old new (λ tokens rest. tokens ≡ token_view old.token ∷ rest)
   takes_token = record {
     whole = whole;
     stands = record {
@@ -167,7 +167,7 @@ module _ (old new : Reader) (whole : new.cursor.input.now ≡ old.cursor.input.n
   }
 
 -- Nothing is consumed.
-pub takes_none : (reader : Reader) (Is : List TokenView → List TokenView → Type 0) → Stands reader → ((tokens : List TokenView) → HasTokensLeft reader tokens → Is tokens tokens) → Takes reader reader Is
+pub takes_none : (reader : Reader) (Is : List TokenView → List TokenView → Type 0) → IsAtPlace reader → ((tokens : List TokenView) → HasTokensLeft reader tokens → Is tokens tokens) → Consumes reader reader Is
 takes_none reader Is stands is = record {
   whole = refl;
   stands = stands;
@@ -175,8 +175,8 @@ takes_none reader Is stands is = record {
   gives = λ rest g. (rest, g, is rest g);
 }
 
-pub takes_then : (a b c : Reader) (P Q R : List TokenView → List TokenView → Type 0) → Takes a b P → Takes b c Q →
-    ((x y z : List TokenView) → HasTokensLeft a x → HasTokensLeft b y → HasTokensLeft c z → P x y → Q y z → R x z) → Takes a c R
+pub takes_then : (a b c : Reader) (P Q R : List TokenView → List TokenView → Type 0) → Consumes a b P → Consumes b c Q →
+    ((x y z : List TokenView) → HasTokensLeft a x → HasTokensLeft b y → HasTokensLeft c z → P x y → Q y z → R x z) → Consumes a c R
 takes_then a b c P Q R first second joined = record {
   whole = second.whole ∙ first.whole;
   stands = second.stands;
@@ -187,8 +187,8 @@ takes_then a b c P Q R first second joined = record {
       (x.0, x.1, joined x.0 y.0 rest x.1 y.1 g x.2 y.2);
 }
 
-pub takes_weaker : (a b : Reader) (P Q : List TokenView → List TokenView → Type 0) → Takes a b P →
-    ((x y : List TokenView) → HasTokensLeft a x → HasTokensLeft b y → P x y → Q x y) → Takes a b Q
+pub takes_weaker : (a b : Reader) (P Q : List TokenView → List TokenView → Type 0) → Consumes a b P →
+    ((x y : List TokenView) → HasTokensLeft a x → HasTokensLeft b y → P x y → Q x y) → Consumes a b Q
 takes_weaker a b P Q t weaker = record {
   whole = t.whole;
   stands = t.stands;

@@ -5,7 +5,7 @@ use Rattle.std.specs.List.{list_all}
 use Rattle.std.proofs.lemmas.Bool.{and_parts}
 use Rattle.urlpattern_parser.specs.declared.parser.pieces.Reader.{Reader}
 use Rattle.urlpattern_syntax.specs.Parsing.{BeginsWithPiece, BeginsWithRow, HasEndingAt}
-use Rattle.urlpattern_parser.specs.Readers.{HasTokensLeft, StartsText, Takes}
+use Rattle.urlpattern_parser.specs.Readers.{HasTokensLeft, StartsText, Consumes}
 use Rattle.urlpattern_syntax.specs.Pieces.{ArePieces, BeginsWithKind, Ending, IsEnding, Piece, is_text, Piece as kinds_of_piece}
 use Rattle.urlpattern_syntax.specs.Stops.{IsStopOf, stopping_token}
 use Rattle.urlpattern_syntax.specs.Tokens.{AreTokens, TokenView, token_view}
@@ -38,7 +38,7 @@ module _ (point text : List ℕ) where
 
   module _ (old new : Reader) (reached : ReachesBy point text old) where
     -- The next piece.
-    pub piece_reached : (piece : Piece) → Takes old new (λ tokens rest. BeginsWithPiece point tokens piece rest) → ReachesBy point text new
+    pub piece_reached : (piece : Piece) → Consumes old new (λ tokens rest. BeginsWithPiece point tokens piece rest) → ReachesBy point text new
     piece_reached piece takes rest g =
         let t = takes.gives rest g in
         let r = reached t.0 t.1 in
@@ -51,7 +51,7 @@ module _ (point text : List ℕ) where
         }
 
     -- The next row of characters.
-    pub row_reached : (characters : List ℕ) → Takes old new (λ tokens rest. BeginsWithRow tokens characters rest) → ReachesBy point text new
+    pub row_reached : (characters : List ℕ) → Consumes old new (λ tokens rest. BeginsWithRow tokens characters rest) → ReachesBy point text new
     row_reached characters takes rest g =
         let t = takes.gives rest g in
         let r = reached t.0 t.1 in
@@ -67,7 +67,7 @@ module _ (point text : List ℕ) where
         }
 
     -- The token with which no piece begins.
-    pub stop_reached : (ending : TokenView → Ending) → ((found : TokenView) → found ≡ stopping_token (ending found)) → Takes old new (λ tokens rest. HasEndingAt tokens ending rest) →
+    pub stop_reached : (ending : TokenView → Ending) → ((found : TokenView) → found ≡ stopping_token (ending found)) → Consumes old new (λ tokens rest. HasEndingAt tokens ending rest) →
         (tokens : List TokenView) × HasTokensLeft new tokens → IsStopOf text point (token_view old.token) (token_view new.token)
     stop_reached ending is takes left =
         let t = takes.gives left.0 left.1 in

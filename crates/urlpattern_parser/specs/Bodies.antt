@@ -3,16 +3,16 @@ use Rattle.std.specs.Prelude.{◌≡◌, ℕ, ◌+◌, ◌≤◌, ◌⊎◌, Lis
 use Rattle.std.specs.{Borrow.Bor, Str.chars}
 use Rattle.urlpattern_parser.specs.declared.body.RefusedBody.{RefusedBody}
 use Rattle.urlpattern_syntax.specs.Text.{BeginsWith, byte_len}
-use Rattle.urlpattern_syntax.specs.Tokens.{FaultView, IncompleteEscapeCode, IsFaultAt, IsRegexpFront, fault_view, is_question_mark}
+use Rattle.urlpattern_syntax.specs.Tokens.{FaultView, IncompleteEscapeCode, IsFaultAt, IsRegexpStart, fault_view, is_question_mark}
 
 -- `left` follows a valid start of a body in the text after a `(`.
-abbrev pub IsAfterFront : (rest left : List ℕ) → Type 0
-IsAfterFront rest left = (front : List ℕ) × IsRegexpFront front × (rest ≡ front ++ left)
+abbrev pub IsAfterRegexpStart : (rest left : List ℕ) → Type 0
+IsAfterRegexpStart rest left = (front : List ℕ) × IsRegexpStart front × (rest ≡ front ++ left)
 
 -- The first `len` bytes of `left` cannot stand in a custom expression: a character that is not ASCII,
 -- alone or after a backslash, or a `(` that no `?` follows.
-abbrev pub IsRefusedFront : (left : List ℕ) → (len : ℕ) → Type 0
-IsRefusedFront left len =
+abbrev pub IsRejectedStart : (left : List ℕ) → (len : ℕ) → Type 0
+IsRejectedStart left len =
     ((c : ℕ) × (more : List ℕ) × (left ≡ c ∷ more) × (128 ≤ c) × (len ≡ byte_len (c ∷ [])))
     ⊎ ((c : ℕ) × (more : List ℕ) × (left ≡ codes "\\" ++ c ∷ more) × (128 ≤ c) × (len ≡ 1 + byte_len (c ∷ [])))
     ⊎ ((more : List ℕ) × (left ≡ codes "(" ++ more) × ¬ BeginsWith is_question_mark more × (len ≡ 1))
@@ -21,8 +21,8 @@ IsRefusedFront left len =
 -- that ends before its body does.
 abbrev pub IsRefusedOf : (text : List ℕ) → FaultView → Option (Bor (List ℕ) × ℕ) → Type 0
 IsRefusedOf text fault (Some found) =
-    IsAfterFront (chars text) (chars found.0.now) × IsRefusedFront (chars found.0.now) found.1 × (length found.0.now ≤ length text)
-IsRefusedOf text fault None = (fault ≡ IncompleteEscapeCode) ⊎ IsRegexpFront (chars text)
+    IsAfterRegexpStart (chars text) (chars found.0.now) × IsRejectedStart (chars found.0.now) found.1 × (length found.0.now ≤ length text)
+IsRefusedOf text fault None = (fault ≡ IncompleteEscapeCode) ⊎ IsRegexpStart (chars text)
 
 -- The text does not begin with a body, for this reason.
 abbrev pub IsRefusedBody : (text : List ℕ) → RefusedBody → Type 0

@@ -13,7 +13,7 @@ use Rattle.urlpattern_parser.specs.Readers.{KnowsNames, group_item, matched_view
 use Rattle.urlpattern_syntax.specs.Parts.{parts_view}
 use Rattle.urlpattern_syntax.specs.declared.parser.Part.{Part}
 use Rattle.urlpattern_syntax.specs.declared.parser.PartModifier.{PartModifier}
-use Rattle.urlpattern_syntax.specs.Reading.{Calls, Demand, Encoding, Expect, Fixed, Item, Reads, Refuses, placeholder_regexp, encode_fixed, encoding_by, item, name_or}
+use Rattle.urlpattern_syntax.specs.Reading.{Calls, Demand, Encoding, Expect, Fixed, Item, Reads, Rejects, placeholder_regexp, encode_fixed, encoding_by, item, name_or}
 use Rattle.urlpattern_syntax.specs.RegexpText.{group_names}
 use Rattle.urlpattern_syntax.specs.Tokens.{token_view}
 use Rattle.urlpattern_syntax.specs.declared.tokenizer.Token.{Token}
@@ -34,8 +34,8 @@ abbrev pub ParserReads : {F : Type 0} → Calls F → PatternParser F → List �
 ParserReads calls parser text parts = Reads text (parser_options parser) (parser_encoding calls parser) (parts_view parts)
 
 -- The parser rejects the text with this error.
-abbrev pub ParserRefuses : {F : Type 0} → Calls F → PatternParser F → List ℕ → ErrorView → Type 0
-ParserRefuses calls parser text error = Refuses text (parser_options parser) (parser_encoding calls parser) error
+abbrev pub ParserRejects : {F : Type 0} → Calls F → PatternParser F → List ℕ → ErrorView → Type 0
+ParserRejects calls parser text error = Rejects text (parser_options parser) (parser_encoding calls parser) error
 
 -- The regular expression that decides the kind of a placeholder's part.
 abbrev pub matched_regexp : {F : Type 0} → PatternParser F → PlaceholderKind → List ℕ

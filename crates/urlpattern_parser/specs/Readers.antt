@@ -38,22 +38,22 @@ pub record HasTokensLeft (reader : Reader) (tokens : List TokenView) : Type 0 wh
       ⊎ ((reader.token.kind ≢ End) × AreTokensAfter (reader_text reader) (cursor_rest reader.cursor) more)
 
 -- The reader is at a place of its text, and the token before this place is spelled as its kind is.
-pub record Stands (reader : Reader) : Type 0 where
+pub record IsAtPlace (reader : Reader) : Type 0 where
   pub place : IsPlace (reader_text reader) (cursor_rest reader.cursor)
   pub mark : IsModifierSpelled (token_view reader.token)
   pub name : IsNameSpelled (token_view reader.token)
 
 -- Consuming tokens relates those that are left (`rest`) to those that were left before (`tokens`).
-pub record Takes (old new : Reader) (Is : (tokens rest : List TokenView) → Type 0) : Type 0 where
+pub record Consumes (old new : Reader) (Is : (tokens rest : List TokenView) → Type 0) : Type 0 where
   pub whole : new.cursor.input.now ≡ old.cursor.input.now
-  pub stands : Stands new
+  pub stands : IsAtPlace new
   pub left : reader_left new ≤ reader_left old
   pub gives : (rest : List TokenView) → HasTokensLeft new rest → (tokens : List TokenView) × HasTokensLeft old tokens × Is tokens rest
 
 -- All tokens of the text are left.
 pub record StartsText (text : List ℕ) (reader : Reader) : Type 0 where
   pub whole : reader_text reader ≡ text
-  pub stands : Stands reader
+  pub stands : IsAtPlace reader
   pub all : (tokens : List TokenView) → HasTokensLeft reader tokens → AreTokens text tokens
 
 -- What a placeholder matches, as a value of the specification.
@@ -97,16 +97,16 @@ IsNextAfter prefix tokens next rest =
     (point : List ℕ) (before : List TokenView) → IsPrefixOf point before prefix → IsNext point (before ++ tokens) next rest
 
 -- A placeholder is consumed.
-abbrev pub TakesPlaceholder : (old new : Reader) → PlaceholderValue → Type 0
-TakesPlaceholder old new value = Takes old new (λ tokens rest. BeginsWithPlaceholder tokens (placeholder_view value) rest)
+abbrev pub ConsumesPlaceholder : (old new : Reader) → PlaceholderValue → Type 0
+ConsumesPlaceholder old new value = Consumes old new (λ tokens rest. BeginsWithPlaceholder tokens (placeholder_view value) rest)
 
 -- The first token, a character, is consumed with more characters, of these values.
-abbrev pub TakesRow : (old new : Reader) → (more : Bor (List ℕ)) → Type 0
-TakesRow old new more = Takes old new (λ tokens rest. BeginsWithCharacters tokens (token_view old.token) (chars more.now) rest)
+abbrev pub ConsumesRow : (old new : Reader) → (more : Bor (List ℕ)) → Type 0
+ConsumesRow old new more = Consumes old new (λ tokens rest. BeginsWithCharacters tokens (token_view old.token) (chars more.now) rest)
 
 -- The closing brace of a group and its modifier are consumed.
-abbrev pub TakesClose : (old new : Reader) → PartModifier → Type 0
-TakesClose old new modifier = Takes old new (λ tokens rest. BeginsWithClose tokens modifier rest)
+abbrev pub ConsumesClose : (old new : Reader) → PartModifier → Type 0
+ConsumesClose old new modifier = Consumes old new (λ tokens rest. BeginsWithClose tokens modifier rest)
 
 -- Fewer tokens are left after a piece or characters are consumed.
 abbrev pub IsShorter : (new old : ℕ) → Next → Type 0

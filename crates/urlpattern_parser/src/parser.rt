@@ -6,9 +6,9 @@ ghost use Rattle.std.specs.Str.{chars};
 ghost use Rattle.urlpattern_syntax.specs.Errors.{ErrorView, error_view};
 ghost use Rattle.urlpattern_syntax.specs.{Options.options_view, Text.text_of};
 ghost use Rattle.urlpattern_syntax.specs.Errors.{MemoryOr};
-ghost use Rattle.urlpattern_parser.specs.Readers.{FaultOr, Stands, StartsText, reader_left, reader_text};
-ghost use Rattle.urlpattern_parser.specs.PartLists.{AddsAll, ParserReads, ParserRefuses, end_demands, matched_regexp, parser_encoding, parser_options, pending_item};
-ghost use Rattle.urlpattern_syntax.specs.Reading.{FirstFails, IsReadAs, Refuses, encoding_by, kind_of, value_of};
+ghost use Rattle.urlpattern_parser.specs.Readers.{FaultOr, IsAtPlace, StartsText, reader_left, reader_text};
+ghost use Rattle.urlpattern_parser.specs.PartLists.{AddsAll, ParserReads, ParserRejects, end_demands, matched_regexp, parser_encoding, parser_options, pending_item};
+ghost use Rattle.urlpattern_syntax.specs.Reading.{FirstFails, IsReadAs, Rejects, encoding_by, kind_of, value_of};
 
 mod given_names;
 mod part_list;
@@ -52,7 +52,7 @@ pub fn parse_pattern_string<F: Fn(&str) -> Result<String, Error> + Drop>(
 ) -> Result<Vec<Part>, Error>
     requires { F.IsAlwaysCallable encoding_callback }
     ensures reads { IfOk result (IsReadAs (chars input.now) (options_view options.now) (encoding_by F.Fn encoding_callback)) }
-    ensures refuses { IfErr result (MemoryOr (Refuses (chars input.now) (options_view options.now) (encoding_by F.Fn encoding_callback))) }
+    ensures refuses { IfErr result (MemoryOr (Rejects (chars input.now) (options_view options.now) (encoding_by F.Fn encoding_callback))) }
 {
     let mut reader = Reader::new(alloc, input)?;
     let parser = PatternParser {
@@ -70,7 +70,7 @@ impl<F: Fn(&str) -> Result<String, Error>> PatternParser<'_, F> {
         requires starts { StartsText (reader_text reader.old) reader.old }
         requires room { reader_left reader.old ≤ usize.MAX }
         ensures reads { IfOk result (λ parts. ParserReads F.Fn self.now (reader_text reader.old) parts.items) }
-        ensures refuses { IfErr result (MemoryOr (ParserRefuses F.Fn self.now (reader_text reader.old))) }
+        ensures refuses { IfErr result (MemoryOr (ParserRejects F.Fn self.now (reader_text reader.old))) }
     {
         let mut list = PartList::new(self.alloc);
         let mut next = Next::Stops;
@@ -100,7 +100,7 @@ impl<F: Fn(&str) -> Result<String, Error>> PatternParser<'_, F> {
     /// Adds the pending text at the token with which no piece begins, which has to be `End`.
     fn finish(&self, list: &mut PartList<'_>, reader: &Reader<'_>) -> Result<(), Error>
         requires callable { F.IsAlwaysCallable self.now.encoding_callback }
-        requires stands { Stands reader.now }
+        requires stands { IsAtPlace reader.now }
         ensures end { OnOk result (reader.now.token.kind ≡ TokenType.End) }
         ensures ok { OnOk result (AddsAll F.Fn self.now list.old (pending_item list.old) list.new) }
         ensures err { IfErr result (FaultOr reader.now (FirstFails (parser_encoding F.Fn self.now) (end_demands list.old reader.now.token))) }
@@ -117,7 +117,7 @@ impl<F: Fn(&str) -> Result<String, Error>> PatternParser<'_, F> {
 
     /// Returns the callback's result for a text.
     #[inline(always)]
-    fn ask(&self, text: &str) -> Result<String, Error>
+    fn encode(&self, text: &str) -> Result<String, Error>
         requires { F.IsAlwaysCallable self.now.encoding_callback }
         ensures ok { IfOk result (λ answer. parser_encoding F.Fn self.now (chars text.now) (Result.Ok (text_of answer))) }
         ensures err { IfErr result (λ error. parser_encoding F.Fn self.now (chars text.now) (Result.Err (error_view error))) }
@@ -157,7 +157,7 @@ impl<F: Fn(&str) -> Result<String, Error>> PatternParser<'_, F> {
 /// Returns the first fault of the text that is parsed, if it has one, and otherwise this error.
 /// `OutOfMemory` stays as it is.
 fn first_fault(reader: &Reader<'_>, error: Error) -> Error
-    requires { Stands reader.now }
+    requires { IsAtPlace reader.now }
     ensures { FaultOr reader.now (λ view. view ≡ error_view error) result }
 {
     if matches!(error, Error::OutOfMemory) {

@@ -9,7 +9,7 @@ use Rattle.std.specs.Str.{all_scalars}
 use Rattle.std.specs.Prelude.{◌&&◌, Option, Some, None, Ok, IsTrue, slice_index_or}
 use Rattle.urlpattern_canonical.specs.Canonical.{special_schemes}
 use Rattle.urlpattern_matcher.specs.Components.{ComponentView, IsComponentOf, IsEngineOf, engine_flags, has_regexp, is_custom}
-use Rattle.urlpattern_matcher.specs.FirstWays.{AnswersFirstWays, EachAnswersFirst, Taking}
+use Rattle.urlpattern_matcher.specs.FirstWays.{ReturnsFirstWays, EachReturnsFirst, Acceptance}
 use Rattle.urlpattern_matcher.proofs.FirstMatchers.{flags_agree}
 use Rattle.urlpattern_printing.specs.Generated.{AreGenerated}
 use Rattle.urlpattern_matcher.specs.declared.regexp.RegExp.{Ghosts as Engine}
@@ -17,9 +17,9 @@ use Rattle.urlpattern_init.specs.SpecialProtocol.{AcceptsSpecialScheme}
 use Rattle.urlpattern_init.specs.UrlTexts.{IsLine}
 use Rattle.urlpattern_init.specs.declared.init.UrlPatternInit.{UrlPatternInit}
 use Rattle.urlpattern_inputs.specs.declared.options.UrlPatternOptions.{UrlPatternOptions}
-use Rattle.urlpattern_meaning.proofs.FirstAnswers.{first_agrees, first_one, matcher_first}
-use Rattle.urlpattern_meaning.specs.FirstAnswers.{IsFirstOf}
-use Rattle.urlpattern_meaning.specs.Matching.{Answers, InnerView}
+use Rattle.urlpattern_meaning.proofs.FirstResults.{first_agrees, first_one, matcher_first}
+use Rattle.urlpattern_meaning.specs.FirstResults.{IsFirstOf}
+use Rattle.urlpattern_meaning.specs.Matching.{Returns, InnerView}
 use Rattle.urlpattern_meaning.specs.PartMeaning.{Captures}
 use Rattle.urlpattern_components.specs.declared.eight.ComponentName.{ComponentName}
 use Rattle.urlpattern_components.specs.declared.eight.ComponentName.TheVariants.{Protocol}
@@ -32,13 +32,13 @@ use Rattle.urlpattern_syntax.specs.Text.{lacks, line_feed}
 use Rattle.urlpattern_pattern.proofs.MatchersDecide.{answered}
 use Rattle.urlpattern_pattern.proofs.MatchLaws.{no_input-long, texts-one}
 use Rattle.urlpattern_pattern.proofs.MeaningLemmas.{executed_means, none_custom, read_once}
-use Rattle.urlpattern_pattern.specs.ByText.{AnswersByItsText, AnswersByText, EnginesAnswerFirst, HasMeaning, IsFirstResult, IsFirstWay, IsExecutedByMeaning, IsFoundByText, IsHierarchicalByText, MakesFirstWays}
-use Rattle.urlpattern_compile.specs.Compiled.{AreCompiled, HasHierarchicalPath, IsComponentCompiled, IsPathKind, IsPatternOfInit, Manner, manner_of, pattern_values}
+use Rattle.urlpattern_pattern.specs.ByText.{ReturnsByItsText, ReturnsByText, EnginesReturnFirst, HasMeaning, IsFirstResult, IsFirstWay, IsExecutedByMeaning, IsFoundByText, IsHierarchicalByText, MakesFirstWays}
+use Rattle.urlpattern_compile.specs.Compiled.{AreCompiled, HasHierarchicalPath, IsComponentCompiled, IsPathKind, IsPatternOfInit, ParseSettings, settings_of, pattern_values}
 use Rattle.urlpattern_init.specs.declared.init.UrlPatternMatchInput.{UrlPatternMatchInput}
 use Rattle.urlpattern_matches.specs.MatchInput.{input_texts}
-use Rattle.urlpattern_pattern.specs.Match.{FindsInTexts, IsLongInput, IsMatchOf, IsRefused}
+use Rattle.urlpattern_pattern.specs.Match.{FindsInTexts, IsLongInput, IsMatchOf, DoesNotMatch}
 use Rattle.urlpattern_matches.specs.ResultViews.{IsResultOf, IsSameResult, ResultView, group_of}
-use Rattle.urlpattern_pattern.specs.ByTextLaws.{AllHaveMeaning, FindingsAreOne, IsSameFinding, TakenPatternsAnswerByText}
+use Rattle.urlpattern_pattern.specs.ByTextLaws.{AllHaveMeaning, FindingsAreOne, IsSameFinding, AcceptedPatternsReturnByText}
 use Rattle.urlpattern_pattern.specs.MatchMeaning.{IsExecuted, ReadsAs}
 use Rattle.urlpattern_pattern.specs.Patterns.{PatternView}
 
@@ -54,40 +54,40 @@ generated_flag : (parts : List PartView) → AreGenerated parts → has_regexp p
 generated_flag parts generated = list_any_none (λ part. is_custom part.kind) parts (λ k part lt. custom_is (slice_index_or parts k part).kind (generated k part lt))
 
 -- A component without a custom regular expression, and with its case kept, has a meaning.
-pub has_meaning : {E : Type 0} (engine : Engine E) (manner : Manner) (compiled : ComponentView E) → IsComponentCompiled engine manner compiled →
-    compiled.has_regexp_group ≡ false → manner.options.ignore_case ≡ false → HasMeaning manner
-has_meaning engine manner compiled is_compiled none kept =
+pub has_meaning : {E : Type 0} (engine : Engine E) (settings : ParseSettings) (compiled : ComponentView E) → IsComponentCompiled engine settings compiled →
+    compiled.has_regexp_group ≡ false → settings.options.ignore_case ≡ false → HasMeaning settings
+has_meaning engine settings compiled is_compiled none kept =
     let (parts, reads, is_component) = is_compiled.0 in
     record {
-      generated = λ others also. subst (λ (ps : List PartView). AreGenerated ps) (read_once manner parts others reads also) (none_custom parts (sym is_component.regexp_flag ∙ none));
+      generated = λ others also. subst (λ (ps : List PartView). AreGenerated ps) (read_once settings parts others reads also) (none_custom parts (sym is_component.regexp_flag ∙ none));
       case_kept = kept;
     }
 
 -- ---- first ways
 
-pub way_one : (manner : Manner) (text : List ℕ) (captures others : Option Captures) → IsFirstWay manner text captures → IsFirstWay manner text others → captures ≡ others
-way_one manner text captures others first last =
-    let parts : first.parts ≡ last.parts = read_once manner first.parts last.parts first.reads last.reads in
-    first_one manner.options last.parts text captures others (subst (λ (ps : List PartView). IsFirstOf manner.options ps text captures) parts first.is_first) last.is_first
+pub way_one : (settings : ParseSettings) (text : List ℕ) (captures others : Option Captures) → IsFirstWay settings text captures → IsFirstWay settings text others → captures ≡ others
+way_one settings text captures others first last =
+    let parts : first.parts ≡ last.parts = read_once settings first.parts last.parts first.reads last.reads in
+    first_one settings.options last.parts text captures others (subst (λ (ps : List PartView). IsFirstOf settings.options ps text captures) parts first.is_first) last.is_first
 
 -- ---- one component
 
-module _ {E : Type 0} (answer : E → List ℕ → Option Captures) (manner : Manner) (compiled : ComponentView E) (by : AnswersByText answer manner compiled)
+module _ {E : Type 0} (answer : E → List ℕ → Option Captures) (settings : ParseSettings) (compiled : ComponentView E) (by : ReturnsByText answer settings compiled)
     (text : List ℕ) (line : IsLine text) where
   -- The matcher's result is the first way.
-  abbrev pub answer_first : (result : Option Captures) → Answers answer compiled.matcher text result → IsFirstWay manner text result
+  abbrev pub answer_first : (result : Option Captures) → Returns answer compiled.matcher text result → IsFirstWay settings text result
   answer_first result answers =
       let (is_first, is_meant) = by.answers text result line.no_line_feed line.characters answers in
       record { parts = by.parts; reads = by.reads; is_first = is_first; is_meant = is_meant }
 
   -- The first way is the matcher's result.
-  pub first_answer : (result : Option Captures) → IsFirstWay manner text result → Answers answer compiled.matcher text result
+  pub first_answer : (result : Option Captures) → IsFirstWay settings text result → Returns answer compiled.matcher text result
   first_answer result way =
       let (found, answers) = answered answer compiled.matcher text in
-      subst (λ (r : Option Captures). Answers answer compiled.matcher text r) (way_one manner text found result (answer_first found answers) way) answers
+      subst (λ (r : Option Captures). Returns answer compiled.matcher text r) (way_one settings text found result (answer_first found answers) way) answers
 
-  pub result_first : (captures : Captures) (result : ResultView) → Answers answer compiled.matcher text (Some captures) →
-      IsResultOf compiled.group_name_list captures text result → IsFirstResult manner text result
+  pub result_first : (captures : Captures) (result : ResultView) → Returns answer compiled.matcher text (Some captures) →
+      IsResultOf compiled.group_name_list captures text result → IsFirstResult settings text result
   result_first captures result answers is_result = record {
     captures = captures;
     way = answer_first (Some captures) answers;
@@ -95,10 +95,10 @@ module _ {E : Type 0} (answer : E → List ℕ → Option Captures) (manner : Ma
   }
 
 -- A compiled component returns what its text says, if its matcher returns first ways.
-pub component_by : {E : Type 0} (engine : Engine E) (manner : Manner) (compiled : ComponentView E) → IsComponentCompiled engine manner compiled → HasMeaning manner →
-    ((parts : List PartView) → ReadsAs manner parts → IsComponentOf engine manner.options parts compiled → AreGenerated parts → AnswersFirstWays engine.answer manner.options parts compiled.matcher) →
-    AnswersByText engine.answer manner compiled
-component_by engine manner compiled is_compiled has firsts =
+pub component_by : {E : Type 0} (engine : Engine E) (settings : ParseSettings) (compiled : ComponentView E) → IsComponentCompiled engine settings compiled → HasMeaning settings →
+    ((parts : List PartView) → ReadsAs settings parts → IsComponentOf engine settings.options parts compiled → AreGenerated parts → ReturnsFirstWays engine.answer settings.options parts compiled.matcher) →
+    ReturnsByText engine.answer settings compiled
+component_by engine settings compiled is_compiled has firsts =
     let (parts, reads, is_component) = is_compiled.0 in
     record {
       parts = parts;
@@ -121,44 +121,44 @@ special_lines =
     let both = and_parts (all_scalars here) (lacks line_feed here) (all k scheme lt) in
     record { characters = both.0; no_line_feed = both.1 }
 
-module _ {E : Type 0} (answer : E → List ℕ → Option Captures) (manner : Manner) (protocol : ComponentView E) (by : AnswersByText answer manner protocol) where
+module _ {E : Type 0} (answer : E → List ℕ → Option Captures) (settings : ParseSettings) (protocol : ComponentView E) (by : ReturnsByText answer settings protocol) where
   line_at : (k : ℕ) (scheme : List ℕ × Option (List ℕ)) → k < length special_schemes → slice_index_or special_schemes k scheme ≡ scheme → IsLine scheme.0
   line_at k scheme lt here = subst (λ (s : List ℕ × Option (List ℕ)). IsLine s.0) here (special_lines k scheme lt)
 
-  pub scheme_taken : AcceptsSpecialScheme answer protocol.matcher → Any (λ scheme. (captures : Captures) × IsFirstWay manner scheme.0 (Some captures)) special_schemes
+  pub scheme_taken : AcceptsSpecialScheme answer protocol.matcher → Any (λ scheme. (captures : Captures) × IsFirstWay settings scheme.0 (Some captures)) special_schemes
   scheme_taken (k, scheme, lt, here, (captures, matches)) =
-      (k, scheme, lt, here, (captures, answer_first answer manner protocol by scheme.0 (line_at k scheme lt here) (Some captures) matches))
+      (k, scheme, lt, here, (captures, answer_first answer settings protocol by scheme.0 (line_at k scheme lt here) (Some captures) matches))
 
-  pub scheme_accepted : Any (λ scheme. (captures : Captures) × IsFirstWay manner scheme.0 (Some captures)) special_schemes → AcceptsSpecialScheme answer protocol.matcher
+  pub scheme_accepted : Any (λ scheme. (captures : Captures) × IsFirstWay settings scheme.0 (Some captures)) special_schemes → AcceptsSpecialScheme answer protocol.matcher
   scheme_accepted (k, scheme, lt, here, (captures, way)) =
-      (k, scheme, lt, here, (captures, first_answer answer manner protocol by scheme.0 (line_at k scheme lt here) (Some captures) way))
+      (k, scheme, lt, here, (captures, first_answer answer settings protocol by scheme.0 (line_at k scheme lt here) (Some captures) way))
 
 kind_by : {E : Type 0} (answer : E → List ℕ → Option Captures) (asked : UrlPatternOptions) (values : Values) (protocol : ComponentView E) (hierarchical : Bool) →
-    AnswersByText answer (manner_of asked values false Protocol) protocol → IsPathKind answer values protocol.matcher hierarchical → IsTrue hierarchical ↔ IsHierarchicalByText asked values
+    ReturnsByText answer (settings_of asked values false Protocol) protocol → IsPathKind answer values protocol.matcher hierarchical → IsTrue hierarchical ↔ IsHierarchicalByText asked values
 kind_by {E} answer asked values protocol hierarchical by (only, kind) = (λ is. to (only is), λ is. kind (from is))
   where
-    manner : Manner
-    manner = manner_of asked values false Protocol
+    settings : ParseSettings
+    settings = settings_of asked values false Protocol
 
     to : HasHierarchicalPath answer values protocol.matcher → IsHierarchicalByText asked values
     to (inl empty) = inl empty
-    to (inr (inl accepts)) = inr (inl (scheme_taken answer manner protocol by accepts))
+    to (inr (inl accepts)) = inr (inl (scheme_taken answer settings protocol by accepts))
     to (inr (inr slash)) = inr (inr slash)
 
     from : IsHierarchicalByText asked values → HasHierarchicalPath answer values protocol.matcher
     from (inl empty) = inl empty
-    from (inr (inl taken)) = inr (inl (scheme_accepted answer manner protocol by taken))
+    from (inr (inl taken)) = inr (inl (scheme_accepted answer settings protocol by taken))
     from (inr (inr slash)) = inr (inr slash)
 
 -- ---- whole patterns
 
 module _ {E : Type 0} (engine : Engine E) (init : UrlPatternInit) (asked : UrlPatternOptions) (values : Values) (pattern : PatternView E)
     (are_values : pattern_values init ≡ Ok values) (compiled : AreCompiled engine asked values pattern) where
-  abbrev manner_here : ComponentName → Manner
-  manner_here = manner_of asked values compiled.hierarchical
+  abbrev manner_here : ComponentName → ParseSettings
+  manner_here = settings_of asked values compiled.hierarchical
 
-  pattern_by : ((component : ComponentName) → HasMeaning (manner_here component) → AnswersByText engine.answer (manner_here component) (pattern component)) →
-      AnswersByItsText engine.answer init asked pattern
+  pattern_by : ((component : ComponentName) → HasMeaning (manner_here component) → ReturnsByText engine.answer (manner_here component) (pattern component)) →
+      ReturnsByItsText engine.answer init asked pattern
   pattern_by each = record {
     values = values;
     hierarchical = compiled.hierarchical;
@@ -169,22 +169,22 @@ module _ {E : Type 0} (engine : Engine E) (init : UrlPatternInit) (asked : UrlPa
   }
 
   -- The values of the engine that are called return first ways.
-  pub pattern_by_engines : EnginesAnswerFirst engine.answer manner_here pattern → AnswersByItsText engine.answer init asked pattern
+  pub pattern_by_engines : EnginesReturnFirst engine.answer manner_here pattern → ReturnsByItsText engine.answer init asked pattern
   pattern_by_engines firsts = pattern_by (λ component has.
-      let manner = manner_here component in
-      component_by engine manner (pattern component) (compiled.are_compiled component) has
+      let settings = manner_here component in
+      component_by engine settings (pattern component) (compiled.are_compiled component) has
       (λ parts reads is_component generated text result no_feed scalars answers.
-      let is = matcher_first engine.answer (IsEngineOf engine false (engine_flags manner.options)) manner.options parts (pattern component).matcher text result is_component.has_matcher
+      let is = matcher_first engine.answer (IsEngineOf engine false (engine_flags settings.options)) settings.options parts (pattern component).matcher text result is_component.has_matcher
       generated has.case_kept no_feed scalars (firsts component parts has reads) answers in
-      (is, first_agrees manner.options parts text result generated is)))
+      (is, first_agrees settings.options parts text result generated is)))
 
   -- The engine accepted the texts.
-  pub pattern_by_took : (Took : Taking E) → EachAnswersFirst engine Took →
-      ((component : ComponentName) → (pattern component).has_regexp_group ≡ false → Took (manner_here component).options (engine_flags (manner_here component).options) (pattern component).matcher.inner) → AnswersByItsText engine.answer init asked pattern
-  pattern_by_took Took firsts took = pattern_by (λ component has.
-      let manner = manner_here component in
-      component_by engine manner (pattern component) (compiled.are_compiled component) has
-      (λ parts reads is_component generated. firsts manner.options (engine_flags manner.options) parts (pattern component).matcher (record {
+  pub pattern_by_took : (Accepted : Acceptance E) → EachReturnsFirst engine Accepted →
+      ((component : ComponentName) → (pattern component).has_regexp_group ≡ false → Accepted (manner_here component).options (engine_flags (manner_here component).options) (pattern component).matcher.inner) → ReturnsByItsText engine.answer init asked pattern
+  pattern_by_took Accepted firsts took = pattern_by (λ component has.
+      let settings = manner_here component in
+      component_by engine settings (pattern component) (compiled.are_compiled component) has
+      (λ parts reads is_component generated. firsts settings.options (engine_flags settings.options) parts (pattern component).matcher (record {
         is_made = is_component.has_matcher;
         generated = generated;
         case_kept = has.case_kept;
@@ -193,47 +193,47 @@ module _ {E : Type 0} (engine : Engine E) (init : UrlPatternInit) (asked : UrlPa
 
 -- ---- results
 
-module _ {E : Type 0} (answer : E → List ℕ → Option Captures) (init : UrlPatternInit) (asked : UrlPatternOptions) (pattern : PatternView E) (by : AnswersByItsText answer init asked pattern) (texts : Texts) where
-  pub match_by_text : (result : ComponentName → ResultView) → IsMatchOf answer pattern texts result → IsFoundByText (manner_of asked by.values by.hierarchical) texts (Some result)
+module _ {E : Type 0} (answer : E → List ℕ → Option Captures) (init : UrlPatternInit) (asked : UrlPatternOptions) (pattern : PatternView E) (by : ReturnsByItsText answer init asked pattern) (texts : Texts) where
+  pub match_by_text : (result : ComponentName → ResultView) → IsMatchOf answer pattern texts result → IsFoundByText (settings_of asked by.values by.hierarchical) texts (Some result)
   match_by_text result match = λ component has line.
-      result_first answer (manner_of asked by.values by.hierarchical component) (pattern component) (by.answers component has) (at texts component) line
+      result_first answer (settings_of asked by.values by.hierarchical component) (pattern component) (by.answers component has) (at texts component) line
       (match.captures component) (result component) (match.are_answers component) (match.are_results component)
 
-  pub refusal_by_text : IsRefused answer pattern texts → IsFoundByText (manner_of asked by.values by.hierarchical) texts None
+  pub refusal_by_text : DoesNotMatch answer pattern texts → IsFoundByText (settings_of asked by.values by.hierarchical) texts None
   refusal_by_text (component, refused) = λ all.
       let (has, line) = all component in
-      (component, answer_first answer (manner_of asked by.values by.hierarchical component) (pattern component) (by.answers component has) (at texts component) line None refused)
+      (component, answer_first answer (settings_of asked by.values by.hierarchical component) (pattern component) (by.answers component has) (at texts component) line None refused)
 
-  pub finding_by_text : (found : Option (ComponentName → ResultView)) → FindsInTexts (λ result. result) answer pattern texts found → IsFoundByText (manner_of asked by.values by.hierarchical) texts found
+  pub finding_by_text : (found : Option (ComponentName → ResultView)) → FindsInTexts (λ result. result) answer pattern texts found → IsFoundByText (settings_of asked by.values by.hierarchical) texts found
   finding_by_text None refused = refusal_by_text refused
   finding_by_text (Some result) match = match_by_text result match
 
 -- ---- one result
 
-pub result_one : (manner : Manner) (text : List ℕ) (result other : ResultView) → IsFirstResult manner text result → IsFirstResult manner text other → IsSameResult result other
-result_one manner text result other first last =
-    let parts : first.way.parts ≡ last.way.parts = read_once manner first.way.parts last.way.parts first.way.reads last.way.reads in
-    let captures : first.captures ≡ last.captures = same_Some _ _ (way_one manner text (Some first.captures) (Some last.captures) first.way last.way) in (
+pub result_one : (settings : ParseSettings) (text : List ℕ) (result other : ResultView) → IsFirstResult settings text result → IsFirstResult settings text other → IsSameResult result other
+result_one settings text result other first last =
+    let parts : first.way.parts ≡ last.way.parts = read_once settings first.way.parts last.way.parts first.way.reads last.way.reads in
+    let captures : first.captures ≡ last.captures = same_Some _ _ (way_one settings text (Some first.captures) (Some last.captures) first.way last.way) in (
       first.is_result.has_input ∙ sym last.is_result.has_input,
       λ name.
           first.is_result.has_groups name ∙ ap (λ (ps : List PartView). group_of (group_names ps) first.captures name) parts
           ∙ ap (λ (c : Captures). group_of (group_names last.way.parts) c name) captures ∙ sym (last.is_result.has_groups name),
     )
 
-differ : (manner : ComponentName → Manner) (texts : Texts) (result : ComponentName → ResultView) → AllHaveMeaning manner texts → IsFoundByText manner texts None → IsFoundByText manner texts (Some result) → ⊥
-differ manner texts result all none found =
+differ : (settings : ComponentName → ParseSettings) (texts : Texts) (result : ComponentName → ResultView) → AllHaveMeaning settings texts → IsFoundByText settings texts None → IsFoundByText settings texts (Some result) → ⊥
+differ settings texts result all none found =
     let (component, way) = none all in
     let first = found component (all component).0 (all component).1 in
-    let same : None ≡ Some first.captures = way_one (manner component) (at texts component) None (Some first.captures) way first.way in
+    let same : None ≡ Some first.captures = way_one (settings component) (at texts component) None (Some first.captures) way first.way in
     cc same
 
 pub finding_one : FindingsAreOne
-finding_one manner texts None None all found other = tt
-finding_one manner texts (Some result) (Some other) all found also = λ component.
+finding_one settings texts None None all found other = tt
+finding_one settings texts (Some result) (Some other) all found also = λ component.
     let (has, line) = all component in
-    result_one (manner component) (at texts component) (result component) (other component) (found component has line) (also component has line)
-finding_one manner texts None (Some other) all found also = differ manner texts other all found also
-finding_one manner texts (Some result) None all found also = differ manner texts result all also found
+    result_one (settings component) (at texts component) (result component) (other component) (found component has line) (also component has line)
+finding_one settings texts None (Some other) all found also = differ settings texts other all found also
+finding_one settings texts (Some result) None all found also = differ settings texts result all also found
 
 never_true : IsTrue false → ⊥
 never_true is = let both : false ≡ true = is in cc both
@@ -245,45 +245,45 @@ bool_one P true false same also = absurd (never_true (also.1 (same.0 refl)))
 bool_one P false true same also = absurd (never_true (same.1 (also.0 refl)))
 
 module _ {E F : Type 0} (answer : E → List ℕ → Option Captures) (other : F → List ℕ → Option Captures) (init : UrlPatternInit) (asked : UrlPatternOptions)
-    (pattern : PatternView E) (another : PatternView F) (by : AnswersByItsText answer init asked pattern) (also_by : AnswersByItsText other init asked another) where
+    (pattern : PatternView E) (another : PatternView F) (by : ReturnsByItsText answer init asked pattern) (also_by : ReturnsByItsText other init asked another) where
   values_one : by.values ≡ also_by.values
   values_one = cc (by.are_values, also_by.are_values)
 
-  kind_one : HasMeaning (manner_of asked by.values false Protocol) → by.hierarchical ≡ also_by.hierarchical
+  kind_one : HasMeaning (settings_of asked by.values false Protocol) → by.hierarchical ≡ also_by.hierarchical
   kind_one has =
       bool_one (IsHierarchicalByText asked by.values) by.hierarchical also_by.hierarchical (by.path_kind has)
       (subst (λ (v : Values). IsTrue also_by.hierarchical ↔ IsHierarchicalByText asked v) (sym values_one)
-      (also_by.path_kind (subst (λ (v : Values). HasMeaning (manner_of asked v false Protocol)) values_one has)))
+      (also_by.path_kind (subst (λ (v : Values). HasMeaning (settings_of asked v false Protocol)) values_one has)))
 
-  manner_one : HasMeaning (manner_of asked by.values false Protocol) → manner_of asked also_by.values also_by.hierarchical ≡ manner_of asked by.values by.hierarchical
-  manner_one has = ap (λ (v : Values). manner_of asked v also_by.hierarchical) (sym values_one) ∙ ap (λ (h : Bool). manner_of asked by.values h) (sym (kind_one has))
+  manner_one : HasMeaning (settings_of asked by.values false Protocol) → settings_of asked also_by.values also_by.hierarchical ≡ settings_of asked by.values by.hierarchical
+  manner_one has = ap (λ (v : Values). settings_of asked v also_by.hierarchical) (sym values_one) ∙ ap (λ (h : Bool). settings_of asked by.values h) (sym (kind_one has))
 
-  pub found_alike : (texts : Texts) (found also : Option (ComponentName → ResultView)) → AllHaveMeaning (manner_of asked by.values by.hierarchical) texts →
+  pub found_alike : (texts : Texts) (found also : Option (ComponentName → ResultView)) → AllHaveMeaning (settings_of asked by.values by.hierarchical) texts →
       FindsInTexts (λ result. result) answer pattern texts found → FindsInTexts (λ result. result) other another texts also → IsSameFinding found also
   found_alike texts found also all finds finds_too =
-      finding_one (manner_of asked by.values by.hierarchical) texts found also all (finding_by_text answer init asked pattern by texts found finds)
-      (subst (λ (m : ComponentName → Manner). IsFoundByText m texts also) (manner_one (all Protocol).0) (finding_by_text other init asked another also_by texts also finds_too))
+      finding_one (settings_of asked by.values by.hierarchical) texts found also all (finding_by_text answer init asked pattern by texts found finds)
+      (subst (λ (m : ComponentName → ParseSettings). IsFoundByText m texts also) (manner_one (all Protocol).0) (finding_by_text other init asked another also_by texts also finds_too))
 
 pub init_by_text : {E : Type 0} (engine : Engine E) (init : UrlPatternInit) (asked : UrlPatternOptions) (pattern : PatternView E) → IsPatternOfInit engine init asked pattern → MakesFirstWays engine →
-    AnswersByItsText engine.answer init asked pattern
+    ReturnsByItsText engine.answer init asked pattern
 init_by_text engine init asked pattern (values, are_values, compiled) firsts =
-    pattern_by_took engine init asked values pattern are_values compiled _ firsts (λ component none. flags_agree (manner_of asked values compiled.hierarchical component).options)
+    pattern_by_took engine init asked values pattern are_values compiled _ firsts (λ component none. flags_agree (settings_of asked values compiled.hierarchical component).options)
 
-pub taken_by_text : {E : Type 0} (engine : Engine E) (Took : InnerView E → Type 0) → EachAnswersFirst engine (λ options flags. Took) → TakenPatternsAnswerByText engine Took
-taken_by_text engine Took firsts = λ init asked pattern (values, are_values, compiled) took.
-    pattern_by_took engine init asked values pattern are_values compiled (λ options flags. Took) firsts took
+pub taken_by_text : {E : Type 0} (engine : Engine E) (Accepted : InnerView E → Type 0) → EachReturnsFirst engine (λ options flags. Accepted) → AcceptedPatternsReturnByText engine Accepted
+taken_by_text engine Accepted firsts = λ init asked pattern (values, are_values, compiled) took.
+    pattern_by_took engine init asked values pattern are_values compiled (λ options flags. Accepted) firsts took
 
 -- What is found in an input.
-pub input_by_text : {E : Type 0} (answer : E → List ℕ → Option Captures) (init : UrlPatternInit) (asked : UrlPatternOptions) (pattern : PatternView E) (by : AnswersByItsText answer init asked pattern)
+pub input_by_text : {E : Type 0} (answer : E → List ℕ → Option Captures) (init : UrlPatternInit) (asked : UrlPatternOptions) (pattern : PatternView E) (by : ReturnsByItsText answer init asked pattern)
     (input : UrlPatternMatchInput) (found : Option (ComponentName → ResultView)) (texts : Texts) → input_texts input ≡ Ok texts → ¬ IsLongInput input → IsExecuted answer pattern input found →
-    IsFoundByText (manner_of asked by.values by.hierarchical) texts found
+    IsFoundByText (settings_of asked by.values by.hierarchical) texts found
 input_by_text answer init asked pattern by input (Some result) texts are_texts short (others, are_others, match) =
     let same = texts-one input others texts are_others are_texts in
     match_by_text answer init asked pattern by texts result (subst (λ (t : Texts). IsMatchOf answer pattern t result) same match)
 input_by_text answer init asked pattern by input None texts are_texts short (inl no_input) = absurd (short (no_input-long input texts are_texts no_input))
 input_by_text answer init asked pattern by input None texts are_texts short (inr (others, are_others, refused)) =
     let same = texts-one input others texts are_others are_texts in
-    refusal_by_text answer init asked pattern by texts (subst (λ (t : Texts). IsRefused answer pattern t) same refused)
+    refusal_by_text answer init asked pattern by texts (subst (λ (t : Texts). DoesNotMatch answer pattern t) same refused)
 
 -- ---- a pattern that is matched once
 

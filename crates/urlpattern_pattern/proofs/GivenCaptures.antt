@@ -8,8 +8,8 @@ use Rattle.std.specs.List.{list_any}
 use Rattle.std.specs.Map.{lookup}
 use Rattle.std.specs.Option.{option_or}
 use Rattle.std.specs.Prelude.{◌||◌, filter, not, if◌then◌else◌}
-use Rattle.urlpattern_generate.specs.Asked.{AreAsked, IsAsked, IsAskedBy}
-use Rattle.urlpattern_generate.specs.Manners.{WritingManner}
+use Rattle.urlpattern_generate.specs.Requested.{AreRequested, IsRequested, IsRequestedBy}
+use Rattle.urlpattern_generate.specs.WriteSettings.{WriteSettings}
 use Rattle.urlpattern_generate.specs.Links.{OfFirst, captures_after}
 use Rattle.urlpattern_matches.proofs.MatchGroupLemmas.{lookup-append}
 use Rattle.urlpattern_matches.specs.ResultViews.{group_of}
@@ -56,9 +56,9 @@ names_with kind name names = if not (is_fixed_text kind) then name ∷ names els
 names_of : (part : PartView) (parts : List PartView) → group_names (part ∷ parts) ≡ names_with part.kind part.name (group_names parts)
 names_of part parts = names_first (not (is_fixed_text part.kind)) part (filter (λ (p : PartView). not (is_fixed_text p.kind)) parts)
 
-module _ (manner : WritingManner) where
-  first_entry : (Is : Entry → Type 0) → ((part : PartView) (capture : Option (List ℕ)) → IsAsked manner part capture → Is (part.name, capture)) → (kind : PartType) (part : PartView) (names : List (List ℕ)) (captures : Captures) →
-      OfFirst (IsAsked manner) kind part captures → All Is (zip names (captures_after kind captures)) → All Is (zip (names_with kind part.name names) captures)
+module _ (settings : WriteSettings) where
+  first_entry : (Is : Entry → Type 0) → ((part : PartView) (capture : Option (List ℕ)) → IsRequested settings part capture → Is (part.name, capture)) → (kind : PartType) (part : PartView) (names : List (List ℕ)) (captures : Captures) →
+      OfFirst (IsRequested settings) kind part captures → All Is (zip names (captures_after kind captures)) → All Is (zip (names_with kind part.name names) captures)
   first_entry Is each FixedText part names captures first rest = rest
   first_entry Is each Regexp part names [] first rest = absurd first
   first_entry Is each Regexp part names (capture ∷ captures) first rest = All-cons Is (part.name, capture) (zip names captures) (each part capture first) rest
@@ -67,7 +67,7 @@ module _ (manner : WritingManner) where
   first_entry Is each FullWildcard part names [] first rest = absurd first
   first_entry Is each FullWildcard part names (capture ∷ captures) first rest = All-cons Is (part.name, capture) (zip names captures) (each part capture first) rest
 
-  entries_asked : (Is : Entry → Type 0) → ((part : PartView) (capture : Option (List ℕ)) → IsAsked manner part capture → Is (part.name, capture)) → (parts : List PartView) (captures : Captures) → AreAsked manner parts captures →
+  entries_asked : (Is : Entry → Type 0) → ((part : PartView) (capture : Option (List ℕ)) → IsRequested settings part capture → Is (part.name, capture)) → (parts : List PartView) (captures : Captures) → AreRequested settings parts captures →
       All Is (zip (group_names parts) captures)
   entries_asked Is each [] captures are = All-nil Is
   entries_asked Is each (part ∷ parts) captures (first, rest) =
@@ -78,7 +78,7 @@ module _ (manner : WritingManner) where
   abbrev has_entry : (name : List ℕ) → List (List ℕ) → Captures → Bool
   has_entry name names captures = list_any (λ (entry : Entry). bytes_eq name entry.0) (zip names captures)
 
-  first_kept : (name : List ℕ) (kind : PartType) (part : PartView) (names : List (List ℕ)) (captures : Captures) → OfFirst (IsAsked manner) kind part captures →
+  first_kept : (name : List ℕ) (kind : PartType) (part : PartView) (names : List (List ℕ)) (captures : Captures) → OfFirst (IsRequested settings) kind part captures →
       has_entry name names (captures_after kind captures) ≡ list_any (bytes_eq name) names → has_entry name (names_with kind part.name names) captures ≡ list_any (bytes_eq name) (names_with kind part.name names)
   first_kept name FixedText part names captures first rest = rest
   first_kept name Regexp part names [] first rest = absurd first
@@ -88,7 +88,7 @@ module _ (manner : WritingManner) where
   first_kept name FullWildcard part names [] first rest = absurd first
   first_kept name FullWildcard part names (capture ∷ captures) first rest = ap (λ others. bytes_eq name part.name || others) rest
 
-  names_kept : (name : List ℕ) (parts : List PartView) (captures : Captures) → AreAsked manner parts captures → has_entry name (group_names parts) captures ≡ list_any (bytes_eq name) (group_names parts)
+  names_kept : (name : List ℕ) (parts : List PartView) (captures : Captures) → AreRequested settings parts captures → has_entry name (group_names parts) captures ≡ list_any (bytes_eq name) (group_names parts)
   names_kept name [] captures are = refl
   names_kept name (part ∷ parts) captures (first, rest) =
       subst (λ names. has_entry name names captures ≡ list_any (bytes_eq name) names) (sym (names_of part parts))
@@ -96,17 +96,17 @@ module _ (manner : WritingManner) where
 
   -- ---- the group of a name that is given
 
-  module _ (name text : List ℕ) (given : manner.given name ≡ Some text) where
+  module _ (name text : List ℕ) (given : settings.given name ≡ Some text) where
     -- An entry of the name captures the canonical form of the text.
     abbrev IsForm : Entry → Type 0
-    IsForm entry = entry.0 ≡ name → (value : List ℕ) × (manner.canonical text ≡ Ok value) × (entry.1 ≡ Some value)
+    IsForm entry = entry.0 ≡ name → (value : List ℕ) × (settings.canonical text ≡ Ok value) × (entry.1 ≡ Some value)
 
-    form_asked : (part : PartView) (capture : Option (List ℕ)) → IsAsked manner part capture → IsForm (part.name, capture)
-    form_asked part capture asked same = subst (λ of. IsAskedBy manner.canonical of part capture) (ap manner.given same ∙ given) asked
+    form_asked : (part : PartView) (capture : Option (List ℕ)) → IsRequested settings part capture → IsForm (part.name, capture)
+    form_asked part capture asked same = subst (λ of. IsRequestedBy settings.canonical of part capture) (ap settings.given same ∙ given) asked
 
     -- The text has a canonical form.
     abbrev HasForm : Type 0
-    HasForm = (value : List ℕ) × (manner.canonical text ≡ Ok value)
+    HasForm = (value : List ℕ) × (settings.canonical text ≡ Ok value)
 
     form_of_first : (entry : Entry) (is others : Bool) → bytes_eq name entry.0 ≡ is → IsForm entry → (others ≡ true → HasForm) → (is || others) ≡ true → HasForm
     form_of_first entry true others e form rest has = let found = form (sym ((bytes_eq-Decides name entry.0).0 e)) in (found.0, found.1)
@@ -118,7 +118,7 @@ module _ (manner : WritingManner) where
         form_of_first entry (bytes_eq name entry.0) (list_any (λ (other : Entry). bytes_eq name other.0) entries) refl
         (All-head IsForm entry entries all) (some_form entries (All-tail IsForm entry entries all)) has
 
-    one_form : (value : List ℕ) → manner.canonical text ≡ Ok value → (entries : List Entry) → All IsForm entries → All (HasCapture name (Some value)) entries
+    one_form : (value : List ℕ) → settings.canonical text ≡ Ok value → (entries : List Entry) → All IsForm entries → All (HasCapture name (Some value)) entries
     one_form value is [] all = All-nil (HasCapture name (Some value))
     one_form value is (entry ∷ entries) all =
         All-cons (HasCapture name (Some value)) entry entries
@@ -126,8 +126,8 @@ module _ (manner : WritingManner) where
         (one_form value is entries (All-tail IsForm entry entries all))
 
     -- The group of the name captures the canonical form of the text.
-    pub given_captured : (parts : List PartView) (captures : Captures) → AreAsked manner parts captures → list_any (bytes_eq name) (group_names parts) ≡ true →
-        (value : List ℕ) × (manner.canonical text ≡ Ok value) × (group_of (group_names parts) captures name ≡ Some (Some value))
+    pub given_captured : (parts : List PartView) (captures : Captures) → AreRequested settings parts captures → list_any (bytes_eq name) (group_names parts) ≡ true →
+        (value : List ℕ) × (settings.canonical text ≡ Ok value) × (group_of (group_names parts) captures name ≡ Some (Some value))
     given_captured parts captures are has =
         let entries = zip (group_names parts) captures in
         let all = entries_asked IsForm form_asked parts captures are in

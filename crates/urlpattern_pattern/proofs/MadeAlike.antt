@@ -2,7 +2,7 @@
 use Rattle.std.proofs.Common.{◌≡◌, ◌∙◌, ◌⊎◌, ℕ, List, [], ◌∷◌, ◌++◌, ap, inl, inr, refl, subst, sym, Option, Some, None, Result, Ok, Err}
 use Rattle.std.proofs.lemmas.List.{append-nil, same_from_push}
 use Rattle.std.specs.Prelude.{⊤, IsTrue, option_to_list}
-use Rattle.urlpattern_meaning.specs.FirstAnswers.{TookText}
+use Rattle.urlpattern_meaning.specs.FirstResults.{AcceptedText}
 use Rattle.urlpattern_meaning.specs.Matching.{BeginsPlain, EndsPlain, IsMadeBetween, IsMadeByEngine, IsMadeOf, IsMadeOfOne, IsRemoved, MatcherView, RegExp, end_text}
 use Rattle.urlpattern_syntax.specs.declared.parser.PartModifier.{PartModifier}
 use Rattle.urlpattern_syntax.specs.declared.parser.PartModifier.TheVariants as modifiers
@@ -96,18 +96,18 @@ module _ {E : Type 0} (IsEngine : List ℕ → Result E ErrorView → Type 0) (o
   IsTakenOrRefused regexp = (value : E) (error : ErrorView) → IsEngine regexp (Ok value) → ¬ IsEngine regexp (Err error)
 
   took_engine : (regexp : List ℕ) (own other : Result E ErrorView) → IsTakenOrRefused regexp → IsEngine regexp own → IsEngine regexp other →
-      TookText (λ value. ⊤) (RegExp own) → TookText (λ value. ⊤) (RegExp other)
+      AcceptedText (λ value. ⊤) (RegExp own) → AcceptedText (λ value. ⊤) (RegExp other)
   took_engine regexp own (Ok value) either is also took = tt
   took_engine regexp (Ok value) (Err error) either is also took = absurd (either value error is also)
   took_engine regexp (Err error) (Err other) either is also took = absurd took
 
   -- The engine accepted what another matcher of the same parts needs.
   pub took_too : (parts : List PartView) (matcher other : MatcherView E) → (made : IsMadeOf IsEngine options parts matcher) → IsMadeOf IsEngine options parts other →
-      IsTakenOrRefused (regexp_text options made.middle) → TookText (λ value. ⊤) matcher.inner → TookText (λ value. ⊤) other.inner
+      IsTakenOrRefused (regexp_text options made.middle) → AcceptedText (λ value. ⊤) matcher.inner → AcceptedText (λ value. ⊤) other.inner
   took_too parts matcher other made also either took = by (made_alike IsEngine options parts matcher other made also)
     where
-      by : AreAlike IsEngine options (end_text made.front) made.middle (end_text made.back) matcher other → TookText (λ value. ⊤) other.inner
-      by (inl same) = subst (λ (m : MatcherView E). TookText (λ value. ⊤) m.inner) same took
+      by : AreAlike IsEngine options (end_text made.front) made.middle (end_text made.back) matcher other → AcceptedText (λ value. ⊤) other.inner
+      by (inl same) = subst (λ (m : MatcherView E). AcceptedText (λ value. ⊤) m.inner) same took
       by (inr ((own, is, one), (others, is_too, two))) =
-          subst (λ (m : MatcherView E). TookText (λ value. ⊤) m.inner) (sym two)
-          (took_engine (regexp_text options made.middle) own others either is is_too (subst (λ (m : MatcherView E). TookText (λ value. ⊤) m.inner) one took))
+          subst (λ (m : MatcherView E). AcceptedText (λ value. ⊤) m.inner) (sym two)
+          (took_engine (regexp_text options made.middle) own others either is is_too (subst (λ (m : MatcherView E). AcceptedText (λ value. ⊤) m.inner) one took))

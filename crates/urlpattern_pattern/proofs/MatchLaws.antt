@@ -3,11 +3,11 @@ use Rattle.std.proofs.Common.{◌≡◌, ℕ, Bool, List, refl, sym, ap, ◌∙�
 use Rattle.std.specs.Prelude.{Option, Ok, Err}
 use Rattle.urlpattern_components.specs.declared.eight.ComponentName.{ComponentName}
 use Rattle.urlpattern_init.specs.declared.init.UrlPatternMatchInput.{UrlPatternMatchInput}
-use Rattle.urlpattern_pattern.specs.Match.{HasMatch, HasNoMatch, IsLongInput, IsMatch, IsRefused}
+use Rattle.urlpattern_pattern.specs.Match.{HasMatch, HasNoMatch, IsLongInput, IsMatch, DoesNotMatch}
 use Rattle.urlpattern_matches.specs.ResultViews.{IsSameResult, ResultView, group_of}
 use Rattle.urlpattern_matches.specs.MatchInput.{IsNoInput, input_texts}
 use Rattle.urlpattern_pattern.specs.Patterns.{PatternView}
-use Rattle.urlpattern_matcher.proofs.MatcherAnswers.{matches-accepts}
+use Rattle.urlpattern_matcher.proofs.MatcherResults.{matches-accepts}
 use Rattle.urlpattern_meaning.specs.Matching.{Accepts, InnerView, Literal, Matches, MatcherView, RegExp, SingleCapture}
 use Rattle.urlpattern_meaning.specs.PartMeaning.{Captures}
 use Rattle.urlpattern_components.specs.Eight.{Texts, at}
@@ -74,7 +74,7 @@ no_input-long input texts are_texts (inr long) = long
 
 -- Texts, one of them rejected by its component, are not matched.
 pub refused-unmatched : {E : Type 0} (answer : E → List ℕ → Option Captures) (pattern : PatternView E) (input : UrlPatternMatchInput) (texts : Texts) →
-    input_texts input ≡ Ok texts → IsRefused answer pattern texts → ¬ HasMatch answer pattern input
+    input_texts input ≡ Ok texts → DoesNotMatch answer pattern texts → ¬ HasMatch answer pattern input
 refused-unmatched answer pattern input texts are_texts (component, refused) = λ (others, are_others, matched).
     let same = texts-one input others texts are_others are_texts in
     let found = matched component in

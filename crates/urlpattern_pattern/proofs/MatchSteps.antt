@@ -6,16 +6,16 @@ use Rattle.urlpattern_components.specs.declared.eight.ComponentName.{ComponentNa
 use Rattle.urlpattern_init.specs.declared.init.UrlPatternMatchInput.{UrlPatternMatchInput}
 use Rattle.urlpattern_components.specs.declared.eight.Eight.{Eight}
 use Rattle.urlpattern_components.proofs.EightLemmas.{by_name}
-use Rattle.urlpattern_pattern.specs.MatchCalls.{AreLooks, AskWithCause}
+use Rattle.urlpattern_pattern.specs.MatchCalls.{AreLooks, CallWithCause}
 use Rattle.urlpattern_matches.specs.GroupTexts.{borrowed_texts}
-use Rattle.urlpattern_pattern.specs.Match.{AreMatched, AsksAnEngine, FindsInTexts, HasMatch, HasNoMatch, IsMatch, IsMatchOf, IsRefused}
+use Rattle.urlpattern_pattern.specs.Match.{AreMatched, CallsAnEngine, FindsInTexts, HasMatch, HasNoMatch, IsMatch, IsMatchOf, DoesNotMatch}
 use Rattle.urlpattern_matches.specs.ResultViews.{IsSameResult, ResultView}
 use Rattle.urlpattern_matches.specs.MatchInput.{input_texts}
 use Rattle.urlpattern_pattern.specs.Patterns.{PatternView}
-use Rattle.urlpattern_matcher.specs.Looks.{IsAsking, look_answer}
+use Rattle.urlpattern_matcher.specs.Looks.{NeedsEngine, look_result}
 use Rattle.urlpattern_matcher.specs.declared.matcher.look.Look.{Look}
 use Rattle.urlpattern_matcher.specs.declared.matcher.look.Look.TheVariants as looks
-use Rattle.urlpattern_meaning.specs.Matching.{Answers, AsksEngine, IsMatched, MatcherView}
+use Rattle.urlpattern_meaning.specs.Matching.{Returns, CallsEngine, IsMatched, MatcherView}
 use Rattle.urlpattern_meaning.specs.PartMeaning.{Captures}
 use Rattle.urlpattern_syntax.specs.declared.error.Error.{Error}
 use Rattle.urlpattern_components.specs.Eight.{Texts, at}
@@ -28,14 +28,14 @@ reports-some P A B (Some x) test e f some none = subst (λ (b : Bool). MatchBool
 
 -- A look that calls no engine has captures.
 asks-or_matches : {E : Type 0} (answer : E → List ℕ → Option Captures) (matcher : MatcherView E) (text : List ℕ) (look : Look E) →
-    Answers answer matcher text (look_answer answer (Some look)) → (IsAsking look → AsksEngine matcher text) → AsksEngine matcher text ⊎ IsMatched answer matcher text
+    Returns answer matcher text (look_result answer (Some look)) → (NeedsEngine look → CallsEngine matcher text) → CallsEngine matcher text ⊎ IsMatched answer matcher text
 asks-or_matches answer matcher text looks.Matched is asks = inr ([], is)
 asks-or_matches answer matcher text (looks.Captured middle) is asks = inr (Some (chars middle.now) ∷ [], is)
 asks-or_matches answer matcher text (looks.Asks engine middle) is asks = inl (asks tt)
 
 -- An engine is called if one of eight looks calls one.
 pub asks-an_engine : {E : Type 0} (answer : E → List ℕ → Option Captures) (pattern : PatternView E) (texts : Texts) (looks : Eight (Look E)) →
-    AreLooks answer pattern texts looks → AskWithCause pattern texts looks → (name : ComponentName) × IsAsking (at looks name) → AsksAnEngine answer pattern texts
+    AreLooks answer pattern texts looks → CallWithCause pattern texts looks → (name : ComponentName) × NeedsEngine (at looks name) → CallsAnEngine answer pattern texts
 asks-an_engine answer pattern texts looks are ask (name, asking) = record {
   asked = (name, ask name asking);
   others = λ other. asks-or_matches answer (pattern other).matcher (at texts other) (at looks other) (are other) (ask other);
@@ -43,7 +43,7 @@ asks-an_engine answer pattern texts looks are ask (name, asking) = record {
 
 -- A test of the input's texts tests the input.
 pub test-of_texts : {E : Type 0} (answer : E → List ℕ → Option Captures) (pattern : PatternView E) (input : UrlPatternMatchInput) (texts : Texts) (result : Result Bool Error) →
-    input_texts input ≡ Ok texts → IfOk result (λ matched. MatchBool matched (AreMatched answer pattern texts) (IsRefused answer pattern texts)) →
+    input_texts input ≡ Ok texts → IfOk result (λ matched. MatchBool matched (AreMatched answer pattern texts) (DoesNotMatch answer pattern texts)) →
     IfOk result (λ matched. MatchBool matched (HasMatch answer pattern input) (HasNoMatch answer pattern input))
 test-of_texts answer pattern input texts (Ok true) e h = (texts, e, h)
 test-of_texts answer pattern input texts (Ok false) e h = inr (texts, e, h)
@@ -51,7 +51,7 @@ test-of_texts answer pattern input texts (Err error) e h = tt
 
 -- What is found of the input's texts is found of the input.
 pub found-of_texts : {E X : Type 0} (answer : E → List ℕ → Option Captures) (pattern : PatternView E) (view : X → ComponentName → ResultView) (input : UrlPatternMatchInput) (texts : Texts) (result : Result (Option X) Error) →
-    input_texts input ≡ Ok texts → IfOk result (λ found. MatchOption found (IsRefused answer pattern texts) (λ match. IsMatchOf answer pattern texts (view match))) →
+    input_texts input ≡ Ok texts → IfOk result (λ found. MatchOption found (DoesNotMatch answer pattern texts) (λ match. IsMatchOf answer pattern texts (view match))) →
     IfOk result (λ found. MatchOption found (HasNoMatch answer pattern input) (λ match. IsMatch answer pattern input (view match)))
 found-of_texts answer pattern view input texts (Ok (Some match)) e matched = (texts, e, matched)
 found-of_texts answer pattern view input texts (Ok None) e refused = inr (texts, e, refused)

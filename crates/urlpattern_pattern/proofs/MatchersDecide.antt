@@ -4,7 +4,7 @@ use Rattle.std.proofs.lemmas.List.{append_assoc, drop_at, length-append, take-ap
 use Rattle.std.proofs.lemmas.Slice.Eq.{bytes_eq-Decides}
 use Rattle.std.specs.Prelude.{Option, Some, None, Ok, Err, IsTrue, bytes_eq}
 use Rattle.urlpattern_meaning.proofs.Middles.{middle-one, same-length}
-use Rattle.urlpattern_meaning.specs.Matching.{Accepts, Answers, HasMiddle, InnerView, IsSame, Literal, MatcherView, MayBeEmpty, PassesFilter, RegExp, SingleCapture, folded, folded_character}
+use Rattle.urlpattern_meaning.specs.Matching.{Accepts, Returns, HasMiddle, InnerView, IsSame, Literal, MatcherView, MayBeEmpty, PassesFilter, RegExp, SingleCapture, folded, folded_character}
 use Rattle.urlpattern_meaning.specs.PartMeaning.{Captures}
 use Rattle.urlpattern_syntax.specs.Text.{lacks}
 
@@ -115,10 +115,10 @@ accepted_decided answer ignore_case (RegExp (Err error)) text = inr (λ is. is.1
 
 -- ---- results
 
-pub answered : {E : Type 0} (answer : E → List ℕ → Option Captures) (matcher : MatcherView E) (text : List ℕ) → (result : Option Captures) × Answers answer matcher text result
+pub answered : {E : Type 0} (answer : E → List ℕ → Option Captures) (matcher : MatcherView E) (text : List ℕ) → (result : Option Captures) × Returns answer matcher text result
 answered {E} answer matcher text = by_middle (cut_decided matcher text)
   where
-    by_inner : (middle : List ℕ) → HasMiddle matcher text middle → Decided (IsAccepted answer matcher.ignore_case matcher.inner middle) → (result : Option Captures) × Answers answer matcher text result
+    by_inner : (middle : List ℕ) → HasMiddle matcher text middle → Decided (IsAccepted answer matcher.ignore_case matcher.inner middle) → (result : Option Captures) × Returns answer matcher text result
     by_inner middle has (inl (captures, accepts)) = (Some captures, (middle, has, accepts))
     by_inner middle has (inr neither) = (
       None,
@@ -126,6 +126,6 @@ answered {E} answer matcher text = by_middle (cut_decided matcher text)
           neither (captures, subst (λ (t : List ℕ). Accepts answer matcher.ignore_case matcher.inner t captures) (middle-one matcher text matches.0 middle matches.1 has) matches.2),
     )
 
-    by_middle : Decided (IsCut matcher text) → (result : Option Captures) × Answers answer matcher text result
+    by_middle : Decided (IsCut matcher text) → (result : Option Captures) × Returns answer matcher text result
     by_middle (inl (middle, has)) = by_inner middle has (accepted_decided answer matcher.ignore_case matcher.inner middle)
     by_middle (inr neither) = (None, λ captures matches. neither (matches.0, matches.1))

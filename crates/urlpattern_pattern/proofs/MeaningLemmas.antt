@@ -11,10 +11,10 @@ use Rattle.urlpattern_components.specs.declared.eight.ComponentName.{ComponentNa
 use Rattle.urlpattern_inputs.specs.declared.options.UrlPatternOptions.{UrlPatternOptions}
 use Rattle.urlpattern_meaning.proofs.CallbackLaws.{EncodesOnce, reading_one_encoded}
 use Rattle.urlpattern_meaning.proofs.MatcherMeaning.{matcher_means}
-use Rattle.urlpattern_meaning.specs.Matching.{Agrees, Answers}
+use Rattle.urlpattern_meaning.specs.Matching.{Agrees, Returns}
 use Rattle.urlpattern_meaning.specs.PartMeaning.{Captures, PartsMean}
 use Rattle.urlpattern_pattern.proofs.MatchLaws.{no_input-long, texts-one}
-use Rattle.urlpattern_compile.specs.Compiled.{AreCompiled, Manner, canonical_encoding, manner_of}
+use Rattle.urlpattern_compile.specs.Compiled.{AreCompiled, ParseSettings, canonical_encoding, settings_of}
 use Rattle.urlpattern_pattern.specs.Match.{HasNoMatch, IsLongInput, IsMatch}
 use Rattle.urlpattern_matches.specs.ResultViews.{IsResultOf, ResultView, group_of, result_view}
 use Rattle.urlpattern_matches.specs.declared.result.UrlPatternResult.{UrlPatternResult}
@@ -50,22 +50,22 @@ canonical_once canonical text answer other (Ok string, is_answer, same) (Ok anot
 canonical_once canonical text answer other found more = absurd cc
 
 -- A pattern text reads as one list of parts.
-pub read_once : (manner : Manner) (parts others : List PartView) → ReadsAs manner parts → ReadsAs manner others → parts ≡ others
-read_once manner parts others reads also =
-    reading_one_encoded manner.text manner.options (canonical_encoding manner.canonical) parts others (canonical_once manner.canonical) reads also
+pub read_once : (settings : ParseSettings) (parts others : List PartView) → ReadsAs settings parts → ReadsAs settings others → parts ≡ others
+read_once settings parts others reads also =
+    reading_one_encoded settings.text settings.options (canonical_encoding settings.canonical) parts others (canonical_once settings.canonical) reads also
 
 -- ---- one component
 
 -- The matcher of a component returns what the parts mean that its pattern text reads as.
-component_agrees : {E : Type 0} (engine : Engine E) (manner : Manner) (compiled : ComponentView E)
+component_agrees : {E : Type 0} (engine : Engine E) (settings : ParseSettings) (compiled : ComponentView E)
     (text : List ℕ) (parts : List PartView) (result : Option Captures) →
-    ReadsAs manner parts →
-    IsComponentOf engine manner.options parts compiled →
-    MeaningPremises engine.answer manner compiled text →
-    Answers engine.answer compiled.matcher text result →
-    Agrees manner.options parts text result
-component_agrees engine manner compiled text parts result reads is_component premises answers =
-    matcher_means engine.answer (IsEngineOf engine false (engine_flags manner.options)) manner.options parts compiled.matcher text result is_component.has_matcher
+    ReadsAs settings parts →
+    IsComponentOf engine settings.options parts compiled →
+    MeaningPremises engine.answer settings compiled text →
+    Returns engine.answer compiled.matcher text result →
+    Agrees settings.options parts text result
+component_agrees engine settings compiled text parts result reads is_component premises answers =
+    matcher_means engine.answer (IsEngineOf engine false (engine_flags settings.options)) settings.options parts compiled.matcher text result is_component.has_matcher
     (none_custom parts (sym is_component.regexp_flag ∙ premises.generated)) premises.case_kept premises.no_line_feed premises.characters
     (premises.follows parts reads) answers
 
@@ -74,16 +74,16 @@ component_agrees engine manner compiled text parts result reads is_component pre
 module _ {E : Type 0} (engine : Engine E) (asked : UrlPatternOptions) (values : Values) (pattern : PatternView E)
     (compiled : AreCompiled engine asked values pattern) (texts : Texts) where
   -- How the pattern text of a component is read.
-  abbrev manner : ComponentName → Manner
-  manner = manner_of asked values compiled.hierarchical
+  abbrev settings : ComponentName → ParseSettings
+  settings = settings_of asked values compiled.hierarchical
 
   -- The premises on a component.
   abbrev Premises : ComponentName → Type 0
-  Premises component = MeaningPremises engine.answer (manner component) (pattern component) (at texts component)
+  Premises component = MeaningPremises engine.answer (settings component) (pattern component) (at texts component)
 
   -- A match is a meaning.
-  found_meant : (component : ComponentName) (captures : Captures) → Premises component → Answers engine.answer (pattern component).matcher (at texts component) (Some captures) →
-      (meant : IsMeant (manner component) (at texts component))
+  found_meant : (component : ComponentName) (captures : Captures) → Premises component → Returns engine.answer (pattern component).matcher (at texts component) (Some captures) →
+      (meant : IsMeant (settings component) (at texts component))
       × (group_names meant.parts ≡ (pattern component).group_name_list) × (meant.captures ≡ captures)
   found_meant component captures premises answers =
       let (parts, reads, is_component) = (compiled.are_compiled component).0 in (
@@ -91,25 +91,25 @@ module _ {E : Type 0} (engine : Engine E) (asked : UrlPatternOptions) (values : 
           parts = parts;
           captures = captures;
           reads = reads;
-          means = component_agrees engine (manner component) (pattern component) (at texts component) parts (Some captures) reads is_component premises answers;
+          means = component_agrees engine (settings component) (pattern component) (at texts component) parts (Some captures) reads is_component premises answers;
         },
         sym is_component.has_names,
         refl,
       )
 
   -- Without a match there is no meaning.
-  refused_unmeant : (component : ComponentName) → Premises component → Answers engine.answer (pattern component).matcher (at texts component) None →
-      ¬ IsMeant (manner component) (at texts component)
+  refused_unmeant : (component : ComponentName) → Premises component → Returns engine.answer (pattern component).matcher (at texts component) None →
+      ¬ IsMeant (settings component) (at texts component)
   refused_unmeant component premises answers meant =
       let (parts, reads, is_component) = (compiled.are_compiled component).0 in
-      let same : meant.parts ≡ parts = read_once (manner component) meant.parts parts meant.reads reads in
-      component_agrees engine (manner component) (pattern component) (at texts component) parts None reads is_component premises answers
-      meant.captures (subst (λ (of : List PartView). PartsMean (manner component).options of (at texts component) meant.captures) same meant.means)
+      let same : meant.parts ≡ parts = read_once (settings component) meant.parts parts meant.reads reads in
+      component_agrees engine (settings component) (pattern component) (at texts component) parts None reads is_component premises answers
+      meant.captures (subst (λ (of : List PartView). PartsMean (settings component).options of (at texts component) meant.captures) same meant.means)
 
   result_meant : (component : ComponentName) (captures : Captures) (result : ResultView) → Premises component →
-      Answers engine.answer (pattern component).matcher (at texts component) (Some captures) →
+      Returns engine.answer (pattern component).matcher (at texts component) (Some captures) →
       IsResultOf (pattern component).group_name_list captures (at texts component) result →
-      (meant : IsMeant (manner component) (at texts component))
+      (meant : IsMeant (settings component) (at texts component))
       × IsResultOf (group_names meant.parts) meant.captures (at texts component) result
   result_meant component captures result premises answers is_result =
       let (meant, names, captured) = found_meant component captures premises answers in (
@@ -122,16 +122,16 @@ module _ {E : Type 0} (engine : Engine E) (asked : UrlPatternOptions) (values : 
       )
 
   pub executed_means : (input : UrlPatternMatchInput) (found : Option (ComponentName → ResultView)) → input_texts input ≡ Ok texts → ¬ IsLongInput input →
-      IsExecuted engine.answer pattern input found → IsFoundByMeaning engine.answer manner pattern texts found
+      IsExecuted engine.answer pattern input found → IsFoundByMeaning engine.answer settings pattern texts found
   executed_means input (Some result) are_texts short (others, are_others, match) = λ component premises.
       let same = texts-one input others texts are_others are_texts in
       result_meant component (match.captures component) (result component) premises
-      (subst (λ (t : Texts). Answers engine.answer (pattern component).matcher (at t component) (Some (match.captures component))) same (match.are_answers component))
+      (subst (λ (t : Texts). Returns engine.answer (pattern component).matcher (at t component) (Some (match.captures component))) same (match.are_answers component))
       (subst (λ (t : Texts). IsResultOf (pattern component).group_name_list (match.captures component) (at t component) (result component)) same (match.are_results component))
   executed_means input None are_texts short (inl no_input) = absurd (short (no_input-long input texts are_texts no_input))
   executed_means input None are_texts short (inr (others, are_others, (component, refused))) = λ premises meant.
       let same = texts-one input others texts are_others are_texts in
-      refused_unmeant component (premises component) (subst (λ (t : Texts). Answers engine.answer (pattern component).matcher (at t component) None) same refused) (meant component)
+      refused_unmeant component (premises component) (subst (λ (t : Texts). Returns engine.answer (pattern component).matcher (at t component) None) same refused) (meant component)
 
 -- ---- a pattern that is matched once
 

@@ -2,19 +2,19 @@
 -- parsed to.
 use Rattle.std.specs.Prelude.{◌≡◌, ◌↔◌, ◌⊎◌, ℕ, Any, Bool, false, List, [], Option, None, Some, Ok, IsTrue, codes, unwrap_or}
 use Rattle.urlpattern_canonical.specs.Canonical.{special_schemes}
-use Rattle.urlpattern_matcher.specs.{Components.ComponentView, Components.FlagsAgree, FirstWays.AnswersFirstWays, FirstWays.EachAnswersFirst}
+use Rattle.urlpattern_matcher.specs.{Components.ComponentView, Components.FlagsAgree, FirstWays.ReturnsFirstWays, FirstWays.EachReturnsFirst}
 use Rattle.urlpattern_printing.specs.{Generated.AreGenerated}
 use Rattle.urlpattern_matcher.specs.declared.regexp.RegExp.{Ghosts as Engine}
 use Rattle.urlpattern_init.specs.UrlTexts.{IsLine}
 use Rattle.urlpattern_init.specs.declared.init.{UrlPatternInit.UrlPatternInit, UrlPatternMatchInput.UrlPatternMatchInput}
 use Rattle.urlpattern_inputs.specs.declared.options.UrlPatternOptions.{UrlPatternOptions}
-use Rattle.urlpattern_meaning.specs.{FirstAnswers.AnswersFirstInMiddle, FirstAnswers.IsFirstOf, Matching.Agrees, PartMeaning.Captures}
+use Rattle.urlpattern_meaning.specs.{FirstResults.ReturnsFirstInMiddle, FirstResults.IsFirstOf, Matching.Agrees, PartMeaning.Captures}
 use Rattle.urlpattern_components.specs.declared.eight.ComponentName.{ComponentName}
 use Rattle.urlpattern_components.specs.declared.eight.ComponentName.TheVariants.{Protocol}
 use Rattle.urlpattern_components.specs.Eight.{Texts, Values, at}
 use Rattle.urlpattern_syntax.specs.{Parts.PartView, RegexpText.group_names, Text.begins_with}
 use Rattle.urlpattern_compile.specs.FromString.{IsInitOfText}
-use Rattle.urlpattern_compile.specs.Compiled.{AreCompiled, IsPathKind, Manner, is_mark, manner_of, pattern_values}
+use Rattle.urlpattern_compile.specs.Compiled.{AreCompiled, IsPathKind, ParseSettings, is_mark, settings_of, pattern_values}
 use Rattle.urlpattern_pattern.specs.Match.{IsLongInput}
 use Rattle.urlpattern_matches.specs.ResultViews.{IsResultOf, ResultView}
 use Rattle.urlpattern_matches.specs.MatchInput.{input_texts}
@@ -22,29 +22,29 @@ use Rattle.urlpattern_pattern.specs.Patterns.{PatternView}
 use Rattle.urlpattern_pattern.specs.MatchMeaning.{IsExecuted, IsFoundByMeaning, ReadsAs}
 
 -- The pattern text has no custom regular expression.
-abbrev pub ReadsNoCustom : Manner → Type 0
-ReadsNoCustom manner = (parts : List PartView) → ReadsAs manner parts → AreGenerated parts
+abbrev pub ReadsNoCustom : ParseSettings → Type 0
+ReadsNoCustom settings = (parts : List PartView) → ReadsAs settings parts → AreGenerated parts
 
 -- A component has a meaning: its pattern text has no custom regular expression, and case is kept.
-pub record HasMeaning (manner : Manner) : Type 0 where
-  pub generated : ReadsNoCustom manner
-  pub case_kept : manner.options.ignore_case ≡ false
+pub record HasMeaning (settings : ParseSettings) : Type 0 where
+  pub generated : ReadsNoCustom settings
+  pub case_kept : settings.options.ignore_case ≡ false
 
 -- ---- first ways
 
 -- The pattern text reads as parts, and the captures are those of the first way in which the parts
 -- match the whole text, or None if there is none.
-pub record IsFirstWay (manner : Manner) (text : List ℕ) (captures : Option Captures) : Type 0 where
+pub record IsFirstWay (settings : ParseSettings) (text : List ℕ) (captures : Option Captures) : Type 0 where
   pub parts : List PartView
-  pub reads : ReadsAs manner parts
-  pub is_first : IsFirstOf manner.options parts text captures
-  pub is_meant : Agrees manner.options parts text captures
+  pub reads : ReadsAs settings parts
+  pub is_first : IsFirstOf settings.options parts text captures
+  pub is_meant : Agrees settings.options parts text captures
 
 -- The result of a component is that of the first way of its text: its groups are the names of the
 -- parts, with the captures.
-pub record IsFirstResult (manner : Manner) (text : List ℕ) (result : ResultView) : Type 0 where
+pub record IsFirstResult (settings : ParseSettings) (text : List ℕ) (result : ResultView) : Type 0 where
   pub captures : Captures
-  pub way : IsFirstWay manner text (Some captures)
+  pub way : IsFirstWay settings text (Some captures)
   pub is_result : IsResultOf (group_names way.parts) captures text result
 
 -- ---- matches
@@ -52,56 +52,56 @@ pub record IsFirstResult (manner : Manner) (text : List ℕ) (result : ResultVie
 -- What is found in eight texts follows from the pattern texts. In a match, each component whose
 -- pattern text has a meaning, and whose text is a line, has the result of the first way. Without a
 -- match, if all components are of this kind, one of them has no way for its text.
-abbrev pub IsFoundByText : (manner : ComponentName → Manner) → Texts → Option (ComponentName → ResultView) → Type 0
-IsFoundByText manner texts (Some result) =
-    (component : ComponentName) → HasMeaning (manner component) → IsLine (at texts component) →
-    IsFirstResult (manner component) (at texts component) (result component)
-IsFoundByText manner texts None =
-    ((component : ComponentName) → HasMeaning (manner component) × IsLine (at texts component)) →
-    (component : ComponentName) × IsFirstWay (manner component) (at texts component) None
+abbrev pub IsFoundByText : (settings : ComponentName → ParseSettings) → Texts → Option (ComponentName → ResultView) → Type 0
+IsFoundByText settings texts (Some result) =
+    (component : ComponentName) → HasMeaning (settings component) → IsLine (at texts component) →
+    IsFirstResult (settings component) (at texts component) (result component)
+IsFoundByText settings texts None =
+    ((component : ComponentName) → HasMeaning (settings component) × IsLine (at texts component)) →
+    (component : ComponentName) × IsFirstWay (settings component) (at texts component) None
 
 -- ---- patterns
 
 -- The component returns what its pattern text says: it has the names of the parts that the text
 -- reads as, and for a line, a text of characters without line feed, its matcher returns their first
 -- way.
-pub record AnswersByText {E : Type 0} (answer : E → List ℕ → Option Captures) (manner : Manner) (compiled : ComponentView E) : Type 0 where
+pub record ReturnsByText {E : Type 0} (answer : E → List ℕ → Option Captures) (settings : ParseSettings) (compiled : ComponentView E) : Type 0 where
   pub parts : List PartView
-  pub reads : ReadsAs manner parts
+  pub reads : ReadsAs settings parts
   pub has_names : compiled.group_name_list ≡ group_names parts
-  pub answers : AnswersFirstWays answer manner.options parts compiled.matcher
+  pub answers : ReturnsFirstWays answer settings.options parts compiled.matcher
 
 -- The pathname of these values is hierarchical: the protocol is empty, its pattern text matches a
 -- special scheme, or the pathname begins with a slash.
 abbrev pub IsHierarchicalByText : UrlPatternOptions → Values → Type 0
 IsHierarchicalByText asked values =
     (values.protocol ≡ Some [])
-    ⊎ Any (λ scheme. (captures : Captures) × IsFirstWay (manner_of asked values false Protocol) scheme.0 (Some captures)) special_schemes
+    ⊎ Any (λ scheme. (captures : Captures) × IsFirstWay (settings_of asked values false Protocol) scheme.0 (Some captures)) special_schemes
     ⊎ IsTrue (begins_with (is_mark (codes "/")) (unwrap_or values.pathname []))
 
 -- The pattern returns what the texts of this init say: each component does whose pattern text has a
 -- meaning. The protocol's matcher decides whether the pathname is hierarchical, and so does its
 -- pattern text if that has a meaning.
-pub record AnswersByItsText {E : Type 0} (answer : E → List ℕ → Option Captures) (init : UrlPatternInit) (asked : UrlPatternOptions) (pattern : PatternView E) : Type 0 where
+pub record ReturnsByItsText {E : Type 0} (answer : E → List ℕ → Option Captures) (init : UrlPatternInit) (asked : UrlPatternOptions) (pattern : PatternView E) : Type 0 where
   pub values : Values
   pub hierarchical : Bool
   pub are_values : pattern_values init ≡ Ok values
   pub by_protocol : IsPathKind answer values (pattern Protocol).matcher hierarchical
-  pub path_kind : HasMeaning (manner_of asked values false Protocol) → IsTrue hierarchical ↔ IsHierarchicalByText asked values
-  pub answers : (component : ComponentName) → HasMeaning (manner_of asked values hierarchical component) →
-      AnswersByText answer (manner_of asked values hierarchical component) (pattern component)
+  pub path_kind : HasMeaning (settings_of asked values false Protocol) → IsTrue hierarchical ↔ IsHierarchicalByText asked values
+  pub answers : (component : ComponentName) → HasMeaning (settings_of asked values hierarchical component) →
+      ReturnsByText answer (settings_of asked values hierarchical component) (pattern component)
 
 -- If a component has a meaning and calls an engine, the engine's value returns the first way of the
 -- parts between prefix and suffix.
-abbrev pub EnginesAnswerFirst : {E : Type 0} → (answer : E → List ℕ → Option Captures) → (manner : ComponentName → Manner) → PatternView E → Type 0
-EnginesAnswerFirst answer manner pattern =
-    (component : ComponentName) (parts : List PartView) → HasMeaning (manner component) → ReadsAs (manner component) parts →
-    AnswersFirstInMiddle answer (manner component).options parts (pattern component).matcher.inner
+abbrev pub EnginesReturnFirst : {E : Type 0} → (answer : E → List ℕ → Option Captures) → (settings : ComponentName → ParseSettings) → PatternView E → Type 0
+EnginesReturnFirst answer settings pattern =
+    (component : ComponentName) (parts : List PartView) → HasMeaning (settings component) → ReadsAs (settings component) parts →
+    ReturnsFirstInMiddle answer (settings component).options parts (pattern component).matcher.inner
 
 -- Each matcher that the engine made with the flags of its options returns first ways, without a
 -- premise on the engine.
 abbrev pub MakesFirstWays : {E : Type 0} → Engine E → Type 0
-MakesFirstWays engine = EachAnswersFirst engine (λ options flags inner. FlagsAgree options flags)
+MakesFirstWays engine = EachReturnsFirst engine (λ options flags inner. FlagsAgree options flags)
 
 -- ---- the result of `exec_once`
 
@@ -114,12 +114,12 @@ pub record IsExecutedByMeaning {E : Type 0} (engine : Engine E) (init : UrlPatte
   pub compiled : AreCompiled engine asked values pattern
   pub executed : IsExecuted engine.answer pattern input found
   pub means : (texts : Texts) → input_texts input ≡ Ok texts → ¬ IsLongInput input
-      → IsFoundByMeaning engine.answer (manner_of asked values compiled.hierarchical) pattern texts found
-  pub by_text : MakesFirstWays engine → AnswersByItsText engine.answer init asked pattern
+      → IsFoundByMeaning engine.answer (settings_of asked values compiled.hierarchical) pattern texts found
+  pub by_text : MakesFirstWays engine → ReturnsByItsText engine.answer init asked pattern
   pub found_by_text : (firsts : MakesFirstWays engine) (texts : Texts) → input_texts input ≡ Ok texts → ¬ IsLongInput input
-      → IsFoundByText (manner_of asked (by_text firsts).values (by_text firsts).hierarchical) texts found
+      → IsFoundByText (settings_of asked (by_text firsts).values (by_text firsts).hierarchical) texts found
 
--- `AnswersByItsText`, of the init into which this constructor string and its base URL are split.
-abbrev pub AnswersByTextOf : {E : Type 0} → Engine E → (text : List ℕ) → (base : Option (List ℕ)) → UrlPatternOptions → PatternView E → Type 0
-AnswersByTextOf engine text base asked pattern =
-    (init : UrlPatternInit) × IsInitOfText engine text base init × AnswersByItsText engine.answer init asked pattern
+-- `ReturnsByItsText`, of the init into which this constructor string and its base URL are split.
+abbrev pub ReturnsByTextOf : {E : Type 0} → Engine E → (text : List ℕ) → (base : Option (List ℕ)) → UrlPatternOptions → PatternView E → Type 0
+ReturnsByTextOf engine text base asked pattern =
+    (init : UrlPatternInit) × IsInitOfText engine text base init × ReturnsByItsText engine.answer init asked pattern

@@ -9,8 +9,8 @@ use Rattle.urlpattern_meaning.specs.{Matching.InnerView, PartMeaning.Captures}
 use Rattle.urlpattern_components.specs.declared.eight.ComponentName.{ComponentName}
 use Rattle.urlpattern_components.specs.Eight.{Texts, Values, at}
 use Rattle.urlpattern_syntax.specs.Parts.{PartView}
-use Rattle.urlpattern_pattern.specs.ByText.{AnswersByItsText, EnginesAnswerFirst, HasMeaning, IsFoundByText}
-use Rattle.urlpattern_compile.specs.Compiled.{AreCompiled, IsComponentCompiled, IsPatternOfInit, Manner, manner_of, pattern_values}
+use Rattle.urlpattern_pattern.specs.ByText.{ReturnsByItsText, EnginesReturnFirst, HasMeaning, IsFoundByText}
+use Rattle.urlpattern_compile.specs.Compiled.{AreCompiled, IsComponentCompiled, IsPatternOfInit, ParseSettings, settings_of, pattern_values}
 use Rattle.urlpattern_pattern.specs.Match.{FindsInTexts, IsLongInput}
 use Rattle.urlpattern_matches.specs.ResultViews.{IsSameResult, ResultView}
 use Rattle.urlpattern_matches.specs.MatchInput.{input_texts}
@@ -21,35 +21,35 @@ use Rattle.urlpattern_pattern.specs.Patterns.{PatternView}
 
 -- A compiled pattern returns what its texts say, if the values of the engine that it calls return
 -- first ways.
-abbrev pub PatternsAnswerByText : {E : Type 0} → Engine E → Type 0
-PatternsAnswerByText {E} engine = (init : UrlPatternInit) (asked : UrlPatternOptions) (values : Values) (pattern : PatternView E) →
+abbrev pub PatternsReturnByText : {E : Type 0} → Engine E → Type 0
+PatternsReturnByText {E} engine = (init : UrlPatternInit) (asked : UrlPatternOptions) (values : Values) (pattern : PatternView E) →
     pattern_values init ≡ Ok values → (compiled : AreCompiled engine asked values pattern) →
-    EnginesAnswerFirst engine.answer (manner_of asked values compiled.hierarchical) pattern → AnswersByItsText engine.answer init asked pattern
+    EnginesReturnFirst engine.answer (settings_of asked values compiled.hierarchical) pattern → ReturnsByItsText engine.answer init asked pattern
 
--- A compiled pattern returns what its texts say, if the engine accepted, in the sense of `Took`,
--- what the components without custom regular expressions need.
-abbrev pub TakenPatternsAnswerByText : {E : Type 0} → Engine E → (Took : InnerView E → Type 0) → Type 0
-TakenPatternsAnswerByText {E} engine Took = (init : UrlPatternInit) (asked : UrlPatternOptions) (pattern : PatternView E) →
-    IsPatternOfInit engine init asked pattern → ((component : ComponentName) → (pattern component).has_regexp_group ≡ false → Took (pattern component).matcher.inner) →
-    AnswersByItsText engine.answer init asked pattern
+-- A compiled pattern returns what its texts say, if the engine accepted, in the sense of
+-- `Accepted`, what the components without custom regular expressions need.
+abbrev pub AcceptedPatternsReturnByText : {E : Type 0} → Engine E → (Accepted : InnerView E → Type 0) → Type 0
+AcceptedPatternsReturnByText {E} engine Accepted = (init : UrlPatternInit) (asked : UrlPatternOptions) (pattern : PatternView E) →
+    IsPatternOfInit engine init asked pattern → ((component : ComponentName) → (pattern component).has_regexp_group ≡ false → Accepted (pattern component).matcher.inner) →
+    ReturnsByItsText engine.answer init asked pattern
 
 -- A pattern that returns what its texts say does so for eight texts.
 abbrev pub FindingsAreByText : {E : Type 0} → (answer : E → List ℕ → Option Captures) → Type 0
-FindingsAreByText {E} answer = (init : UrlPatternInit) (asked : UrlPatternOptions) (pattern : PatternView E) (by : AnswersByItsText answer init asked pattern)
+FindingsAreByText {E} answer = (init : UrlPatternInit) (asked : UrlPatternOptions) (pattern : PatternView E) (by : ReturnsByItsText answer init asked pattern)
     (texts : Texts) (found : Option (ComponentName → ResultView)) → FindsInTexts (λ result. result) answer pattern texts found →
-    IsFoundByText (manner_of asked by.values by.hierarchical) texts found
+    IsFoundByText (settings_of asked by.values by.hierarchical) texts found
 
 -- A pattern that returns what its texts say does so for an input with texts, none of them too long
 -- for `url`.
 abbrev pub InputFindingsAreByText : {E : Type 0} → (answer : E → List ℕ → Option Captures) → Type 0
-InputFindingsAreByText {E} answer = (init : UrlPatternInit) (asked : UrlPatternOptions) (pattern : PatternView E) (by : AnswersByItsText answer init asked pattern)
+InputFindingsAreByText {E} answer = (init : UrlPatternInit) (asked : UrlPatternOptions) (pattern : PatternView E) (by : ReturnsByItsText answer init asked pattern)
     (input : UrlPatternMatchInput) (found : Option (ComponentName → ResultView)) (texts : Texts) →
     input_texts input ≡ Ok texts → ¬ IsLongInput input → IsExecuted answer pattern input found →
-    IsFoundByText (manner_of asked by.values by.hierarchical) texts found
+    IsFoundByText (settings_of asked by.values by.hierarchical) texts found
 
 -- All pattern texts have a meaning, and all texts are lines.
-abbrev pub AllHaveMeaning : (manner : ComponentName → Manner) → Texts → Type 0
-AllHaveMeaning manner texts = (component : ComponentName) → HasMeaning (manner component) × IsLine (at texts component)
+abbrev pub AllHaveMeaning : (settings : ComponentName → ParseSettings) → Texts → Type 0
+AllHaveMeaning settings texts = (component : ComponentName) → HasMeaning (settings component) × IsLine (at texts component)
 
 -- The two results are equal, or both are None.
 abbrev pub IsSameFinding : (found other : Option (ComponentName → ResultView)) → Type 0
@@ -59,25 +59,25 @@ IsSameFinding found other = ⊥
 
 -- Two results by the same pattern texts, for the same eight texts, are equal.
 abbrev pub FindingsAreOne : Type 0
-FindingsAreOne = (manner : ComponentName → Manner) (texts : Texts) (found other : Option (ComponentName → ResultView)) → AllHaveMeaning manner texts →
-    IsFoundByText manner texts found → IsFoundByText manner texts other → IsSameFinding found other
+FindingsAreOne = (settings : ComponentName → ParseSettings) (texts : Texts) (found other : Option (ComponentName → ResultView)) → AllHaveMeaning settings texts →
+    IsFoundByText settings texts found → IsFoundByText settings texts other → IsSameFinding found other
 
 -- Two patterns that return what the texts of one init say find the same, also over different
 -- engines.
-abbrev pub PatternsAnswerAlike : {E F : Type 0} → (answer : E → List ℕ → Option Captures) → (other : F → List ℕ → Option Captures) → Type 0
-PatternsAnswerAlike {E} {F} answer other = (init : UrlPatternInit) (asked : UrlPatternOptions) (pattern : PatternView E) (another : PatternView F)
-    (by : AnswersByItsText answer init asked pattern) → AnswersByItsText other init asked another →
-    (texts : Texts) (found also : Option (ComponentName → ResultView)) → AllHaveMeaning (manner_of asked by.values by.hierarchical) texts →
+abbrev pub PatternsReturnAlike : {E F : Type 0} → (answer : E → List ℕ → Option Captures) → (other : F → List ℕ → Option Captures) → Type 0
+PatternsReturnAlike {E} {F} answer other = (init : UrlPatternInit) (asked : UrlPatternOptions) (pattern : PatternView E) (another : PatternView F)
+    (by : ReturnsByItsText answer init asked pattern) → ReturnsByItsText other init asked another →
+    (texts : Texts) (found also : Option (ComponentName → ResultView)) → AllHaveMeaning (settings_of asked by.values by.hierarchical) texts →
     FindsInTexts (λ result. result) answer pattern texts found → FindsInTexts (λ result. result) other another texts also → IsSameFinding found also
 
 -- ---- parts
 
 -- A pattern text reads as one list of parts.
 abbrev pub ReadingsAsAreOne : Type 0
-ReadingsAsAreOne = (manner : Manner) (parts others : List PartView) → ReadsAs manner parts → ReadsAs manner others → parts ≡ others
+ReadingsAsAreOne = (settings : ParseSettings) (parts others : List PartView) → ReadsAs settings parts → ReadsAs settings others → parts ≡ others
 
 -- A component without a custom regular expression, and with its case kept, was compiled from a
 -- pattern text that has a meaning.
 abbrev pub CompiledHaveMeaning : {E : Type 0} → Engine E → Type 0
-CompiledHaveMeaning {E} engine = (manner : Manner) (compiled : ComponentView E) → IsComponentCompiled engine manner compiled →
-    compiled.has_regexp_group ≡ false → manner.options.ignore_case ≡ false → HasMeaning manner
+CompiledHaveMeaning {E} engine = (settings : ParseSettings) (compiled : ComponentView E) → IsComponentCompiled engine settings compiled →
+    compiled.has_regexp_group ≡ false → settings.options.ignore_case ≡ false → HasMeaning settings

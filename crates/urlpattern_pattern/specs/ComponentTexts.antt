@@ -4,7 +4,7 @@ use Rattle.urlpattern_compile.specs.PatternViews.{eight_view}
 use Rattle.urlpattern_components.specs.declared.eight.ComponentName.{ComponentName}
 use Rattle.urlpattern_components.specs.Eight.{at}
 use Rattle.urlpattern_generate.specs.Generating.{HasText, LacksText}
-use Rattle.urlpattern_generate.specs.Manners.{GivenView, WritingManner, manner_for}
+use Rattle.urlpattern_generate.specs.WriteSettings.{GivenView, WriteSettings, settings_for}
 use Rattle.urlpattern_generate.specs.declared.generate_error.GenerateError.{GenerateError}
 use Rattle.urlpattern_generate.specs.declared.generate_error.GenerateError.TheVariants.{NoParts}
 use Rattle.urlpattern_meaning.specs.PartMeaning.{Captures}
@@ -18,8 +18,8 @@ abbrev pub parts_in : PatternParts → ComponentName → List PartView
 parts_in parts component = kept_parts (at parts.components component)
 
 -- How a component of these parts is written with these groups.
-abbrev pub manner_in : PatternParts → List GivenView → ComponentName → WritingManner
-manner_in parts groups component = manner_for component (kept_options (at parts.components component)) (parts_in parts component) groups
+abbrev pub settings_in : PatternParts → List GivenView → ComponentName → WriteSettings
+settings_in parts groups component = settings_for component (kept_options (at parts.components component)) (parts_in parts component) groups
 
 -- The pattern has parts, and the predicate holds of them.
 abbrev pub HasParts : {E : Type 0} → UrlPattern E → (PatternParts → Type 0) → Type 0
@@ -29,11 +29,11 @@ HasParts pattern Holds = MatchOption pattern.parts ⊥ Holds
 -- component's matcher finds these groups in it.
 abbrev pub GeneratesText : {E : Type 0} → (answer : E → List ℕ → Option Captures) → UrlPattern E → ComponentName → List GivenView → (text : List ℕ) → Type 0
 GeneratesText answer pattern component groups text =
-    HasParts pattern (λ parts. HasText answer (eight_view pattern.components component).matcher (manner_in parts groups component) (parts_in parts component) text)
+    HasParts pattern (λ parts. HasText answer (eight_view pattern.components component).matcher (settings_in parts groups component) (parts_in parts component) text)
 
 -- Why the component has no text with these groups: the pattern was put together by hand, or what is
 -- wrong with the groups and parts.
-abbrev pub RefusesGroups : {E : Type 0} → (answer : E → List ℕ → Option Captures) → UrlPattern E → ComponentName → List GivenView → GenerateError → Type 0
-RefusesGroups answer pattern component groups error =
+abbrev pub RejectsGroups : {E : Type 0} → (answer : E → List ℕ → Option Captures) → UrlPattern E → ComponentName → List GivenView → GenerateError → Type 0
+RejectsGroups answer pattern component groups error =
     MatchOption pattern.parts (error ≡ NoParts)
-    (λ parts. LacksText answer (eight_view pattern.components component).matcher component (manner_in parts groups component) (parts_in parts component) error)
+    (λ parts. LacksText answer (eight_view pattern.components component).matcher component (settings_in parts groups component) (parts_in parts component) error)

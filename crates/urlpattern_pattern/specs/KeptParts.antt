@@ -3,7 +3,7 @@
 use Rattle.std.specs.Prelude.{◌≡◌, ℕ, Bool, List, Ok, Option, Some}
 use Rattle.urlpattern_matcher.specs.declared.component.{Component.Component, ComponentWithParts.ComponentWithParts}
 use Rattle.urlpattern_matcher.specs.declared.regexp.RegExp.{Ghosts as Engine}
-use Rattle.urlpattern_compile.specs.Compiled.{IsPathKind, Manner, ReadsAs, manner_of, pattern_values}
+use Rattle.urlpattern_compile.specs.Compiled.{IsPathKind, ParseSettings, ReadsAs, settings_of, pattern_values}
 use Rattle.urlpattern_compile.specs.FromString.{IsInitOfText}
 use Rattle.urlpattern_components.specs.declared.eight.ComponentName.{ComponentName}
 use Rattle.urlpattern_components.specs.declared.eight.ComponentName.TheVariants.{Protocol}
@@ -18,9 +18,9 @@ use Rattle.urlpattern_syntax.specs.ComponentParts.{kept_options, kept_parts}
 use Rattle.urlpattern_syntax.specs.declared.parts.ComponentParts.{ComponentParts}
 
 -- The pattern text reads as the parts, under the options and the canonical form of this manner.
-pub record AreReadInManner (manner : Manner) (kept : ComponentParts) : Type 0 where
-  pub options_are : kept_options kept ≡ manner.options
-  pub reads : ReadsAs manner (kept_parts kept)
+pub record AreReadBySettings (settings : ParseSettings) (kept : ComponentParts) : Type 0 where
+  pub options_are : kept_options kept ≡ settings.options
+  pub reads : ReadsAs settings (kept_parts kept)
 
 -- The pattern has the parts that its texts read as, and all fields of each component are made of
 -- them. The texts are the values of this init, and the protocol decides whether the pathname is
@@ -32,7 +32,7 @@ pub record KeepsPartsOf {E : Type 0} (engine : Engine E) (init : UrlPatternInit)
   pub has_parts : pattern.parts ≡ Some parts
   pub are_values : pattern_values init ≡ Ok values
   pub path_kind : IsPathKind engine.answer values (pattern_view pattern Protocol).matcher hierarchical
-  pub are_read : (name : ComponentName) → AreReadInManner (manner_of asked values hierarchical name) (at parts.components name)
+  pub are_read : (name : ComponentName) → AreReadBySettings (settings_of asked values hierarchical name) (at parts.components name)
   pub are_made : AreMadeOfParts engine parts (pattern_view pattern)
 
 -- The pattern has the parts of the init of this constructor string and base URL.
@@ -40,6 +40,6 @@ abbrev pub KeepsPartsOfText : {E : Type 0} → Engine E → (text : List ℕ) �
 KeepsPartsOfText engine text base asked pattern = (init : UrlPatternInit) × IsInitOfText engine text base init × KeepsPartsOf engine init asked pattern
 
 -- The components and the parts of these components with parts.
-pub record AreParted {E : Type 0} (made : Eight (ComponentWithParts E)) (components : Eight (Component E)) (parts : PatternParts) : Type 0 where
+pub record AreSeparated {E : Type 0} (made : Eight (ComponentWithParts E)) (components : Eight (Component E)) (parts : PatternParts) : Type 0 where
   pub components_are : (name : ComponentName) → at components name ≡ (at made name).component
   pub parts_are : (name : ComponentName) → at parts.components name ≡ (at made name).kept

@@ -7,8 +7,8 @@ use Rattle.url.specs.Parts.{Parts}
 use Rattle.urlpattern_compile.specs.PatternViews.{PatternView, eight_view}
 use Rattle.urlpattern_components.specs.declared.eight.ComponentName.{ComponentName}
 use Rattle.urlpattern_components.specs.Eight.{IsFirstError, Texts, at, components}
-use Rattle.urlpattern_generate.specs.Generating.{FindsAsked, FindsOther}
-use Rattle.urlpattern_generate.specs.Manners.{GivenView, text_given}
+use Rattle.urlpattern_generate.specs.Generating.{FindsRequested, FindsOther}
+use Rattle.urlpattern_generate.specs.WriteSettings.{GivenView, text_given}
 use Rattle.urlpattern_generate.specs.WrittenTexts.{CannotWrite, IsWritten, cow_text}
 use Rattle.urlpattern_generate.specs.declared.generate_error.GenerateError.{GenerateError}
 use Rattle.urlpattern_generate.specs.declared.generate_error.GenerateError.TheVariants as generating
@@ -16,11 +16,11 @@ use Rattle.urlpattern_init.specs.Inheritance.{texts_of_url}
 use Rattle.urlpattern_init.specs.declared.init.UrlPatternMatchInput.TheVariants as inputs
 use Rattle.urlpattern_matches.specs.ResultViews.{ResultView}
 use Rattle.urlpattern_meaning.specs.PartMeaning.{Captures}
-use Rattle.urlpattern_pattern.specs.ComponentTexts.{HasParts, manner_in, parts_in}
+use Rattle.urlpattern_pattern.specs.ComponentTexts.{HasParts, settings_in, parts_in}
 use Rattle.urlpattern_pattern.specs.Match.{IsMatch}
 use Rattle.urlpattern_pattern.specs.UrlPatterns.{UrlPattern}
 use Rattle.urlpattern_compare.specs.declared.pattern_parts.PatternParts.{PatternParts}
-use Rattle.urlpattern_generate.specs.UrlsOfTexts.{IsReadOfTexts, RefusesTexts}
+use Rattle.urlpattern_generate.specs.UrlsOfTexts.{IsReadOfTexts, RejectsTexts}
 use Rattle.urlpattern_generate.specs.declared.no_link.NoLink.{NoLink}
 use Rattle.urlpattern_generate.specs.declared.no_link.NoLink.TheVariants.{Component, OutOfMemory}
 
@@ -28,21 +28,21 @@ use Rattle.urlpattern_generate.specs.declared.no_link.NoLink.TheVariants.{Compon
 
 -- Each text is that of its component's parts with these groups.
 abbrev pub AreWritten : PatternParts → List GivenView → Texts → Type 0
-AreWritten parts groups texts = (component : ComponentName) → IsWritten (manner_in parts groups component) (parts_in parts component) (at texts component)
+AreWritten parts groups texts = (component : ComponentName) → IsWritten (settings_in parts groups component) (parts_in parts component) (at texts component)
 
 -- The matcher of a component finds the expected captures in its text.
 abbrev pub IsConfirmed : {E : Type 0} → (answer : E → List ℕ → Option Captures) → PatternView E → PatternParts → List GivenView → Texts → ComponentName → Type 0
 IsConfirmed answer pattern parts groups texts component =
-    FindsAsked answer (pattern component).matcher (manner_in parts groups component) (parts_in parts component) (at texts component)
+    FindsRequested answer (pattern component).matcher (settings_in parts groups component) (parts_in parts component) (at texts component)
 
 -- The matcher of a component finds other captures in its text, or does not match.
 abbrev pub IsOther : {E : Type 0} → (answer : E → List ℕ → Option Captures) → PatternView E → PatternParts → List GivenView → Texts → ComponentName → Type 0
 IsOther answer pattern parts groups texts component =
-    FindsOther answer (pattern component).matcher (manner_in parts groups component) (parts_in parts component) (at texts component)
+    FindsOther answer (pattern component).matcher (settings_in parts groups component) (parts_in parts component) (at texts component)
 
 -- Whether the matcher of a component finds the expected captures in its text.
-abbrev pub TellsConfirmed : {E : Type 0} → Bool → (answer : E → List ℕ → Option Captures) → PatternView E → PatternParts → List GivenView → Texts → ComponentName → Type 0
-TellsConfirmed is answer pattern parts groups texts component =
+abbrev pub DecidesConfirmed : {E : Type 0} → Bool → (answer : E → List ℕ → Option Captures) → PatternView E → PatternParts → List GivenView → Texts → ComponentName → Type 0
+DecidesConfirmed is answer pattern parts groups texts component =
     MatchBool is (IsConfirmed answer pattern parts groups texts component) (IsOther answer pattern parts groups texts component)
 
 -- The first component whose matcher does not find the expected captures, or None.
@@ -76,16 +76,16 @@ IsCapturedBy answer pattern url component name capture =
 abbrev pub ReturnsGiven : {E : Type 0} → (answer : E → List ℕ → Option Captures) → UrlPattern E → List GivenView → Parts → Type 0
 ReturnsGiven answer pattern groups url = (component : ComponentName) (name text : List ℕ) →
     text_given groups component name ≡ Some text → IsTrue (list_any (bytes_eq name) (eight_view pattern.components component).group_name_list) →
-    HasParts pattern (λ parts. (value : List ℕ) × ((manner_in parts groups component).canonical text ≡ Ok value)
+    HasParts pattern (λ parts. (value : List ℕ) × ((settings_in parts groups component).canonical text ≡ Ok value)
     × IsCapturedBy answer (eight_view pattern.components) url component name value)
 
 -- ---- errors
 
 -- The result for a component: the text of its parts with these groups, or why it has none.
-abbrev pub AnswersParts : PatternParts → List GivenView → ComponentName → Result (CowStr Global) GenerateError → Type 0
-AnswersParts parts groups component result =
-    MatchResult result (λ text. IsWritten (manner_in parts groups component) (parts_in parts component) (cow_text text))
-    (CannotWrite component (manner_in parts groups component) (parts_in parts component))
+abbrev pub HasPartsText : PatternParts → List GivenView → ComponentName → Result (CowStr Global) GenerateError → Type 0
+HasPartsText parts groups component result =
+    MatchResult result (λ text. IsWritten (settings_in parts groups component) (parts_in parts component) (cow_text text))
+    (CannotWrite component (settings_in parts groups component) (parts_in parts component))
 
 -- The texts are those of a URL, and the component is the first whose matcher does not find the
 -- expected captures.
@@ -96,15 +96,15 @@ IsReadOtherwise answer pattern parts groups component =
 
 -- Why a pattern of these parts has no link: the first component without a text, that no URL has the
 -- texts, the first component that would be read with other groups, or that memory ran out.
-abbrev pub RefusesLinkOf : {E : Type 0} → (answer : E → List ℕ → Option Captures) → PatternView E → PatternParts → List GivenView → NoLink → Type 0
-RefusesLinkOf answer pattern parts groups (Component (generating.ReadOtherwise component)) = IsReadOtherwise answer pattern parts groups component
-RefusesLinkOf answer pattern parts groups (Component generating.OutOfMemory) = ⊥
-RefusesLinkOf answer pattern parts groups (Component error) = IsFirstError (AnswersParts parts groups) error
-RefusesLinkOf answer pattern parts groups OutOfMemory = Unit {0}
-RefusesLinkOf answer pattern parts groups error = (texts : Texts) × AreWritten parts groups texts × RefusesTexts texts error
+abbrev pub RejectsLinkOf : {E : Type 0} → (answer : E → List ℕ → Option Captures) → PatternView E → PatternParts → List GivenView → NoLink → Type 0
+RejectsLinkOf answer pattern parts groups (Component (generating.ReadOtherwise component)) = IsReadOtherwise answer pattern parts groups component
+RejectsLinkOf answer pattern parts groups (Component generating.OutOfMemory) = ⊥
+RejectsLinkOf answer pattern parts groups (Component error) = IsFirstError (HasPartsText parts groups) error
+RejectsLinkOf answer pattern parts groups OutOfMemory = Unit {0}
+RejectsLinkOf answer pattern parts groups error = (texts : Texts) × AreWritten parts groups texts × RejectsTexts texts error
 
 -- Why the pattern has no link: it was put together by hand, or what is wrong with its parts and the
 -- groups.
-abbrev pub RefusesLink : {E : Type 0} → (answer : E → List ℕ → Option Captures) → UrlPattern E → List GivenView → NoLink → Type 0
-RefusesLink answer pattern groups error =
-    MatchOption pattern.parts (error ≡ Component generating.NoParts) (λ parts. RefusesLinkOf answer (eight_view pattern.components) parts groups error)
+abbrev pub RejectsLink : {E : Type 0} → (answer : E → List ℕ → Option Captures) → UrlPattern E → List GivenView → NoLink → Type 0
+RejectsLink answer pattern groups error =
+    MatchOption pattern.parts (error ≡ Component generating.NoParts) (λ parts. RejectsLinkOf answer (eight_view pattern.components) parts groups error)

@@ -5,35 +5,35 @@ use Rattle.urlpattern_components.specs.declared.eight.Eight.{Eight}
 use Rattle.urlpattern_matches.specs.declared.captures.GroupCaptures.{GroupCaptures}
 use Rattle.urlpattern_matches.specs.GroupTexts.{captures_of}
 use Rattle.urlpattern_matches.specs.ResultViews.{IsResultOf, ResultView}
-use Rattle.urlpattern_matcher.specs.Looks.{look_answer, IsAsking}
+use Rattle.urlpattern_matcher.specs.Looks.{look_result, NeedsEngine}
 use Rattle.urlpattern_matcher.specs.declared.matcher.look.Look.{Look}
-use Rattle.urlpattern_meaning.specs.{Matching.Answers, Matching.AsksEngine, PartMeaning.Captures}
-use Rattle.urlpattern_pattern.specs.Match.{AreAnswers}
+use Rattle.urlpattern_meaning.specs.{Matching.Returns, Matching.CallsEngine, PartMeaning.Captures}
+use Rattle.urlpattern_pattern.specs.Match.{AreResults}
 use Rattle.urlpattern_pattern.specs.Patterns.{PatternView}
 use Rattle.urlpattern_components.specs.Eight.{Texts, at}
 
 -- The looks at the texts result in what the matchers of the pattern return.
 abbrev pub AreLooks : {E : Type 0} → (answer : E → List ℕ → Option Captures) → PatternView E → Texts → Eight (Look E) → Type 0
 AreLooks answer pattern texts looks =
-    (name : ComponentName) → Answers answer (pattern name).matcher (at texts name) (look_answer answer (Some (at looks name)))
+    (name : ComponentName) → Returns answer (pattern name).matcher (at texts name) (look_result answer (Some (at looks name)))
 
 -- If a look calls an engine, its matcher does.
-abbrev pub AskWithCause : {E : Type 0} → PatternView E → Texts → Eight (Look E) → Type 0
-AskWithCause pattern texts looks =
-    (name : ComponentName) → IsAsking (at looks name) → AsksEngine (pattern name).matcher (at texts name)
+abbrev pub CallWithCause : {E : Type 0} → PatternView E → Texts → Eight (Look E) → Type 0
+CallWithCause pattern texts looks =
+    (name : ComponentName) → NeedsEngine (at looks name) → CallsEngine (pattern name).matcher (at texts name)
 
 -- The captures of the components are the results of the looks.
 abbrev pub AreCaptured : {E : Type 0} → (answer : E → List ℕ → Option Captures) → Eight (Look E) → Eight GroupCaptures → Type 0
 AreCaptured answer looks captures =
-    (name : ComponentName) → look_answer answer (Some (at looks name)) ≡ Some (captures_of (at captures name))
+    (name : ComponentName) → look_result answer (Some (at looks name)) ≡ Some (captures_of (at captures name))
 
 -- The captures of each component.
 abbrev pub all_captures : Eight GroupCaptures → ComponentName → Captures
 all_captures captures name = captures_of (at captures name)
 
 -- The captures are those that the matchers of the pattern return for the texts.
-abbrev pub HasAnswers : {E : Type 0} → (answer : E → List ℕ → Option Captures) → PatternView E → Texts → Eight GroupCaptures → Type 0
-HasAnswers answer pattern texts captures = AreAnswers answer pattern texts (all_captures captures)
+abbrev pub HasMatcherResults : {E : Type 0} → (answer : E → List ℕ → Option Captures) → PatternView E → Texts → Eight GroupCaptures → Type 0
+HasMatcherResults answer pattern texts captures = AreResults answer pattern texts (all_captures captures)
 
 -- The match has these texts, and these captures of the groups of the pattern.
 abbrev pub HasCaptures : {E : Type 0} → PatternView E → Texts → Eight GroupCaptures → (result : ComponentName → ResultView) → Type 0

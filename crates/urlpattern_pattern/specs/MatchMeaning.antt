@@ -6,8 +6,8 @@ use Rattle.urlpattern_init.specs.declared.init.{UrlPatternMatchInput.UrlPatternM
 use Rattle.urlpattern_components.specs.declared.eight.ComponentName.{ComponentName}
 use Rattle.regex.specs.declared.string.regex.Regex.{Regex}
 use Rattle.urlpattern_matcher.specs.Components.{ComponentView}
-use Rattle.urlpattern_meaning.specs.{FirstAnswers.TookText, Matching.FollowsMiddle, PartMeaning.Captures, PartMeaning.PartsMean}
-use Rattle.urlpattern_compile.specs.Compiled.{Manner}
+use Rattle.urlpattern_meaning.specs.{FirstResults.AcceptedText, Matching.FollowsMiddle, PartMeaning.Captures, PartMeaning.PartsMean}
+use Rattle.urlpattern_compile.specs.Compiled.{ParseSettings}
 pub use Rattle.urlpattern_compile.specs.Compiled.{ReadsAs}
 use Rattle.urlpattern_pattern.specs.Match.{HasNoMatch, IsMatch}
 use Rattle.urlpattern_matches.specs.ResultViews.{IsResultOf, ResultView}
@@ -18,37 +18,37 @@ use Rattle.urlpattern_components.specs.Eight.{Texts, at}
 -- ---- what a pattern text means
 
 -- The pattern text means the text: the parts that it reads as mean it, with these captures.
-pub record IsMeant (manner : Manner) (text : List ℕ) : Type 0 where
+pub record IsMeant (settings : ParseSettings) (text : List ℕ) : Type 0 where
   pub parts : List PartView
   pub captures : Captures
-  pub reads : ReadsAs manner parts
-  pub means : PartsMean manner.options parts text captures
+  pub reads : ReadsAs settings parts
+  pub means : PartsMean settings.options parts text captures
 
 -- ---- premises, and what is found
 
 -- The premises on a compiled component and a text: no custom regular expression, case that is kept,
 -- characters without line feed, and an engine, where one is needed, that accepted its regular
 -- expression and follows it.
-pub record MeaningPremises {E : Type 0} (answer : E → List ℕ → Option Captures) (manner : Manner) (compiled : ComponentView E) (text : List ℕ) : Type 0 where
+pub record MeaningPremises {E : Type 0} (answer : E → List ℕ → Option Captures) (settings : ParseSettings) (compiled : ComponentView E) (text : List ℕ) : Type 0 where
   pub generated : compiled.has_regexp_group ≡ false
-  pub case_kept : manner.options.ignore_case ≡ false
+  pub case_kept : settings.options.ignore_case ≡ false
   pub no_line_feed : IsTrue (lacks line_feed text)
   pub characters : IsTrue (all_scalars text)
-  pub follows : (parts : List PartView) → ReadsAs manner parts
-      → FollowsMiddle answer manner.options parts compiled.matcher.inner
+  pub follows : (parts : List PartView) → ReadsAs settings parts
+      → FollowsMiddle answer settings.options parts compiled.matcher.inner
 
 -- What is found in eight texts is what the pattern texts mean. In a match, the result of each
 -- component that meets the premises is a meaning of its text: its groups are the names of the
 -- parts, with the captures. Without a match, if all components meet the premises, the pattern texts
 -- do not mean all eight texts.
-abbrev pub IsFoundByMeaning : {E : Type 0} → (answer : E → List ℕ → Option Captures) → (manner : ComponentName → Manner) → PatternView E → Texts → Option (ComponentName → ResultView) → Type 0
-IsFoundByMeaning answer manner pattern texts (Some result) =
-    (component : ComponentName) → MeaningPremises answer (manner component) (pattern component) (at texts component) →
-    (meant : IsMeant (manner component) (at texts component))
+abbrev pub IsFoundByMeaning : {E : Type 0} → (answer : E → List ℕ → Option Captures) → (settings : ComponentName → ParseSettings) → PatternView E → Texts → Option (ComponentName → ResultView) → Type 0
+IsFoundByMeaning answer settings pattern texts (Some result) =
+    (component : ComponentName) → MeaningPremises answer (settings component) (pattern component) (at texts component) →
+    (meant : IsMeant (settings component) (at texts component))
     × IsResultOf (group_names meant.parts) meant.captures (at texts component) (result component)
-IsFoundByMeaning answer manner pattern texts None =
-    ((component : ComponentName) → MeaningPremises answer (manner component) (pattern component) (at texts component)) →
-    ¬ ((component : ComponentName) → IsMeant (manner component) (at texts component))
+IsFoundByMeaning answer settings pattern texts None =
+    ((component : ComponentName) → MeaningPremises answer (settings component) (pattern component) (at texts component)) →
+    ¬ ((component : ComponentName) → IsMeant (settings component) (at texts component))
 
 -- ---- the result of `exec`
 
@@ -61,9 +61,9 @@ IsExecuted answer pattern input found = MatchOption found (HasNoMatch answer pat
 -- The premises on a component that was compiled by `regex::Regex`, and on a text: those of
 -- `MeaningPremises`, but of the engine only that it accepted its regular expression, where one is
 -- needed.
-pub record RegexPremises (manner : Manner) (compiled : ComponentView Regex) (text : List ℕ) : Type 0 where
+pub record RegexPremises (settings : ParseSettings) (compiled : ComponentView Regex) (text : List ℕ) : Type 0 where
   pub generated : compiled.has_regexp_group ≡ false
-  pub case_kept : manner.options.ignore_case ≡ false
-  pub took : TookText (λ regex. ⊤) compiled.matcher.inner
+  pub case_kept : settings.options.ignore_case ≡ false
+  pub took : AcceptedText (λ regex. ⊤) compiled.matcher.inner
   pub no_line_feed : IsTrue (lacks line_feed text)
   pub characters : IsTrue (all_scalars text)

@@ -2,7 +2,7 @@
 -- "match".
 use Rattle.std.specs.Prelude.{◌≡◌, All, ℕ, List, ◌∷◌, ◌++◌, MatchOption, Option, None}
 use Rattle.urlpattern_pattern.specs.{Match.AreMatched, Patterns.PatternView}
-use Rattle.urlpattern_meaning.specs.Matching.{Answers, AsksEngine, IsMatched}
+use Rattle.urlpattern_meaning.specs.Matching.{Returns, CallsEngine, IsMatched}
 use Rattle.urlpattern_meaning.specs.PartMeaning.{Captures}
 use Rattle.urlpattern_components.specs.declared.eight.ComponentName.{ComponentName}
 use Rattle.urlpattern_components.specs.Eight.{Texts, at, components}
@@ -16,13 +16,13 @@ MatchesBefore answer pattern texts component =
 -- The component is the first that does not match its text.
 abbrev pub IsMismatch : {E : Type 0} → (answer : E → List ℕ → Option Captures) → PatternView E → Texts → ComponentName → Type 0
 IsMismatch answer pattern texts component =
-    MatchesBefore answer pattern texts component × Answers answer (pattern component).matcher (at texts component) None
+    MatchesBefore answer pattern texts component × Returns answer (pattern component).matcher (at texts component) None
 
 -- The first component that does not match its text, or None if each matches.
 abbrev pub FindsMismatch : {E : Type 0} → (answer : E → List ℕ → Option Captures) → PatternView E → Texts → Option ComponentName → Type 0
 FindsMismatch answer pattern texts found = MatchOption found (AreMatched answer pattern texts) (IsMismatch answer pattern texts)
 
 -- An engine is called for the text of a component, and the components before it match their texts.
-abbrev pub AsksInTurn : {E : Type 0} → (answer : E → List ℕ → Option Captures) → PatternView E → Texts → Type 0
-AsksInTurn answer pattern texts =
-    (component : ComponentName) × MatchesBefore answer pattern texts component × AsksEngine (pattern component).matcher (at texts component)
+abbrev pub CallsInTurn : {E : Type 0} → (answer : E → List ℕ → Option Captures) → PatternView E → Texts → Type 0
+CallsInTurn answer pattern texts =
+    (component : ComponentName) × MatchesBefore answer pattern texts component × CallsEngine (pattern component).matcher (at texts component)

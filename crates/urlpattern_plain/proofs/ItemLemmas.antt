@@ -7,9 +7,9 @@ use Rattle.std.specs.Str.{IsUtf8, chars}
 use Rattle.urlpattern_plain.specs.PatternJson.{only}
 
 -- The texts read so far, and those of the items left.
-abbrev pub with_front : List (List ℕ) → Option (List (List ℕ)) → Option (List (List ℕ))
-with_front front None = None
-with_front front (Some rest) = Some (front ++ rest)
+abbrev pub with_prefix : List (List ℕ) → Option (List (List ℕ)) → Option (List (List ℕ))
+with_prefix front None = None
+with_prefix front (Some rest) = Some (front ++ rest)
 
 -- ---- characters
 

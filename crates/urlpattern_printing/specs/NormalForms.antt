@@ -2,25 +2,25 @@
 use Rattle.std.specs.Prelude.{◌≡◌, ℕ, List}
 use Rattle.std.specs.declared.alloc.Global.{Global}
 use Rattle.std.specs.declared.vec.Vec.{Vec}
-use Rattle.urlpattern_meaning.specs.Laws.{Answered, listed}
+use Rattle.urlpattern_meaning.specs.Laws.{EncodingResults, listed}
 use Rattle.urlpattern_meaning.specs.Printing.{Keeps, encoded_texts, joined, printed}
-use Rattle.urlpattern_meaning.specs.RoundTrip.{FailsText, IsPrintable, KeepsAnswered, ReadsBack}
+use Rattle.urlpattern_meaning.specs.RoundTrip.{FailsText, IsPrintable, KeepsOrFails, ReadsBack}
 use Rattle.urlpattern_syntax.specs.declared.error.Error.{Error}
 use Rattle.urlpattern_syntax.specs.{Errors.MemoryOr, Options.OptionsView}
 use Rattle.urlpattern_syntax.specs.declared.parser.Part.{Part}
 use Rattle.urlpattern_syntax.specs.Parts.{PartView, parts_view}
-use Rattle.urlpattern_syntax.specs.Reading.{Encoding, Reads, Refuses}
+use Rattle.urlpattern_syntax.specs.Reading.{Encoding, Reads, Rejects}
 
 -- If the parts are printable, the text reads back under any encoding that keeps their texts.
 abbrev pub ReadsBackIfKept : (text : List ℕ) → OptionsView → List PartView → Type 0
 ReadsBackIfKept text options parts =
-    (answers : Answered) → IsPrintable options parts → Keeps (listed answers) parts → ReadsBack text options (listed answers) parts
+    (answers : EncodingResults) → IsPrintable options parts → Keeps (listed answers) parts → ReadsBack text options (listed answers) parts
 
 -- If the parts are printable and the encoding changes none of their texts, `normal` is the parts
 -- with neighbouring plain fixed texts joined.
 abbrev pub IsJoinedIfKept : OptionsView → Encoding → List PartView → Vec Part Global → Type 0
 IsJoinedIfKept options encoding parts normal =
-    IsPrintable options parts → KeepsAnswered encoding parts → parts_view normal.items ≡ joined parts
+    IsPrintable options parts → KeepsOrFails encoding parts → parts_view normal.items ≡ joined parts
 
 -- If the parts are printable, the error is that of one of their texts, or that memory ran out.
 abbrev pub FailsIfPrintable : OptionsView → Encoding → List PartView → Error → Type 0
@@ -31,5 +31,5 @@ abbrev pub IsReadFrom : OptionsView → Encoding → List PartView → Vec Part 
 IsReadFrom options encoding parts normal = Reads (printed options parts) options encoding (parts_view normal.items)
 
 -- The pattern text of the parts is rejected with this error, or memory ran out.
-abbrev pub RefusesPrinted : OptionsView → Encoding → List PartView → Error → Type 0
-RefusesPrinted options encoding parts error = MemoryOr (Refuses (printed options parts) options encoding) error
+abbrev pub RejectsPrinted : OptionsView → Encoding → List PartView → Error → Type 0
+RejectsPrinted options encoding parts error = MemoryOr (Rejects (printed options parts) options encoding) error

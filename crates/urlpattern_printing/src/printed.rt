@@ -6,7 +6,7 @@ ghost use Rattle.std.specs.Prelude.{◌≡◌, ◌&&◌, ◌||◌, false, IfOk};
 ghost use Rattle.std.specs.Str.{chars};
 ghost use Rattle.urlpattern_printing.specs.Neighbours.{ends_with_prefix, neighbour};
 ghost use Rattle.urlpattern_printing.specs.{NormalForms.ReadsBackIfKept, WrittenParts.group_part};
-ghost use Rattle.urlpattern_meaning.specs.Printing.{escaped_pattern, goes_on, has_custom_name, has_other_prefix, has_suffix, in_braces, is_asterisk, is_name_alone, needs_braces, printed, printed_fixed, printed_match, printed_name, printed_part, printed_suffix, takes_before, takes_next, admits_asterisk};
+ghost use Rattle.urlpattern_meaning.specs.Printing.{escaped_pattern, continues_name, has_custom_name, has_other_prefix, has_suffix, in_braces, is_asterisk, is_name_alone, needs_braces, printed, printed_fixed, printed_match, printed_name, printed_part, printed_suffix, absorbs_before, absorbs_next, admits_asterisk};
 ghost use Rattle.urlpattern_syntax.specs.{Errors.OnlyOutOfMemory, Options.options_view, RegexpText.is_fixed_text};
 ghost use Rattle.urlpattern_syntax.specs.Parts.{part_view, parts_view};
 ghost use Rattle.urlpattern_syntax.specs.Text.{begins_with, is_name_part, text_of};
@@ -205,7 +205,7 @@ impl Writable for Suffix<'_> {
             return;
         }
         let suffix = Escaped::pattern(&self.0.suffix);
-        if goes_on_with_suffix(self.0) {
+        if continues_name_with_suffix(self.0) {
             ('\\', suffix).write_to(writer);
         } else {
             suffix.write_to(writer);
@@ -222,14 +222,14 @@ fn needs_grouping(
 ) -> bool
     ensures { result ≡ needs_braces (options_view options.now) (neighbour previous.entry) (part_view part.now) (neighbour next.entry) }
 {
-    needs_grouping_before(options, part, next) || takes_before(options, previous, part)
+    needs_grouping_before(options, part, next) || absorbs_before(options, previous, part)
 }
 
 /// Whether the part needs braces before this next part, whatever is before the part.
 fn needs_grouping_before(options: &Options, part: &Part, next: Option<&Part>) -> bool
-    ensures { result ≡ (has_suffix (part_view part.now) || has_other_prefix (options_view options.now) (part_view part.now) || takes_next (part_view part.now) (neighbour next.entry)) }
+    ensures { result ≡ (has_suffix (part_view part.now) || has_other_prefix (options_view options.now) (part_view part.now) || absorbs_next (part_view part.now) (neighbour next.entry)) }
 {
-    has_other_ends(options, part) || takes_next(part, next)
+    has_other_ends(options, part) || absorbs_next(part, next)
 }
 
 /// Whether the part has a suffix, or a prefix that is not the prefix code point.
@@ -248,19 +248,21 @@ fn has_other_prefix(options: &Options, part: &Part) -> bool
 
 /// Whether the part, printed as a name alone such as `:id`, would be read together with the start
 /// of the next part: as more of the name, or as its regular expression.
-fn takes_next(part: &Part, next: Option<&Part>) -> bool
-    ensures { result ≡ takes_next (part_view part.now) (neighbour next.entry) }
+fn absorbs_next(part: &Part, next: Option<&Part>) -> bool
+    ensures { result ≡ absorbs_next (part_view part.now) (neighbour next.entry) }
 {
     match next {
-        Some(next) => is_name_alone(part) && part.modifier == PartModifier::None && goes_on(next),
+        Some(next) => is_name_alone(part)
+            && part.modifier == PartModifier::None
+            && continues_name(next),
         None => false,
     }
 }
 
 /// Whether a name before the part would go on with the beginning of the part, or take it as its
 /// regular expression.
-fn goes_on(part: &Part) -> bool
-    ensures { result ≡ goes_on (part_view part.now) }
+fn continues_name(part: &Part) -> bool
+    ensures { result ≡ continues_name (part_view part.now) }
 {
     is_bare(part)
         && match part.kind {
@@ -270,8 +272,8 @@ fn goes_on(part: &Part) -> bool
 }
 
 /// Whether the part would take the end of a fixed text before it as its prefix.
-fn takes_before(options: &Options, previous: Option<&Part>, part: &Part) -> bool
-    ensures { result ≡ takes_before (options_view options.now) (neighbour previous.entry) (part_view part.now) }
+fn absorbs_before(options: &Options, previous: Option<&Part>, part: &Part) -> bool
+    ensures { result ≡ absorbs_before (options_view options.now) (neighbour previous.entry) (part_view part.now) }
 {
     match previous {
         Some(previous) => part.prefix.is_empty() && leaves_prefix(options, previous),
@@ -317,7 +319,7 @@ fn admits_asterisk(previous: Option<&Part>) -> bool
 }
 
 /// Whether the part is a name alone that would go on with the beginning of its suffix.
-fn goes_on_with_suffix(part: &Part) -> bool
+fn continues_name_with_suffix(part: &Part) -> bool
     ensures { result ≡ (is_name_alone (part_view part.now) && begins_with is_name_part (text_of part.now.suffix)) }
 {
     is_name_alone(part) && begins_with_name_part(&part.suffix)

@@ -6,14 +6,14 @@ use Rattle.std.specs.declared.alloc.{AllocError.AllocError, Global.Global}
 use Rattle.urlpattern_init.specs.Inheritance.{values_of, values_view}
 use Rattle.urlpattern_init.specs.declared.init.{UrlPatternInit.UrlPatternInit, UrlPatternMatchInput.UrlPatternMatchInput}
 use Rattle.urlpattern_init.specs.declared.init.UrlPatternMatchInput.TheVariants as match_inputs
-use Rattle.urlpattern_canonical.specs.Canonical.{IsRefusedByUrl, Reports}
+use Rattle.urlpattern_canonical.specs.Canonical.{IsRejectedByUrl, Reports}
 use Rattle.urlpattern_matcher.specs.Regexes.{regex_engine}
 use Rattle.urlpattern_inputs.specs.declared.init.UrlPatternInit.{UrlPatternInit as PlainInit}
 use Rattle.urlpattern_inputs.specs.declared.input.StringOrInit.{StringOrInit}
 use Rattle.urlpattern_inputs.specs.declared.input.StringOrInit.TheVariants as inputs
 use Rattle.urlpattern_inputs.specs.InputValues.{plain_init_texts, input_view}
-pub use Rattle.urlpattern_canonical.specs.BaseUrls.{IsRefusedText, parsed_base, parsed_text, text_bytes}
-pub use Rattle.urlpattern_compile.specs.FromString.{RefusesText}
+pub use Rattle.urlpattern_canonical.specs.BaseUrls.{IsRejectedText, parsed_base, parsed_text, text_bytes}
+pub use Rattle.urlpattern_compile.specs.FromString.{RejectsText}
 use Rattle.urlpattern_compile.specs.FromString.{IsInitOfText}
 use Rattle.urlpattern_syntax.specs.Errors.{ErrorView, ErrorView as views}
 use Rattle.urlpattern_syntax.specs.Text.{text_of}
@@ -53,10 +53,10 @@ IsConstructedFrom (inputs.Init plain) None init = IsInitOf plain init
 IsConstructedFrom (inputs.Init plain) (Some base) init = ⊥
 
 -- The input is rejected with this error.
-abbrev pub RefusesInput : StringOrInit → (base : Option (List ℕ)) → ErrorView → Type 0
-RefusesInput (inputs.String text) base error = RefusesText (chars (cow_str_bytes text)) base error
-RefusesInput (inputs.Init plain) None error = Reports (parsed_base (plain_base plain)) (text_bytes (plain_base plain)) error
-RefusesInput (inputs.Init plain) (Some base) error = error ≡ views.BaseUrlWithInit
+abbrev pub RejectsInput : StringOrInit → (base : Option (List ℕ)) → ErrorView → Type 0
+RejectsInput (inputs.String text) base error = RejectsText (chars (cow_str_bytes text)) base error
+RejectsInput (inputs.Init plain) None error = Reports (parsed_base (plain_base plain)) (text_bytes (plain_base plain)) error
+RejectsInput (inputs.Init plain) (Some base) error = error ≡ views.BaseUrlWithInit
 
 -- ---- matching
 
@@ -77,8 +77,8 @@ IsProcessed input base found = IsMatchInput input base found.0 × AreInputs inpu
 
 -- `url` rejects the text of the input, or the base URL.
 abbrev pub IsNoInputOf : StringOrInit → (base : Option (List ℕ)) → Type 0
-IsNoInputOf (inputs.String text) base = IsRefusedText (cow_str_bytes text) base
-IsNoInputOf (inputs.Init plain) None = IsRefusedByUrl (parsed_base (plain_base plain)) (text_bytes (plain_base plain))
+IsNoInputOf (inputs.String text) base = IsRejectedText (cow_str_bytes text) base
+IsNoInputOf (inputs.Init plain) None = IsRejectedByUrl (parsed_base (plain_base plain)) (text_bytes (plain_base plain))
 IsNoInputOf (inputs.Init plain) (Some base) = ⊥
 
 -- What a pattern is matched against, with the input again; `None` if a URL is rejected.
@@ -86,5 +86,5 @@ abbrev pub FindsInput : StringOrInit → (base : Option (List ℕ)) → Option (
 FindsInput input base found = MatchOption found (IsNoInputOf input base) (IsProcessed input base)
 
 -- The error is that of a base URL passed with an init.
-abbrev pub RefusesSecondBase : StringOrInit → (base : Option (List ℕ)) → ErrorView → Type 0
-RefusesSecondBase input base error = (error ≡ views.BaseUrlWithInit) × HasInitAndBase input base
+abbrev pub RejectsSecondBase : StringOrInit → (base : Option (List ℕ)) → ErrorView → Type 0
+RejectsSecondBase input base error = (error ≡ views.BaseUrlWithInit) × HasInitAndBase input base

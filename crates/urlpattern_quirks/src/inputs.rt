@@ -1,7 +1,7 @@
 //! What a pattern is constructed from, and what it is matched against.
 ghost use Rattle.std.specs.Prelude.{◌≡◌, None, Ok, Some, option_copied, IfErr, IfOk};
 ghost use Rattle.urlpattern_init.specs.Inheritance.{values_view};
-ghost use Rattle.urlpattern_quirks.specs.Inputs.{IsCopyOfText, FindsInput, IsConstructedFrom, IsInitOf, RefusesInput, RefusesSecondBase, parsed_base, plain_base, plain_values, text_bytes};
+ghost use Rattle.urlpattern_quirks.specs.Inputs.{IsCopyOfText, FindsInput, IsConstructedFrom, IsInitOf, RejectsInput, RejectsSecondBase, parsed_base, plain_base, plain_values, text_bytes};
 ghost use Rattle.urlpattern_canonical.specs.Canonical.{Reports};
 ghost use Rattle.urlpattern_inputs.specs.declared.input.StringOrInit.TheVariants as plain_inputs;
 ghost use Rattle.urlpattern_components.specs.Eight.{at};
@@ -33,7 +33,7 @@ pub fn process_construct_pattern_input(
     base_url: Option<&str>,
 ) -> Result<init::UrlPatternInit, Error>
     ensures constructed { IfOk result (IsConstructedFrom input.entry (option_copied base_url.entry)) }
-    ensures refused { IfErr result (MemoryOr (RefusesInput input.entry (option_copied base_url.entry))) }
+    ensures refused { IfErr result (MemoryOr (RejectsInput input.entry (option_copied base_url.entry))) }
 {
     match input {
         StringOrInit::String(text) => init_of_text::<Regex>(alloc, text.as_str(), base_url),
@@ -65,7 +65,7 @@ pub fn process_match_input<'a>(
     base_url: Option<&str>,
 ) -> Result<Option<(UrlPatternMatchInput, Inputs<'a>)>, Error>
     ensures found { IfOk result (FindsInput input.entry (option_copied base_url.entry)) }
-    ensures refused { IfErr result (MemoryOr (RefusesSecondBase input.entry (option_copied base_url.entry))) }
+    ensures refused { IfErr result (MemoryOr (RejectsSecondBase input.entry (option_copied base_url.entry))) }
 {
     match input {
         StringOrInit::String(text) => match_text(alloc, text, base_url),

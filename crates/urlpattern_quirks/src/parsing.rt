@@ -1,7 +1,7 @@
 //! Patterns for browsers: compiled, and as plain data.
 ghost use Rattle.std.specs.Prelude.{◌≡◌, IfErr, IfOk};
-ghost use Rattle.urlpattern_compile.specs.Compiled.{IsPatternOfInit, RefusesInit};
-ghost use Rattle.urlpattern_pattern.specs.ByText.{AnswersByItsText, MakesFirstWays};
+ghost use Rattle.urlpattern_compile.specs.Compiled.{IsPatternOfInit, RejectsInit};
+ghost use Rattle.urlpattern_pattern.specs.ByText.{ReturnsByItsText, MakesFirstWays};
 ghost use Rattle.urlpattern_pattern.specs.KeptParts.{KeepsPartsOf};
 ghost use Rattle.urlpattern_pattern.specs.Patterns.{pattern_view, IfPattern};
 ghost use Rattle.urlpattern_quirks.specs.Quirks.{IsPlainOf, plain_pattern, IsPlainOfInit};
@@ -27,7 +27,7 @@ pub fn parse_pattern<R: RegExp>(
     options: UrlPatternOptions,
 ) -> Result<UrlPattern, Error>
     ensures parsed { IfOk result (IsPlainOfInit R.RegExp init options) }
-    ensures refused { IfErr result (MemoryOr (RefusesInit R.RegExp init options)) }
+    ensures refused { IfErr result (MemoryOr (RejectsInit R.RegExp init options)) }
 {
     let pattern = pattern::UrlPattern::<R>::parse(alloc, init, options)?;
     plain_pattern(alloc, pattern)
@@ -43,8 +43,8 @@ pub fn parse_pattern_as_lib<R: RegExp>(
 ) -> Result<pattern::UrlPattern<R>, Error>
     ensures compiled { IfPattern result (IsPatternOfInit R.RegExp init options) }
     ensures kept { IfOk result (KeepsPartsOf R.RegExp init options) }
-    ensures by_text { MakesFirstWays R.RegExp → IfPattern result (AnswersByItsText R.answer init options) }
-    ensures refused { IfErr result (MemoryOr (RefusesInit R.RegExp init options)) }
+    ensures by_text { MakesFirstWays R.RegExp → IfPattern result (ReturnsByItsText R.answer init options) }
+    ensures refused { IfErr result (MemoryOr (RejectsInit R.RegExp init options)) }
 {
     pattern::UrlPattern::parse(alloc, init, options)
 }

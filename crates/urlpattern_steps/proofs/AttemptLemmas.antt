@@ -11,11 +11,11 @@ use Rattle.urlpattern_meaning.specs.PartMeaning.{Captures}
 use Rattle.urlpattern_syntax.proofs.TextLemmas.{chars-empty}
 use Rattle.urlpattern_steps.specs.declared.step.Group.{Group}
 use Rattle.urlpattern_steps.specs.declared.step.Step.{Step}
-use Rattle.urlpattern_steps.specs.declared.step.Step.TheVariants.{Maybe}
+use Rattle.urlpattern_steps.specs.declared.step.Step.TheVariants.{OptionalGroup}
 use Rattle.urlpattern_steps.specs.declared.walk.Attempt.{Attempt}
-use Rattle.urlpattern_steps.specs.Failed.{IsStateOf}
-use Rattle.urlpattern_steps.specs.Walk.{captured_front, walk}
-use Rattle.urlpattern_steps.specs.Taken.{Extends, FollowsSteps, FollowsOn, Untouched, with_captures}
+use Rattle.urlpattern_steps.specs.FailedStates.{IsStateOf}
+use Rattle.urlpattern_steps.specs.Walk.{captured_prefix, walk}
+use Rattle.urlpattern_steps.specs.Taken.{Extends, MatchesRest, MatchesInTurn, Untouched, with_captures}
 use Rattle.urlpattern_steps.proofs.FailedLemmas.{place_within}
 use Rattle.urlpattern_steps.proofs.FollowLemmas.{plus, adds_none, end_taken, extends_more, front_shortened, plus_captured, plus_maybe, taken_adds}
 
@@ -28,16 +28,16 @@ pub untouched-then : (old now new : Attempt) → Untouched old now → Untouched
 untouched-then old now new first second = record { same = second.same ∙ first.same; whole = second.whole ∙ first.whole }
 
 -- Steps that were tried without a match have no captures.
-pub follows_none : (old new : Attempt) (is_taken : Bool) (found : Option Captures) → is_taken ≡ false → FollowsSteps old new is_taken found → found ≡ None
+pub follows_none : (old new : Attempt) (is_taken : Bool) (found : Option Captures) → is_taken ≡ false → MatchesRest old new is_taken found → found ≡ None
 follows_none old new is_taken found missed follows = adds_none old.captures.items new.captures.items is_taken found missed follows.adds
 
 -- An attempt stays untouched by steps that were tried without a match.
-pub follows_untouched : (old now new : Attempt) (is_taken : Bool) (found : Option Captures) → Untouched old now → is_taken ≡ false → FollowsSteps now new is_taken found → Untouched old new
+pub follows_untouched : (old now new : Attempt) (is_taken : Bool) (found : Option Captures) → Untouched old now → is_taken ≡ false → MatchesRest now new is_taken found → Untouched old new
 follows_untouched old now new is_taken found before missed follows = untouched-then old now new before (record { same = follows.same missed; whole = follows.whole })
 
 -- The whole matches where a part of it that was tried does.
-pub follows_taken : (old now new : Attempt) (is_taken : Bool) (part whole : Option Captures) → Untouched old now → is_taken ≡ true → FollowsSteps now new is_taken part
-    → ((found : Captures) → part ≡ Some found → whole ≡ Some found) → FollowsSteps old new true whole
+pub follows_taken : (old now new : Attempt) (is_taken : Bool) (part whole : Option Captures) → Untouched old now → is_taken ≡ true → MatchesRest now new is_taken part
+    → ((found : Captures) → part ≡ Some found → whole ≡ Some found) → MatchesRest old new true whole
 follows_taken old now new is_taken part whole before taken follows leads = record {
   adds = taken_adds old.captures.items now.captures.items new.captures.items is_taken part whole before.same taken follows.adds leads;
   same = λ e. absurd (false≢true (sym e));
@@ -45,12 +45,12 @@ follows_taken old now new is_taken part whole before taken follows leads = recor
 }
 
 -- The whole does not match where no captures are found.
-pub follows_missed : (old now : Attempt) (found : Option Captures) → Untouched old now → found ≡ None → FollowsSteps old now false found
+pub follows_missed : (old now : Attempt) (found : Option Captures) → Untouched old now → found ≡ None → MatchesRest old now false found
 follows_missed old now found before none = record { adds = sym (ap (plus old.captures.items) none); same = λ e. before.same; whole = before.whole }
 
 -- The outcome of a call on a part is that of the whole.
 pub follows_later : {E : Type 0} (old now new : Attempt) (whole part : Option Captures) (result : Result Bool E) → Untouched old now → whole ≡ part
-    → IfOk result (λ is_taken. FollowsSteps now new is_taken part) → IfOk result (λ is_taken. FollowsSteps old new is_taken whole)
+    → IfOk result (λ is_taken. MatchesRest now new is_taken part) → IfOk result (λ is_taken. MatchesRest old new is_taken whole)
 follows_later old now new whole part (Ok is_taken) before same follows = record {
   adds = follows.adds ∙ ap (λ l. plus l part) before.same ∙ ap (plus old.captures.items) (sym same);
   same = λ e. follows.same e ∙ before.same;
@@ -60,7 +60,7 @@ follows_later old now new whole part (Err error) before same follows = tt
 
 -- ---- captures that stay without a match
 
-pub follows_on : (old new : Attempt) (is_taken : Bool) (found : Option Captures) → FollowsSteps old new is_taken found → FollowsOn old new is_taken found
+pub follows_on : (old new : Attempt) (is_taken : Bool) (found : Option Captures) → MatchesRest old new is_taken found → MatchesInTurn old new is_taken found
 follows_on old new is_taken found follows = record {
   adds = follows.adds;
   more = λ e. ([], follows.same e ∙ sym (append-nil old.captures.items));
@@ -69,14 +69,14 @@ follows_on old new is_taken found follows = record {
 
 -- A call that adds nothing without a match.
 pub call_follows_on : {E : Type 0} (old new : Attempt) (whole part : Option Captures) (result : Result Bool E) → whole ≡ part
-    → IfOk result (λ is_taken. FollowsSteps old new is_taken part) → IfOk result (λ is_taken. FollowsOn old new is_taken whole)
-call_follows_on old new whole part (Ok is_taken) same follows = subst (FollowsOn old new is_taken) (sym same) (follows_on old new is_taken part follows)
+    → IfOk result (λ is_taken. MatchesRest old new is_taken part) → IfOk result (λ is_taken. MatchesInTurn old new is_taken whole)
+call_follows_on old new whole part (Ok is_taken) same follows = subst (MatchesInTurn old new is_taken) (sym same) (follows_on old new is_taken part follows)
 call_follows_on old new whole part (Err error) same follows = tt
 
 -- The steps of an optional group have no match, and those after the group are tried.
 pub maybe_left : (ignore_case : Bool) → {E : Type 0} (old now added new : Attempt) (group : Group) (others left : List Step) (text : List ℕ) (is_taken : Bool) (result : Result Bool E) → is_taken ≡ false
-    → FollowsSteps old now is_taken (walk ignore_case others text) → added.captures.items ≡ now.captures.items ++ replicate group.captures None → added.failed ≡ now.failed → left ≡ drop group.steps others
-    → IfOk result (λ is_left. FollowsOn added new is_left (walk ignore_case left text)) → IfOk result (λ is_left. FollowsOn old new is_left (walk ignore_case (Maybe group ∷ others) text))
+    → MatchesRest old now is_taken (walk ignore_case others text) → added.captures.items ≡ now.captures.items ++ replicate group.captures None → added.failed ≡ now.failed → left ≡ drop group.steps others
+    → IfOk result (λ is_left. MatchesInTurn added new is_left (walk ignore_case left text)) → IfOk result (λ is_left. MatchesInTurn old new is_left (walk ignore_case (OptionalGroup group ∷ others) text))
 maybe_left ignore_case old now added new group others left text is_taken (Ok is_left) missed follows missing whole passed later =
     let none = follows_none old now is_taken (walk ignore_case others text) missed follows in
     let before : added.captures.items ≡ old.captures.items ++ replicate group.captures None = missing ∙ ap (λ l. l ++ replicate group.captures None) (follows.same missed) in
@@ -114,7 +114,7 @@ module _ (ignore_case : Bool) (old now : Attempt) (steps left : List Step) (text
 
   -- A step captures a prefix.
   pub leaves_captured : (new : Attempt) (step : Step) (others : List Step) (front : Bor (List ℕ)) (remaining : List ℕ) → left ≡ step ∷ others → rest ≡ chars front.now ++ remaining
-      → walk ignore_case (step ∷ others) rest ≡ captured_front (walk ignore_case others) (chars front.now) remaining
+      → walk ignore_case (step ∷ others) rest ≡ captured_prefix (walk ignore_case others) (chars front.now) remaining
       → new.captures.items ≡ now.captures.items ++ Some front ∷ [] → new.failed ≡ now.failed → Leaves ignore_case old new steps others text remaining
   leaves_captured new step others front remaining first cut found pushed whole =
       leaves_passed new step others (chars front.now) remaining first cut
@@ -122,11 +122,11 @@ module _ (ignore_case : Bool) (old now : Attempt) (steps left : List Step) (text
       (Some front ∷ [], pushed) whole
 
   -- The rest is not matched.
-  pub leaves_missed : walk ignore_case left rest ≡ None → FollowsOn old now false (walk ignore_case steps text)
+  pub leaves_missed : walk ignore_case left rest ≡ None → MatchesInTurn old now false (walk ignore_case steps text)
   leaves_missed none = record { adds = sym (leaves.so_far ∙ ap (plus now.captures.items) none); more = λ e. leaves.more; whole = leaves.whole }
 
   -- No step is left.
-  pub leaves_end : (is_empty : Bool) → left ≡ [] → (is_empty ≡ true → rest ≡ []) → (is_empty ≡ false → ¬ (rest ≡ [])) → FollowsOn old now is_empty (walk ignore_case steps text)
+  pub leaves_end : (is_empty : Bool) → left ≡ [] → (is_empty ≡ true → rest ≡ []) → (is_empty ≡ false → ¬ (rest ≡ [])) → MatchesInTurn old now is_empty (walk ignore_case steps text)
   leaves_end is_empty none full some = record {
     adds = end_taken ignore_case now.captures.items left rest is_empty is_empty none full some refl ∙ sym leaves.so_far;
     more = λ e. leaves.more;

@@ -6,9 +6,9 @@ use Rattle.std.proofs.Math.Seq.{take-append_seam}
 use Rattle.std.specs.Option.{option_or}
 use Rattle.std.specs.Str.{chars, IsUtf8}
 use Rattle.urlpattern_meaning.specs.PartMeaning.{Captures}
-use Rattle.urlpattern_steps.specs.declared.step.Copies.{Copies as Copied}
+use Rattle.urlpattern_steps.specs.declared.step.RepeatedLiteral.{RepeatedLiteral as Copied}
 use Rattle.urlpattern_steps.specs.declared.step.Step.{Step}
-use Rattle.urlpattern_steps.specs.declared.step.Step.TheVariants.{Literal, Segment, Anything, Maybe, Longest, Copies, Segments}
+use Rattle.urlpattern_steps.specs.declared.step.Step.TheVariants.{Literal, LazyRun, DotStar, OptionalGroup, GreedyRun, RepeatedLiteral, Segments}
 use Rattle.urlpattern_steps.specs.Walk.{AreCopiesOf, BeginsAs, Continuation, after_text, any_rounds, in_turn, literal_text, literals, repeated, rounds, some_rounds, walk, walk_after, walk_copies}
 use Rattle.urlpattern_steps.proofs.Rounds.{advances-after, any-unrolled, keeps-any, keeps-some}
 use Rattle.urlpattern_steps.proofs.StepLemmas.{walk_after-drop}
@@ -51,11 +51,11 @@ after-other ignore_case (c ∷ characters) (d ∷ text) gives front other =
 -- A step that is not literal has no character.
 pub literals_skip : (step : Step) (others : List Step) → ((c : ℕ) → ¬ (step ≡ Literal c)) → literals (step ∷ others) ≡ literals others
 literals_skip (Literal c) others other = absurd (other c refl)
-literals_skip (Segment end) others other = refl
-literals_skip Anything others other = refl
-literals_skip (Maybe group) others other = refl
-literals_skip (Longest run) others other = refl
-literals_skip (Copies copies) others other = refl
+literals_skip (LazyRun end) others other = refl
+literals_skip DotStar others other = refl
+literals_skip (OptionalGroup group) others other = refl
+literals_skip (GreedyRun run) others other = refl
+literals_skip (RepeatedLiteral copies) others other = refl
 literals_skip (Segments segments) others other = refl
 
 -- The result after a literal does not depend on the prefix, if that of the continuation does not.
@@ -88,18 +88,18 @@ module _ (ignore_case : Bool) (c : ℕ) (literal : List ℕ) (next : Next) where
   abbrev copy : List ℕ
   copy = c ∷ literal
 
-  abbrev going_on : Continuation
-  going_on front rest = next rest
+  abbrev end_if_continued : Continuation
+  end_if_continued front rest = next rest
 
   -- The result after as many copies as have one.
   abbrev after_all : (front text : List ℕ) → Option Captures
-  after_all front text = any_rounds (after_text ignore_case copy) going_on front text
+  after_all front text = any_rounds (after_text ignore_case copy) end_if_continued front text
 
   one_more : (last rest : List ℕ) → IsSame ignore_case last copy → after_all [] (last ++ rest) ≡ option_or (after_all [] rest) (next (last ++ rest))
   one_more last rest same =
-      any-unrolled (after_text ignore_case copy) (advances-after ignore_case c literal) going_on [] (last ++ rest)
+      any-unrolled (after_text ignore_case copy) (advances-after ignore_case c literal) end_if_continued [] (last ++ rest)
       ∙ ap (λ o. option_or o (next (last ++ rest)))
-      (after-found ignore_case copy (last ++ rest) rest (any_rounds (after_text ignore_case copy) going_on) [] (last, refl, same)
+      (after-found ignore_case copy (last ++ rest) rest (any_rounds (after_text ignore_case copy) end_if_continued) [] (last, refl, same)
       ∙ rounds-fronts ignore_case copy next (length rest) last [] rest)
 
   all_led : (copies : List (List ℕ)) (rest : List ℕ) → AreCopiesOf ignore_case copy copies → after_all [] (in_turn copies ++ rest) ≡ led next copies rest (after_all [] rest)
@@ -108,12 +108,12 @@ module _ (ignore_case : Bool) (c : ℕ) (literal : List ℕ) (next : Next) where
       ap (after_all []) (append_assoc (in_turn copies) last rest) ∙ all_led copies (last ++ rest) are ∙ ap (led next copies (last ++ rest)) (one_more last rest same)
 
   pub copies_led : (copies : List (List ℕ)) (rest : List ℕ) → AreCopiesOf ignore_case copy copies → ((end : List ℕ) → ¬ BeginsAs ignore_case copy rest end)
-      → any_rounds (after_text ignore_case copy) going_on [] (in_turn copies ++ rest) ≡ led next copies rest (next rest)
+      → any_rounds (after_text ignore_case copy) end_if_continued [] (in_turn copies ++ rest) ≡ led next copies rest (next rest)
   copies_led copies rest are other =
       all_led copies rest are
       ∙ ap (led next copies rest)
-      (any-unrolled (after_text ignore_case copy) (advances-after ignore_case c literal) going_on [] rest
-      ∙ ap (λ o. option_or o (next rest)) (after-other ignore_case copy rest (any_rounds (after_text ignore_case copy) going_on) [] other))
+      (any-unrolled (after_text ignore_case copy) (advances-after ignore_case c literal) end_if_continued [] rest
+      ∙ ap (λ o. option_or o (next rest)) (after-other ignore_case copy rest (any_rounds (after_text ignore_case copy) end_if_continued) [] other))
 
   -- Equal concatenations with suffixes of equal length have equal parts.
   same_ends : (front end front' end' : List ℕ) → front ++ end ≡ front' ++ end' → length end ≡ length end' → (front ≡ front') × (end ≡ end')
@@ -148,18 +148,18 @@ module _ (ignore_case : Bool) (c : ℕ) (literal : List ℕ) (next : Next) where
 
   -- A repeat of one or more copies matches the first copy.
   pub copies_after : (text rest : List ℕ) → BeginsAs ignore_case copy text rest
-      → some_rounds (after_text ignore_case copy) going_on [] text ≡ any_rounds (after_text ignore_case copy) going_on [] rest
+      → some_rounds (after_text ignore_case copy) end_if_continued [] text ≡ any_rounds (after_text ignore_case copy) end_if_continued [] rest
   copies_after text rest begins =
-      after-found ignore_case copy text rest (any_rounds (after_text ignore_case copy) going_on) [] begins ∙ rounds-fronts ignore_case copy next (length rest) begins.0 [] rest
+      after-found ignore_case copy text rest (any_rounds (after_text ignore_case copy) end_if_continued) [] begins ∙ rounds-fronts ignore_case copy next (length rest) begins.0 [] rest
 
 -- ---- the step
 
 -- The step of a repeated literal, by its parts.
 pub copies_step : (ignore_case : Bool) (copies : Copied) (steps literal others : List Step) (text : List ℕ) → literal ≡ take copies.text.others steps → others ≡ drop copies.text.others steps
-    → walk ignore_case (Copies copies ∷ steps) text ≡ repeated copies.may_be_missing (after_text ignore_case (copies.text.first ∷ literals literal)) (λ front rest. walk ignore_case others rest) [] text
+    → walk ignore_case (RepeatedLiteral copies ∷ steps) text ≡ repeated copies.allows_zero (after_text ignore_case (copies.text.first ∷ literals literal)) (λ front rest. walk ignore_case others rest) [] text
 copies_step ignore_case copies steps literal others text e f =
-    ap (λ l. repeated copies.may_be_missing (after_text ignore_case (copies.text.first ∷ literals l)) (λ front rest. walk_after ignore_case copies.text.others steps rest) [] text) (sym e)
-    ∙ by copies.may_be_missing
+    ap (λ l. repeated copies.allows_zero (after_text ignore_case (copies.text.first ∷ literals l)) (λ front rest. walk_after ignore_case copies.text.others steps rest) [] text) (sym e)
+    ∙ by copies.allows_zero
   where
     same : (before rest : List ℕ) → walk_after ignore_case copies.text.others steps rest ≡ walk ignore_case others rest
     same before rest = walk_after-drop ignore_case copies.text.others steps rest ∙ ap (λ l. walk ignore_case l rest) (sym f)
@@ -173,19 +173,19 @@ copies_step ignore_case copies steps literal others text e f =
 
 -- The step of a repeated literal, by whether zero copies match.
 module _ (ignore_case : Bool) (copies : Copied) (steps literal others : List Step) (text : List ℕ) (own : literal ≡ take copies.text.others steps) (passed : others ≡ drop copies.text.others steps) where
-  known : (b : Bool) → copies.may_be_missing ≡ b → walk ignore_case (Copies copies ∷ steps) text ≡ repeated b (after_text ignore_case (literal_text copies.text.first literal)) (λ front rest. walk ignore_case others rest) [] text
+  known : (b : Bool) → copies.allows_zero ≡ b → walk ignore_case (RepeatedLiteral copies ∷ steps) text ≡ repeated b (after_text ignore_case (literal_text copies.text.first literal)) (λ front rest. walk ignore_case others rest) [] text
   known b is = copies_step ignore_case copies steps literal others text own passed ∙ ap (λ o. repeated o (after_text ignore_case (literal_text copies.text.first literal)) (λ front rest. walk ignore_case others rest) [] text) is
 
-  pub copies_any : copies.may_be_missing ≡ true → walk ignore_case (Copies copies ∷ steps) text ≡ walk_copies ignore_case copies.text.first literal others text
+  pub copies_any : copies.allows_zero ≡ true → walk ignore_case (RepeatedLiteral copies ∷ steps) text ≡ walk_copies ignore_case copies.text.first literal others text
   copies_any is = known true is
 
   -- The text begins with a copy.
-  pub copies_some : copies.may_be_missing ≡ false → (rest : List ℕ) → BeginsAs ignore_case (literal_text copies.text.first literal) text rest → walk ignore_case (Copies copies ∷ steps) text ≡ walk_copies ignore_case copies.text.first literal others rest
+  pub copies_some : copies.allows_zero ≡ false → (rest : List ℕ) → BeginsAs ignore_case (literal_text copies.text.first literal) text rest → walk ignore_case (RepeatedLiteral copies ∷ steps) text ≡ walk_copies ignore_case copies.text.first literal others rest
   copies_some is rest cut =
       known false is ∙ copies_after ignore_case copies.text.first (literals literal) (walk ignore_case others) text rest cut
 
   -- The text does not begin with a copy.
-  pub copies_none : copies.may_be_missing ≡ false → ((rest : List ℕ) → ¬ BeginsAs ignore_case (literal_text copies.text.first literal) text rest) → walk ignore_case (Copies copies ∷ steps) text ≡ None
+  pub copies_none : copies.allows_zero ≡ false → ((rest : List ℕ) → ¬ BeginsAs ignore_case (literal_text copies.text.first literal) text rest) → walk ignore_case (RepeatedLiteral copies ∷ steps) text ≡ None
   copies_none is other =
       known false is
       ∙ after-other ignore_case (literal_text copies.text.first literal) text (any_rounds (after_text ignore_case (literal_text copies.text.first literal)) (λ front rest. walk ignore_case others rest)) [] other

@@ -12,7 +12,7 @@ use Rattle.urlpattern_meaning.specs.PartMeaning.{Captures}
 use Rattle.urlpattern_steps.specs.declared.step.Segments.{Segments as Segmented}
 use Rattle.urlpattern_steps.specs.declared.step.Step.{Step}
 use Rattle.urlpattern_steps.specs.declared.step.Step.TheVariants.{Segments}
-use Rattle.urlpattern_steps.specs.Walk.{BeginsAs, Continuation, after_separator, after_text, any_rounds, captured_front, literal_text, literals, segmented, single_run, walk, walk_after, going_on}
+use Rattle.urlpattern_steps.specs.Walk.{BeginsAs, Continuation, after_separator, after_text, any_rounds, captured_prefix, literal_text, literals, segmented, single_run, walk, walk_after, end_if_continued}
 use Rattle.urlpattern_steps.specs.Taken.{IsCutFor, IsEndHere, IsEndOfSegments}
 use Rattle.urlpattern_steps.proofs.CopyLemmas.{after-found, after-other}
 use Rattle.urlpattern_steps.proofs.Rounds.{any-unrolled}
@@ -93,7 +93,7 @@ module _ (ignore_case : Bool) (c : ℕ) (literal : List ℕ) (is_greedy : Bool) 
   stop_cut text front rest next here one two =
       subst (λ o. IsCutFor gives text (option_or next here) o) (sym (stops_unrolled front rest)) (cut-or gives text next here (after_text ignore_case separator begins front rest) (gives front rest) one two)
 
-  pub onward_cut : (text front rest : List ℕ) (table : List (Option ℕ)) (later : Option ℕ) → IsTable text front rest table later → IsCutFor gives text (going_on ignore_case end later rest) (onward front rest)
+  pub onward_cut : (text front rest : List ℕ) (table : List (Option ℕ)) (later : Option ℕ) → IsTable text front rest table later → IsCutFor gives text (end_if_continued ignore_case end later rest) (onward front rest)
   onward_cut text front [] table later is = refl
   onward_cut text front (d ∷ rest) table later is = by (is_same_character ignore_case d end) (is.goes d rest refl)
     where
@@ -194,10 +194,10 @@ module _ (ignore_case : Bool) (c : ℕ) (literal : List ℕ) (is_greedy : Bool) 
 -- The end of separated runs, one of which may end here, by the end here.
 pub here_cut : (next : Next) (text front rest : List ℕ) (following end : Option ℕ) (n : ℕ) → IsUtf8 front → IsUtf8 rest → text ≡ front ++ rest → length front ≡ n
     → IsEndHere following n (next (chars rest)) end
-    → (here : Option ℕ) × (end ≡ option_or following here) × IsCutFor (captured_front next) text here (captured_front next (chars front) (chars rest))
+    → (here : Option ℕ) × (end ≡ option_or following here) × IsCutFor (captured_prefix next) text here (captured_prefix next (chars front) (chars rest))
 here_cut next text front rest (Some m) end n u v e same is = by (next (chars rest)) refl
   where
-    by : (o : Option Captures) → next (chars rest) ≡ o → (here : Option ℕ) × (end ≡ Some m) × IsCutFor (captured_front next) text here (captured_front next (chars front) (chars rest))
+    by : (o : Option Captures) → next (chars rest) ≡ o → (here : Option ℕ) × (end ≡ Some m) × IsCutFor (captured_prefix next) text here (captured_prefix next (chars front) (chars rest))
     by None none = (None, is, ap (option_map (λ others. Some (chars front) ∷ others)) none)
     by (Some x) some = (Some n, is, (front, rest, u, v, e, same, refl, λ none. let f = sym (ap (option_map (λ others. Some (chars front) ∷ others)) some) ∙ none in cc))
 here_cut next text front rest None None n u v e same is = (None, refl, ap (option_map (λ others. Some (chars front) ∷ others)) is)
@@ -212,47 +212,47 @@ here_cut next text front rest None (Some m) n u v e same (is, some) =
 -- end here.
 pub place_cuts : (ignore_case : Bool) (c : ℕ) (literal : List ℕ) (is_greedy : Bool) (end : ℕ) (next : Next) (text front rest : List ℕ) (table : List (Option ℕ)) (later following stopping forward beginning both : Option ℕ) (n : ℕ)
     → IsUtf8 front → IsUtf8 rest → text ≡ front ++ rest → length front ≡ n
-    → IsTable ignore_case c literal is_greedy end (captured_front next) text (chars front) (chars rest) table later
+    → IsTable ignore_case c literal is_greedy end (captured_prefix next) text (chars front) (chars rest) table later
     → ((left : List ℕ) → BeginsAs ignore_case (c ∷ literal) (chars rest) left → length table ≡ length (chars rest) → following ≡ get_or table (length left) None)
     → (((left : List ℕ) → ¬ BeginsAs ignore_case (c ∷ literal) (chars rest) left) → following ≡ None)
     → IsEndHere following n (next (chars rest)) stopping
-    → forward ≡ going_on ignore_case end later (chars rest)
+    → forward ≡ end_if_continued ignore_case end later (chars rest)
     → beginning ≡ cond is_greedy (option_or forward stopping) forward
     → both ≡ cond is_greedy (option_or forward stopping) (option_or stopping forward)
-    → IsCutFor (captured_front next) text beginning (begins ignore_case c literal is_greedy end (captured_front next) (chars front) (chars rest))
-    × IsCutFor (captured_front next) text both (either ignore_case c literal is_greedy end (captured_front next) (chars front) (chars rest))
+    → IsCutFor (captured_prefix next) text beginning (begins ignore_case c literal is_greedy end (captured_prefix next) (chars front) (chars rest))
+    × IsCutFor (captured_prefix next) text both (either ignore_case c literal is_greedy end (captured_prefix next) (chars front) (chars rest))
 place_cuts ignore_case c literal is_greedy end next text front rest table later following stopping forward beginning both n u v e same is there other stop onwards one two =
     let here = here_cut next text front rest following stopping n u v e same stop in
-    let after : IsCutFor (captured_front next) text following (after_text ignore_case (c ∷ literal) (begins ignore_case c literal is_greedy end (captured_front next)) (chars front) (chars rest)) =
-    next_cut ignore_case c literal is_greedy end (captured_front next) text (chars front) (chars rest) table later following is there other in
-    let stopped : IsCutFor (captured_front next) text stopping (stops ignore_case c literal is_greedy end (captured_front next) (chars front) (chars rest)) =
-    subst (λ o. IsCutFor (captured_front next) text o (stops ignore_case c literal is_greedy end (captured_front next) (chars front) (chars rest))) (sym here.1)
-    (stop_cut ignore_case c literal is_greedy end (captured_front next) text (chars front) (chars rest) following here.0 after here.2) in
-    let went : IsCutFor (captured_front next) text forward (onward ignore_case c literal is_greedy end (captured_front next) (chars front) (chars rest)) =
-    subst (λ o. IsCutFor (captured_front next) text o (onward ignore_case c literal is_greedy end (captured_front next) (chars front) (chars rest))) (sym onwards)
-    (onward_cut ignore_case c literal is_greedy end (captured_front next) text (chars front) (chars rest) table later is) in (
-      beginning_cut ignore_case c literal is_greedy end (captured_front next) text (chars front) (chars rest) forward stopping beginning went stopped one,
-      either_cut ignore_case c literal is_greedy end (captured_front next) text (chars front) (chars rest) forward stopping both went stopped two,
+    let after : IsCutFor (captured_prefix next) text following (after_text ignore_case (c ∷ literal) (begins ignore_case c literal is_greedy end (captured_prefix next)) (chars front) (chars rest)) =
+    next_cut ignore_case c literal is_greedy end (captured_prefix next) text (chars front) (chars rest) table later following is there other in
+    let stopped : IsCutFor (captured_prefix next) text stopping (stops ignore_case c literal is_greedy end (captured_prefix next) (chars front) (chars rest)) =
+    subst (λ o. IsCutFor (captured_prefix next) text o (stops ignore_case c literal is_greedy end (captured_prefix next) (chars front) (chars rest))) (sym here.1)
+    (stop_cut ignore_case c literal is_greedy end (captured_prefix next) text (chars front) (chars rest) following here.0 after here.2) in
+    let went : IsCutFor (captured_prefix next) text forward (onward ignore_case c literal is_greedy end (captured_prefix next) (chars front) (chars rest)) =
+    subst (λ o. IsCutFor (captured_prefix next) text o (onward ignore_case c literal is_greedy end (captured_prefix next) (chars front) (chars rest))) (sym onwards)
+    (onward_cut ignore_case c literal is_greedy end (captured_prefix next) text (chars front) (chars rest) table later is) in (
+      beginning_cut ignore_case c literal is_greedy end (captured_prefix next) text (chars front) (chars rest) forward stopping beginning went stopped one,
+      either_cut ignore_case c literal is_greedy end (captured_prefix next) text (chars front) (chars rest) forward stopping both went stopped two,
     )
 
 -- The ends at a place, with the table as it is kept and the remaining text.
 pub place_ends : (ignore_case : Bool) (c : ℕ) (literal : List ℕ) (is_greedy : Bool) (end : ℕ) (next : Next) (text front rest left : List ℕ) (table kept : List (Option ℕ)) (later following stopping forward beginning both : Option ℕ)
     → IsUtf8 front → IsUtf8 left → text ≡ front ++ rest → text ≡ front ++ left
-    → IsTable ignore_case c literal is_greedy end (captured_front next) text (chars front) (chars left) kept later → table ≡ kept
+    → IsTable ignore_case c literal is_greedy end (captured_prefix next) text (chars front) (chars left) kept later → table ≡ kept
     → ((behind : List ℕ) → BeginsAs ignore_case (c ∷ literal) (chars rest) behind → length table ≡ length (chars rest) → following ≡ get_or table (length behind) None)
     → (((behind : List ℕ) → ¬ BeginsAs ignore_case (c ∷ literal) (chars rest) behind) → following ≡ None)
     → IsEndHere following (length front) (next (chars rest)) stopping
-    → forward ≡ going_on ignore_case end later (chars rest)
+    → forward ≡ end_if_continued ignore_case end later (chars rest)
     → beginning ≡ cond is_greedy (option_or forward stopping) forward
     → both ≡ cond is_greedy (option_or forward stopping) (option_or stopping forward)
-    → IsTable ignore_case c literal is_greedy end (captured_front next) text (chars front) (chars rest) table later
-    × IsCutFor (captured_front next) text beginning (begins ignore_case c literal is_greedy end (captured_front next) (chars front) (chars rest))
-    × IsCutFor (captured_front next) text both (either ignore_case c literal is_greedy end (captured_front next) (chars front) (chars rest))
+    → IsTable ignore_case c literal is_greedy end (captured_prefix next) text (chars front) (chars rest) table later
+    × IsCutFor (captured_prefix next) text beginning (begins ignore_case c literal is_greedy end (captured_prefix next) (chars front) (chars rest))
+    × IsCutFor (captured_prefix next) text both (either ignore_case c literal is_greedy end (captured_prefix next) (chars front) (chars rest))
 place_ends ignore_case c literal is_greedy end next text front rest left table kept later following stopping forward beginning both u v e f is same there other stop onwards one two =
     let behind : rest ≡ left = append_cancel_left front rest left (sym e ∙ f) in
-    let placed : IsTable ignore_case c literal is_greedy end (captured_front next) text (chars front) (chars rest) table later =
-    subst (λ t. IsTable ignore_case c literal is_greedy end (captured_front next) text (chars front) (chars rest) t later) (sym same)
-    (subst (λ r. IsTable ignore_case c literal is_greedy end (captured_front next) text (chars front) (chars r) kept later) (sym behind) is) in
+    let placed : IsTable ignore_case c literal is_greedy end (captured_prefix next) text (chars front) (chars rest) table later =
+    subst (λ t. IsTable ignore_case c literal is_greedy end (captured_prefix next) text (chars front) (chars rest) t later) (sym same)
+    (subst (λ r. IsTable ignore_case c literal is_greedy end (captured_prefix next) text (chars front) (chars r) kept later) (sym behind) is) in
     let cuts = place_cuts ignore_case c literal is_greedy end next text front rest table later following stopping forward beginning both (length front) u (subst IsUtf8 (sym behind) v) e refl placed there other stop onwards one two in
     (placed, cuts.0, cuts.1)
 
@@ -260,10 +260,10 @@ place_ends ignore_case c literal is_greedy end next text front rest left table k
 
 -- The step of separated runs, by its parts.
 pub segments_step : (ignore_case : Bool) (segments : Segmented) (steps literal others : List Step) (text : List ℕ) → literal ≡ take segments.separator.others steps → others ≡ drop segments.separator.others steps
-    → walk ignore_case (Segments segments ∷ steps) text ≡ segmented ignore_case (segments.separator.first ∷ literals literal) (single_run ignore_case segments.is_greedy segments.end) (captured_front (walk ignore_case others)) [] text
+    → walk ignore_case (Segments segments ∷ steps) text ≡ segmented ignore_case (segments.separator.first ∷ literals literal) (single_run ignore_case segments.is_greedy segments.end) (captured_prefix (walk ignore_case others)) [] text
 segments_step ignore_case segments steps literal others text e f =
-    ap (λ l. segmented ignore_case (segments.separator.first ∷ literals l) (single_run ignore_case segments.is_greedy segments.end) (captured_front (walk_after ignore_case segments.separator.others steps)) [] text) (sym e)
-    ∙ (keeps-segmented ignore_case segments.separator.first (literals literal) segments.is_greedy segments.end).same (captured_front (walk_after ignore_case segments.separator.others steps)) (captured_front (walk ignore_case others)) [] text
+    ap (λ l. segmented ignore_case (segments.separator.first ∷ literals l) (single_run ignore_case segments.is_greedy segments.end) (captured_prefix (walk_after ignore_case segments.separator.others steps)) [] text) (sym e)
+    ∙ (keeps-segmented ignore_case segments.separator.first (literals literal) segments.is_greedy segments.end).same (captured_prefix (walk_after ignore_case segments.separator.others steps)) (captured_prefix (walk ignore_case others)) [] text
     (λ before rest le.
     ap (option_map (λ more. Some before ∷ more)) (walk_after-drop ignore_case segments.separator.others steps rest ∙ ap (λ l. walk ignore_case l rest) (sym f)))
 
@@ -278,18 +278,18 @@ same_fronts front rest front' rest' e n =
 -- The step of separated runs, by their end.
 module _ (ignore_case : Bool) (segments : Segmented) (steps literal others : List Step) (text : List ℕ) (own : literal ≡ take segments.separator.others steps) (passed : others ≡ drop segments.separator.others steps) where
   pub segments_some : (end : Option ℕ) (n : ℕ) (front rest : List ℕ) → IsEndOfSegments ignore_case segments literal others text end → end ≡ Some n → text ≡ front ++ rest → length front ≡ n
-      → walk ignore_case (Segments segments ∷ steps) (chars text) ≡ captured_front (walk ignore_case others) (chars front) (chars rest)
+      → walk ignore_case (Segments segments ∷ steps) (chars text) ≡ captured_prefix (walk ignore_case others) (chars front) (chars rest)
   segments_some end n front rest is some e count =
-      let found = segmented ignore_case (literal_text segments.separator.first literal) (single_run ignore_case segments.is_greedy segments.end) (captured_front (walk ignore_case others)) [] (chars text) in
-      let cut : IsCutFor (captured_front (walk ignore_case others)) text (Some n) found = subst (λ o. IsCutFor (captured_front (walk ignore_case others)) text o found) some is in
+      let found = segmented ignore_case (literal_text segments.separator.first literal) (single_run ignore_case segments.is_greedy segments.end) (captured_prefix (walk ignore_case others)) [] (chars text) in
+      let cut : IsCutFor (captured_prefix (walk ignore_case others)) text (Some n) found = subst (λ o. IsCutFor (captured_prefix (walk ignore_case others)) text o found) some is in
       let parts = same_fronts front rest cut.0 cut.1 (sym e ∙ cut.4) (count ∙ sym cut.5) in
       segments_step ignore_case segments steps literal others (chars text) own passed
-      ∙ cut.6 ∙ ap (λ f. captured_front (walk ignore_case others) (chars f) (chars cut.1)) (sym parts.0) ∙ ap (λ r. captured_front (walk ignore_case others) (chars front) (chars r)) (sym parts.1)
+      ∙ cut.6 ∙ ap (λ f. captured_prefix (walk ignore_case others) (chars f) (chars cut.1)) (sym parts.0) ∙ ap (λ r. captured_prefix (walk ignore_case others) (chars front) (chars r)) (sym parts.1)
 
   pub segments_none : (end : Option ℕ) → IsEndOfSegments ignore_case segments literal others text end → end ≡ None → walk ignore_case (Segments segments ∷ steps) (chars text) ≡ None
   segments_none end is none =
-      let found = segmented ignore_case (literal_text segments.separator.first literal) (single_run ignore_case segments.is_greedy segments.end) (captured_front (walk ignore_case others)) [] (chars text) in
-      let nothing : found ≡ None = subst (λ o. IsCutFor (captured_front (walk ignore_case others)) text o found) none is in
+      let found = segmented ignore_case (literal_text segments.separator.first literal) (single_run ignore_case segments.is_greedy segments.end) (captured_prefix (walk ignore_case others)) [] (chars text) in
+      let nothing : found ≡ None = subst (λ o. IsCutFor (captured_prefix (walk ignore_case others)) text o found) none is in
       segments_step ignore_case segments steps literal others (chars text) own passed ∙ nothing
 
 -- The table at the previous character.

@@ -7,7 +7,7 @@ use Rattle.std.proofs.lemmas.List.{get_or-set_same, get_or-set_other, take-appen
 use Rattle.std.proofs.Math.Seq.{drop-append_seam, take-length}
 use Rattle.std.proofs.lemmas.Nat.{div-mul-add}
 use Rattle.urlpattern_steps.specs.declared.step.Step.{Step}
-use Rattle.urlpattern_steps.specs.Failed.{AreDead, EndsWith, HasBit, IsStateOf, Whole, bit_of}
+use Rattle.urlpattern_steps.specs.FailedStates.{AreFailed, EndsWith, HasBit, IsStateOf, Whole, bit_of}
 use Rattle.urlpattern_steps.specs.Walk.{walk}
 use Rattle.urlpattern_syntax.proofs.TextLemmas.{byte_len-append, length-le-byte_len}
 use Rattle.urlpattern_syntax.specs.Text.{byte_len}
@@ -50,7 +50,7 @@ no_bit : (bits : List ℕ) → ((k : ℕ) → get_or bits k 0 ≡ 0) → (bit : 
 unfolding HasBit
 no_bit bits zeros bit has = absurd (omega (arith, ap (λ n. bit_at n (bit % 64)) (zeros (bit / 64)), bit_at-zero (bit % 64)))
 
-pub dead_without : (whole : Whole) (bits : List ℕ) → ((k : ℕ) → get_or bits k 0 ≡ 0) → AreDead whole bits
+pub dead_without : (whole : Whole) (bits : List ℕ) → ((k : ℕ) → get_or bits k 0 ≡ 0) → AreFailed whole bits
 dead_without whole bits zeros = λ steps text place has. absurd (no_bit bits zeros (bit_of whole.text steps text) has)
 
 short_text : (whole text : List ℕ) → EndsWith whole text → byte_len text < byte_len whole + 1
@@ -70,7 +70,7 @@ same_place ignore_case also_ignored whole steps others text other place also e =
 
 -- A failed state is added to the bits.
 pub dead_more : (ignore_case : Bool) (whole : Whole) (old new : List ℕ) (bit : ℕ) (steps : List Step) (text : List ℕ) → IsStateOf ignore_case whole steps text → walk ignore_case steps text ≡ None → bit ≡ bit_of whole.text steps text
-    → ((other : ℕ) → HasBit new other → HasBit old other ⊎ (other ≡ bit)) → AreDead whole old → AreDead whole new
+    → ((other : ℕ) → HasBit new other → HasBit old other ⊎ (other ≡ bit)) → AreFailed whole old → AreFailed whole new
 dead_more ignore_case whole old new bit steps text place none is more dead = λ others other also has.
     elim (more (bit_of whole.text others other) has) [
       | inl was ↦ dead others other also was

@@ -3,7 +3,7 @@ use Rattle.std.proofs.Common.{◌≡◌, Bool, ℕ, ◌≤◌, List, [], ◌∷�
 use Rattle.std.proofs.lemmas.List.{length-drop}
 use Rattle.std.specs.Str.{chars, IsUtf8}
 use Rattle.urlpattern_steps.specs.declared.step.Step.{Step}
-use Rattle.urlpattern_steps.specs.Failed.{EndsWith, IsStateOf, Whole}
+use Rattle.urlpattern_steps.specs.FailedStates.{EndsWith, IsStateOf, Whole}
 use Rattle.urlpattern_steps.proofs.FailedLemmas.{ends_drop, ends_same, place_within}
 use Rattle.urlpattern_steps.proofs.FollowLemmas.{chars_end}
 

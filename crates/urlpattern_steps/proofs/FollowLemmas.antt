@@ -11,9 +11,9 @@ use Rattle.urlpattern_meaning.specs.PartMeaning.{Captures}
 use Rattle.urlpattern_syntax.proofs.StringTexts.{chars-encode}
 use Rattle.urlpattern_steps.specs.declared.step.Group.{Group}
 use Rattle.urlpattern_steps.specs.declared.step.Step.{Step}
-use Rattle.urlpattern_steps.specs.declared.step.Step.TheVariants.{Anything, Literal, Maybe, Segment}
-use Rattle.urlpattern_steps.specs.Failed.{EndsWith, HasEnded}
-use Rattle.urlpattern_steps.specs.Walk.{BeginsAs, Continuation, captured_front, longest, shortest, up_to_first, walk}
+use Rattle.urlpattern_steps.specs.declared.step.Step.TheVariants.{DotStar, Literal, OptionalGroup, LazyRun}
+use Rattle.urlpattern_steps.specs.FailedStates.{EndsWith, HasEnded}
+use Rattle.urlpattern_steps.specs.Walk.{BeginsAs, Continuation, captured_prefix, longest, shortest, up_to_first, walk}
 use Rattle.urlpattern_steps.specs.Taken.{AreAdded, Extends, Kept}
 use Rattle.urlpattern_steps.proofs.SameLemmas.{one_begins}
 use Rattle.urlpattern_steps.proofs.RunLemmas.{longest_found, longest_no_more, shortest_ended}
@@ -67,7 +67,7 @@ plus_missing now n (Some others) =
 
 -- An optional group is skipped, after it was tried.
 pub plus_maybe : (ignore_case : Bool) (now new more : Kept) (group : Group) (others : List Step) (rest : List ℕ) → walk ignore_case others rest ≡ None → new ≡ now → more ≡ new ++ replicate group.captures None
-    → plus now (walk ignore_case (Maybe group ∷ others) rest) ≡ plus more (walk ignore_case (drop group.steps others) rest)
+    → plus now (walk ignore_case (OptionalGroup group ∷ others) rest) ≡ plus more (walk ignore_case (drop group.steps others) rest)
 plus_maybe ignore_case now new more group others rest none same missing =
     ap (plus now) (maybe_missing ignore_case group others rest none)
     ∙ plus_missing now group.captures (walk ignore_case (drop group.steps others) rest)
@@ -124,7 +124,7 @@ shortest_grown ignore_case end gives text front before rest remaining c e f othe
     ∙ ap (λ b. option_or (gives b remaining) (shortest ignore_case end gives (front ++ c ∷ []) remaining)) (sym (front_grows text front before rest remaining c e f g))
 
 -- After the run has ended, no longer prefix matches.
-pub run_ended : (ignore_case : Bool) (end : ℕ) (steps others : List Step) (front rest : List ℕ) → steps ≡ Segment end ∷ others → HasEnded ignore_case end steps rest → shortest ignore_case end (captured_front (walk ignore_case others)) front rest ≡ None
+pub run_ended : (ignore_case : Bool) (end : ℕ) (steps others : List Step) (front rest : List ℕ) → steps ≡ LazyRun end ∷ others → HasEnded ignore_case end steps rest → shortest ignore_case end (captured_prefix (walk ignore_case others)) front rest ≡ None
 run_ended ignore_case end steps others front rest first ended = shortest_ended ignore_case end (walk ignore_case others) front rest (subst (λ s. HasEnded ignore_case end s rest) first ended)
 
 -- ---- greedy runs
@@ -153,28 +153,28 @@ front_shortened text front shorter rest c scalar u e f =
 
 -- No prefix of this length or longer has a match.
 pub longest_missed : (ignore_case : Bool) (others : List Step) (text front rest left : List ℕ) (old new : Kept) (is_taken : Bool) → text ≡ front ++ rest → text ≡ front ++ left
-    → longest ignore_case line_feed (captured_front (walk ignore_case others)) (chars front) (chars left) ≡ captured_front (walk ignore_case others) (chars front) (chars left)
-    → is_taken ≡ false → AreAdded old new is_taken (captured_front (walk ignore_case others) (chars front) (chars rest))
-    → longest ignore_case line_feed (captured_front (walk ignore_case others)) (chars front) (chars rest) ≡ None
+    → longest ignore_case line_feed (captured_prefix (walk ignore_case others)) (chars front) (chars left) ≡ captured_prefix (walk ignore_case others) (chars front) (chars left)
+    → is_taken ≡ false → AreAdded old new is_taken (captured_prefix (walk ignore_case others) (chars front) (chars rest))
+    → longest ignore_case line_feed (captured_prefix (walk ignore_case others)) (chars front) (chars rest) ≡ None
 longest_missed ignore_case others text front rest left old new is_taken e f no_longer missed adds =
-    let gives : Continuation = captured_front (walk ignore_case others) in
+    let gives : Continuation = captured_prefix (walk ignore_case others) in
     let behind : rest ≡ left = append_cancel_left front rest left (sym e ∙ f) in
     subst (λ r. longest ignore_case line_feed gives (chars front) (chars r) ≡ gives (chars front) (chars r)) (sym behind) no_longer
     ∙ adds_none old new is_taken (gives (chars front) (chars rest)) missed adds
 
-module _ (ignore_case : Bool) (steps others : List Step) (first : steps ≡ Anything ∷ others) where
+module _ (ignore_case : Bool) (steps others : List Step) (first : steps ≡ DotStar ∷ others) where
   -- No prefix that begins with this one has a match.
-  pub longest_dead : (front rest : List ℕ) → longest ignore_case line_feed (captured_front (walk ignore_case others)) front rest ≡ None → walk ignore_case steps rest ≡ None
+  pub longest_dead : (front rest : List ℕ) → longest ignore_case line_feed (captured_prefix (walk ignore_case others)) front rest ≡ None → walk ignore_case steps rest ≡ None
   longest_dead front rest none = ap (λ s. walk ignore_case s rest) first ∙ longest_no_more ignore_case line_feed (walk ignore_case others) front [] rest none
 
   -- The longest prefix with a match.
   pub longest_taken : (text front rest left : List ℕ) (found : Captures) → IsUtf8 front → text ≡ front ++ rest → text ≡ front ++ left → up_to_first ignore_case line_feed (chars front) ≡ chars front
-      → longest ignore_case line_feed (captured_front (walk ignore_case others)) (chars front) (chars left) ≡ captured_front (walk ignore_case others) (chars front) (chars left)
-      → captured_front (walk ignore_case others) (chars front) (chars rest) ≡ Some found → walk ignore_case steps (chars text) ≡ Some found
+      → longest ignore_case line_feed (captured_prefix (walk ignore_case others)) (chars front) (chars left) ≡ captured_prefix (walk ignore_case others) (chars front) (chars left)
+      → captured_prefix (walk ignore_case others) (chars front) (chars rest) ≡ Some found → walk ignore_case steps (chars text) ≡ Some found
   longest_taken text front rest left found u e f lacks no_longer some =
-      let gives : Continuation = captured_front (walk ignore_case others) in
+      let gives : Continuation = captured_prefix (walk ignore_case others) in
       let behind : rest ≡ left = append_cancel_left front rest left (sym e ∙ f) in
       ap (λ s. walk ignore_case s (chars text)) first
-      ∙ ap (walk ignore_case (Anything ∷ others)) (ap chars e ∙ chars-append front rest u)
+      ∙ ap (walk ignore_case (DotStar ∷ others)) (ap chars e ∙ chars-append front rest u)
       ∙ longest_found ignore_case line_feed gives [] (chars front) (chars rest) found lacks
       (subst (λ r. longest ignore_case line_feed gives (chars front) (chars r) ≡ gives (chars front) (chars r)) (sym behind) no_longer ∙ some)

@@ -15,13 +15,13 @@ use Rattle.urlpattern_syntax.specs.Options.{OptionsView}
 use Rattle.urlpattern_syntax.specs.Parts.{PartView}
 use Rattle.urlpattern_syntax.specs.RegexpText.{IsWildcard, escaped_marks, is_empty}
 use Rattle.urlpattern_syntax.specs.Text.{line_feed}
-use Rattle.urlpattern_steps.specs.declared.step_tokens.Times.{Times}
-use Rattle.urlpattern_steps.specs.declared.step_tokens.Times.TheVariants as often
+use Rattle.urlpattern_steps.specs.declared.step_tokens.GroupQuantifier.{GroupQuantifier}
+use Rattle.urlpattern_steps.specs.declared.step_tokens.GroupQuantifier.TheVariants as often
 use Rattle.urlpattern_steps.specs.declared.step.Step.{Step}
-use Rattle.urlpattern_steps.specs.declared.step.Step.TheVariants.{Literal, Longest}
+use Rattle.urlpattern_steps.specs.declared.step.Step.TheVariants.{Literal, GreedyRun}
 use Rattle.urlpattern_steps.specs.ReadSteps.{IsRunOf, IsStepOf, quantifier_of}
 use Rattle.urlpattern_steps.specs.Walk.{capture_count}
-use Rattle.urlpattern_steps.proofs.FrontLemmas.{run_step, run_step_is}
+use Rattle.urlpattern_steps.proofs.PrefixLemmas.{run_step, run_step_is}
 use Rattle.urlpattern_steps.proofs.SegmentLemmas.{in_order, segment_items}
 use Rattle.urlpattern_steps.proofs.StepTokenLemmas.{captures_one}
 
@@ -58,7 +58,7 @@ AreSingle (Item (dialect.Literal character) Once items) = AreSingle items
 AreSingle (Item atom quantifier items) = ⊥
 
 -- The body of a group with this quantifier.
-abbrev pub StandInside : Times → Items → Type 0
+abbrev pub StandInside : GroupQuantifier → Items → Type 0
 StandInside often.Once items = AreInside items
 StandInside often.Optional items = AreInside items
 StandInside often.ZeroOrMore items = AreSingle items
@@ -66,7 +66,7 @@ StandInside often.OneOrMore items = AreSingle items
 
 -- The atom is a group with its quantifier.
 pub record IsGroupAtom (quantifier : Quantifier) (atom : Atom) : Type 0 where
-  pub times : Times
+  pub times : GroupQuantifier
   pub inner : Items
   pub taken : quantifier_of times ≡ quantifier
   pub same : atom ≡ Grouped inner
@@ -126,9 +126,9 @@ bare_readable : (modifier : PartModifier) (piece : Items) → IsRun piece → Is
 bare_readable modifiers.None piece run = run_captured piece run
 bare_readable modifiers.Optional piece run = let step = run_captured piece run in (step.0, step.1, captures_one step.0 piece step.1)
 bare_readable modifiers.ZeroOrMore piece run =
-    (Longest (record { end = run.end; may_be_empty = true }), (piece, run.is_greedy, ZeroOrMore, run.is_run, refl, refl))
+    (GreedyRun (record { end = run.end; may_be_empty = true }), (piece, run.is_greedy, ZeroOrMore, run.is_run, refl, refl))
 bare_readable modifiers.OneOrMore piece run =
-    (Longest (record { end = run.end; may_be_empty = run.is_greedy }), (piece, run.is_greedy, OneOrMore, run.is_run, refl, refl))
+    (GreedyRun (record { end = run.end; may_be_empty = run.is_greedy }), (piece, run.is_greedy, OneOrMore, run.is_run, refl, refl))
 
 -- ---- separated runs
 
@@ -173,7 +173,7 @@ copies_segments marks prefix piece (c ∷ suffix) run e =
 between_inside : (marks prefix : List ℕ) (core : Items) (suffix : List ℕ) → (IsStep Once (Captured core) ⊎ IsSegmentGroup (Captured core)) → AreInside (between marks prefix core suffix)
 between_inside marks prefix core suffix captured = put_inside marks prefix _ (captured, put_inside marks suffix Nothing tt)
 
-grouped : (times : Times) (inner : Items) → StandInside times inner → IsGroupAtom (quantifier_of times) (Grouped inner)
+grouped : (times : GroupQuantifier) (inner : Items) → StandInside times inner → IsGroupAtom (quantifier_of times) (Grouped inner)
 grouped times inner inside = record { times = times; inner = inner; taken = refl; same = refl; inside = inside }
 
 affixed_readable : (modifier : PartModifier) (marks prefix : List ℕ) (piece : Items) (suffix : List ℕ) → IsRun piece → (is_empty prefix && is_empty suffix) ≡ false

@@ -12,15 +12,15 @@ use Rattle.urlpattern_meaning.proofs.PartTreeAllowed.{tree_allowed}
 use Rattle.urlpattern_meaning.proofs.PartTreeTexts.{tree_text}
 use Rattle.urlpattern_syntax.specs.RegexpText.{regexp_marks}
 use Rattle.urlpattern_syntax.specs.Text.{is_among}
-use Rattle.urlpattern_steps.specs.declared.step_tokens.Times.{Times}
-use Rattle.urlpattern_steps.specs.declared.step_tokens.Times.TheVariants as often
+use Rattle.urlpattern_steps.specs.declared.step_tokens.GroupQuantifier.{GroupQuantifier}
+use Rattle.urlpattern_steps.specs.declared.step_tokens.GroupQuantifier.TheVariants as often
 use Rattle.urlpattern_steps.specs.declared.step_tokens.StepToken.{StepToken}
-use Rattle.urlpattern_steps.specs.declared.step_tokens.StepToken.TheVariants.{Open, Close, Step as One, MaybeStep, FirstSegment}
+use Rattle.urlpattern_steps.specs.declared.step_tokens.StepToken.TheVariants.{Open, Close, Step as One, OptionalStep, FirstSegment}
 use Rattle.urlpattern_steps.specs.declared.step.Step.{Step}
 use Rattle.urlpattern_steps.specs.declared.step.Step.TheVariants.{Literal, Segments}
 use Rattle.urlpattern_meaning.specs.GeneratedTexts.{IsGenerated}
-use Rattle.urlpattern_steps.specs.ReadSteps.{AreCharacters, AreCopySteps, AreLiterals, BeginsWithRegexpToken, EndsSegments, IsStepGroup, IsUnquantified, characters_text, literal_steps, times_text}
-use Rattle.urlpattern_steps.proofs.FrontLemmas.{apart, by_token, character_kind, ByItself, IsEscapedAt}
+use Rattle.urlpattern_steps.specs.ReadSteps.{AreCharacters, AreCopySteps, AreLiterals, BeginsWithRegexpToken, EndsSegments, IsStepGroup, IsUnquantified, characters_text, literal_steps, group_quantifier_text}
+use Rattle.urlpattern_steps.proofs.PrefixLemmas.{apart, by_token, character_kind, ByItself, IsEscapedAt}
 use Rattle.urlpattern_steps.proofs.Generated.{AreInside, AreReadable, AreSingle, IsGroupAtom, IsSegmentGroup, IsStep, StandInside, tree_readable}
 use Rattle.urlpattern_steps.proofs.SegmentTextLemmas.{in_order_text, spelled_segments}
 use Rattle.urlpattern_steps.proofs.SegmentLemmas.{in_order}
@@ -28,7 +28,7 @@ use Rattle.urlpattern_steps.proofs.SegmentLemmas.{in_order}
 -- ---- the rest of an expression
 
 -- The steps so far of a group that is to have this quantifier.
-abbrev pub MayBeTaken : Times → List Step → Type 0
+abbrev pub MayBeTaken : GroupQuantifier → List Step → Type 0
 MayBeTaken often.Once own = Unit {0}
 MayBeTaken often.Optional own = Unit {0}
 MayBeTaken often.ZeroOrMore own = AreLiterals own
@@ -40,13 +40,13 @@ IsLeftOutside rest = (tree : Items) × AreItems tree × AreReadable tree × (res
 -- The rest of a group, its closing parenthesis, and the rest of the expression.
 pub record IsLeftInside (rest : List ℕ) (own : List Step) : Type 0 where
   pub inner : Items
-  pub times : Times
+  pub times : GroupQuantifier
   pub outer : List ℕ
   pub are : AreItems inner
   pub inside : StandInside times inner
   pub so_far : MayBeTaken times own
   pub left : IsLeftOutside outer
-  pub spelled : rest ≡ items_text inner ++ (codes ")" ++ (times_text times ++ outer))
+  pub spelled : rest ≡ items_text inner ++ (codes ")" ++ (group_quantifier_text times ++ outer))
 
 -- The rest of a generated expression, outside of a group or inside of one whose steps begin at
 -- `first`.
@@ -57,7 +57,7 @@ IsLeft (Some first) rest done = IsLeftInside rest (drop first done)
 -- The rest of a generated expression after a token.
 abbrev pub GoesOn : StepToken → (opened : Option ℕ) → (rest : List ℕ) → List Step → Type 0
 GoesOn (One step) opened rest done = IsLeft opened rest (done ++ step ∷ [])
-GoesOn (MaybeStep step) opened rest done = (own : List Step) → IsLeft opened rest (done ++ own)
+GoesOn (OptionalStep step) opened rest done = (own : List Step) → IsLeft opened rest (done ++ own)
 GoesOn Open opened rest done = (opened ≡ None) × IsLeft (Some (length done)) rest done
 GoesOn (Close times) opened rest done =
     (first : ℕ) × (group : List Step) × (opened ≡ Some first) × IsStepGroup times (drop first done) group × ((steps : List Step) → IsLeft None rest steps)
@@ -102,7 +102,7 @@ step_comes opened Once atom rest tail done is (step, of) e unquantified more = r
   goes_on = more (step ∷ []);
 }
 step_comes opened Optional atom rest tail done is (step, of, one) e unquantified more = record {
-  token = MaybeStep step;
+  token = OptionalStep step;
   remaining = tail;
   begins = (atom_text atom ++ codes "?", (atom_text atom, one, (atom, is, of, refl), refl), e);
   unquantified = unquantified;
@@ -114,7 +114,7 @@ step_comes opened LazyOneOrMore atom rest tail done is step e unquantified more 
 
 -- ---- groups
 
-nothing_taken : (times : Times) → MayBeTaken times []
+nothing_taken : (times : GroupQuantifier) → MayBeTaken times []
 nothing_taken often.Once = tt
 nothing_taken often.Optional = tt
 nothing_taken often.ZeroOrMore = tt
@@ -124,7 +124,7 @@ group_comes : (quantifier : Quantifier) (atom : Atom) (rest tail : List ℕ) (do
     → rest ≡ (atom_text atom ++ quantifier_text quantifier) ++ tail → IsLeftOutside tail → Comes None rest done
 group_comes quantifier atom rest tail done is group e left =
     let inner : Items = group.inner in
-    let written : List ℕ = times_text group.times in
+    let written : List ℕ = group_quantifier_text group.times in
     let remaining : List ℕ = items_text inner ++ (codes ")" ++ (written ++ tail)) in
     let are : AreItems inner = subst IsAtom group.same is in
     let whole : rest ≡ (atom_text (Grouped inner) ++ written) ++ tail =
@@ -188,25 +188,25 @@ segments_come opened atom rest tail done is group e more =
 
 -- ---- the end of a group
 
-copied : (may_be_missing : Bool) (own : List Step) → AreLiterals own → (group : List Step) × (((own ≡ []) × (group ≡ [])) ⊎ AreCopySteps may_be_missing own group)
-copied may_be_missing [] plain = ([], inl (refl, refl))
-copied may_be_missing (Literal c ∷ others) plain = (_, inr (c, others, refl, plain, refl))
-copied may_be_missing (step ∷ others) plain = absurd plain
+copied : (allows_zero : Bool) (own : List Step) → AreLiterals own → (group : List Step) × (((own ≡ []) × (group ≡ [])) ⊎ AreCopySteps allows_zero own group)
+copied allows_zero [] plain = ([], inl (refl, refl))
+copied allows_zero (Literal c ∷ others) plain = (_, inr (c, others, refl, plain, refl))
+copied allows_zero (step ∷ others) plain = absurd plain
 
-closes : (times : Times) (own : List Step) → MayBeTaken times own → (group : List Step) × IsStepGroup times own group
+closes : (times : GroupQuantifier) (own : List Step) → MayBeTaken times own → (group : List Step) × IsStepGroup times own group
 closes often.Once own may = (own, inr refl)
 closes often.Optional own may = (_, inr refl)
 closes often.ZeroOrMore own may = copied true own may
 closes often.OneOrMore own may = copied false own may
 
-close_comes : (first : ℕ) (rest outer : List ℕ) (times : Times) (done : List Step) → MayBeTaken times (drop first done) → IsLeftOutside outer → rest ≡ codes ")" ++ (times_text times ++ outer)
+close_comes : (first : ℕ) (rest outer : List ℕ) (times : GroupQuantifier) (done : List Step) → MayBeTaken times (drop first done) → IsLeftOutside outer → rest ≡ codes ")" ++ (group_quantifier_text times ++ outer)
     → Comes (Some first) rest done
 close_comes first rest outer times done may (tree, are, readable, e) f =
     let group = closes times (drop first done) may in
     record {
       token = Close times;
       remaining = outer;
-      begins = (codes ")" ++ times_text times, refl, f);
+      begins = (codes ")" ++ group_quantifier_text times, refl, f);
       unquantified = subst IsUnquantified (sym e) (items_unquantified tree (codes "$") are refl);
       goes_on = (first, group.0, refl, group.1, λ steps. (tree, are, readable, e));
     }
@@ -227,34 +227,34 @@ literals_more (suc first) [] own plain more = dropped first own more
 literals_more (suc first) (step ∷ done) own plain more = literals_more first done own plain more
 
 -- The rest of a group that is matched at most once begins with a token.
-once_comes : (first : ℕ) (rest outer : List ℕ) (times : Times) (inner : Items) (done : List Step) → ((own : List Step) → MayBeTaken times own) → ((items : Items) → AreInside items → StandInside times items)
-    → AreItems inner → AreInside inner → IsLeftOutside outer → rest ≡ items_text inner ++ (codes ")" ++ (times_text times ++ outer)) → Comes (Some first) rest done
+once_comes : (first : ℕ) (rest outer : List ℕ) (times : GroupQuantifier) (inner : Items) (done : List Step) → ((own : List Step) → MayBeTaken times own) → ((items : Items) → AreInside items → StandInside times items)
+    → AreItems inner → AreInside inner → IsLeftOutside outer → rest ≡ items_text inner ++ (codes ")" ++ (group_quantifier_text times ++ outer)) → Comes (Some first) rest done
 once_comes first rest outer times Nothing done may stands are inside left e = close_comes first rest outer times done (may (drop first done)) left e
 once_comes first rest outer times (Item atom Once items) done may stands (is, allows, are) (captured, inside) left e =
-    let tail : List ℕ = items_text items ++ (codes ")" ++ (times_text times ++ outer)) in
+    let tail : List ℕ = items_text items ++ (codes ")" ++ (group_quantifier_text times ++ outer)) in
     let more : (own : List Step) → IsLeft (Some first) tail (done ++ own) =
     λ own. record { inner = items; times = times; outer = outer; are = are; inside = stands items inside; so_far = may (drop first (done ++ own)); left = left; spelled = refl } in
-    let whole : rest ≡ (atom_text atom ++ []) ++ tail = e ∙ item_text atom Once items (codes ")" ++ (times_text times ++ outer)) in
+    let whole : rest ≡ (atom_text atom ++ []) ++ tail = e ∙ item_text atom Once items (codes ")" ++ (group_quantifier_text times ++ outer)) in
     elim captured [
-      | inl step ↦ step_comes (Some first) Once atom rest tail done is step whole (items_unquantified items (codes ")" ++ (times_text times ++ outer)) are refl) more
+      | inl step ↦ step_comes (Some first) Once atom rest tail done is step whole (items_unquantified items (codes ")" ++ (group_quantifier_text times ++ outer)) are refl) more
       | inr group ↦ segments_come (Some first) atom rest tail done is group whole more
     ]
 once_comes first rest outer times (Item atom quantifier items) done may stands are inside left e = absurd inside
 
 -- The rest of a group that may be matched more than once begins with a token.
-more_comes : (first : ℕ) (rest outer : List ℕ) (times : Times) (inner : Items) (done : List Step) → ((own : List Step) → MayBeTaken times own → AreLiterals own)
+more_comes : (first : ℕ) (rest outer : List ℕ) (times : GroupQuantifier) (inner : Items) (done : List Step) → ((own : List Step) → MayBeTaken times own → AreLiterals own)
     → ((own : List Step) → AreLiterals own → MayBeTaken times own) → ((items : Items) → AreSingle items → StandInside times items)
-    → AreItems inner → AreSingle inner → MayBeTaken times (drop first done) → IsLeftOutside outer → rest ≡ items_text inner ++ (codes ")" ++ (times_text times ++ outer)) → Comes (Some first) rest done
+    → AreItems inner → AreSingle inner → MayBeTaken times (drop first done) → IsLeftOutside outer → rest ≡ items_text inner ++ (codes ")" ++ (group_quantifier_text times ++ outer)) → Comes (Some first) rest done
 more_comes first rest outer times Nothing done plain may stands are single so_far left e = close_comes first rest outer times done so_far left e
 more_comes first rest outer times (Item (dialect.Literal character) Once items) done plain may stands (is, allows, are) single so_far left e =
-    let tail : List ℕ = items_text items ++ (codes ")" ++ (times_text times ++ outer)) in
+    let tail : List ℕ = items_text items ++ (codes ")" ++ (group_quantifier_text times ++ outer)) in
     let step : Step = Literal (character_of character) in
-    let whole : rest ≡ (character_text character ++ []) ++ tail = e ∙ item_text (dialect.Literal character) Once items (codes ")" ++ (times_text times ++ outer)) in
+    let whole : rest ≡ (character_text character ++ []) ++ tail = e ∙ item_text (dialect.Literal character) Once items (codes ")" ++ (group_quantifier_text times ++ outer)) in
     record {
       token = One step;
       remaining = tail;
       begins = (character_text character, (dialect.Literal character, is, (character, refl, refl), refl), whole ∙ ap (λ t. t ++ tail) (append-nil (character_text character)));
-      unquantified = items_unquantified items (codes ")" ++ (times_text times ++ outer)) are refl;
+      unquantified = items_unquantified items (codes ")" ++ (group_quantifier_text times ++ outer)) are refl;
       goes_on = record {
         inner = items;
         times = times;
@@ -268,8 +268,8 @@ more_comes first rest outer times (Item (dialect.Literal character) Once items) 
     }
 more_comes first rest outer times (Item atom quantifier items) done plain may stands are single so_far left e = absurd single
 
-inside_comes : (first : ℕ) (rest outer : List ℕ) (times : Times) (inner : Items) (done : List Step) → AreItems inner → StandInside times inner → MayBeTaken times (drop first done)
-    → IsLeftOutside outer → rest ≡ items_text inner ++ (codes ")" ++ (times_text times ++ outer)) → Comes (Some first) rest done
+inside_comes : (first : ℕ) (rest outer : List ℕ) (times : GroupQuantifier) (inner : Items) (done : List Step) → AreItems inner → StandInside times inner → MayBeTaken times (drop first done)
+    → IsLeftOutside outer → rest ≡ items_text inner ++ (codes ")" ++ (group_quantifier_text times ++ outer)) → Comes (Some first) rest done
 inside_comes first rest outer often.Once inner done are inside so_far left e = once_comes first rest outer often.Once inner done (λ own. tt) (λ items h. h) are inside left e
 inside_comes first rest outer often.Optional inner done are inside so_far left e = once_comes first rest outer often.Optional inner done (λ own. tt) (λ items h. h) are inside left e
 inside_comes first rest outer often.ZeroOrMore inner done are inside so_far left e =
@@ -295,7 +295,7 @@ comes None rest done (Item atom quantifier items, (is, allows, are), (captured, 
 no_token : (token : StepToken) (remaining : List ℕ) → ¬ BeginsWithRegexpToken (codes "$") token remaining
 no_token token remaining begins =
     by_token (λ token rest. ⊥) (codes "$")
-    (λ times rest e. apart 36 41 [] (times_text times ++ rest) refl e)
+    (λ times rest e. apart 36 41 [] (group_quantifier_text times ++ rest) refl e)
     (λ c rest found. by c rest (character_kind IsCharacter (codes "$") c rest found))
     (λ token rest behind e. apart 36 40 [] behind refl e)
     token remaining begins

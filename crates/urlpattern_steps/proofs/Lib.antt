@@ -14,7 +14,7 @@ pub mod FirstLemmas
 pub mod FollowLemmas
 pub mod AttemptLemmas
 pub mod StepTokenLemmas
-pub mod FrontLemmas
+pub mod PrefixLemmas
 pub mod StepGroupLemmas
 pub mod SegmentTextLemmas
 pub mod StepReadingLemmas
@@ -23,6 +23,6 @@ pub mod SegmentLemmas
 pub mod Generated
 pub mod LeftLemmas
 pub mod EndLemmas
-pub mod TakenFronts
+pub mod MatchedPrefixes
 pub mod PlaceLemmas
 pub mod TableLemmas

@@ -10,10 +10,10 @@ use Rattle.urlpattern_syntax.proofs.StringTexts.{chars-encode}
 use Rattle.urlpattern_steps.proofs.OptionLemmas.{option_or-None}
 use Rattle.urlpattern_meaning.specs.Dialect.{Quantifier, Once, Optional, ZeroOrMore, OneOrMore, LazyOneOrMore, Items, Nothing, Item, Atom, Dot, AnyBut, Captured, Grouped, Literal, character_of, group_count}
 use Rattle.urlpattern_meaning.specs.PartMeaning.{Captures}
-use Rattle.urlpattern_meaning.specs.Ways.{Choice, idle, capturing, continued, is_shorter, more_rounds, looped, quantified_ways, ways_by}
+use Rattle.urlpattern_meaning.specs.Ways.{Choice, empty_way, capturing, continued, is_shorter, more_rounds, looped, quantified_ways, ways_by}
 use Rattle.urlpattern_syntax.specs.Text.{line_feed}
 use Rattle.urlpattern_steps.specs.ReadSteps.{IsAllBut, IsRunOf, AllowsEmptyRun}
-use Rattle.urlpattern_steps.specs.Walk.{Continuation, after_text, any_rounds, captured_front, from_first, longest, longest_run, longest_some, rounds, shortest, single_run, some_rounds, up_to_first}
+use Rattle.urlpattern_steps.specs.Walk.{Continuation, after_text, any_rounds, captured_prefix, from_first, longest, longest_run, longest_some, rounds, shortest, single_run, some_rounds, up_to_first}
 use Rattle.urlpattern_steps.proofs.Rounds.{Advances, Keeps, Takes, beyond, takes-looped, takes-looped_or_not, takes-nothing, takes-then, then, tried-then, tried_idle}
 use Rattle.urlpattern_steps.proofs.FallingLemmas.{falling, longest_falling}
 use Rattle.urlpattern_steps.proofs.Tried.{Given, Next, given, bare, before_next, one, tried, tried-append, tried-map, lazy_loop, greedy_loop}
@@ -61,7 +61,7 @@ takes_lazy ignore_case end = record {
       lazy_loop ignore_case end (beyond front h) text ∙ shortest-beyond ignore_case end (bare h) front [] text ∙ ap (λ f. shortest ignore_case end (bare h) f text) (append-nil front);
 }
 
-takes_greedy : (ignore_case : Bool) (end : ℕ) → Takes (λ text. looped true (one ignore_case end) text ++ idle 0 text ∷ []) (longest ignore_case end)
+takes_greedy : (ignore_case : Bool) (end : ℕ) → Takes (λ text. looped true (one ignore_case end) text ++ empty_way 0 text ∷ []) (longest ignore_case end)
 takes_greedy ignore_case end = record {
   takes = λ h front text.
       greedy_loop ignore_case end (beyond front h) text ∙ longest-beyond ignore_case end (bare h) front [] text ∙ ap (λ f. longest ignore_case end (bare h) f text) (append-nil front);
@@ -75,7 +75,7 @@ pub takes-run : (ignore_case : Bool) (end : ℕ) (is_greedy : Bool) (items : Ite
 takes-run ignore_case end true items (same, is) =
     subst (λ (i : Items). Takes (ways_by ignore_case i) (longest ignore_case end)) (sym is)
     (subst (λ c. Takes (ways_by ignore_case (Item Dot ZeroOrMore Nothing)) (longest ignore_case c)) (sym same)
-    (takes-then (λ text. looped true (one ignore_case line_feed) text ++ idle 0 text ∷ []) (ways_by ignore_case Nothing) (longest ignore_case line_feed) (after_text ignore_case []) (takes_greedy ignore_case line_feed) (keeps-longest ignore_case line_feed) (takes-nothing ignore_case)))
+    (takes-then (λ text. looped true (one ignore_case line_feed) text ++ empty_way 0 text ∷ []) (ways_by ignore_case Nothing) (longest ignore_case line_feed) (after_text ignore_case []) (takes_greedy ignore_case line_feed) (keeps-longest ignore_case line_feed) (takes-nothing ignore_case)))
 takes-run ignore_case end false items (atom, but, is) = subst (λ (i : Items). Takes (ways_by ignore_case i) (shortest ignore_case end)) (sym is) (by atom but)
   where
     lazy : (c : ℕ) → Takes (λ text. continued (ways_by ignore_case Nothing) (looped false (one ignore_case c) text)) (shortest ignore_case c)
@@ -204,7 +204,7 @@ module _ (ignore_case : Bool) (end : ℕ) (atom : Choice) (takes : Takes atom (l
   longest_more zero h front [] le = tried_idle h front []
   longest_more zero h front (c ∷ text) le = absurd (omega arith)
   longest_more (suc n) h front text le =
-      tried-append (given (beyond front h)) (continued next (atom text)) (idle 0 text ∷ [])
+      tried-append (given (beyond front h)) (continued next (atom text)) (empty_way 0 text ∷ [])
       ∙ ap₂ option_or (tried-then h front next (atom text) ∙ takes.takes (then next h) front text) (tried_idle h front text)
       ∙ longest_round (bare h) (bare (then next h)) front text
       (λ before rest lt.
@@ -222,19 +222,19 @@ module _ (ignore_case : Bool) (end : ℕ) (atom : Choice) (takes : Takes atom (l
       ∙ longest_first (bare h) (bare (then next h)) front text
       (λ before rest lt.
       let shorter : is_shorter rest text ≡ true = lt-ltb _ _ lt in
-      ap (λ b. tried (given (beyond before h)) (cond b (more_rounds true atom (length rest) rest) (idle 0 rest ∷ []))) shorter ∙ longest_more (length rest) h before rest (omega arith))
-      (ap (λ b. tried (given (beyond front h)) (cond b (more_rounds true atom (length text) text) (idle 0 text ∷ []))) (not_shorter text) ∙ tried_idle h front text)
+      ap (λ b. tried (given (beyond before h)) (cond b (more_rounds true atom (length rest) rest) (empty_way 0 rest ∷ []))) shorter ∙ longest_more (length rest) h before rest (omega arith))
+      (ap (λ b. tried (given (beyond front h)) (cond b (more_rounds true atom (length text) text) (empty_way 0 text ∷ []))) (not_shorter text) ∙ tried_idle h front text)
     where
       next : Choice
-      next rest = cond (is_shorter rest text) (more_rounds true atom (length rest) rest) (idle 0 rest ∷ [])
+      next rest = cond (is_shorter rest text) (more_rounds true atom (length rest) rest) (empty_way 0 rest ∷ [])
 
   takes_longest_looped : Takes (looped true atom) (longest ignore_case end)
   takes_longest_looped = record { takes = longest_looped }
 
-  takes_longest_looped_or_not : Takes (λ text. looped true atom text ++ idle 0 text ∷ []) (longest ignore_case end)
+  takes_longest_looped_or_not : Takes (λ text. looped true atom text ++ empty_way 0 text ∷ []) (longest ignore_case end)
   takes_longest_looped_or_not = record {
     takes = λ h front text.
-        tried-append (given (beyond front h)) (looped true atom text) (idle 0 text ∷ [])
+        tried-append (given (beyond front h)) (looped true atom text) (empty_way 0 text ∷ [])
         ∙ ap₂ option_or (longest_looped h front text) (tried_idle h front text)
         ∙ longest_before ignore_case end (bare h) front text;
   }
@@ -281,7 +281,7 @@ abbrev capture_before : Next → Given
 capture_before next taken captures rest = option_map (λ others. (Some taken ∷ captures) ++ others) (next rest)
 
 pub captured_takes : (choice : Choice) (round : Continuation → Continuation) → Takes choice round → (next : Next) (text : List ℕ)
-    → tried (before_next next) (map capturing (choice text)) ≡ round (captured_front next) [] text
+    → tried (before_next next) (map capturing (choice text)) ≡ round (captured_prefix next) [] text
 captured_takes choice round takes next text = tried-map (before_next next) capturing (choice text) ∙ takes.takes (capture_before next) [] text
 
 -- ---- nonempty runs

@@ -11,14 +11,14 @@ use Rattle.std.specs.Str.{chars, IsUtf8}
 use Rattle.urlpattern_meaning.specs.PartMeaning.{Captures}
 use Rattle.urlpattern_syntax.proofs.StringTexts.{chars-encode}
 use Rattle.urlpattern_steps.specs.declared.step.Step.{Step}
-use Rattle.urlpattern_steps.specs.declared.step.Stretch.{Stretch}
-use Rattle.urlpattern_steps.specs.Walk.{BeginsAs, Continuation, after_text, literals, walk, going_on}
-use Rattle.urlpattern_steps.specs.Table.{IsEntryAfter, IsRow, IsSingle, begun_of, run_end, following, given, later_of, own_count, stretch_of, whole_of}
+use Rattle.urlpattern_steps.specs.declared.step.LiteralString.{LiteralString}
+use Rattle.urlpattern_steps.specs.Walk.{BeginsAs, Continuation, after_text, literals, walk, end_if_continued}
+use Rattle.urlpattern_steps.specs.Table.{IsEntryAfter, IsRow, IsSingle, begun_of, run_end, following, given, later_of, own_count, literal_string_of, whole_of}
 use Rattle.urlpattern_steps.specs.Taken.{IsCutFor}
 use Rattle.urlpattern_steps.proofs.CopyLemmas.{after-found, after-other}
 use Rattle.urlpattern_steps.proofs.SameLemmas.{begins_or_not, no_same}
 use Rattle.urlpattern_steps.proofs.FollowLemmas.{chars_end}
-use Rattle.urlpattern_steps.proofs.TakenFronts.{after_own, begins, begins_is, begun_cut, goes, goes_is, later_cut, next_of, onward, onward_of, own_text, some_given, some_wholly, walk_wholly, whole_cut, wholly, wholly_is}
+use Rattle.urlpattern_steps.proofs.MatchedPrefixes.{after_own, begins, begins_is, begun_cut, goes, goes_is, later_cut, next_of, onward, onward_of, own_text, some_given, some_wholly, walk_wholly, whole_cut, wholly, wholly_is}
 use Rattle.urlpattern_meaning.specs.Matching.{IsSame, is_same_character}
 
 -- ---- lists with an entry for each shorter suffix
@@ -77,10 +77,10 @@ some_cut gives text (Some n) None cut = absurd (cut.7 refl)
 some_cut gives text (Some n) (Some x) cut = refl
 
 -- The entry for the rest after some characters.
-next_cut : (ignore_case : Bool) (gives begun : Continuation) (text front rest : List ℕ) (entries : List (Option ℕ)) (own : Option Stretch) (literal : List ℕ) (next : Option ℕ)
+next_cut : (ignore_case : Bool) (gives begun : Continuation) (text front rest : List ℕ) (entries : List (Option ℕ)) (own : Option LiteralString) (literal : List ℕ) (next : Option ℕ)
     → IsFilled (λ before left n. IsCutFor gives text n (begun before left)) None front rest entries
-    → IsEntryAfter ignore_case entries (option_map (λ (stretch : Stretch). stretch.first ∷ literal) own) rest next
-    → IsCutFor gives text next (after_own ignore_case (option_map (λ (stretch : Stretch). stretch.first ∷ literal) own) begun front rest)
+    → IsEntryAfter ignore_case entries (option_map (λ (literal_string : LiteralString). literal_string.first ∷ literal) own) rest next
+    → IsCutFor gives text next (after_own ignore_case (option_map (λ (literal_string : LiteralString). literal_string.first ∷ literal) own) begun front rest)
 next_cut ignore_case gives begun text front rest entries None literal next is entry = subst (λ n. IsCutFor gives text n None) (sym entry) refl
 next_cut ignore_case gives begun text front rest entries (Some own) literal next is (there, other) = by (begins_or_not ignore_case characters rest)
   where
@@ -108,7 +108,7 @@ here_cut gives text front rest false u v e is = nothing (gives (chars front) (ch
     nothing (Some x) e = absurd (false≢true e)
 
 onward_cut : (ignore_case : Bool) (gives later : Continuation) (text front rest : List ℕ) (end : ℕ) (n : Option ℕ) → ((d : ℕ) (left : List ℕ) → rest ≡ d ∷ left → IsCutFor gives text n (later (front ++ d ∷ []) left))
-    → IsCutFor gives text (going_on ignore_case end n rest) (onward ignore_case end later front rest)
+    → IsCutFor gives text (end_if_continued ignore_case end n rest) (onward ignore_case end later front rest)
 onward_cut ignore_case gives later text front [] end n is = refl
 onward_cut ignore_case gives later text front (d ∷ rest) end n is = by (is_same_character ignore_case d end) (is d rest refl)
   where
@@ -163,59 +163,59 @@ module _ (ignore_case : Bool) (step : Step) (others : List Step) (text : List �
   pub placed : (front rest : List ℕ) (begun : List (Option ℕ)) (row after : List Bool) (later next here forward : Option ℕ) → IsSingle step
       → IsUtf8 front → IsUtf8 rest → text ≡ front ++ rest
       → IsSoFar (chars front) (chars rest) begun row later
-      → IsEntryAfter ignore_case begun (own_text step (literals (take (own_count (stretch_of step)) others))) (chars rest) next
+      → IsEntryAfter ignore_case begun (own_text step (literals (take (own_count (literal_string_of step)) others))) (chars rest) next
       → get_or after (length (chars rest)) false ≡ is_some (walk ignore_case (following step others) (chars rest))
       → here ≡ cond (get_or after (length row) false) (Some (length front)) None
-      → forward ≡ going_on ignore_case (run_end step) later (chars rest)
+      → forward ≡ end_if_continued ignore_case (run_end step) later (chars rest)
       → IsPlaced (chars front) (chars rest) (begun_of step next here forward) (later_of step next here forward) (whole_of step next here forward)
   placed front rest begun row after later next here forward single u v e so_far entry has stops goes_on =
       let bit : get_or after (length row) false ≡ is_some (given ignore_case step others (chars front) (chars rest)) =
       ap (λ n. get_or after n false) so_far.is_row.count ∙ has ∙ sym (some_given ignore_case step others (chars front) (chars rest)) in
       placed_by (chars front) (chars rest) next here forward single
-      (next_cut ignore_case (given ignore_case step others) (begins ignore_case step others) text (chars front) (chars rest) begun (stretch_of step) (literals (take (own_count (stretch_of step)) others)) next so_far.is_begun entry)
+      (next_cut ignore_case (given ignore_case step others) (begins ignore_case step others) text (chars front) (chars rest) begun (literal_string_of step) (literals (take (own_count (literal_string_of step)) others)) next so_far.is_begun entry)
       (subst (λ n. IsCutFor (given ignore_case step others) text n (given ignore_case step others (chars front) (chars rest))) (sym stops)
       (here_cut (given ignore_case step others) text front rest (get_or after (length row) false) u v e bit))
       (subst (λ n. IsCutFor (given ignore_case step others) text n (onward_of ignore_case step others (chars front) (chars rest))) (sym goes_on)
       (onward_cut ignore_case (given ignore_case step others) (goes ignore_case step others) text (chars front) (chars rest) (run_end step) later so_far.is_later))
 
   -- The ends for this suffix, by the results of the calls.
-  pub placed_at : (front rest : List ℕ) (begun : List (Option ℕ)) (row after : List Bool) (literal : List Step) (stretch : Option Stretch) (later next here forward first run whole : Option ℕ)
+  pub placed_at : (front rest : List ℕ) (begun : List (Option ℕ)) (row after : List Bool) (literal : List Step) (literal_string : Option LiteralString) (later next here forward first run whole : Option ℕ)
       → IsSingle step → IsUtf8 front → IsUtf8 rest → text ≡ front ++ rest
       → IsSoFar (chars front) (chars rest) begun row later
       → IsRow ignore_case (chars text) (following step others) after
-      → stretch ≡ stretch_of step → literal ≡ take (own_count (stretch_of step)) others
-      → IsEntryAfter ignore_case begun (option_map (λ (own : Stretch). own.first ∷ literals literal) stretch) (chars rest) next
+      → literal_string ≡ literal_string_of step → literal ≡ take (own_count (literal_string_of step)) others
+      → IsEntryAfter ignore_case begun (option_map (λ (own : LiteralString). own.first ∷ literals literal) literal_string) (chars rest) next
       → here ≡ cond (get_or after (length row) false) (Some (length front)) None
-      → forward ≡ going_on ignore_case (run_end step) later (chars rest)
+      → forward ≡ end_if_continued ignore_case (run_end step) later (chars rest)
       → first ≡ begun_of step next here forward → run ≡ later_of step next here forward → whole ≡ whole_of step next here forward
       → IsPlaced (chars front) (chars rest) first run whole
-  placed_at front rest begun row after literal stretch later next here forward first run whole single u v e so_far is_after own literals_are entry stops goes_on f g h =
-      let entry_of : IsEntryAfter ignore_case begun (own_text step (literals (take (own_count (stretch_of step)) others))) (chars rest) next =
-      subst (λ s. IsEntryAfter ignore_case begun (option_map (λ (own : Stretch). own.first ∷ literals (take (own_count (stretch_of step)) others)) s) (chars rest) next) own
-      (subst (λ l. IsEntryAfter ignore_case begun (option_map (λ (own : Stretch). own.first ∷ literals l) stretch) (chars rest) next) literals_are entry) in
+  placed_at front rest begun row after literal literal_string later next here forward first run whole single u v e so_far is_after own literals_are entry stops goes_on f g h =
+      let entry_of : IsEntryAfter ignore_case begun (own_text step (literals (take (own_count (literal_string_of step)) others))) (chars rest) next =
+      subst (λ s. IsEntryAfter ignore_case begun (option_map (λ (own : LiteralString). own.first ∷ literals (take (own_count (literal_string_of step)) others)) s) (chars rest) next) own
+      (subst (λ l. IsEntryAfter ignore_case begun (option_map (λ (own : LiteralString). own.first ∷ literals l) literal_string) (chars rest) next) literals_are entry) in
       let is = placed front rest begun row after later next here forward single u v e so_far entry_of (is_after.bits (chars rest) (chars_end text front rest u e)) stops goes_on in
       subst (λ n. IsPlaced (chars front) (chars rest) n run whole) (sym f)
       (subst (λ n. IsPlaced (chars front) (chars rest) (begun_of step next here forward) n whole) (sym g)
       (subst (λ n. IsPlaced (chars front) (chars rest) (begun_of step next here forward) (later_of step next here forward) n) (sym h) is))
 
   -- The ends for this suffix, with the entries as they are kept and the remaining text.
-  pub placed_now : (front rest left : List ℕ) (begun kept : List (Option ℕ)) (row after : List Bool) (literal : List Step) (stretch : Option Stretch) (count stop : ℕ) (later next here forward first run whole : Option ℕ)
+  pub placed_now : (front rest left : List ℕ) (begun kept : List (Option ℕ)) (row after : List Bool) (literal : List Step) (literal_string : Option LiteralString) (count stop : ℕ) (later next here forward first run whole : Option ℕ)
       → IsSingle step → IsUtf8 front → IsUtf8 left → text ≡ front ++ rest → text ≡ front ++ left
       → IsSoFar (chars front) (chars left) kept row later → begun ≡ kept
       → IsRow ignore_case (chars text) (following step others) after
-      → stretch ≡ stretch_of step → literal ≡ take (own_count (stretch_of step)) others
-      → IsEntryAfter ignore_case begun (option_map (λ (own : Stretch). own.first ∷ literals literal) stretch) (chars rest) next
+      → literal_string ≡ literal_string_of step → literal ≡ take (own_count (literal_string_of step)) others
+      → IsEntryAfter ignore_case begun (option_map (λ (own : LiteralString). own.first ∷ literals literal) literal_string) (chars rest) next
       → count ≡ length row → here ≡ cond (get_or after count false) (Some (length front)) None
-      → stop ≡ run_end step → forward ≡ going_on ignore_case stop later (chars rest)
+      → stop ≡ run_end step → forward ≡ end_if_continued ignore_case stop later (chars rest)
       → first ≡ begun_of step next here forward → run ≡ later_of step next here forward → whole ≡ whole_of step next here forward
       → IsSoFar (chars front) (chars rest) begun row later × IsPlaced (chars front) (chars rest) first run whole
-  placed_now front rest left begun kept row after literal stretch count stop later next here forward first run whole single u v e f so_far same is_after own literals_are entry len stops ends goes_on one two three =
+  placed_now front rest left begun kept row after literal literal_string count stop later next here forward first run whole single u v e f so_far same is_after own literals_are entry len stops ends goes_on one two three =
       let behind : rest ≡ left = append_cancel_left front rest left (sym e ∙ f) in
       let is : IsSoFar (chars front) (chars rest) begun row later =
       subst (λ b. IsSoFar (chars front) (chars rest) b row later) (sym same) (subst (λ r. IsSoFar (chars front) (chars r) kept row later) (sym behind) so_far) in (
         is,
-        placed_at front rest begun row after literal stretch later next here forward first run whole single u (subst IsUtf8 (sym behind) v) e is is_after own literals_are entry
-            (stops ∙ ap (λ n. cond (get_or after n false) (Some (length front)) None) len) (goes_on ∙ ap (λ n. going_on ignore_case n later (chars rest)) ends) one two three,
+        placed_at front rest begun row after literal literal_string later next here forward first run whole single u (subst IsUtf8 (sym behind) v) e is is_after own literals_are entry
+            (stops ∙ ap (λ n. cond (get_or after n false) (Some (length front)) None) len) (goes_on ∙ ap (λ n. end_if_continued ignore_case n later (chars rest)) ends) one two three,
       )
 
   taken_here : (front rest : List ℕ) (begun later whole : Option ℕ) → IsPlaced front rest begun later whole → Taken front rest (is_some whole)

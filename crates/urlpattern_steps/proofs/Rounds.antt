@@ -3,7 +3,7 @@ use Rattle.std.proofs.Common.{◌≡◌, ℕ, zero, suc, ◌<◌, ◌≤◌, Lis
 use Rattle.std.specs.Option.{option_or}
 use Rattle.urlpattern_steps.proofs.OptionLemmas.{option_or-None}
 use Rattle.urlpattern_meaning.specs.Dialect.{Nothing}
-use Rattle.urlpattern_meaning.specs.Ways.{Way, Choice, idle, continued, one_that, is_shorter, more_rounds, looped, ways_by}
+use Rattle.urlpattern_meaning.specs.Ways.{Way, Choice, empty_way, continued, one_that, is_shorter, more_rounds, looped, ways_by}
 use Rattle.urlpattern_steps.specs.Walk.{Continuation, after_text, rounds, any_rounds, some_rounds}
 use Rattle.urlpattern_steps.proofs.Tried.{Given, given, bare, tried, tried-append, tried-same, tried-continued}
 use Rattle.urlpattern_meaning.specs.Matching.{is_same_character}
@@ -86,7 +86,7 @@ takes-then choice next first second one keeps two = record {
       ∙ keeps.same (bare (then next h)) (second (bare h)) front text (λ before rest le. two.takes h before rest);
 }
 
-pub tried_idle : (h : Given) (front text : List ℕ) → tried (given (beyond front h)) (idle 0 text ∷ []) ≡ h front [] text
+pub tried_idle : (h : Given) (front text : List ℕ) → tried (given (beyond front h)) (empty_way 0 text ∷ []) ≡ h front [] text
 tried_idle h front text = option_or-None _ ∙ ap (λ f. h f [] text) (append-nil front)
 
 pub takes-nothing : (ignore_case : Bool) → Takes (ways_by ignore_case Nothing) (after_text ignore_case [])
@@ -149,7 +149,7 @@ module _ (atom : Choice) (round : Continuation → Continuation) (takes : Takes 
   more_rounds-tried : (n : ℕ) (h : Given) (front text : List ℕ) → tried (given (beyond front h)) (more_rounds true atom n text) ≡ rounds round n (bare h) front text
   more_rounds-tried zero h front text = tried_idle h front text
   more_rounds-tried (suc n) h front text =
-      tried-append (given (beyond front h)) (continued next (atom text)) (idle 0 text ∷ [])
+      tried-append (given (beyond front h)) (continued next (atom text)) (empty_way 0 text ∷ [])
       ∙ ap₂ option_or
       (tried-then h front next (atom text)
       ∙ takes.takes (then next h) front text
@@ -166,20 +166,20 @@ module _ (atom : Choice) (round : Continuation → Continuation) (takes : Takes 
   pub takes-looped : Takes (looped true atom) (some_rounds round)
   takes-looped = record {
     takes = λ h front text.
-        let next : Choice = λ rest. cond (is_shorter rest text) (more_rounds true atom (length rest) rest) (idle 0 rest ∷ []) in
+        let next : Choice = λ rest. cond (is_shorter rest text) (more_rounds true atom (length rest) rest) (empty_way 0 rest ∷ []) in
         tried-then h front next (atom text)
         ∙ takes.takes (then next h) front text
         ∙ advances.same (bare (then next h)) (any_rounds round (bare h)) front text
         (λ before rest lt.
         let shorter : is_shorter rest text ≡ true = lt-ltb _ _ lt in
-        ap (λ b. tried (given (beyond before h)) (cond b (more_rounds true atom (length rest) rest) (idle 0 rest ∷ []))) shorter
+        ap (λ b. tried (given (beyond before h)) (cond b (more_rounds true atom (length rest) rest) (empty_way 0 rest ∷ []))) shorter
         ∙ more_rounds-tried (length rest) h before rest);
   }
 
-  pub takes-looped_or_not : Takes (λ text. looped true atom text ++ idle 0 text ∷ []) (any_rounds round)
+  pub takes-looped_or_not : Takes (λ text. looped true atom text ++ empty_way 0 text ∷ []) (any_rounds round)
   takes-looped_or_not = record {
     takes = λ h front text.
-        tried-append (given (beyond front h)) (looped true atom text) (idle 0 text ∷ [])
+        tried-append (given (beyond front h)) (looped true atom text) (empty_way 0 text ∷ [])
         ∙ ap₂ option_or (takes-looped.takes h front text) (tried_idle h front text)
         ∙ sym (any-unrolled round advances (bare h) front text);
   }

@@ -4,7 +4,7 @@ use Rattle.std.proofs.Common.{◌≡◌, ℕ, List, [], ◌∷◌, ◌++◌, Opt
 use Rattle.std.specs.Option.{option_or}
 use Rattle.urlpattern_steps.proofs.OptionLemmas.{option_or-None}
 use Rattle.urlpattern_meaning.specs.PartMeaning.{Captures}
-use Rattle.urlpattern_steps.specs.Walk.{Continuation, captured_front, up_to_first, from_first, shortest, longest}
+use Rattle.urlpattern_steps.specs.Walk.{Continuation, captured_prefix, up_to_first, from_first, shortest, longest}
 use Rattle.urlpattern_meaning.specs.Matching.{is_same_character}
 
 pub both_ends : (ignore_case : Bool) (c : ℕ) (text : List ℕ) → (up_to_first ignore_case c text ++ from_first ignore_case c text) ≡ text
@@ -130,77 +130,77 @@ either_none None p e = (refl, e)
 either_none (Some x) p e = let g : ⊥ = cc in absurd g
 
 module _ (ignore_case : Bool) (end : ℕ) (next : List ℕ → Option Captures) where
-  captured_none : (front other rest : List ℕ) → captured_front next front rest ≡ None → captured_front next other rest ≡ None
+  captured_none : (front other rest : List ℕ) → captured_prefix next front rest ≡ None → captured_prefix next other rest ≡ None
   captured_none front other rest e = by (next rest) e
     where
       by : (o : Option Captures) → option_map (λ others. Some front ∷ others) o ≡ None → option_map (λ others. Some other ∷ others) o ≡ None
       by None e = refl
       by (Some x) e = cc
 
-  pub shortest_no_more : (front other text : List ℕ) → shortest ignore_case end (captured_front next) front text ≡ None → shortest ignore_case end (captured_front next) other text ≡ None
+  pub shortest_no_more : (front other text : List ℕ) → shortest ignore_case end (captured_prefix next) front text ≡ None → shortest ignore_case end (captured_prefix next) other text ≡ None
   shortest_no_more front other [] e = refl
   shortest_no_more front other (c ∷ text) e = by (is_same_character ignore_case c end) e (shortest_no_more (front ++ c ∷ []) (other ++ c ∷ []) text)
     where
-      by : (b : Bool) → cond b None (option_or (captured_front next (front ++ c ∷ []) text) (shortest ignore_case end (captured_front next) (front ++ c ∷ []) text)) ≡ None
-          → (shortest ignore_case end (captured_front next) (front ++ c ∷ []) text ≡ None → shortest ignore_case end (captured_front next) (other ++ c ∷ []) text ≡ None)
-          → cond b None (option_or (captured_front next (other ++ c ∷ []) text) (shortest ignore_case end (captured_front next) (other ++ c ∷ []) text)) ≡ None
+      by : (b : Bool) → cond b None (option_or (captured_prefix next (front ++ c ∷ []) text) (shortest ignore_case end (captured_prefix next) (front ++ c ∷ []) text)) ≡ None
+          → (shortest ignore_case end (captured_prefix next) (front ++ c ∷ []) text ≡ None → shortest ignore_case end (captured_prefix next) (other ++ c ∷ []) text ≡ None)
+          → cond b None (option_or (captured_prefix next (other ++ c ∷ []) text) (shortest ignore_case end (captured_prefix next) (other ++ c ∷ []) text)) ≡ None
       by true e later = refl
       by false e later =
-          let none = either_none (captured_front next (front ++ c ∷ []) text) (shortest ignore_case end (captured_front next) (front ++ c ∷ []) text) e in
+          let none = either_none (captured_prefix next (front ++ c ∷ []) text) (shortest ignore_case end (captured_prefix next) (front ++ c ∷ []) text) e in
           ap₂ option_or (captured_none (front ++ c ∷ []) (other ++ c ∷ []) text none.0) (later none.1)
 
-  pub longest_no_more : (front other text : List ℕ) → longest ignore_case end (captured_front next) front text ≡ None → longest ignore_case end (captured_front next) other text ≡ None
+  pub longest_no_more : (front other text : List ℕ) → longest ignore_case end (captured_prefix next) front text ≡ None → longest ignore_case end (captured_prefix next) other text ≡ None
   longest_no_more front other [] e = captured_none front other [] e
   longest_no_more front other (c ∷ text) e = by (is_same_character ignore_case c end) e (longest_no_more (front ++ c ∷ []) (other ++ c ∷ []) text)
     where
-      by : (b : Bool) → cond b (captured_front next front (c ∷ text)) (option_or (longest ignore_case end (captured_front next) (front ++ c ∷ []) text) (captured_front next front (c ∷ text))) ≡ None
-          → (longest ignore_case end (captured_front next) (front ++ c ∷ []) text ≡ None → longest ignore_case end (captured_front next) (other ++ c ∷ []) text ≡ None)
-          → cond b (captured_front next other (c ∷ text)) (option_or (longest ignore_case end (captured_front next) (other ++ c ∷ []) text) (captured_front next other (c ∷ text))) ≡ None
+      by : (b : Bool) → cond b (captured_prefix next front (c ∷ text)) (option_or (longest ignore_case end (captured_prefix next) (front ++ c ∷ []) text) (captured_prefix next front (c ∷ text))) ≡ None
+          → (longest ignore_case end (captured_prefix next) (front ++ c ∷ []) text ≡ None → longest ignore_case end (captured_prefix next) (other ++ c ∷ []) text ≡ None)
+          → cond b (captured_prefix next other (c ∷ text)) (option_or (longest ignore_case end (captured_prefix next) (other ++ c ∷ []) text) (captured_prefix next other (c ∷ text))) ≡ None
       by true e later = captured_none front other (c ∷ text) e
       by false e later =
-          let none = either_none (longest ignore_case end (captured_front next) (front ++ c ∷ []) text) (captured_front next front (c ∷ text)) e in
+          let none = either_none (longest ignore_case end (captured_prefix next) (front ++ c ∷ []) text) (captured_prefix next front (c ∷ text)) e in
           ap₂ option_or (later none.0) (captured_none front other (c ∷ text) none.1)
 
   -- The prefix itself has no result.
-  longest_nor : (front text : List ℕ) → longest ignore_case end (captured_front next) front text ≡ None → captured_front next front text ≡ None
+  longest_nor : (front text : List ℕ) → longest ignore_case end (captured_prefix next) front text ≡ None → captured_prefix next front text ≡ None
   longest_nor front [] e = e
   longest_nor front (c ∷ text) e = by (is_same_character ignore_case c end) e
     where
-      by : (b : Bool) → cond b (captured_front next front (c ∷ text)) (option_or (longest ignore_case end (captured_front next) (front ++ c ∷ []) text) (captured_front next front (c ∷ text))) ≡ None
-          → captured_front next front (c ∷ text) ≡ None
+      by : (b : Bool) → cond b (captured_prefix next front (c ∷ text)) (option_or (longest ignore_case end (captured_prefix next) (front ++ c ∷ []) text) (captured_prefix next front (c ∷ text))) ≡ None
+          → captured_prefix next front (c ∷ text) ≡ None
       by true e = e
-      by false e = (either_none (longest ignore_case end (captured_front next) (front ++ c ∷ []) text) (captured_front next front (c ∷ text)) e).1
+      by false e = (either_none (longest ignore_case end (captured_prefix next) (front ++ c ∷ []) text) (captured_prefix next front (c ∷ text)) e).1
 
-  longest_at_end : (front text : List ℕ) → up_to_first ignore_case end text ≡ [] → longest ignore_case end (captured_front next) front text ≡ captured_front next front text
+  longest_at_end : (front text : List ℕ) → up_to_first ignore_case end text ≡ [] → longest ignore_case end (captured_prefix next) front text ≡ captured_prefix next front text
   longest_at_end front [] e = refl
   longest_at_end front (c ∷ text) e = by (is_same_character ignore_case c end) e
     where
       by : (b : Bool) → cond b [] (c ∷ up_to_first ignore_case end text) ≡ []
-          → cond b (captured_front next front (c ∷ text)) (option_or (longest ignore_case end (captured_front next) (front ++ c ∷ []) text) (captured_front next front (c ∷ text))) ≡ captured_front next front (c ∷ text)
+          → cond b (captured_prefix next front (c ∷ text)) (option_or (longest ignore_case end (captured_prefix next) (front ++ c ∷ []) text) (captured_prefix next front (c ∷ text))) ≡ captured_prefix next front (c ∷ text)
       by true e = refl
       by false e = cc
 
   -- No longer prefix has a result after the run has ended.
-  pub longest_ended : (front text : List ℕ) → (up_to_first ignore_case end text ≡ []) ⊎ (longest ignore_case end (captured_front next) [] text ≡ None) → longest ignore_case end (captured_front next) front text ≡ captured_front next front text
+  pub longest_ended : (front text : List ℕ) → (up_to_first ignore_case end text ≡ []) ⊎ (longest ignore_case end (captured_prefix next) [] text ≡ None) → longest ignore_case end (captured_prefix next) front text ≡ captured_prefix next front text
   longest_ended front text (inl e) = longest_at_end front text e
   longest_ended front text (inr e) = let none = longest_no_more [] front text e in none ∙ sym (longest_nor front text none)
 
-  shortest_at_end : (front text : List ℕ) → up_to_first ignore_case end text ≡ [] → shortest ignore_case end (captured_front next) front text ≡ None
+  shortest_at_end : (front text : List ℕ) → up_to_first ignore_case end text ≡ [] → shortest ignore_case end (captured_prefix next) front text ≡ None
   shortest_at_end front [] e = refl
   shortest_at_end front (c ∷ text) e = by (is_same_character ignore_case c end) e
     where
       by : (b : Bool) → cond b [] (c ∷ up_to_first ignore_case end text) ≡ []
-          → cond b None (option_or (captured_front next (front ++ c ∷ []) text) (shortest ignore_case end (captured_front next) (front ++ c ∷ []) text)) ≡ None
+          → cond b None (option_or (captured_prefix next (front ++ c ∷ []) text) (shortest ignore_case end (captured_prefix next) (front ++ c ∷ []) text)) ≡ None
       by true e = refl
       by false e = cc
 
-  pub shortest_ended : (front text : List ℕ) → (up_to_first ignore_case end text ≡ []) ⊎ (shortest ignore_case end (captured_front next) [] text ≡ None) → shortest ignore_case end (captured_front next) front text ≡ None
+  pub shortest_ended : (front text : List ℕ) → (up_to_first ignore_case end text ≡ []) ⊎ (shortest ignore_case end (captured_prefix next) [] text ≡ None) → shortest ignore_case end (captured_prefix next) front text ≡ None
   shortest_ended front text (inl e) = shortest_at_end front text e
   shortest_ended front text (inr e) = shortest_no_more [] front text e
 
   -- A run that failed also fails from its next character on.
-  pub shortest_later : (c : ℕ) (text : List ℕ) → (is_same_character ignore_case c end) ≡ false → shortest ignore_case end (captured_front next) [] (c ∷ text) ≡ None → shortest ignore_case end (captured_front next) [] text ≡ None
+  pub shortest_later : (c : ℕ) (text : List ℕ) → (is_same_character ignore_case c end) ≡ false → shortest ignore_case end (captured_prefix next) [] (c ∷ text) ≡ None → shortest ignore_case end (captured_prefix next) [] text ≡ None
   shortest_later c text e none =
       shortest_no_more (c ∷ []) [] text
-      (either_none (captured_front next (c ∷ []) text) (shortest ignore_case end (captured_front next) (c ∷ []) text)
-      (sym (ap (λ b. cond b None (option_or (captured_front next (c ∷ []) text) (shortest ignore_case end (captured_front next) (c ∷ []) text))) e) ∙ none)).1
+      (either_none (captured_prefix next (c ∷ []) text) (shortest ignore_case end (captured_prefix next) (c ∷ []) text)
+      (sym (ap (λ b. cond b None (option_or (captured_prefix next (c ∷ []) text) (shortest ignore_case end (captured_prefix next) (c ∷ []) text))) e) ∙ none)).1

@@ -5,7 +5,7 @@ use Rattle.urlpattern_meaning.specs.Dialect.{Captured, Character, Grouped, Item,
 use Rattle.urlpattern_meaning.specs.Ways.{one_that, quantified_ways, ways_by}
 use Rattle.urlpattern_steps.specs.declared.step.Step.{Step}
 use Rattle.urlpattern_steps.specs.ReadSteps.{AreLiterals, AreSegments, IsRunOf, literal_steps}
-use Rattle.urlpattern_steps.specs.Walk.{Continuation, after_separator, after_text, any_rounds, captured_front, literals, segmented, single_run, walk, walk_after}
+use Rattle.urlpattern_steps.specs.Walk.{Continuation, after_separator, after_text, any_rounds, captured_prefix, literals, segmented, single_run, walk, walk_after}
 use Rattle.urlpattern_steps.proofs.LongestLemmas.{captured_takes, keeps-run, run_uncaptured, takes-run}
 use Rattle.urlpattern_steps.proofs.Rounds.{Advances, Keeps, Takes, advances-after, advances-then, after-append, keeps-after, keeps-any, keeps-then, takes-looped_or_not, takes-nothing, takes-one, takes-then}
 use Rattle.urlpattern_steps.proofs.Walks.{AtomWalks, literals_uncaptured, walk_after-own}
@@ -97,7 +97,7 @@ walks-segments ignore_case end is_greedy first characters second own one two (c,
       walks = λ after text.
           let all = others ++ after in
           captured_takes (ways_by ignore_case (segment_items first characters second)) (segmented ignore_case (c ∷ literals others) single) takes (walk ignore_case after) text
-          ∙ keeps.same (captured_front (walk ignore_case after)) (captured_front (walk_after ignore_case (length others) all)) [] text
+          ∙ keeps.same (captured_prefix (walk ignore_case after)) (captured_prefix (walk_after ignore_case (length others) all)) [] text
           (λ before rest le. ap (option_map (λ more. Some before ∷ more)) (sym (walk_after-own ignore_case others after rest)))
-          ∙ ap (λ l. segmented ignore_case (c ∷ literals l) single (captured_front (walk_after ignore_case (length others) all)) [] text) (sym (take-append_seam others after));
+          ∙ ap (λ l. segmented ignore_case (c ∷ literals l) single (captured_prefix (walk_after ignore_case (length others) all)) [] text) (sym (take-append_seam others after));
     })

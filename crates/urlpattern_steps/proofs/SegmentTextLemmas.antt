@@ -7,11 +7,11 @@ use Rattle.std.specs.Str.{chars}
 use Rattle.urlpattern_syntax.specs.RegexpText.{regexp_marks}
 use Rattle.urlpattern_syntax.specs.Text.{is_among}
 use Rattle.urlpattern_meaning.specs.Dialect.{AreItems, Character, IsCharacter, Items, character_of, character_text, items_text}
-use Rattle.urlpattern_steps.specs.declared.step.Stretch.{Stretch}
+use Rattle.urlpattern_steps.specs.declared.step.LiteralString.{LiteralString}
 use Rattle.urlpattern_steps.specs.declared.step.Step.{Step}
 use Rattle.urlpattern_steps.specs.declared.step.Step.TheVariants.{Literal, Segments}
 use Rattle.urlpattern_steps.specs.ReadSteps.{AreCharacters, AreLiterals, AreSegments, BeginsWithCaptured, EndsSegments, characters_text, literal_steps, BeginsWithCharacter, IsRunOf, IsRunStep, ClosesSegments, MakeUp, last_text}
-use Rattle.urlpattern_steps.proofs.FrontLemmas.{ReadsRun, ByItself, IsEscapedAt, apart, character_kind, run_step, run_step_is}
+use Rattle.urlpattern_steps.proofs.PrefixLemmas.{ReadsRun, ByItself, IsEscapedAt, apart, character_kind, run_step, run_step_is}
 use Rattle.urlpattern_steps.proofs.SegmentLemmas.{in_order, literal_steps-plain}
 use Rattle.urlpattern_steps.proofs.StepGroupLemmas.{take_rest, drop-one}
 
@@ -49,7 +49,7 @@ read-more old items more text rest remaining c (characters, all, e, f) (characte
 )
 
 -- The step of separated runs replaces the first step of the separator.
-pub read-ends : (old items now : List Step) (first end : ℕ) (is_greedy : Bool) (separator : Stretch) (text rest remaining : List ℕ) → AreRead old items text rest → first ≡ length old → now ≡ items
+pub read-ends : (old items now : List Step) (first end : ℕ) (is_greedy : Bool) (separator : LiteralString) (text rest remaining : List ℕ) → AreRead old items text rest → first ≡ length old → now ≡ items
     → MakeUp (take (length now - first) (drop first now)) separator
     → ClosesSegments end is_greedy rest remaining
     → (own : List Step) × EndsSegments end is_greedy own text remaining

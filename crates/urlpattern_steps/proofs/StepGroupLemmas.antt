@@ -3,11 +3,11 @@ use Rattle.std.proofs.Common.{◌≡◌, ℕ, zero, suc, ◌<◌, ◌≤◌, Lis
 use Rattle.std.proofs.lemmas.List.{length-drop, set_split}
 use Rattle.std.proofs.Math.Seq.{take-length}
 use Rattle.std.specs.Prelude.{insert, set}
-use Rattle.urlpattern_steps.specs.declared.step_tokens.Times.{Times}
+use Rattle.urlpattern_steps.specs.declared.step_tokens.GroupQuantifier.{GroupQuantifier}
 use Rattle.urlpattern_steps.specs.declared.step.Group.{Group}
-use Rattle.urlpattern_steps.specs.declared.step.Stretch.{Stretch}
+use Rattle.urlpattern_steps.specs.declared.step.LiteralString.{LiteralString}
 use Rattle.urlpattern_steps.specs.declared.step.Step.{Step}
-use Rattle.urlpattern_steps.specs.declared.step.Step.TheVariants.{Literal, Maybe, Copies}
+use Rattle.urlpattern_steps.specs.declared.step.Step.TheVariants.{Literal, OptionalGroup, RepeatedLiteral}
 use Rattle.urlpattern_steps.specs.ReadSteps.{AreCopySteps, IsStepGroup, IsSomeGroup, MakeUp}
 use Rattle.urlpattern_steps.specs.Walk.{capture_count}
 
@@ -18,12 +18,12 @@ take_rest steps first = ap (λ n. take n (drop first steps)) (sym (length-drop f
 -- The step of an optional group is inserted where the group begins.
 pub inserted : (done now : List Step) (first : ℕ) (group : Group) → now ≡ done
     → group ≡ record { steps = length (take (length now - first) (drop first now)); captures = capture_count (take (length now - first) (drop first now)) }
-    → insert done first (Maybe group) ≡ take first done ++ (Maybe (record { steps = length (drop first done); captures = capture_count (drop first done) }) ∷ drop first done)
+    → insert done first (OptionalGroup group) ≡ take first done ++ (OptionalGroup (record { steps = length (drop first done); captures = capture_count (drop first done) }) ∷ drop first done)
 inserted done now first group same is =
     let whole : take (length now - first) (drop first now) ≡ drop first done = take_rest now first ∙ ap (drop first) same in
     let spelled : group ≡ record { steps = length (drop first done); captures = capture_count (drop first done) } =
     is ∙ ap (λ (own : List Step). record { steps = length own; captures = capture_count own }) whole in
-    ap (λ (g : Group). take first done ++ (Maybe g ∷ drop first done)) spelled
+    ap (λ (g : Group). take first done ++ (OptionalGroup g ∷ drop first done)) spelled
 
 -- The steps after the first of the remaining ones.
 pub drop-one : (n : ℕ) (steps : List Step) (step : Step) (rest : List Step) → drop n steps ≡ step ∷ rest → drop (suc n) steps ≡ rest
@@ -32,20 +32,20 @@ drop-one (suc n) [] step rest e = cc
 drop-one (suc n) (other ∷ steps) step rest e = drop-one n steps step rest e
 
 -- The step of a repeated literal replaces the first step of the literal.
-pub copies_set : (done now : List Step) (first : ℕ) (may_be_missing : Bool) (text : Stretch) → first ≤ length done → now ≡ done
+pub copies_set : (done now : List Step) (first : ℕ) (allows_zero : Bool) (text : LiteralString) → first ≤ length done → now ≡ done
     → MakeUp (take (length now - first) (drop first now)) text
-    → (group : List Step) × AreCopySteps may_be_missing (drop first done) group × (set done first (Copies (record { text = text; may_be_missing = may_be_missing })) ≡ take first done ++ group)
-copies_set done now first may_be_missing text le same (others, own, plain, count) =
+    → (group : List Step) × AreCopySteps allows_zero (drop first done) group × (set done first (RepeatedLiteral (record { text = text; allows_zero = allows_zero })) ≡ take first done ++ group)
+copies_set done now first allows_zero text le same (others, own, plain, count) =
     let whole : drop first done ≡ Literal text.first ∷ others = ap (drop first) (sym same) ∙ sym (take_rest now first) ∙ own in
-    let copies : Step = Copies (record { text = text; may_be_missing = may_be_missing }) in
+    let copies : Step = RepeatedLiteral (record { text = text; allows_zero = allows_zero }) in
     let lt : first < length done = omega (arith, ap length whole, length-drop first done) in
     let behind : drop (suc first) done ≡ others = drop-one first done (Literal text.first) others whole in (
       copies ∷ others,
-      (text.first, others, whole, plain, ap (λ n. Copies (record { text = record { first = text.first; others = n }; may_be_missing = may_be_missing }) ∷ others) count),
+      (text.first, others, whole, plain, ap (λ n. RepeatedLiteral (record { text = record { first = text.first; others = n }; allows_zero = allows_zero }) ∷ others) count),
       set_split done first copies lt ∙ ap (λ l. take first done ++ (copies ∷ l)) behind,
     )
 
 -- A quantified group with steps in its body is `IsSomeGroup`.
-pub some_group : (done : List Step) (first : ℕ) (times : Times) (group : List Step) → first ≤ length done → ¬ (length done ≡ first) → IsStepGroup times (drop first done) group → IsSomeGroup times (drop first done) group
+pub some_group : (done : List Step) (first : ℕ) (times : GroupQuantifier) (group : List Step) → first ≤ length done → ¬ (length done ≡ first) → IsStepGroup times (drop first done) group → IsSomeGroup times (drop first done) group
 some_group done first times group le more (inl (none, same)) = let no : length (drop first done) ≡ 0 = ap length none in absurd (more (omega (arith, no, length-drop first done, le)))
 some_group done first times group le more (inr some) = some

@@ -4,13 +4,13 @@ use Rattle.std.proofs.lemmas.List.{take-append-le, drop-append-le}
 use Rattle.std.proofs.Math.Nat.{le_refl}
 use Rattle.std.proofs.Math.Seq.{take-length, drop-length}
 use Rattle.urlpattern_meaning.specs.Dialect.{AreItems, AllowsGroups, Atom, Captured, Grouped, IsAtom, IsTreeOf, Item, Items, Nothing, Once, Optional, Quantifier, atom_group_count, group_count, atom_text, items_text, quantifier_text}
-use Rattle.urlpattern_steps.specs.declared.step_tokens.Times.{Times}
-use Rattle.urlpattern_steps.specs.declared.step_tokens.Times.TheVariants as often
-use Rattle.urlpattern_steps.specs.declared.step_tokens.StepToken.TheVariants.{MaybeStep}
+use Rattle.urlpattern_steps.specs.declared.step_tokens.GroupQuantifier.{GroupQuantifier}
+use Rattle.urlpattern_steps.specs.declared.step_tokens.GroupQuantifier.TheVariants as often
+use Rattle.urlpattern_steps.specs.declared.step_tokens.StepToken.TheVariants.{OptionalStep}
 use Rattle.urlpattern_steps.specs.declared.step.Group.{Group}
 use Rattle.urlpattern_steps.specs.declared.step.Step.{Step}
-use Rattle.urlpattern_steps.specs.declared.step.Step.TheVariants.{Literal, Maybe}
-use Rattle.urlpattern_steps.specs.ReadSteps.{quantifier_of, AreCopySteps, AreStepsOf, BeginsSegments, EndsSegments, characters_text, IsStepGroup, IsSomeGroup, IsToken, SpellsStep, times_text}
+use Rattle.urlpattern_steps.specs.declared.step.Step.TheVariants.{Literal, OptionalGroup}
+use Rattle.urlpattern_steps.specs.ReadSteps.{quantifier_of, AreCopySteps, AreStepsOf, BeginsSegments, EndsSegments, characters_text, IsStepGroup, IsSomeGroup, IsToken, SpellsStep, group_quantifier_text}
 use Rattle.urlpattern_steps.specs.Walk.{capture_count}
 use Rattle.urlpattern_steps.proofs.LongestLemmas.{run_uncaptured}
 use Rattle.urlpattern_steps.proofs.RepeatLemmas.{copied, walks-copies, walks-nothing_grouped}
@@ -30,8 +30,8 @@ IsEnd text steps = StandBefore (codes "$") text steps
 
 -- The end of an expression inside of a group, up to the closing parenthesis and after it, with its
 -- steps.
-abbrev pub IsInnerEnd : (text : List ℕ) → (own : List Step) → Times → (others : List Step) → Type 0
-IsInnerEnd text own times others = (outer : List ℕ) × StandBefore (codes ")" ++ (times_text times ++ outer)) text own × IsEnd outer others
+abbrev pub IsInnerEnd : (text : List ℕ) → (own : List Step) → GroupQuantifier → (others : List Step) → Type 0
+IsInnerEnd text own times others = (outer : List ℕ) × StandBefore (codes ")" ++ (group_quantifier_text times ++ outer)) text own × IsEnd outer others
 
 -- A whole expression with its steps.
 abbrev pub IsWhole : (regexp : List ℕ) → List Step → Type 0
@@ -43,7 +43,7 @@ abbrev pub IsBegun : (regexp : List ℕ) → (opened : Option ℕ) → (rest : L
 IsBegun regexp None rest done = (steps : List Step) → IsEnd rest steps → IsWhole regexp (done ++ steps)
 IsBegun regexp (Some first) rest done =
     (first ≤ length done)
-    × ((own : List Step) (times : Times) (group others : List Step) → IsStepGroup times (drop first done ++ own) group → IsInnerEnd rest own times others
+    × ((own : List Step) (times : GroupQuantifier) (group others : List Step) → IsStepGroup times (drop first done ++ own) group → IsInnerEnd rest own times others
     → IsWhole regexp (take first done ++ (group ++ others)))
 
 -- The text spells an atom with its quantifier, with its steps.
@@ -75,8 +75,8 @@ spells-once step front (atom, is, of, f) = record {
   walks = λ items others next ignore_case. walks-once ignore_case atom items (step ∷ []) others (walks-step ignore_case step atom of) (next ignore_case);
 }
 
-pub spells-maybe : (step : Step) (group : Group) (front : List ℕ) → group.steps ≡ 1 → group.captures ≡ capture_count (step ∷ []) → IsToken (MaybeStep step) front
-    → SpellsAll (Maybe group ∷ step ∷ []) front
+pub spells-maybe : (step : Step) (group : Group) (front : List ℕ) → group.steps ≡ 1 → group.captures ≡ capture_count (step ∷ []) → IsToken (OptionalStep step) front
+    → SpellsAll (OptionalGroup group ∷ step ∷ []) front
 spells-maybe step group front e f (inner, one, (atom, is, of, g), h) = record {
   atom = atom;
   quantifier = Optional;
@@ -91,44 +91,44 @@ grouped_text : (inner others : List ℕ) → codes "(?:" ++ (inner ++ (codes ")"
 grouped_text inner others = ap (λ t. codes "(?:" ++ t) (sym (append_assoc inner (codes ")") others))
 
 -- A group that matches only the empty text has no steps.
-nothing-spells : (times : Times) (inner : Items) → AreItems inner → EitherWalks inner [] → SpellsAll [] (codes "(?:" ++ (items_text inner ++ (codes ")" ++ times_text times)))
+nothing-spells : (times : GroupQuantifier) (inner : Items) → AreItems inner → EitherWalks inner [] → SpellsAll [] (codes "(?:" ++ (items_text inner ++ (codes ")" ++ group_quantifier_text times)))
 nothing-spells times inner are walks = record {
   atom = Grouped inner;
   quantifier = quantifier_of times;
   is_atom = are;
   allows = allowed times (walks false).count;
-  spelled = grouped_text (items_text inner) (times_text times);
+  spelled = grouped_text (items_text inner) (group_quantifier_text times);
   walks = λ items further next ignore_case. walks-nothing_grouped ignore_case times inner items further (walks ignore_case) (next ignore_case);
 }
   where
-    allowed : (times : Times) → group_count inner ≡ 0 → AllowsGroups (quantifier_of times) (group_count inner)
+    allowed : (times : GroupQuantifier) → group_count inner ≡ 0 → AllowsGroups (quantifier_of times) (group_count inner)
     allowed often.Once none = tt
     allowed often.Optional none = tt
     allowed often.ZeroOrMore none = none
     allowed often.OneOrMore none = none
 
-copies-spell : (may_be_missing : Bool) (inner : Items) (own group : List Step) → AreItems inner → EitherWalks inner own → AreCopySteps may_be_missing own group
-    → SpellsAll group (codes "(?:" ++ (items_text inner ++ (codes ")" ++ quantifier_text (copied may_be_missing))))
-copies-spell may_be_missing inner own group are walks (c, others, first, plain, is) =
+copies-spell : (allows_zero : Bool) (inner : Items) (own group : List Step) → AreItems inner → EitherWalks inner own → AreCopySteps allows_zero own group
+    → SpellsAll group (codes "(?:" ++ (items_text inner ++ (codes ")" ++ quantifier_text (copied allows_zero))))
+copies-spell allows_zero inner own group are walks (c, others, first, plain, is) =
     let inside : (ignore_case : Bool) → AtomWalks ignore_case (Grouped inner) (Literal c ∷ others) =
     λ ignore_case. walks-inside ignore_case inner (Literal c ∷ others) (subst (Walks ignore_case inner) first (walks ignore_case)) in
     let none : atom_group_count (Grouped inner) ≡ 0 = (inside false).count ∙ literals_uncaptured others plain in
-    subst (λ (steps : List Step). SpellsAll steps (codes "(?:" ++ (items_text inner ++ (codes ")" ++ quantifier_text (copied may_be_missing))))) (sym is)
+    subst (λ (steps : List Step). SpellsAll steps (codes "(?:" ++ (items_text inner ++ (codes ")" ++ quantifier_text (copied allows_zero))))) (sym is)
     (record {
       atom = Grouped inner;
-      quantifier = copied may_be_missing;
+      quantifier = copied allows_zero;
       is_atom = are;
-      allows = copied_allows may_be_missing (atom_group_count (Grouped inner)) none;
-      spelled = grouped_text (items_text inner) (quantifier_text (copied may_be_missing));
-      walks = λ items further next ignore_case. walks-copies ignore_case may_be_missing (Grouped inner) items c others further (inside ignore_case) plain (next ignore_case);
+      allows = copied_allows allows_zero (atom_group_count (Grouped inner)) none;
+      spelled = grouped_text (items_text inner) (quantifier_text (copied allows_zero));
+      walks = λ items further next ignore_case. walks-copies ignore_case allows_zero (Grouped inner) items c others further (inside ignore_case) plain (next ignore_case);
     })
   where
-    copied_allows : (may_be_missing : Bool) (groups : ℕ) → groups ≡ 0 → AllowsGroups (copied may_be_missing) groups
+    copied_allows : (allows_zero : Bool) (groups : ℕ) → groups ≡ 0 → AllowsGroups (copied allows_zero) groups
     copied_allows true groups e = e
     copied_allows false groups e = e
 
-some-spells : (times : Times) (inner : Items) (own group : List Step) → AreItems inner → EitherWalks inner own → IsSomeGroup times own group
-    → SpellsAll group (codes "(?:" ++ (items_text inner ++ (codes ")" ++ times_text times)))
+some-spells : (times : GroupQuantifier) (inner : Items) (own group : List Step) → AreItems inner → EitherWalks inner own → IsSomeGroup times own group
+    → SpellsAll group (codes "(?:" ++ (items_text inner ++ (codes ")" ++ group_quantifier_text times)))
 some-spells often.Once inner own group are walks is = record {
   atom = Grouped inner;
   quantifier = Once;
@@ -152,10 +152,10 @@ some-spells often.Optional inner own group are walks is =
 some-spells often.ZeroOrMore inner own group are walks is = copies-spell true inner own group are walks is
 some-spells often.OneOrMore inner own group are walks is = copies-spell false inner own group are walks is
 
-grouped-spells : (times : Times) (inner : Items) (own group : List Step) → AreItems inner → EitherWalks inner own → IsStepGroup times own group
-    → SpellsAll group (codes "(?:" ++ (items_text inner ++ (codes ")" ++ times_text times)))
+grouped-spells : (times : GroupQuantifier) (inner : Items) (own group : List Step) → AreItems inner → EitherWalks inner own → IsStepGroup times own group
+    → SpellsAll group (codes "(?:" ++ (items_text inner ++ (codes ")" ++ group_quantifier_text times)))
 grouped-spells times inner own group are walks (inl (none, same)) =
-    subst (λ (steps : List Step). SpellsAll steps (codes "(?:" ++ (items_text inner ++ (codes ")" ++ times_text times)))) (sym same)
+    subst (λ (steps : List Step). SpellsAll steps (codes "(?:" ++ (items_text inner ++ (codes ")" ++ group_quantifier_text times)))) (sym same)
     (nothing-spells times inner are (subst (EitherWalks inner) none walks))
 grouped-spells times inner own group are walks (inr some) = some-spells times inner own group are walks some
 
@@ -174,7 +174,7 @@ begun-more regexp (Some first) text front rest done own (le, so_far) spells e = 
       ap (λ l. l ++ others) (drop-append-le first done own le) ∙ append_assoc (drop first done) own others in
       subst (λ (l : List Step). IsWhole regexp (l ++ (group ++ further))) (sym front_same)
       (so_far (own ++ others) times group further (subst (λ (l : List Step). IsStepGroup times l group) back_same is)
-      (outer, before-more own (codes ")" ++ (times_text times ++ outer)) text front rest others spells e inner, end)),
+      (outer, before-more own (codes ")" ++ (group_quantifier_text times ++ outer)) text front rest others spells e inner, end)),
 )
 
 pub begun-open : (regexp text front rest : List ℕ) (done : List Step) → IsBegun regexp None text done → front ≡ codes "(?:" → text ≡ front ++ rest
@@ -183,20 +183,20 @@ begun-open regexp text front rest done so_far f e = (
   le_refl (length done),
   λ own times group others is (outer, (inner, g, are, walks), end).
       let spells = grouped-spells times inner own group are walks (subst (λ (l : List Step). IsStepGroup times (l ++ own) group) (drop-length done) is) in
-      let whole : text ≡ (codes "(?:" ++ (items_text inner ++ (codes ")" ++ times_text times))) ++ outer =
+      let whole : text ≡ (codes "(?:" ++ (items_text inner ++ (codes ")" ++ group_quantifier_text times))) ++ outer =
       e ∙ ap (λ t. t ++ rest) f
       ∙ ap (λ t. codes "(?:" ++ t)
-      (g ∙ ap (λ t. items_text inner ++ t) (sym (append_assoc (codes ")") (times_text times) outer))
-      ∙ sym (append_assoc (items_text inner) (codes ")" ++ times_text times) outer)) in
+      (g ∙ ap (λ t. items_text inner ++ t) (sym (append_assoc (codes ")") (group_quantifier_text times) outer))
+      ∙ sym (append_assoc (items_text inner) (codes ")" ++ group_quantifier_text times) outer)) in
       subst (λ (l : List Step). IsWhole regexp (l ++ (group ++ others))) (sym (take-length done))
       (so_far (group ++ others) (before-more group (codes "$") text _ outer others spells whole end)),
 )
 
-pub begun-close : (regexp text front rest : List ℕ) (first : ℕ) (times : Times) (done group : List Step) → IsBegun regexp (Some first) text done
-    → IsStepGroup times (drop first done) group → front ≡ codes ")" ++ times_text times → text ≡ front ++ rest
+pub begun-close : (regexp text front rest : List ℕ) (first : ℕ) (times : GroupQuantifier) (done group : List Step) → IsBegun regexp (Some first) text done
+    → IsStepGroup times (drop first done) group → front ≡ codes ")" ++ group_quantifier_text times → text ≡ front ++ rest
     → IsBegun regexp None rest (take first done ++ group)
 begun-close regexp text front rest first times done group (le, so_far) is f e steps end =
-    let whole : text ≡ codes ")" ++ (times_text times ++ rest) = e ∙ ap (λ t. t ++ rest) f ∙ append_assoc (codes ")") (times_text times) rest in
+    let whole : text ≡ codes ")" ++ (group_quantifier_text times ++ rest) = e ∙ ap (λ t. t ++ rest) f ∙ append_assoc (codes ")") (group_quantifier_text times) rest in
     subst (IsWhole regexp) (sym (append_assoc (take first done) group steps))
     (so_far [] times group steps (subst (λ (l : List Step). IsStepGroup times l group) (sym (append-nil (drop first done))) is) (rest, (Nothing, whole, tt, λ ignore_case. walks-nothing ignore_case), end))
 

@@ -5,11 +5,11 @@ use Rattle.std.specs.Prelude.{◌≢◌, IfSome, is_some}
 use Rattle.urlpattern_meaning.specs.Dialect.{AnyBut, AllowsGroups, Captured, Character, Plain, Escaped, Dot, Grouped, IsCharacter, IsClassCharacter, Item, Items, LazyOneOrMore, Nothing, Once, OneOrMore, Optional, Quantifier, ZeroOrMore, group_count, character_text, items_text}
 use Rattle.urlpattern_meaning.specs.Dialect as dialect
 use Rattle.urlpattern_syntax.specs.RegexpText.{captured}
-use Rattle.urlpattern_steps.specs.declared.step_tokens.Times.{Times}
-use Rattle.urlpattern_steps.specs.declared.step_tokens.StepToken.TheVariants.{FirstSegment, MaybeStep}
+use Rattle.urlpattern_steps.specs.declared.step_tokens.GroupQuantifier.{GroupQuantifier}
+use Rattle.urlpattern_steps.specs.declared.step_tokens.StepToken.TheVariants.{FirstSegment, OptionalStep}
 use Rattle.urlpattern_steps.specs.declared.step.Step.{Step}
-use Rattle.urlpattern_steps.specs.declared.step.Step.TheVariants.{Literal, Segment, Anything, Maybe, Longest, Copies, Segments}
-use Rattle.urlpattern_steps.specs.ReadSteps.{BeginsWithCaptured, BeginsWithCharacter, BeginsWithRegexpToken, IsRunOf, IsStepOf, AllowsEmptyRun, SpellsStep, quantifier_of, times_text}
+use Rattle.urlpattern_steps.specs.declared.step.Step.TheVariants.{Literal, LazyRun, DotStar, OptionalGroup, GreedyRun, RepeatedLiteral, Segments}
+use Rattle.urlpattern_steps.specs.ReadSteps.{BeginsWithCaptured, BeginsWithCharacter, BeginsWithRegexpToken, IsRunOf, IsStepOf, AllowsEmptyRun, SpellsStep, quantifier_of, group_quantifier_text}
 use Rattle.urlpattern_steps.specs.Walk.{capture_count}
 use Rattle.urlpattern_syntax.specs.Text.{line_feed}
 use Rattle.urlpattern_steps.proofs.LongestLemmas.{run_uncaptured}
@@ -38,14 +38,14 @@ not_class c p q t =
 
 -- ---- capturing groups
 
-pub greedy_dot : (text rest : List ℕ) → text ≡ codes "*" ++ rest → BeginsWithCaptured (codes "." ++ text) Anything rest
+pub greedy_dot : (text rest : List ℕ) → text ≡ codes "*" ++ rest → BeginsWithCaptured (codes "." ++ text) DotStar rest
 greedy_dot text rest e = (Item Dot ZeroOrMore Nothing, (tt, refl, tt), refl, ap (λ t. codes "." ++ t) e)
 
-pub lazy_dot : (text rest : List ℕ) → text ≡ codes "+?" ++ rest → BeginsWithCaptured (codes "." ++ text) (Segment 10) rest
+pub lazy_dot : (text rest : List ℕ) → text ≡ codes "+?" ++ rest → BeginsWithCaptured (codes "." ++ text) (LazyRun 10) rest
 lazy_dot text rest e = (Item Dot LazyOneOrMore Nothing, (tt, refl, tt), (Dot, refl, refl), ap (λ t. codes "." ++ t) e)
 
 pub lazy_class : (text behind class rest : List ℕ) (c : ℕ) → BeginsWithCharacter IsClassCharacter text c behind → behind ≡ codes "]" ++ class → class ≡ codes "+?" ++ rest
-    → BeginsWithCaptured (codes "[^" ++ text) (Segment c) rest
+    → BeginsWithCaptured (codes "[^" ++ text) (LazyRun c) rest
 lazy_class text behind class rest c (character, is, same, e) f g =
     let one : Items = Item (AnyBut character) LazyOneOrMore Nothing in
     let whole : text ≡ character_text character ++ (codes "]" ++ (codes "+?" ++ rest)) = e ∙ ap (λ t. character_text character ++ t) (f ∙ ap (λ t. codes "]" ++ t) g) in
@@ -55,10 +55,10 @@ lazy_class text behind class rest c (character, is, same, e) f g =
     ∙ append_assoc (character_text character ++ codes "]") (codes "+?") rest ∙ append_assoc (character_text character) (codes "]") (codes "+?" ++ rest)) in
     (one, (is, refl, tt), (AnyBut character, same, refl), ap (λ t. codes "[^" ++ t) whole ∙ sym spelled)
 
-pub segment_run : (c : ℕ) (items : Items) → IsStepOf (Segment c) (Captured items) → IsRunOf c false items
+pub segment_run : (c : ℕ) (items : Items) → IsStepOf (LazyRun c) (Captured items) → IsRunOf c false items
 segment_run c items (one, but, e) = (one, but, cc)
 
-pub anything_run : (items : Items) → IsStepOf Anything (Captured items) → IsRunOf line_feed true items
+pub anything_run : (items : Items) → IsStepOf DotStar (Captured items) → IsRunOf line_feed true items
 anything_run items e = (refl, cc)
 
 -- Runs may be repeated, whether or not each of them may be empty.
@@ -70,14 +70,14 @@ runs_allowed end is_greedy items Once may_be_empty run is = tt
 runs_allowed end is_greedy items Optional may_be_empty run is = tt
 runs_allowed end is_greedy items LazyOneOrMore may_be_empty run is = absurd is
 
-pub repeated_run : (text inner run_text bracket behind rest : List ℕ) (run step : Step) (times : Times) → text ≡ codes "?" ++ inner → inner ≡ codes ":" ++ run_text
-    → BeginsWithCaptured run_text run bracket → bracket ≡ codes ")" ++ behind → behind ≡ times_text times ++ rest
+pub repeated_run : (text inner run_text bracket behind rest : List ℕ) (run step : Step) (times : GroupQuantifier) → text ≡ codes "?" ++ inner → inner ≡ codes ":" ++ run_text
+    → BeginsWithCaptured run_text run bracket → bracket ≡ codes ")" ++ behind → behind ≡ group_quantifier_text times ++ rest
     → ((items : Items) → IsStepOf run (Captured items)
     → AllowsGroups (quantifier_of times) (group_count items) × IsStepOf step (Captured (Item (Grouped items) (quantifier_of times) Nothing)))
     → BeginsWithCaptured (codes "(" ++ text) step rest
 repeated_run text inner run_text bracket behind rest run step times e f (items, are, is, g) h i steps =
     let repeated = steps items is in
-    let q = times_text times in
+    let q = group_quantifier_text times in
     let whole : codes "(" ++ text ≡ codes "(?:" ++ (items_text items ++ (codes ")" ++ (q ++ rest))) =
     ap (λ t. codes "(" ++ t) (e ∙ ap (λ t. codes "?" ++ t) (f ∙ ap (λ t. codes ":" ++ t) (g ∙ ap (λ t. items_text items ++ t) (h ∙ ap (λ t. codes ")" ++ t) i)))) in
     let spelled : items_text (Item (Grouped items) (quantifier_of times) Nothing) ++ rest ≡ codes "(?:" ++ (items_text items ++ (codes ")" ++ (q ++ rest))) =
@@ -99,15 +99,15 @@ captured_literal character items e = cc
 
 pub captures_one : (step : Step) (items : Items) → IsStepOf step (Captured items) → capture_count (step ∷ []) ≡ 1
 captures_one (Literal c) items is = absurd (captured_literal is.0 items is.2)
-captures_one (Segment c) items is = refl
-captures_one Anything items is = refl
-captures_one (Maybe group) items is = absurd is
-captures_one (Longest run) items is = refl
-captures_one (Copies copies) items is = absurd is
+captures_one (LazyRun c) items is = refl
+captures_one DotStar items is = refl
+captures_one (OptionalGroup group) items is = absurd is
+captures_one (GreedyRun run) items is = refl
+captures_one (RepeatedLiteral copies) items is = absurd is
 captures_one (Segments segments) items is = absurd is
 
 pub captured-maybe : (text bracket behind rest : List ℕ) (step : Step) → BeginsWithCaptured text step bracket → bracket ≡ codes ")" ++ behind → behind ≡ codes "?" ++ rest
-    → BeginsWithRegexpToken (codes "(" ++ text) (MaybeStep step) rest
+    → BeginsWithRegexpToken (codes "(" ++ text) (OptionalStep step) rest
 captured-maybe text bracket behind rest step begins e f =
     let once = captured-spells text bracket behind step begins e in
     (once.0 ++ codes "?", (once.0, captures_one step begins.0 begins.2, once.1, refl), once.2 ∙ ap (λ t. once.0 ++ t) f ∙ sym (append_assoc once.0 (codes "?") rest))

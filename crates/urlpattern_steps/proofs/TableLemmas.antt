@@ -9,14 +9,14 @@ use Rattle.std.specs.Borrow.{Bor}
 use Rattle.std.specs.Str.{chars}
 use Rattle.urlpattern_steps.specs.declared.step.Group.{Group}
 use Rattle.urlpattern_steps.specs.declared.step.Step.{Step}
-use Rattle.urlpattern_steps.specs.declared.step.Step.TheVariants.{Literal, Segment, Anything, Maybe, Longest, Copies, Segments}
-use Rattle.urlpattern_steps.specs.Failed.{EndsWith}
-use Rattle.urlpattern_steps.specs.Walk.{captured_front, walk}
+use Rattle.urlpattern_steps.specs.declared.step.Step.TheVariants.{Literal, LazyRun, DotStar, OptionalGroup, GreedyRun, RepeatedLiteral, Segments}
+use Rattle.urlpattern_steps.specs.FailedStates.{EndsWith}
+use Rattle.urlpattern_steps.specs.Walk.{captured_prefix, walk}
 use Rattle.urlpattern_steps.specs.Table.{AreRows, is_capture, IsRow, IsSingle, following, given, row_at}
 use Rattle.urlpattern_steps.specs.Taken.{Kept, with_captures}
 use Rattle.urlpattern_steps.proofs.FollowLemmas.{plus_captured}
 use Rattle.urlpattern_steps.proofs.FailedLemmas.{ends_longer}
-use Rattle.urlpattern_steps.proofs.TakenFronts.{is_some-or, some_mapped}
+use Rattle.urlpattern_steps.proofs.MatchedPrefixes.{is_some-or, some_mapped}
 use Rattle.urlpattern_steps.proofs.StepLemmas.{walk_after-drop}
 
 -- The row for a suffix of the text.
@@ -46,7 +46,7 @@ row_none ignore_case text n le = record {
     bits (c ∷ end) = false_more n (length end)
 
 pub row_either : (ignore_case : Bool) (text : List ℕ) (group : Group) (others : List Step) (one other row : List Bool) → IsRow ignore_case text others one → IsRow ignore_case text (drop group.steps others) other
-    → length row ≡ length one → ((n : ℕ) → n < length one → get_or row n false ≡ get_or one n false || get_or other n false) → IsRow ignore_case text (Maybe group ∷ others) row
+    → length row ≡ length one → ((n : ℕ) → n < length one → get_or row n false ≡ get_or one n false || get_or other n false) → IsRow ignore_case text (OptionalGroup group ∷ others) row
 row_either ignore_case text group others one other row first second len both = record {
   long = omega (arith, len, first.long);
   bits = λ end ends.
@@ -106,7 +106,7 @@ pub row_if_either : (ignore_case : Bool) → {E : Type 0} (text : List ℕ) (gro
     → IsRow ignore_case text others one → IsRow ignore_case text (drop group.steps others) other
     → IfOk result (λ row. length row.items ≡ length one)
     → IfOk result (λ row. (n : ℕ) → n < length one → get_or row.items n false ≡ get_or one n false || get_or other n false)
-    → IfOk result (λ row. IsRow ignore_case text (Maybe group ∷ others) row.items)
+    → IfOk result (λ row. IsRow ignore_case text (OptionalGroup group ∷ others) row.items)
 row_if_either ignore_case text group others one other (Ok row) first second len both = row_either ignore_case text group others one other row.items first second len both
 row_if_either ignore_case text group others one other (Err error) first second len both = tt
 
@@ -127,17 +127,17 @@ pub front_added : (ignore_case : Bool) (step : Step) (others : List Step) (old n
 front_added ignore_case step others old new front rest e = by (is_capture step) e
   where
     by : (b : Bool) → new ≡ cond b (old ++ Some front ∷ []) old
-        → with_captures old ((cond b (captured_front (walk ignore_case (following step others))) (λ front rest. walk ignore_case (following step others) rest)) (chars front.now) rest)
+        → with_captures old ((cond b (captured_prefix (walk ignore_case (following step others))) (λ front rest. walk ignore_case (following step others) rest)) (chars front.now) rest)
         ≡ with_captures new (walk ignore_case (following step others) rest)
     by true e = plus_captured old front (walk ignore_case (following step others) rest) ∙ ap (λ k. with_captures k (walk ignore_case (following step others) rest)) (sym e)
     by false e = ap (λ k. with_captures k (walk ignore_case (following step others) rest)) (sym e)
 
 -- A step other than an optional group.
-pub single_of : (step : Step) → ((group : Group) → ¬ (step ≡ Maybe group)) → IsSingle step
-single_of (Maybe group) other = other group refl
+pub single_of : (step : Step) → ((group : Group) → ¬ (step ≡ OptionalGroup group)) → IsSingle step
+single_of (OptionalGroup group) other = other group refl
 single_of (Literal c) other = tt
-single_of (Segment end) other = tt
-single_of Anything other = tt
-single_of (Longest run) other = tt
-single_of (Copies copies) other = tt
+single_of (LazyRun end) other = tt
+single_of DotStar other = tt
+single_of (GreedyRun run) other = tt
+single_of (RepeatedLiteral copies) other = tt
 single_of (Segments segments) other = tt

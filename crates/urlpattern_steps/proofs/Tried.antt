@@ -3,7 +3,7 @@ use Rattle.std.proofs.Common.{◌≡◌, ℕ, zero, suc, ◌≤◌, List, [], �
 use Rattle.std.specs.Option.{option_or}
 use Rattle.urlpattern_steps.proofs.OptionLemmas.{option_or-None}
 use Rattle.urlpattern_meaning.specs.PartMeaning.{Captures}
-use Rattle.urlpattern_meaning.specs.Ways.{Way, Choice, idle, joined_way, continued, one_that, is_shorter, more_rounds, looped}
+use Rattle.urlpattern_meaning.specs.Ways.{Way, Choice, empty_way, joined_way, continued, one_that, is_shorter, more_rounds, looped}
 use Rattle.urlpattern_steps.specs.Walk.{shortest, longest, Continuation}
 use Rattle.urlpattern_meaning.specs.Matching.{is_same_character}
 
@@ -75,8 +75,8 @@ tried-behind next choice xs =
 pub before_next-same : (next other : Next) → ((text : List ℕ) → next text ≡ other text) → (way : Way) → before_next next way ≡ before_next other way
 before_next-same next other same way = ap (option_map (λ others. way.captures ++ others)) (same way.rest)
 
-pub tried-idle : (next : Next) (text : List ℕ) → tried (before_next next) (idle 0 text ∷ []) ≡ next text
-tried-idle next text = option_or-None (before_next next (idle 0 text)) ∙ option_map-still (next text)
+pub tried-empty_way : (next : Next) (text : List ℕ) → tried (before_next next) (empty_way 0 text ∷ []) ≡ next text
+tried-empty_way next text = option_or-None (before_next next (empty_way 0 text)) ∙ option_map-still (next text)
 
 -- ---- loops of single characters
 
@@ -99,8 +99,8 @@ module _ (ignore_case : Bool) (end : ℕ) where
   abbrev pub one : Choice
   one = one_that (λ c. not (is_same_character ignore_case c end))
 
-  idle-given : (h : Given) (text : List ℕ) → tried (given h) (idle 0 text ∷ []) ≡ h [] [] text
-  idle-given h text = option_or-None _
+  empty_way-given : (h : Given) (text : List ℕ) → tried (given h) (empty_way 0 text ∷ []) ≡ h [] [] text
+  empty_way-given h text = option_or-None _
 
   -- The remaining rounds after one character.
   one_round : (h : Given) (c : ℕ) (text : List ℕ) (next : Choice)
@@ -144,7 +144,7 @@ module _ (ignore_case : Bool) (end : ℕ) where
   lazy_loop h (c ∷ text) = by (is_same_character ignore_case c end)
     where
       next : Choice
-      next rest = cond (is_shorter rest (c ∷ text)) (more_rounds false one (length rest) rest) (idle 0 rest ∷ [])
+      next rest = cond (is_shorter rest (c ∷ text)) (more_rounds false one (length rest) rest) (empty_way 0 rest ∷ [])
 
       by : (b : Bool) → tried (given h) (continued next (cond (not b) (record { taken = c ∷ []; captures = []; rest = text } ∷ []) []))
           ≡ cond b None (option_or (h (c ∷ []) [] text) (shortest ignore_case end (bare h) (c ∷ []) text))
@@ -152,41 +152,41 @@ module _ (ignore_case : Bool) (end : ℕ) where
       by false =
           let shorter : is_shorter text (c ∷ text) ≡ true = lt-ltb _ _ (omega arith) in
           one_round h c text next
-          ∙ ap (λ b. tried (given (with_first c h)) (cond b (more_rounds false one (length text) text) (idle 0 text ∷ []))) shorter
+          ∙ ap (λ b. tried (given (with_first c h)) (cond b (more_rounds false one (length text) text) (empty_way 0 text ∷ []))) shorter
           ∙ lazy_rounds (length text) (with_first c h) text (omega arith)
           ∙ ap (option_or (h (c ∷ []) [] text)) (shortest-first c h [] text)
 
   greedy_rounds : (n : ℕ) (h : Given) (text : List ℕ) → length text ≤ n → tried (given h) (more_rounds true one n text) ≡ longest ignore_case end (bare h) [] text
-  greedy_rounds zero h [] le = idle-given h []
+  greedy_rounds zero h [] le = empty_way-given h []
   greedy_rounds zero h (c ∷ text) le = absurd (omega arith)
-  greedy_rounds (suc n) h [] le = idle-given h []
+  greedy_rounds (suc n) h [] le = empty_way-given h []
   greedy_rounds (suc n) h (c ∷ text) le = by (is_same_character ignore_case c end) (greedy_rounds n (with_first c h) text (omega arith))
     where
       next : Choice
       next rest = cond (is_shorter rest (c ∷ text)) (more_rounds true one n rest) []
 
       by : (b : Bool) → tried (given (with_first c h)) (more_rounds true one n text) ≡ longest ignore_case end (bare (with_first c h)) [] text
-          → tried (given h) (continued next (cond (not b) (record { taken = c ∷ []; captures = []; rest = text } ∷ []) []) ++ idle 0 (c ∷ text) ∷ [])
+          → tried (given h) (continued next (cond (not b) (record { taken = c ∷ []; captures = []; rest = text } ∷ []) []) ++ empty_way 0 (c ∷ text) ∷ [])
           ≡ cond b (h [] [] (c ∷ text)) (option_or (longest ignore_case end (bare h) (c ∷ []) text) (h [] [] (c ∷ text)))
-      by true later = idle-given h (c ∷ text)
+      by true later = empty_way-given h (c ∷ text)
       by false later =
           let shorter : is_shorter text (c ∷ text) ≡ true = lt-ltb _ _ (omega arith) in
-          tried-append (given h) _ (idle 0 (c ∷ text) ∷ [])
+          tried-append (given h) _ (empty_way 0 (c ∷ text) ∷ [])
           ∙ ap₂ option_or
           (one_round h c text next
           ∙ ap (λ b. tried (given (with_first c h)) (cond b (more_rounds true one n text) [])) shorter
           ∙ later
           ∙ longest-first c h [] text)
-          (idle-given h (c ∷ text))
+          (empty_way-given h (c ∷ text))
 
   -- A greedy loop of any number of rounds.
-  pub greedy_loop : (h : Given) (text : List ℕ) → tried (given h) (looped true one text ++ idle 0 text ∷ []) ≡ longest ignore_case end (bare h) [] text
-  greedy_loop h [] = idle-given h []
+  pub greedy_loop : (h : Given) (text : List ℕ) → tried (given h) (looped true one text ++ empty_way 0 text ∷ []) ≡ longest ignore_case end (bare h) [] text
+  greedy_loop h [] = empty_way-given h []
   greedy_loop h (c ∷ text) =
-      tried-append (given h) (looped true one (c ∷ text)) (idle 0 (c ∷ text) ∷ []) ∙ ap (option_or (tried (given h) (looped true one (c ∷ text)))) (idle-given h (c ∷ text)) ∙ by (is_same_character ignore_case c end)
+      tried-append (given h) (looped true one (c ∷ text)) (empty_way 0 (c ∷ text) ∷ []) ∙ ap (option_or (tried (given h) (looped true one (c ∷ text)))) (empty_way-given h (c ∷ text)) ∙ by (is_same_character ignore_case c end)
     where
       next : Choice
-      next rest = cond (is_shorter rest (c ∷ text)) (more_rounds true one (length rest) rest) (idle 0 rest ∷ [])
+      next rest = cond (is_shorter rest (c ∷ text)) (more_rounds true one (length rest) rest) (empty_way 0 rest ∷ [])
 
       by : (b : Bool) → option_or (tried (given h) (continued next (cond (not b) (record { taken = c ∷ []; captures = []; rest = text } ∷ []) []))) (h [] [] (c ∷ text))
           ≡ cond b (h [] [] (c ∷ text)) (option_or (longest ignore_case end (bare h) (c ∷ []) text) (h [] [] (c ∷ text)))
@@ -195,6 +195,6 @@ module _ (ignore_case : Bool) (end : ℕ) where
           let shorter : is_shorter text (c ∷ text) ≡ true = lt-ltb _ _ (omega arith) in
           ap (λ o. option_or o (h [] [] (c ∷ text)))
           (one_round h c text next
-          ∙ ap (λ b. tried (given (with_first c h)) (cond b (more_rounds true one (length text) text) (idle 0 text ∷ []))) shorter
+          ∙ ap (λ b. tried (given (with_first c h)) (cond b (more_rounds true one (length text) text) (empty_way 0 text ∷ []))) shorter
           ∙ greedy_rounds (length text) (with_first c h) text (omega arith)
           ∙ longest-first c h [] text)

@@ -5,17 +5,17 @@ use Rattle.std.specs.Option.{option_or}
 use Rattle.urlpattern_steps.proofs.OptionLemmas.{option_or-None}
 use Rattle.urlpattern_meaning.specs.Dialect.{character_of, Character, Once, Optional, LazyOneOrMore, Items, Nothing, Item, Atom, Dot, AnyBut, Captured, Grouped, atom_group_count, group_count}
 use Rattle.urlpattern_meaning.specs.Dialect as dialect
-use Rattle.urlpattern_meaning.specs.Ways.{Way, idle, continued, one_that, looped, capturing, ways_by, atom_ways_by, first_way_by}
+use Rattle.urlpattern_meaning.specs.Ways.{Way, empty_way, continued, one_that, looped, capturing, ways_by, atom_ways_by, first_way_by}
 use Rattle.urlpattern_syntax.specs.Text.{line_feed}
 use Rattle.urlpattern_steps.specs.declared.step.Group.{Group}
 use Rattle.urlpattern_steps.specs.declared.step.Run.{Run}
 use Rattle.urlpattern_steps.specs.declared.step.Step.{Step}
-use Rattle.urlpattern_steps.specs.declared.step.Step.TheVariants.{Literal, Segment, Anything, Maybe, Longest, Copies, Segments}
+use Rattle.urlpattern_steps.specs.declared.step.Step.TheVariants.{Literal, LazyRun, DotStar, OptionalGroup, GreedyRun, RepeatedLiteral, Segments}
 use Rattle.urlpattern_steps.specs.ReadSteps.{AreLiterals, IsAllBut, IsStepOf}
-use Rattle.urlpattern_steps.specs.Walk.{Continuation, captured_front, shortest, longest, longest_run, literals, after_text, walk, walk_after, capture_count}
+use Rattle.urlpattern_steps.specs.Walk.{Continuation, captured_prefix, shortest, longest, longest_run, literals, after_text, walk, walk_after, capture_count}
 use Rattle.urlpattern_steps.proofs.LongestLemmas.{captured_takes, run_uncaptured, takes-runs}
 use Rattle.urlpattern_steps.proofs.Rounds.{Takes, keeps-after, after-append, takes-nothing, takes-one, takes-then}
-use Rattle.urlpattern_steps.proofs.Tried.{Next, Given, given, tried, before_next, bare, one, tried-append, tried-map, tried-same, tried-continued, tried-behind, before_next-same, tried-idle, lazy_loop, greedy_loop}
+use Rattle.urlpattern_steps.proofs.Tried.{Next, Given, given, tried, before_next, bare, one, tried-append, tried-map, tried-same, tried-continued, tried-behind, before_next-same, tried-empty_way, lazy_loop, greedy_loop}
 use Rattle.urlpattern_meaning.specs.Matching.{is_same_character}
 
 -- ---- trees and atoms, and their steps
@@ -40,11 +40,11 @@ pub record AtomWalks (ignore_case : Bool) (atom : Atom) (steps : List Step) : Ty
 pub capture_count-append : (own others : List Step) → capture_count (own ++ others) ≡ capture_count own + capture_count others
 capture_count-append [] others = omega arith
 capture_count-append (Literal c ∷ own) others = capture_count-append own others
-capture_count-append (Segment c ∷ own) others = omega (arith, capture_count-append own others)
-capture_count-append (Anything ∷ own) others = omega (arith, capture_count-append own others)
-capture_count-append (Maybe group ∷ own) others = capture_count-append own others
-capture_count-append (Longest run ∷ own) others = omega (arith, capture_count-append own others)
-capture_count-append (Copies copies ∷ own) others = capture_count-append own others
+capture_count-append (LazyRun c ∷ own) others = omega (arith, capture_count-append own others)
+capture_count-append (DotStar ∷ own) others = omega (arith, capture_count-append own others)
+capture_count-append (OptionalGroup group ∷ own) others = capture_count-append own others
+capture_count-append (GreedyRun run ∷ own) others = omega (arith, capture_count-append own others)
+capture_count-append (RepeatedLiteral copies ∷ own) others = capture_count-append own others
 capture_count-append (Segments segments ∷ own) others = omega (arith, capture_count-append own others)
 
 pub walk_after-own : (ignore_case : Bool) (own after : List Step) (text : List ℕ) → walk_after ignore_case (length own) (own ++ after) text ≡ walk ignore_case after text
@@ -56,31 +56,31 @@ walk_after-own ignore_case (step ∷ own) after text = walk_after-own ignore_cas
 literals_parts : (own others : List Step) → AreLiterals (own ++ others) → AreLiterals own × AreLiterals others
 literals_parts [] others plain = (tt, plain)
 literals_parts (Literal c ∷ own) others plain = literals_parts own others plain
-literals_parts (Segment end ∷ own) others plain = absurd plain
-literals_parts (Anything ∷ own) others plain = absurd plain
-literals_parts (Maybe group ∷ own) others plain = absurd plain
-literals_parts (Longest run ∷ own) others plain = absurd plain
-literals_parts (Copies copies ∷ own) others plain = absurd plain
+literals_parts (LazyRun end ∷ own) others plain = absurd plain
+literals_parts (DotStar ∷ own) others plain = absurd plain
+literals_parts (OptionalGroup group ∷ own) others plain = absurd plain
+literals_parts (GreedyRun run ∷ own) others plain = absurd plain
+literals_parts (RepeatedLiteral copies ∷ own) others plain = absurd plain
 literals_parts (Segments segments ∷ own) others plain = absurd plain
 
 literals-append : (own others : List Step) → literals (own ++ others) ≡ literals own ++ literals others
 literals-append [] others = refl
 literals-append (Literal c ∷ own) others = ap (λ l. c ∷ l) (literals-append own others)
-literals-append (Segment end ∷ own) others = literals-append own others
-literals-append (Anything ∷ own) others = literals-append own others
-literals-append (Maybe group ∷ own) others = literals-append own others
-literals-append (Longest run ∷ own) others = literals-append own others
-literals-append (Copies copies ∷ own) others = literals-append own others
+literals-append (LazyRun end ∷ own) others = literals-append own others
+literals-append (DotStar ∷ own) others = literals-append own others
+literals-append (OptionalGroup group ∷ own) others = literals-append own others
+literals-append (GreedyRun run ∷ own) others = literals-append own others
+literals-append (RepeatedLiteral copies ∷ own) others = literals-append own others
 literals-append (Segments segments ∷ own) others = literals-append own others
 
 pub literals_uncaptured : (steps : List Step) → AreLiterals steps → capture_count steps ≡ 0
 literals_uncaptured [] plain = refl
 literals_uncaptured (Literal c ∷ steps) plain = literals_uncaptured steps plain
-literals_uncaptured (Segment end ∷ steps) plain = absurd plain
-literals_uncaptured (Anything ∷ steps) plain = absurd plain
-literals_uncaptured (Maybe group ∷ steps) plain = absurd plain
-literals_uncaptured (Longest run ∷ steps) plain = absurd plain
-literals_uncaptured (Copies copies ∷ steps) plain = absurd plain
+literals_uncaptured (LazyRun end ∷ steps) plain = absurd plain
+literals_uncaptured (DotStar ∷ steps) plain = absurd plain
+literals_uncaptured (OptionalGroup group ∷ steps) plain = absurd plain
+literals_uncaptured (GreedyRun run ∷ steps) plain = absurd plain
+literals_uncaptured (RepeatedLiteral copies ∷ steps) plain = absurd plain
 literals_uncaptured (Segments segments ∷ steps) plain = absurd plain
 
 -- The texts of both, concatenated.
@@ -101,7 +101,7 @@ text_then ignore_case atom items own others first next plain =
 -- ---- items
 
 pub walks-nothing : (ignore_case : Bool) → Walks ignore_case Nothing []
-walks-nothing ignore_case = record { count = refl; text = λ plain. takes-nothing ignore_case; walks = λ after text. tried-idle (walk ignore_case after) text }
+walks-nothing ignore_case = record { count = refl; text = λ plain. takes-nothing ignore_case; walks = λ after text. tried-empty_way (walk ignore_case after) text }
 
 pub walks-inside : (ignore_case : Bool) (inner : Items) (steps : List Step) → Walks ignore_case inner steps → AtomWalks ignore_case (Grouped inner) steps
 walks-inside ignore_case inner steps walks = record { count = walks.count; text = walks.text; walks = walks.walks }
@@ -124,13 +124,13 @@ walks-once ignore_case atom items own others first next = record {
 }
 
 pub walks-maybe : (ignore_case : Bool) (atom : Atom) (items : Items) (group : Group) (own others : List Step) → AtomWalks ignore_case atom own → Walks ignore_case items others
-    → group.steps ≡ length own → group.captures ≡ capture_count own → Walks ignore_case (Item atom Optional items) (Maybe group ∷ (own ++ others))
+    → group.steps ≡ length own → group.captures ≡ capture_count own → Walks ignore_case (Item atom Optional items) (OptionalGroup group ∷ (own ++ others))
 walks-maybe ignore_case atom items group own others first next steps captures = record {
   count = ap₂ (λ m n. m + n) first.count next.count ∙ sym (capture_count-append own others);
   text = λ plain. absurd plain;
   walks = λ after text.
-      after_atom ignore_case items others next after (atom_ways_by ignore_case atom text ++ idle (atom_group_count atom) text ∷ [])
-      ∙ tried-append (before_next (walk ignore_case (others ++ after))) (atom_ways_by ignore_case atom text) (idle (atom_group_count atom) text ∷ [])
+      after_atom ignore_case items others next after (atom_ways_by ignore_case atom text ++ empty_way (atom_group_count atom) text ∷ [])
+      ∙ tried-append (before_next (walk ignore_case (others ++ after))) (atom_ways_by ignore_case atom text) (empty_way (atom_group_count atom) text ∷ [])
       ∙ ap₂ option_or
       (first.walks (others ++ after) text ∙ ap (λ s. walk ignore_case s text) (sym (append_assoc own others after)))
       (option_or-None _
@@ -153,7 +153,7 @@ walks-literal ignore_case character = record { count = refl; text = λ plain. ta
       where
         at : (b : Bool) → tried (before_next (walk ignore_case after)) (cond b (record { taken = c ∷ []; captures = []; rest = text } ∷ []) [])
             ≡ cond b (walk ignore_case after text) None
-        at true = tried-idle (walk ignore_case after) text
+        at true = tried-empty_way (walk ignore_case after) text
         at false = refl
 
 -- ---- runs
@@ -181,36 +181,36 @@ captured_ways ignore_case next loop =
     ∙ tried-same _ (given (captured_loop next)) (λ way. option_or-None _) loop
 
 -- The prefix of a loop as a capture.
-plain_capture : (next : Next) (front rest : List ℕ) → bare (captured_loop next) front rest ≡ captured_front next front rest
+plain_capture : (next : Next) (front rest : List ℕ) → bare (captured_loop next) front rest ≡ captured_prefix next front rest
 plain_capture next front rest = ap (λ t. option_map (λ others. Some t ∷ others) (next rest)) (append-nil front)
 
 segment : (ignore_case : Bool) (end : ℕ) (after : List Step) (text : List ℕ)
-    → tried (before_next (walk ignore_case after)) (map capturing (continued (ways_by ignore_case Nothing) (looped false (one ignore_case end) text))) ≡ walk ignore_case (Segment end ∷ after) text
+    → tried (before_next (walk ignore_case after)) (map capturing (continued (ways_by ignore_case Nothing) (looped false (one ignore_case end) text))) ≡ walk ignore_case (LazyRun end ∷ after) text
 segment ignore_case end after text =
     captured_ways ignore_case (walk ignore_case after) (looped false (one ignore_case end) text)
     ∙ lazy_loop ignore_case end (captured_loop (walk ignore_case after)) text
     ∙ shortest-same ignore_case end _ _ (plain_capture (walk ignore_case after)) [] text
 
 anything : (ignore_case : Bool) (after : List Step) (text : List ℕ)
-    → tried (before_next (walk ignore_case after)) (map capturing (continued (ways_by ignore_case Nothing) (looped true (one ignore_case line_feed) text ++ idle 0 text ∷ []))) ≡ walk ignore_case (Anything ∷ after) text
+    → tried (before_next (walk ignore_case after)) (map capturing (continued (ways_by ignore_case Nothing) (looped true (one ignore_case line_feed) text ++ empty_way 0 text ∷ []))) ≡ walk ignore_case (DotStar ∷ after) text
 anything ignore_case after text =
-    captured_ways ignore_case (walk ignore_case after) (looped true (one ignore_case line_feed) text ++ idle 0 text ∷ [])
+    captured_ways ignore_case (walk ignore_case after) (looped true (one ignore_case line_feed) text ++ empty_way 0 text ∷ [])
     ∙ greedy_loop ignore_case line_feed (captured_loop (walk ignore_case after)) text
     ∙ longest-same ignore_case line_feed _ _ (plain_capture (walk ignore_case after)) [] text
 
-walks-segment : (ignore_case : Bool) (end : ℕ) (atom : Atom) → IsAllBut end atom → AtomWalks ignore_case (Captured (Item atom LazyOneOrMore Nothing)) (Segment end ∷ [])
-walks-segment ignore_case end Dot is = subst (λ c. AtomWalks ignore_case (Captured (Item Dot LazyOneOrMore Nothing)) (Segment c ∷ [])) (sym is) (record { count = refl; text = λ plain. absurd plain; walks = segment ignore_case line_feed })
+walks-segment : (ignore_case : Bool) (end : ℕ) (atom : Atom) → IsAllBut end atom → AtomWalks ignore_case (Captured (Item atom LazyOneOrMore Nothing)) (LazyRun end ∷ [])
+walks-segment ignore_case end Dot is = subst (λ c. AtomWalks ignore_case (Captured (Item Dot LazyOneOrMore Nothing)) (LazyRun c ∷ [])) (sym is) (record { count = refl; text = λ plain. absurd plain; walks = segment ignore_case line_feed })
 walks-segment ignore_case end (AnyBut character) is =
-    subst (λ c. AtomWalks ignore_case (Captured (Item (AnyBut character) LazyOneOrMore Nothing)) (Segment c ∷ [])) is (record { count = refl; text = λ plain. absurd plain; walks = segment ignore_case (character_of character) })
+    subst (λ c. AtomWalks ignore_case (Captured (Item (AnyBut character) LazyOneOrMore Nothing)) (LazyRun c ∷ [])) is (record { count = refl; text = λ plain. absurd plain; walks = segment ignore_case (character_of character) })
 walks-segment ignore_case end (dialect.Literal character) is = absurd is
 walks-segment ignore_case end (Captured inner) is = absurd is
 walks-segment ignore_case end (Grouped inner) is = absurd is
 
-walks-longest : (ignore_case : Bool) (run : Run) (atom : Atom) → IsStepOf (Longest run) atom → AtomWalks ignore_case atom (Longest run ∷ [])
+walks-longest : (ignore_case : Bool) (run : Run) (atom : Atom) → IsStepOf (GreedyRun run) atom → AtomWalks ignore_case atom (GreedyRun run ∷ [])
 walks-longest ignore_case run atom (items, is_greedy, quantifier, is_run, may_be, is) =
     let inner : Items = Item (Grouped items) quantifier Nothing in
     let takes = takes-runs ignore_case run.end is_greedy items quantifier run.may_be_empty is_run may_be in
-    subst (λ (a : Atom). AtomWalks ignore_case a (Longest run ∷ [])) (sym is)
+    subst (λ (a : Atom). AtomWalks ignore_case a (GreedyRun run ∷ [])) (sym is)
     (record {
       count = let none = run_uncaptured run.end is_greedy items is_run in omega (arith, none);
       text = λ plain. absurd plain;
@@ -221,11 +221,11 @@ pub walks-step : (ignore_case : Bool) (step : Step) (atom : Atom) → IsStepOf s
 walks-step ignore_case (Literal c) atom is =
     subst (λ (a : Atom). AtomWalks ignore_case a (Literal c ∷ [])) (sym is.2)
     (subst (λ d. AtomWalks ignore_case (dialect.Literal is.0) (Literal d ∷ [])) is.1 (walks-literal ignore_case is.0))
-walks-step ignore_case (Segment c) atom is = subst (λ (a : Atom). AtomWalks ignore_case a (Segment c ∷ [])) (sym is.2) (walks-segment ignore_case c is.0 is.1)
-walks-step ignore_case Anything atom is = subst (λ (a : Atom). AtomWalks ignore_case a (Anything ∷ [])) (sym is) (record { count = refl; text = λ plain. absurd plain; walks = anything ignore_case })
-walks-step ignore_case (Maybe group) atom is = absurd is
-walks-step ignore_case (Longest run) atom is = walks-longest ignore_case run atom is
-walks-step ignore_case (Copies copies) atom is = absurd is
+walks-step ignore_case (LazyRun c) atom is = subst (λ (a : Atom). AtomWalks ignore_case a (LazyRun c ∷ [])) (sym is.2) (walks-segment ignore_case c is.0 is.1)
+walks-step ignore_case DotStar atom is = subst (λ (a : Atom). AtomWalks ignore_case a (DotStar ∷ [])) (sym is) (record { count = refl; text = λ plain. absurd plain; walks = anything ignore_case })
+walks-step ignore_case (OptionalGroup group) atom is = absurd is
+walks-step ignore_case (GreedyRun run) atom is = walks-longest ignore_case run atom is
+walks-step ignore_case (RepeatedLiteral copies) atom is = absurd is
 walks-step ignore_case (Segments segments) atom is = absurd is
 
 -- ---- a whole tree

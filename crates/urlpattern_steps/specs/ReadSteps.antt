@@ -4,13 +4,13 @@ use Rattle.std.specs.Borrow.{Bor}
 use Rattle.std.specs.Global.{Global}
 use Rattle.std.specs.declared.vec.Vec.{Vec}
 use Rattle.std.specs.Str.{chars}
-use Rattle.urlpattern_steps.specs.declared.step_tokens.Times.{Times}
-use Rattle.urlpattern_steps.specs.declared.step_tokens.Times.TheVariants as times
+use Rattle.urlpattern_steps.specs.declared.step_tokens.GroupQuantifier.{GroupQuantifier}
+use Rattle.urlpattern_steps.specs.declared.step_tokens.GroupQuantifier.TheVariants as times
 use Rattle.urlpattern_steps.specs.declared.step_tokens.StepToken.{StepToken}
-use Rattle.urlpattern_steps.specs.declared.step_tokens.StepToken.TheVariants.{Open, Close, Step as One, MaybeStep, FirstSegment}
+use Rattle.urlpattern_steps.specs.declared.step_tokens.StepToken.TheVariants.{Open, Close, Step as One, OptionalStep, FirstSegment}
 use Rattle.urlpattern_steps.specs.declared.step.Step.{Step}
-use Rattle.urlpattern_steps.specs.declared.step.Stretch.{Stretch}
-use Rattle.urlpattern_steps.specs.declared.step.Step.TheVariants.{Literal, Segment, Anything, Maybe, Longest, Copies, Segments}
+use Rattle.urlpattern_steps.specs.declared.step.LiteralString.{LiteralString}
+use Rattle.urlpattern_steps.specs.declared.step.Step.TheVariants.{Literal, LazyRun, DotStar, OptionalGroup, GreedyRun, RepeatedLiteral, Segments}
 use Rattle.urlpattern_steps.specs.Walk.{capture_count, walk}
 use Rattle.urlpattern_meaning.specs.Dialect.{AllowsGroups, AnyBut, AreItems, Atom, Captured, Character, Dot, Grouped, IsAtom, IsCharacter, IsTreeOf, Item, Items, LazyOneOrMore, Nothing, OneOrMore, Quantifier, ZeroOrMore, atom_text, character_of, character_text, group_count, items_text, quantifier_text}
 use Rattle.urlpattern_meaning.specs.Dialect as dialect
@@ -52,8 +52,8 @@ IsRunOf end false items = (one : Atom) × IsAllBut end one × (items ≡ Item on
 
 -- The step of a captured run of this kind.
 abbrev pub IsRunStep : (end : ℕ) → (is_greedy : Bool) → Step → Type 0
-IsRunStep end true step = (end ≡ line_feed) × (step ≡ Anything)
-IsRunStep end false step = step ≡ Segment end
+IsRunStep end true step = (end ≡ line_feed) × (step ≡ DotStar)
+IsRunStep end false step = step ≡ LazyRun end
 
 -- `found` is the run of the step, if the step is one of a run.
 abbrev pub FindsRun : Step → Option (ℕ × Bool) → Type 0
@@ -69,13 +69,13 @@ AllowsEmptyRun is_greedy quantifier may_be_empty = ⊥
 -- The step matches what the atom matches.
 abbrev pub IsStepOf : Step → Atom → Type 0
 IsStepOf (Literal c) atom = (character : Character) × (character_of character ≡ c) × (atom ≡ dialect.Literal character)
-IsStepOf (Segment c) atom = (one : Atom) × IsAllBut c one × (atom ≡ Captured (Item one LazyOneOrMore Nothing))
-IsStepOf Anything atom = atom ≡ Captured (Item Dot ZeroOrMore Nothing)
-IsStepOf (Maybe group) atom = ⊥
-IsStepOf (Longest run) atom =
+IsStepOf (LazyRun c) atom = (one : Atom) × IsAllBut c one × (atom ≡ Captured (Item one LazyOneOrMore Nothing))
+IsStepOf DotStar atom = atom ≡ Captured (Item Dot ZeroOrMore Nothing)
+IsStepOf (OptionalGroup group) atom = ⊥
+IsStepOf (GreedyRun run) atom =
     (items : Items) × (is_greedy : Bool) × (quantifier : Quantifier) × IsRunOf run.end is_greedy items × AllowsEmptyRun is_greedy quantifier run.may_be_empty
     × (atom ≡ Captured (Item (Grouped items) quantifier Nothing))
-IsStepOf (Copies copies) atom = ⊥
+IsStepOf (RepeatedLiteral copies) atom = ⊥
 IsStepOf (Segments segments) atom = ⊥
 
 -- The text spells an atom of the step.
@@ -105,18 +105,18 @@ IsRepeatOf run quantifier step =
 abbrev pub RepeatsRuns : (run : Step) → Quantifier → (made : Option Step) → Type 0
 RepeatsRuns run quantifier made =
     (end : ℕ) (is_greedy may_be_empty : Bool) → IsRunStep end is_greedy run → AllowsEmptyRun is_greedy quantifier may_be_empty
-    → made ≡ Some (Longest (record { end = end; may_be_empty = may_be_empty }))
+    → made ≡ Some (GreedyRun (record { end = end; may_be_empty = may_be_empty }))
 
 -- The quantifier of a group.
-abbrev pub quantifier_of : Times → Quantifier
+abbrev pub quantifier_of : GroupQuantifier → Quantifier
 quantifier_of times.Once = dialect.Once
 quantifier_of times.Optional = dialect.Optional
 quantifier_of times.ZeroOrMore = dialect.ZeroOrMore
 quantifier_of times.OneOrMore = dialect.OneOrMore
 
 -- The spelling of the quantifier of a group.
-abbrev pub times_text : Times → List ℕ
-times_text times = quantifier_text (quantifier_of times)
+abbrev pub group_quantifier_text : GroupQuantifier → List ℕ
+group_quantifier_text times = quantifier_text (quantifier_of times)
 
 -- The text begins separated runs: the first run and its closing parenthesis, up to the separator.
 abbrev pub BeginsSegments : (end : ℕ) → (is_greedy : Bool) → (text : List ℕ) → Type 0
@@ -125,10 +125,10 @@ BeginsSegments end is_greedy text = (items : Items) × AreItems items × IsRunOf
 -- The text spells the token.
 abbrev pub IsToken : StepToken → List ℕ → Type 0
 IsToken Open text = text ≡ codes "(?:"
-IsToken (Close times) text = text ≡ codes ")" ++ times_text times
+IsToken (Close times) text = text ≡ codes ")" ++ group_quantifier_text times
 IsToken (One step) text = SpellsStep step text
 IsToken (FirstSegment end is_greedy) text = BeginsSegments end is_greedy text
-IsToken (MaybeStep step) text = (front : List ℕ) × (capture_count (step ∷ []) ≡ 1) × SpellsStep step front × (text ≡ front ++ codes "?")
+IsToken (OptionalStep step) text = (front : List ℕ) × (capture_count (step ∷ []) ≡ 1) × SpellsStep step front × (text ≡ front ++ codes "?")
 
 -- The text begins with the token, followed by `rest`.
 abbrev pub BeginsWithRegexpToken : (text : List ℕ) → StepToken → (rest : List ℕ) → Type 0
@@ -151,24 +151,24 @@ AreLiterals (Literal c ∷ steps) = AreLiterals steps
 AreLiterals (step ∷ steps) = ⊥
 
 -- The steps are literal and spell the text.
-abbrev pub MakeUp : List Step → Stretch → Type 0
+abbrev pub MakeUp : List Step → LiteralString → Type 0
 MakeUp steps text = (others : List Step) × (steps ≡ Literal text.first ∷ others) × AreLiterals others × (text.others ≡ length others)
 
 -- `group` is the repeat of the literal that the steps spell.
-abbrev pub AreCopySteps : (may_be_missing : Bool) → (own group : List Step) → Type 0
-AreCopySteps may_be_missing own group =
+abbrev pub AreCopySteps : (allows_zero : Bool) → (own group : List Step) → Type 0
+AreCopySteps allows_zero own group =
     (c : ℕ) × (others : List Step) × (own ≡ Literal c ∷ others) × AreLiterals others
-    × (group ≡ Copies (record { text = record { first = c; others = length others }; may_be_missing = may_be_missing }) ∷ others)
+    × (group ≡ RepeatedLiteral (record { text = record { first = c; others = length others }; allows_zero = allows_zero }) ∷ others)
 
 -- The steps of a quantified group, by the steps of its body, which is not empty.
-abbrev pub IsSomeGroup : Times → (own group : List Step) → Type 0
+abbrev pub IsSomeGroup : GroupQuantifier → (own group : List Step) → Type 0
 IsSomeGroup times.Once own group = group ≡ own
-IsSomeGroup times.Optional own group = group ≡ Maybe (record { steps = length own; captures = capture_count own }) ∷ own
+IsSomeGroup times.Optional own group = group ≡ OptionalGroup (record { steps = length own; captures = capture_count own }) ∷ own
 IsSomeGroup times.ZeroOrMore own group = AreCopySteps true own group
 IsSomeGroup times.OneOrMore own group = AreCopySteps false own group
 
 -- The steps of a quantified group, by the steps of its body; none if the body is empty.
-abbrev pub IsStepGroup : Times → (own group : List Step) → Type 0
+abbrev pub IsStepGroup : GroupQuantifier → (own group : List Step) → Type 0
 IsStepGroup times own group = ((own ≡ []) × (group ≡ [])) ⊎ IsSomeGroup times own group
 
 -- The steps from `first` on were replaced by a group of them.

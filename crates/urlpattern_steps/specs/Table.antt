@@ -5,51 +5,51 @@ use Rattle.std.specs.Global.{Global}
 use Rattle.std.specs.declared.vec.Vec.{Vec}
 use Rattle.std.specs.Option.{option_or}
 use Rattle.urlpattern_steps.specs.declared.step.Step.{Step}
-use Rattle.urlpattern_steps.specs.declared.step.Step.TheVariants.{Literal, Segment, Anything, Maybe, Longest, Copies, Segments}
-use Rattle.urlpattern_steps.specs.declared.step.Stretch.{Stretch}
-use Rattle.urlpattern_steps.specs.Failed.{EndsWith}
-use Rattle.urlpattern_steps.specs.Walk.{BeginsAs, Continuation, captured_front, walk}
+use Rattle.urlpattern_steps.specs.declared.step.Step.TheVariants.{Literal, LazyRun, DotStar, OptionalGroup, GreedyRun, RepeatedLiteral, Segments}
+use Rattle.urlpattern_steps.specs.declared.step.LiteralString.{LiteralString}
+use Rattle.urlpattern_steps.specs.FailedStates.{EndsWith}
+use Rattle.urlpattern_steps.specs.Walk.{BeginsAs, Continuation, captured_prefix, walk}
 use Rattle.urlpattern_syntax.specs.Text.{line_feed}
 
 -- ---- steps
 
 -- The literal that a step matches, repeats, or has as a separator.
-abbrev pub stretch_of : Step → Option Stretch
-stretch_of (Literal c) = Some (record { first = c; others = 0 })
-stretch_of (Copies copies) = Some copies.text
-stretch_of (Segments segments) = Some segments.separator
-stretch_of step = None
+abbrev pub literal_string_of : Step → Option LiteralString
+literal_string_of (Literal c) = Some (record { first = c; others = 0 })
+literal_string_of (RepeatedLiteral copies) = Some copies.text
+literal_string_of (Segments segments) = Some segments.separator
+literal_string_of step = None
 
 -- The number of following steps that belong to the literal of a step.
-abbrev pub own_count : Option Stretch → ℕ
-own_count (Some stretch) = stretch.others
+abbrev pub own_count : Option LiteralString → ℕ
+own_count (Some literal_string) = literal_string.others
 own_count None = 0
 
 -- The steps after a step and the steps of its literal.
 abbrev pub following : Step → List Step → List Step
-following step others = drop (own_count (stretch_of step)) others
+following step others = drop (own_count (literal_string_of step)) others
 
 -- The character that ends a run of the step.
 abbrev pub run_end : Step → ℕ
-run_end (Segment end) = end
-run_end (Longest run) = run.end
+run_end (LazyRun end) = end
+run_end (GreedyRun run) = run.end
 run_end (Segments segments) = segments.end
 run_end step = line_feed
 
 -- Whether the step captures.
 abbrev pub is_capture : Step → Bool
 is_capture (Literal c) = false
-is_capture (Copies copies) = false
-is_capture (Maybe group) = false
+is_capture (RepeatedLiteral copies) = false
+is_capture (OptionalGroup group) = false
 is_capture step = true
 
 -- The captures of the steps after a step, with the prefix that the step matches if it captures.
 abbrev pub given : (ignore_case : Bool) → Step → List Step → Continuation
-given ignore_case step others = if is_capture step then captured_front (walk ignore_case (following step others)) else (λ front rest. walk ignore_case (following step others) rest)
+given ignore_case step others = if is_capture step then captured_prefix (walk ignore_case (following step others)) else (λ front rest. walk ignore_case (following step others) rest)
 
 -- The step is not an optional group.
 abbrev pub IsSingle : Step → Type 0
-IsSingle (Maybe group) = ⊥
+IsSingle (OptionalGroup group) = ⊥
 IsSingle step = Unit {0}
 
 -- ---- choices
@@ -58,27 +58,27 @@ IsSingle step = Unit {0}
 -- here, if the step ends here, and if a run continues.
 abbrev pub begun_of : {A : Type 0} → Step → (next here onward : Option A) → Option A
 begun_of (Literal c) next here onward = here
-begun_of (Copies copies) next here onward = option_or next here
+begun_of (RepeatedLiteral copies) next here onward = option_or next here
 begun_of (Segments segments) next here onward = if segments.is_greedy then option_or onward (option_or next here) else onward
 begun_of step next here onward = None
 
 -- The preferred result within a run of a step.
 abbrev pub later_of : {A : Type 0} → Step → (next here onward : Option A) → Option A
-later_of (Segment end) next here onward = option_or here onward
-later_of Anything next here onward = option_or onward here
-later_of (Longest run) next here onward = option_or onward here
+later_of (LazyRun end) next here onward = option_or here onward
+later_of DotStar next here onward = option_or onward here
+later_of (GreedyRun run) next here onward = option_or onward here
 later_of (Segments segments) next here onward = if segments.is_greedy then option_or onward (option_or next here) else option_or (option_or next here) onward
 later_of step next here onward = None
 
 -- The preferred result at the beginning of a step.
 abbrev pub whole_of : {A : Type 0} → Step → (next here onward : Option A) → Option A
 whole_of (Literal c) next here onward = next
-whole_of (Segment end) next here onward = onward
-whole_of Anything next here onward = option_or onward here
-whole_of (Longest run) next here onward = if run.may_be_empty then option_or onward here else onward
-whole_of (Copies copies) next here onward = if copies.may_be_missing then option_or next here else next
+whole_of (LazyRun end) next here onward = onward
+whole_of DotStar next here onward = option_or onward here
+whole_of (GreedyRun run) next here onward = if run.may_be_empty then option_or onward here else onward
+whole_of (RepeatedLiteral copies) next here onward = if copies.allows_zero then option_or next here else next
 whole_of (Segments segments) next here onward = if segments.is_greedy then option_or onward (option_or next here) else onward
-whole_of (Maybe group) next here onward = None
+whole_of (OptionalGroup group) next here onward = None
 
 -- `entry` is that for the rest after some characters, in a list with an entry for each shorter
 -- suffix of the text.
@@ -108,8 +108,8 @@ abbrev pub HaveRow : (ignore_case : Bool) (text : List ℕ) (steps : List Step) 
 HaveRow ignore_case text steps rows = IsRow ignore_case text steps (row_at rows (length steps))
 
 -- Whether the steps match the text, by the rows.
-abbrev pub IsTakenByRows : (rows : List (Vec Bool Global)) (steps : List Step) (text : List ℕ) (is_taken : Bool) → Type 0
-IsTakenByRows rows steps text is_taken = (ignore_case : Bool) → HaveRow ignore_case text steps rows → is_taken ≡ is_some (walk ignore_case steps text)
+abbrev pub IsMatchedByRows : (rows : List (Vec Bool Global)) (steps : List Step) (text : List ℕ) (is_taken : Bool) → Type 0
+IsMatchedByRows rows steps text is_taken = (ignore_case : Bool) → HaveRow ignore_case text steps rows → is_taken ≡ is_some (walk ignore_case steps text)
 
 -- A row for each suffix of the steps, by its number of steps.
 pub record AreRows (ignore_case : Bool) (text : List ℕ) (steps : List Step) (rows : List (Vec Bool Global)) : Type 0 where

@@ -8,10 +8,10 @@ use Rattle.urlpattern_meaning.specs.PartMeaning.{Captures}
 use Rattle.urlpattern_steps.specs.declared.step.Group.{Group}
 use Rattle.urlpattern_steps.specs.declared.step.Segments.{Segments}
 use Rattle.urlpattern_steps.specs.declared.step.Step.{Step}
-use Rattle.urlpattern_steps.specs.declared.step.Step.TheVariants.{Maybe}
+use Rattle.urlpattern_steps.specs.declared.step.Step.TheVariants.{OptionalGroup}
 use Rattle.urlpattern_steps.specs.Table.{HaveRow, following, given}
 use Rattle.urlpattern_steps.specs.declared.walk.Attempt.{Attempt}
-use Rattle.urlpattern_steps.specs.Walk.{Continuation, captured_front, literal_text, segmented, single_run, walk}
+use Rattle.urlpattern_steps.specs.Walk.{Continuation, captured_prefix, literal_text, segmented, single_run, walk}
 use Rattle.urlpattern_syntax.specs.Text.{option_text}
 
 -- The length in bytes of a prefix for which the continuation has the captures found. None: none are
@@ -23,15 +23,15 @@ IsCutFor gives text (Some n) found =
 
 -- The length in bytes of the prefix that a step matches and after which the following steps match
 -- the rest.
-abbrev pub IsEndOfFront : (ignore_case : Bool) → Step → (others : List Step) → (text : List ℕ) → Option ℕ → Type 0
-IsEndOfFront ignore_case step others text end = IsCutFor (given ignore_case step others) text end (walk ignore_case (step ∷ others) (chars text))
+abbrev pub IsEndOfPrefix : (ignore_case : Bool) → Step → (others : List Step) → (text : List ℕ) → Option ℕ → Type 0
+IsEndOfPrefix ignore_case step others text end = IsCutFor (given ignore_case step others) text end (walk ignore_case (step ∷ others) (chars text))
 
 -- The length in bytes of the preferred separated runs after which the other steps match the rest.
 -- The separator is that of the literal steps.
 abbrev pub IsEndOfSegments : (ignore_case : Bool) → Segments → (literal others : List Step) → (text : List ℕ) → (end : Option ℕ) → Type 0
 IsEndOfSegments ignore_case segments literal others text end =
-    IsCutFor (captured_front (walk ignore_case others)) text end
-    (segmented ignore_case (literal_text segments.separator.first literal) (single_run ignore_case segments.is_greedy segments.end) (captured_front (walk ignore_case others)) [] (chars text))
+    IsCutFor (captured_prefix (walk ignore_case others)) text end
+    (segmented ignore_case (literal_text segments.separator.first literal) (single_run ignore_case segments.is_greedy segments.end) (captured_prefix (walk ignore_case others)) [] (chars text))
 
 -- The end of separated runs, one of which may end here: where the runs after it end, or else here,
 -- if the steps match the rest.
@@ -70,17 +70,17 @@ pub record Untouched (old new : Attempt) : Type 0 where
   pub whole : new.failed ≡ old.failed
 
 -- Steps were tried: on a match their captures were added, otherwise nothing.
-pub record FollowsSteps (old new : Attempt) (is_taken : Bool) (found : Option Captures) : Type 0 where
+pub record MatchesRest (old new : Attempt) (is_taken : Bool) (found : Option Captures) : Type 0 where
   pub adds : Adds old.captures new.captures is_taken found
   pub same : is_taken ≡ false → new.captures.items ≡ old.captures.items
   pub whole : new.failed ≡ old.failed
 
 -- Unless memory ran out, steps were tried with this outcome.
-abbrev pub AreFollowed : {E : Type 0} → (old new : Attempt) → (answered : Result Bool E) → (found : Option Captures) → Type 0
-AreFollowed old new answered found = IfOk answered (λ is_taken. FollowsSteps old new is_taken found)
+abbrev pub MatchesRestIfOk : {E : Type 0} → (old new : Attempt) → (answered : Result Bool E) → (found : Option Captures) → Type 0
+MatchesRestIfOk old new answered found = IfOk answered (λ is_taken. MatchesRest old new is_taken found)
 
 -- Steps were tried: on a match their captures were added, otherwise perhaps some captures.
-pub record FollowsOn (old new : Attempt) (is_taken : Bool) (found : Option Captures) : Type 0 where
+pub record MatchesInTurn (old new : Attempt) (is_taken : Bool) (found : Option Captures) : Type 0 where
   pub adds : Adds old.captures new.captures is_taken found
   pub more : is_taken ≡ false → Extends old.captures.items new.captures.items
   pub whole : new.failed ≡ old.failed
@@ -100,4 +100,4 @@ LeavesFollowing ignore_case old new step others text left =
 -- The steps that remain of an optional group and the others, by the row of the others.
 abbrev pub LeavesChosen : (rows : List (Vec Bool Global)) (old new : KeptVec) → Group → (others : List Step) → (text : List ℕ) → (left : List Step) → Type 0
 LeavesChosen rows old new group others text left =
-    (ignore_case : Bool) → HaveRow ignore_case (chars text) others rows → LeavesWalk ignore_case old new (Maybe group ∷ others) text left text
+    (ignore_case : Bool) → HaveRow ignore_case (chars text) others rows → LeavesWalk ignore_case old new (OptionalGroup group ∷ others) text left text

@@ -3,8 +3,8 @@ use Rattle.std.specs.Prelude.{◌≡◌, ℕ, zero, suc, Bool, false, length, Li
 use Rattle.std.specs.Option.{option_or}
 use Rattle.std.specs.Str.{IsUtf8, chars}
 use Rattle.urlpattern_steps.specs.declared.step.Step.{Step}
-use Rattle.urlpattern_steps.specs.declared.step.Step.TheVariants.{Literal, Segment, Anything, Maybe, Longest, Copies, Segments}
-use Rattle.urlpattern_steps.specs.declared.step.Stretch.{Stretch}
+use Rattle.urlpattern_steps.specs.declared.step.Step.TheVariants.{Literal, LazyRun, DotStar, OptionalGroup, GreedyRun, RepeatedLiteral, Segments}
+use Rattle.urlpattern_steps.specs.declared.step.LiteralString.{LiteralString}
 use Rattle.urlpattern_meaning.specs.PartMeaning.{Captures}
 use Rattle.urlpattern_syntax.specs.Text.{line_feed}
 use Rattle.urlpattern_meaning.specs.Matching.{IsSame, is_same_character}
@@ -23,9 +23,9 @@ IsWithoutLast n text front = (end : List ℕ) × IsUtf8 end × (text ≡ front +
 
 -- The end of a run that continues with the first character; None if this is `end`, or there is
 -- none.
-abbrev pub going_on : (ignore_case : Bool) (end : ℕ) → (later : Option ℕ) → (text : List ℕ) → Option ℕ
-going_on ignore_case end later [] = None
-going_on ignore_case end later (c ∷ text) = if is_same_character ignore_case c end then None else later
+abbrev pub end_if_continued : (ignore_case : Bool) (end : ℕ) → (later : Option ℕ) → (text : List ℕ) → Option ℕ
+end_if_continued ignore_case end later [] = None
+end_if_continued ignore_case end later (c ∷ text) = if is_same_character ignore_case c end then None else later
 
 -- The text before the first occurrence of the character.
 abbrev pub up_to_first : (ignore_case : Bool) → ℕ → List ℕ → List ℕ
@@ -85,8 +85,8 @@ abbrev pub some_rounds : (round : Continuation → Continuation) → Continuatio
 some_rounds round gives front text = round (any_rounds round gives) front text
 
 -- A greedy repeat of any number of rounds, or of one or more.
-abbrev pub repeated : (may_be_missing : Bool) → (round : Continuation → Continuation) → Continuation → Continuation
-repeated may_be_missing round = if may_be_missing then any_rounds round else some_rounds round
+abbrev pub repeated : (allows_zero : Bool) → (round : Continuation → Continuation) → Continuation → Continuation
+repeated allows_zero round = if allows_zero then any_rounds round else some_rounds round
 
 -- A run: greedy, of any number of characters, or lazy, of one or more.
 abbrev pub single_run : (ignore_case : Bool) (is_greedy : Bool) → (end : ℕ) → Continuation → Continuation
@@ -133,14 +133,14 @@ IsEntryForRest ignore_case characters text table entry =
     (rest : List ℕ) → BeginsAs ignore_case characters text rest → length table ≡ length text → entry ≡ get_or table (length rest) None
 
 -- The text of a literal, by the steps that have its other characters.
-abbrev pub stretch_text : Stretch → List Step → List ℕ
-stretch_text stretch steps = literal_text stretch.first (take stretch.others steps)
+abbrev pub literal_string_text : LiteralString → List Step → List ℕ
+literal_string_text literal_string steps = literal_text literal_string.first (take literal_string.others steps)
 
 -- ---- steps
 
 -- The prefix as a capture, followed by the captures in the rest.
-abbrev pub captured_front : (next : List ℕ → Option Captures) → Continuation
-captured_front next front rest = option_map (λ others. Some front ∷ others) (next rest)
+abbrev pub captured_prefix : (next : List ℕ → Option Captures) → Continuation
+captured_prefix next front rest = option_map (λ others. Some front ∷ others) (next rest)
 
 -- The captures of the steps after the first `passed`, in order, if they match the whole text. None:
 -- no match.
@@ -150,15 +150,15 @@ walk_after ignore_case passed [] (c ∷ text) = None
 walk_after ignore_case (suc passed) (step ∷ steps) text = walk_after ignore_case passed steps text
 walk_after ignore_case zero (Literal c ∷ steps) [] = None
 walk_after ignore_case zero (Literal c ∷ steps) (other ∷ text) = if is_same_character ignore_case other c then walk_after ignore_case zero steps text else None
-walk_after ignore_case zero (Segment end ∷ steps) text = shortest ignore_case end (captured_front (walk_after ignore_case zero steps)) [] text
-walk_after ignore_case zero (Anything ∷ steps) text = longest ignore_case line_feed (captured_front (walk_after ignore_case zero steps)) [] text
-walk_after ignore_case zero (Maybe group ∷ steps) text =
+walk_after ignore_case zero (LazyRun end ∷ steps) text = shortest ignore_case end (captured_prefix (walk_after ignore_case zero steps)) [] text
+walk_after ignore_case zero (DotStar ∷ steps) text = longest ignore_case line_feed (captured_prefix (walk_after ignore_case zero steps)) [] text
+walk_after ignore_case zero (OptionalGroup group ∷ steps) text =
     option_or (walk_after ignore_case zero steps text) (option_map (λ others. replicate group.captures None ++ others) (walk_after ignore_case group.steps steps text))
-walk_after ignore_case zero (Longest run ∷ steps) text = longest_run ignore_case run.may_be_empty run.end (captured_front (walk_after ignore_case zero steps)) [] text
-walk_after ignore_case zero (Copies copies ∷ steps) text =
-    repeated copies.may_be_missing (after_text ignore_case (stretch_text copies.text steps)) (λ front rest. walk_after ignore_case copies.text.others steps rest) [] text
+walk_after ignore_case zero (GreedyRun run ∷ steps) text = longest_run ignore_case run.may_be_empty run.end (captured_prefix (walk_after ignore_case zero steps)) [] text
+walk_after ignore_case zero (RepeatedLiteral copies ∷ steps) text =
+    repeated copies.allows_zero (after_text ignore_case (literal_string_text copies.text steps)) (λ front rest. walk_after ignore_case copies.text.others steps rest) [] text
 walk_after ignore_case zero (Segments segments ∷ steps) text =
-    segmented ignore_case (stretch_text segments.separator steps) (single_run ignore_case segments.is_greedy segments.end) (captured_front (walk_after ignore_case segments.separator.others steps)) [] text
+    segmented ignore_case (literal_string_text segments.separator steps) (single_run ignore_case segments.is_greedy segments.end) (captured_prefix (walk_after ignore_case segments.separator.others steps)) [] text
 
 -- The captures of the steps, if they match the whole text. None: no match.
 abbrev pub walk : (ignore_case : Bool) → List Step → List ℕ → Option Captures
@@ -173,14 +173,14 @@ walk_copies ignore_case first literal others text = any_rounds (after_text ignor
 abbrev pub capture_count : List Step → ℕ
 capture_count [] = 0
 capture_count (Literal c ∷ steps) = capture_count steps
-capture_count (Segment end ∷ steps) = suc (capture_count steps)
-capture_count (Anything ∷ steps) = suc (capture_count steps)
-capture_count (Maybe group ∷ steps) = capture_count steps
-capture_count (Longest run ∷ steps) = suc (capture_count steps)
-capture_count (Copies copies ∷ steps) = capture_count steps
+capture_count (LazyRun end ∷ steps) = suc (capture_count steps)
+capture_count (DotStar ∷ steps) = suc (capture_count steps)
+capture_count (OptionalGroup group ∷ steps) = capture_count steps
+capture_count (GreedyRun run ∷ steps) = suc (capture_count steps)
+capture_count (RepeatedLiteral copies ∷ steps) = capture_count steps
 capture_count (Segments segments ∷ steps) = suc (capture_count steps)
 
 -- The steps match no text that begins with a character other than `end`, whether case is ignored or
 -- not.
-abbrev pub StopAt : (end : ℕ) → List Step → Type 0
-StopAt end steps = (ignore_case : Bool) (c : ℕ) (rest : List ℕ) → is_same_character ignore_case c end ≡ false → walk ignore_case steps (c ∷ rest) ≡ None
+abbrev pub BeginOnlyWith : (end : ℕ) → List Step → Type 0
+BeginOnlyWith end steps = (ignore_case : Bool) (c : ℕ) (rest : List ℕ) → is_same_character ignore_case c end ≡ false → walk ignore_case steps (c ∷ rest) ≡ None

@@ -3,17 +3,17 @@
 ghost use Rattle.std.specs.Prelude.{◌≡◌, ◌∷◌, ◌++◌, [], None, Some, IfNone, IfOk, IfSome, OnOk, if◌then◌else◌};
 ghost use Rattle.std.specs.Str.{chars};
 ghost use Rattle.urlpattern_meaning.specs.CaptureTexts.{captures_view};
-ghost use Rattle.urlpattern_steps.specs.Failed.{EndsWith};
+ghost use Rattle.urlpattern_steps.specs.FailedStates.{EndsWith};
 ghost use Rattle.urlpattern_steps.specs.Walk.{walk};
 ghost use Rattle.urlpattern_steps.specs.Table.{following, is_capture, IsRow, IsSingle};
 ghost use Rattle.urlpattern_steps.specs.Taken.{LeavesChosen, LeavesFollowing};
 
 use crate::end_table::{is_taken, row_for, rows_of};
-use crate::fronts::{following, front_of, is_capture};
+use crate::prefixes::{following, is_capture, matched_prefix};
 use crate::repeats::pass;
 use crate::step::{Group, Step};
-use crate::text_cuts::split_at_seam;
-use crate::walk::add_missing;
+use crate::text_cuts::split_at_boundary;
+use crate::walk::push_unmatched;
 use std::alloc::Global;
 use urlpattern_syntax::error::OutOfMemory;
 
@@ -34,17 +34,17 @@ pub fn walk_by_table<'t>(
     let mut rest = text;
     while let Some((step, others)) = left.split_first() {
         match step {
-            Step::Maybe(group) => {
+            Step::OptionalGroup(group) => {
                 left = choose_group(&mut captures, &rows, *group, others, rest)?;
             }
             Step::Literal(_)
-            | Step::Segment(_)
-            | Step::Anything
-            | Step::Longest(_)
-            | Step::Copies(_)
+            | Step::LazyRun(_)
+            | Step::DotStar
+            | Step::GreedyRun(_)
+            | Step::RepeatedLiteral(_)
             | Step::Segments(_) => {
                 let row = row_for(&rows, following(*step, others));
-                let Some(remaining) = take_front(
+                let Some(remaining) = match_prefix(
                     alloc,
                     &mut captures,
                     *step,
@@ -83,7 +83,7 @@ fn choose_group<'s>(
     if is_taken(rows, others, text) {
         return Ok(others);
     }
-    add_missing(captures, group.captures)?;
+    push_unmatched(captures, group.captures)?;
     Ok(pass(others, group.steps))
 }
 
@@ -91,7 +91,7 @@ fn choose_group<'s>(
 /// `None`: the step and the others do not match the text.
 ///
 /// `row` is the row of the steps after those of `step`.
-fn take_front<'t>(
+fn match_prefix<'t>(
     alloc: Global,
     captures: &mut Vec<Option<&'t str>>,
     step: Step,
@@ -106,16 +106,16 @@ fn take_front<'t>(
     ensures none { IfOk result (λ left. IfNone left (walk ignore_case (step ∷ others.now) (chars text.now) ≡ None)) }
     ensures end { IfOk result (λ left. IfSome left (λ rest. EndsWith (chars text.now) (chars rest.now))) }
 {
-    let Some(count) = front_of(alloc, step, others, ignore_case, row, text)?.end else {
+    let Some(count) = matched_prefix(alloc, step, others, ignore_case, row, text)?.end else {
         return Ok(None);
     };
-    let (front, rest) = split_at_seam(text, count);
-    add_front(captures, step, front)?;
+    let (front, rest) = split_at_boundary(text, count);
+    push_prefix(captures, step, front)?;
     Ok(Some(rest))
 }
 
 /// Adds the prefix to the captures, if the step captures.
-fn add_front<'t>(
+fn push_prefix<'t>(
     captures: &mut Vec<Option<&'t str>>,
     step: Step,
     front: &'t str,

@@ -2,9 +2,9 @@
 
 ghost use Rattle.std.specs.Prelude.{◌≡◌, ◌∷◌, ◌||◌, ℕ, ◌<◌, [], Bool, length, IfOk};
 ghost use Rattle.std.specs.Str.{chars};
-ghost use Rattle.urlpattern_steps.specs.Table.{has, row_at, AreRows, IsRow, IsTakenByRows};
+ghost use Rattle.urlpattern_steps.specs.Table.{has, row_at, AreRows, IsRow, IsMatchedByRows};
 
-use crate::fronts::{following, front_of, has};
+use crate::prefixes::{following, has, matched_prefix};
 use crate::repeats::pass;
 use crate::step::Step;
 use std::alloc::Global;
@@ -56,12 +56,12 @@ fn row_of(
     requires { AreRows ignore_case (chars text.now) others.now rows.now }
     ensures { IfOk result (λ row. IsRow ignore_case (chars text.now) (step ∷ others.now) row.items) }
 {
-    if let Step::Maybe(group) = step {
+    if let Step::OptionalGroup(group) = step {
         let missing = pass(others, group.steps);
         return either(alloc, row_for(rows, others), row_for(rows, missing));
     }
     let after = row_for(rows, following(step, others));
-    Ok(front_of(alloc, step, others, ignore_case, after, text)?.row)
+    Ok(matched_prefix(alloc, step, others, ignore_case, after, text)?.row)
 }
 
 /// Returns the union of two rows.
@@ -95,7 +95,7 @@ pub fn row_for<'r>(rows: &'r [Vec<bool>], steps: &[Step]) -> &'r [bool]
 
 /// Whether the steps match the text, a suffix of the whole, by their row.
 pub fn is_taken(rows: &[Vec<bool>], steps: &[Step], text: &str) -> bool
-    ensures { IsTakenByRows rows.now steps.now (chars text.now) result }
+    ensures { IsMatchedByRows rows.now steps.now (chars text.now) result }
 {
     has(row_for(rows, steps), character_count(text))
 }

@@ -7,8 +7,8 @@
 
 mod by_table;
 mod end_table;
-mod failed;
-mod fronts;
+mod failed_states;
+mod prefixes;
 pub mod reading;
 pub mod repeats;
 mod run_ends;

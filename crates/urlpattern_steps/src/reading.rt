@@ -6,9 +6,10 @@ ghost use Rattle.urlpattern_meaning.specs.GeneratedTexts.{IsGenerated};
 ghost use Rattle.urlpattern_steps.specs.ReadSteps.{AddsSegments, AreCopySteps, AreGrouped, AreLiterals, AreStepsOf, ClosesSegments, IsStepGroup, MakeUp, ReadsLast, ReadsSegments};
 ghost use Rattle.urlpattern_steps.specs.Walk.{capture_count};
 
-use crate::step::{Copies, Group, Segments, Step, Stretch};
+use crate::step::{Group, LiteralString, RepeatedLiteral, Segments, Step};
 use crate::step_tokens::{
-    StepToken, Times, after_open, after_segments, read_literal, read_run, read_token, run_of,
+    GroupQuantifier, StepToken, after_open, after_segments, read_literal, read_run, read_token,
+    run_of,
 };
 use crate::text_cuts::after;
 use std::alloc::{AllocError, Global};
@@ -27,8 +28,8 @@ pub fn read_steps(alloc: Global, regexp: &str) -> Result<Option<Vec<Step>>, Allo
     while let Some((token, remaining)) = read_token(rest) {
         match token {
             StepToken::Step(step) => steps.push(step)?,
-            StepToken::MaybeStep(step) => {
-                steps.push(Step::Maybe(ONE_CAPTURE))?;
+            StepToken::OptionalStep(step) => {
+                steps.push(Step::OptionalGroup(ONE_CAPTURE))?;
                 steps.push(step)?;
             }
             StepToken::FirstSegment(end, is_greedy) => {
@@ -63,7 +64,11 @@ pub fn read_steps(alloc: Global, regexp: &str) -> Result<Option<Vec<Step>>, Allo
 
 /// Applies a quantifier to the group of the steps from `first` on; an empty group stays empty.
 /// Returns whether steps can express the quantified group.
-fn close_group(steps: &mut Vec<Step>, first: usize, times: Times) -> Result<bool, AllocError>
+fn close_group(
+    steps: &mut Vec<Step>,
+    first: usize,
+    times: GroupQuantifier,
+) -> Result<bool, AllocError>
     requires { first ≤ length steps.old.items }
     ensures group { IfOk result (λ is_group. IsTrue is_group → AreGrouped (IsStepGroup times) first steps.old steps.new) }
     ensures any { IfOk result (λ is_group. (group : List Step) → IsStepGroup times (drop first steps.old.items) group → IsTrue is_group) }
@@ -72,41 +77,38 @@ fn close_group(steps: &mut Vec<Step>, first: usize, times: Times) -> Result<bool
         return Ok(true);
     }
     match times {
-        Times::Once => Ok(true),
-        Times::Optional => {
+        GroupQuantifier::Once => Ok(true),
+        GroupQuantifier::Optional => {
             let group = counted_group(&steps[first..]);
-            steps.insert(first, Step::Maybe(group))?;
+            steps.insert(first, Step::OptionalGroup(group))?;
             Ok(true)
         }
-        Times::ZeroOrMore => Ok(close_copies(steps, first, true)),
-        Times::OneOrMore => Ok(close_copies(steps, first, false)),
+        GroupQuantifier::ZeroOrMore => Ok(close_copies(steps, first, true)),
+        GroupQuantifier::OneOrMore => Ok(close_copies(steps, first, false)),
     }
 }
 
 /// Turns the steps from `first` on into a repeated literal. Returns whether they are one or more
 /// literals.
-fn close_copies(steps: &mut Vec<Step>, first: usize, may_be_missing: bool) -> bool
+fn close_copies(steps: &mut Vec<Step>, first: usize, allows_zero: bool) -> bool
     requires { first ≤ length steps.old.items }
-    ensures group { IsTrue result → AreGrouped (AreCopySteps may_be_missing) first steps.old steps.new }
-    ensures any { (group : List Step) → AreCopySteps may_be_missing (drop first steps.old.items) group → IsTrue result }
+    ensures group { IsTrue result → AreGrouped (AreCopySteps allows_zero) first steps.old steps.new }
+    ensures any { (group : List Step) → AreCopySteps allows_zero (drop first steps.old.items) group → IsTrue result }
 {
-    let Some(text) = stretch_of(&steps[first..]) else {
+    let Some(text) = literal_string_of(&steps[first..]) else {
         return false;
     };
-    steps[first] = Step::Copies(Copies {
-        text,
-        may_be_missing,
-    });
+    steps[first] = Step::RepeatedLiteral(RepeatedLiteral { text, allows_zero });
     true
 }
 
 /// The literal that the steps spell. `None`: some step is not literal, or there are no steps.
-fn stretch_of(steps: &[Step]) -> Option<Stretch>
+fn literal_string_of(steps: &[Step]) -> Option<LiteralString>
     ensures text { IfSome result (λ text. MakeUp steps.now text) }
     ensures other { IfNone result ((first : ℕ) (others : List Step) → steps.now ≡ Step.Literal first ∷ others → ¬ AreLiterals others) }
 {
     match steps {
-        [Step::Literal(first), others @ ..] if are_literals(others) => Some(Stretch {
+        [Step::Literal(first), others @ ..] if are_literals(others) => Some(LiteralString {
             first: *first,
             others: others.len(),
         }),
@@ -142,9 +144,9 @@ fn counted_group(steps: &[Step]) -> Group
     let mut rest = steps;
     while let [step, others @ ..] = rest {
         match step {
-            Step::Segment(_) | Step::Anything | Step::Longest(_) | Step::Segments(_) => captures +=
+            Step::LazyRun(_) | Step::DotStar | Step::GreedyRun(_) | Step::Segments(_) => captures +=
                 1,
-            Step::Literal(_) | Step::Maybe(_) | Step::Copies(_) => {}
+            Step::Literal(_) | Step::OptionalGroup(_) | Step::RepeatedLiteral(_) => {}
         }
         rest = others;
     }
@@ -185,7 +187,7 @@ fn read_segments<'a>(
     let Some(remaining) = read_last_segment(rest, end, is_greedy) else {
         return Ok(None);
     };
-    let Some(separator) = stretch_of(&steps[first..]) else {
+    let Some(separator) = literal_string_of(&steps[first..]) else {
         return Ok(None);
     };
     steps[first] = Step::Segments(Segments {

@@ -3,7 +3,7 @@
 ghost use Rattle.std.specs.Prelude.{◌≡◌, ℕ, suc, ◌<◌, List, length, None, IfNone, IfSome, drop, take, if◌then◌else◌};
 ghost use Rattle.std.specs.Option.{option_or};
 ghost use Rattle.std.specs.Str.{chars};
-ghost use Rattle.urlpattern_steps.specs.Walk.{BeginsAs, BeginsWithCopies, IsEntryForRest, IsWithoutLast, going_on, literal_text, literals};
+ghost use Rattle.urlpattern_steps.specs.Walk.{BeginsAs, BeginsWithCopies, IsEntryForRest, IsWithoutLast, end_if_continued, literal_text, literals};
 
 use crate::step::Step;
 use crate::text_cuts::{after_same, is_same, without_last};
@@ -106,7 +106,7 @@ fn literal_count(literal: &[Step]) -> usize
 /// literal, or the entry is `None`.
 ///
 /// `table` has an entry for each suffix that is shorter than the text, the empty one first.
-pub fn begun_after(
+pub fn entry_after_literal(
     table: &[Option<usize>],
     first: char,
     literal: &[Step],
@@ -129,8 +129,13 @@ pub fn begun_after(
 
 /// Returns `later`, the end of a run that continues with the first character of the text. `None`:
 /// the run cannot continue.
-pub fn goes_on(text: &str, end: char, ignore_case: bool, later: Option<usize>) -> Option<usize>
-    ensures { result ≡ going_on ignore_case end later (chars text.now) }
+pub fn end_if_continued(
+    text: &str,
+    end: char,
+    ignore_case: bool,
+    later: Option<usize>,
+) -> Option<usize>
+    ensures { result ≡ end_if_continued ignore_case end later (chars text.now) }
 {
     match split_first(text) {
         Some((c, _)) if !is_same(c, end, ignore_case) => later,

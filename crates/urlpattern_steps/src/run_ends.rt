@@ -2,29 +2,29 @@
 
 ghost use Rattle.std.specs.Prelude.{◌≡◌, ◌∷◌, ◌<◌, false, List, length, None, IfNone, IfSome, IsTrue};
 ghost use Rattle.std.specs.Str.{chars};
-ghost use Rattle.urlpattern_steps.specs.Failed.{HasEnded, IsFrontOfRun, IsStateOf};
-ghost use Rattle.urlpattern_steps.specs.Walk.{walk, StopAt};
+ghost use Rattle.urlpattern_steps.specs.FailedStates.{HasEnded, IsPrefixOfRun, IsStateOf};
+ghost use Rattle.urlpattern_steps.specs.Walk.{walk, BeginOnlyWith};
 ghost use Rattle.urlpattern_meaning.specs.Matching.{is_same_character};
 ghost use Rattle.urlpattern_syntax.specs.Text.{line_feed};
 
-use crate::failed::Failed;
+use crate::failed_states::FailedStates;
 use crate::step::Step;
-use crate::stops::stop_at;
+use crate::stops::begin_only_with;
 use crate::text_cuts::is_same;
 use urlpattern_syntax::text::{before, split_first};
 
 /// Whether a run before these steps can end only at `end`, and failed states are not memoized.
-pub fn has_one_end(failed: &Failed<'_, '_>, steps: &[Step], end: char) -> bool
-    ensures { IsTrue result → StopAt end steps.now }
+pub fn has_one_end(failed: &FailedStates<'_, '_>, steps: &[Step], end: char) -> bool
+    ensures { IsTrue result → BeginOnlyWith end steps.now }
 {
-    !failed.has_room() && stop_at(steps, end)
+    !failed.has_room() && begin_only_with(steps, end)
 }
 
 /// Returns the next character of a run, the first of the steps, and the rest. `None`: the run has
 /// ended, or its state is memoized as failed.
 #[inline(always)]
 pub fn next_of_run<'t>(
-    failed: &Failed<'_, '_>,
+    failed: &FailedStates<'_, '_>,
     ignore_case: bool,
     end: char,
     steps: &[Step],
@@ -49,14 +49,14 @@ pub fn next_of_run<'t>(
 
 /// Returns the longest prefix for a run, the first of the steps, or a shorter one after which the
 /// state of the run is memoized as failed.
-pub fn longest_front<'t>(
-    failed: &Failed<'_, '_>,
+pub fn longest_prefix<'t>(
+    failed: &FailedStates<'_, '_>,
     ignore_case: bool,
     steps: &[Step],
     text: &'t str,
 ) -> &'t str
     requires { IsStateOf ignore_case failed.now steps.now (chars text.now) }
-    ensures { IsFrontOfRun ignore_case line_feed steps.now text.now result.now }
+    ensures { IsPrefixOfRun ignore_case line_feed steps.now text.now result.now }
 {
     let mut rest = text;
     while let Some((_, remaining)) = next_of_run(failed, ignore_case, '\n', steps, rest) {
@@ -66,15 +66,15 @@ pub fn longest_front<'t>(
 }
 
 /// Memoizes as failed each state of a run, the first of the steps, from `text` on.
-pub fn remember_run(
-    failed: &mut Failed<'_, '_>,
+pub fn memoize_run(
+    failed: &mut FailedStates<'_, '_>,
     ignore_case: bool,
     end: char,
     steps: &[Step],
     text: &str,
 )
     requires state { IsStateOf ignore_case failed.old steps.now (chars text.now) }
-    requires first { (others : List Step) × (steps.now ≡ Step.Segment end ∷ others) }
+    requires first { (others : List Step) × (steps.now ≡ Step.LazyRun end ∷ others) }
     requires dead { walk ignore_case steps.now (chars text.now) ≡ None }
     ensures { failed.new ≡ failed.old }
 {

@@ -6,16 +6,16 @@ pub enum Step {
     /// A literal character.
     Literal(char),
     /// A captured lazy repeat: one or more characters other than the given one, as few as possible.
-    Segment(char),
+    LazyRun(char),
     /// A captured greedy repeat: any number of characters other than a line feed, as many as
     /// possible.
-    Anything,
+    DotStar,
     /// An optional group, whose steps come next.
-    Maybe(Group),
+    OptionalGroup(Group),
     /// A captured greedy run of characters.
-    Longest(Run),
+    GreedyRun(Run),
     /// A greedy repeat of a literal.
-    Copies(Copies),
+    RepeatedLiteral(RepeatedLiteral),
     /// Runs of characters joined by a separator, captured as a whole, as many as possible.
     Segments(Segments),
 }
@@ -31,7 +31,7 @@ pub struct Group {
 
 /// A literal of one or more characters: the first, and those of the literal steps that come next.
 #[derive(Clone, Copy)]
-pub struct Stretch {
+pub struct LiteralString {
     /// The first character.
     pub first: char,
     /// The number of literal steps with the other characters.
@@ -40,11 +40,11 @@ pub struct Stretch {
 
 /// A repeated literal.
 #[derive(Clone, Copy)]
-pub struct Copies {
+pub struct RepeatedLiteral {
     /// The literal.
-    pub text: Stretch,
+    pub text: LiteralString,
     /// Whether zero copies match: `*` rather than `+`.
-    pub may_be_missing: bool,
+    pub allows_zero: bool,
 }
 
 /// A run of characters.
@@ -60,7 +60,7 @@ pub struct Run {
 #[derive(Clone, Copy)]
 pub struct Segments {
     /// The separator.
-    pub separator: Stretch,
+    pub separator: LiteralString,
     /// The character that ends a run.
     pub end: char,
     /// Whether a run is greedy and may be empty; otherwise it is lazy and not empty.

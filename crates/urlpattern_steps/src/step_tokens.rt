@@ -2,7 +2,7 @@
 
 ghost use Rattle.std.specs.Prelude.{◌≡◌, ◌≢◌, ◌∷◌, ◌++◌, ℕ, ◌<◌, ◌≤◌, Bool, List, length, codes, IfNone, IfSome, IsTrue};
 ghost use Rattle.std.specs.Str.{chars};
-ghost use Rattle.urlpattern_steps.specs.ReadSteps.{BeginsWithCaptured, BeginsWithCharacter, BeginsWithRegexpToken, IsRead, IsRepeatOf, IsRunOf, IsStepOf, IsUnquantified, AllowsEmptyRun, FindsRun, ReadsCaptured, ReadsFirstSegments, ReadsRuns, ReadsRegexpTokens, RepeatsRuns, quantifier_of, times_text};
+ghost use Rattle.urlpattern_steps.specs.ReadSteps.{BeginsWithCaptured, BeginsWithCharacter, BeginsWithRegexpToken, IsRead, IsRepeatOf, IsRunOf, IsStepOf, IsUnquantified, AllowsEmptyRun, FindsRun, ReadsCaptured, ReadsFirstSegments, ReadsRuns, ReadsRegexpTokens, RepeatsRuns, quantifier_of, group_quantifier_text};
 ghost use Rattle.urlpattern_meaning.specs.Dialect.{Captured, IsCharacter, IsClassCharacter, Items};
 ghost use Rattle.urlpattern_syntax.specs.RegexpText.{regexp_marks};
 ghost use Rattle.urlpattern_syntax.specs.Text.{is_among};
@@ -17,18 +17,18 @@ pub enum StepToken {
     /// `(?:`
     Open,
     /// `)` and the quantifier of the group.
-    Close(Times),
+    Close(GroupQuantifier),
     /// A literal character or a capturing group.
     Step(Step),
     /// A capturing group and `?`.
-    MaybeStep(Step),
+    OptionalStep(Step),
     /// `((?:`, a run and `)(?:`: the character that ends the run, and whether the run is greedy.
     FirstSegment(char, bool),
 }
 
 /// The quantifier after a group.
 #[derive(Clone, Copy)]
-pub enum Times {
+pub enum GroupQuantifier {
     /// No quantifier.
     Once,
     /// `?`
@@ -46,7 +46,7 @@ pub fn read_token(text: &str) -> Option<(StepToken, &str)>
     ensures len { IfSome result (λ read. length read.1.now < length text.now) }
 {
     if let Some(rest) = after(text, ')') {
-        let (times, remaining) = read_times(rest);
+        let (times, remaining) = read_group_quantifier(rest);
         return Some((StepToken::Close(times), remaining));
     }
     if let Some(inner) = after(text, '(') {
@@ -57,16 +57,16 @@ pub fn read_token(text: &str) -> Option<(StepToken, &str)>
 }
 
 /// Returns the quantifier of a group and the rest. `text` is what follows the closing parenthesis.
-fn read_times(text: &str) -> (Times, &str)
-    ensures times { chars text.now ≡ times_text result.0 ++ chars result.1.now }
-    ensures longest { result.0 ≡ Times.Once → IsUnquantified (chars result.1.now) }
+fn read_group_quantifier(text: &str) -> (GroupQuantifier, &str)
+    ensures times { chars text.now ≡ group_quantifier_text result.0 ++ chars result.1.now }
+    ensures longest { result.0 ≡ GroupQuantifier.Once → IsUnquantified (chars result.1.now) }
     ensures len { length result.1.now ≤ length text.now }
 {
     match split_first(text) {
-        Some(('?', rest)) => (Times::Optional, rest),
-        Some(('*', rest)) => (Times::ZeroOrMore, rest),
-        Some(('+', rest)) => (Times::OneOrMore, rest),
-        _ => (Times::Once, text),
+        Some(('?', rest)) => (GroupQuantifier::Optional, rest),
+        Some(('*', rest)) => (GroupQuantifier::ZeroOrMore, rest),
+        Some(('+', rest)) => (GroupQuantifier::OneOrMore, rest),
+        _ => (GroupQuantifier::Once, text),
     }
 }
 
@@ -85,7 +85,7 @@ fn read_bracket(text: &str) -> Option<(StepToken, &str)>
     let (step, rest) = read_captured(text)?;
     let rest = after(rest, ')')?;
     if let Some(remaining) = after(rest, '?') {
-        return Some((StepToken::MaybeStep(step), remaining));
+        return Some((StepToken::OptionalStep(step), remaining));
     }
     Some((StepToken::Step(step), rest))
 }
@@ -141,43 +141,43 @@ fn read_repeated_run(text: &str) -> Option<(Step, &str)>
     ensures len { IfSome result (λ read. length read.1.now < length text.now) }
 {
     let (single, rest) = read_run(after(after(text, '?')?, ':')?)?;
-    let (times, remaining) = read_times(after(rest, ')')?);
+    let (times, remaining) = read_group_quantifier(after(rest, ')')?);
     Some((repeated_run(single, times)?, remaining))
 }
 
 /// The step of a repeated run, which is a run again. `None`: the step is no run, or the quantifier
 /// no repeat.
-fn repeated_run(run: Step, times: Times) -> Option<Step>
+fn repeated_run(run: Step, times: GroupQuantifier) -> Option<Step>
     ensures step { IfSome result (λ step. IsRepeatOf run (quantifier_of times) step) }
     ensures reads { RepeatsRuns run (quantifier_of times) result }
 {
     let (end, is_greedy) = run_of(run)?;
     let may_be_empty = may_be_empty(is_greedy, times)?;
-    Some(Step::Longest(Run { end, may_be_empty }))
+    Some(Step::GreedyRun(Run { end, may_be_empty }))
 }
 
 /// The character that ends the run of a step, and whether the run is greedy. `None`: the step is
-/// neither `Segment` nor `Anything`.
+/// neither `LazyRun` nor `DotStar`.
 pub fn run_of(step: Step) -> Option<(char, bool)>
     ensures run { IfSome result (λ run. (items : Items) → IsStepOf step (Captured items) → IsRunOf run.0 run.1 items) }
     ensures reads { FindsRun step result }
 {
     match step {
-        Step::Segment(end) => Some((end, false)),
-        Step::Anything => Some(('\n', true)),
+        Step::LazyRun(end) => Some((end, false)),
+        Step::DotStar => Some(('\n', true)),
         _ => None,
     }
 }
 
 /// Whether a repeated run may be empty. `None`: the quantifier is no repeat.
-fn may_be_empty(is_greedy: bool, times: Times) -> Option<bool>
+fn may_be_empty(is_greedy: bool, times: GroupQuantifier) -> Option<bool>
     ensures may { IfSome result (λ may_be_empty. AllowsEmptyRun is_greedy (quantifier_of times) may_be_empty) }
     ensures reads { (may_be_empty : Bool) → AllowsEmptyRun is_greedy (quantifier_of times) may_be_empty → result ≡ Some may_be_empty }
 {
     match times {
-        Times::ZeroOrMore => Some(true),
-        Times::OneOrMore => Some(is_greedy),
-        Times::Once | Times::Optional => None,
+        GroupQuantifier::ZeroOrMore => Some(true),
+        GroupQuantifier::OneOrMore => Some(is_greedy),
+        GroupQuantifier::Once | GroupQuantifier::Optional => None,
     }
 }
 
@@ -200,8 +200,8 @@ fn read_repeated_dot(text: &str) -> Option<(Step, &str)>
     ensures len { IfSome result (λ read. length read.1.now < length text.now) }
 {
     match after(text, '*') {
-        Some(rest) => Some((Step::Anything, rest)),
-        None => Some((Step::Segment('\n'), after_lazy_plus(text)?)),
+        Some(rest) => Some((Step::DotStar, rest)),
+        None => Some((Step::LazyRun('\n'), after_lazy_plus(text)?)),
     }
 }
 
@@ -212,7 +212,7 @@ fn read_repeated_class(text: &str) -> Option<(Step, &str)>
     ensures len { IfSome result (λ read. length read.1.now < length text.now) }
 {
     let (c, rest) = read_class_character(text)?;
-    Some((Step::Segment(c), after_lazy_plus(after(rest, ']')?)?))
+    Some((Step::LazyRun(c), after_lazy_plus(after(rest, ']')?)?))
 }
 
 /// Returns the rest of the text after `+?`.

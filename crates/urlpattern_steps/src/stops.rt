@@ -1,36 +1,36 @@
 //! The first characters of the texts that steps match.
 
 ghost use Rattle.std.specs.Prelude.{IsTrue};
-ghost use Rattle.urlpattern_steps.specs.Walk.{StopAt};
+ghost use Rattle.urlpattern_steps.specs.Walk.{BeginOnlyWith};
 
 use crate::repeats::pass;
 use crate::step::Step;
 
 /// Whether each nonempty text that the steps match is known to begin with `end`. `false` decides
 /// nothing.
-pub fn stop_at(steps: &[Step], end: char) -> bool
-    ensures { IsTrue result → StopAt end steps.now }
+pub fn begin_only_with(steps: &[Step], end: char) -> bool
+    ensures { IsTrue result → BeginOnlyWith end steps.now }
 {
     let mut rest = steps;
     while let Some((step, others)) = rest.split_first() {
         match step {
             Step::Literal(c) => return *c == end,
-            Step::Maybe(group) => {
+            Step::OptionalGroup(group) => {
                 if !begin_with(others, end) {
                     return false;
                 }
                 rest = pass(others, group.steps);
             }
-            Step::Copies(copies) => {
+            Step::RepeatedLiteral(copies) => {
                 if copies.text.first != end {
                     return false;
                 }
-                if !copies.may_be_missing {
+                if !copies.allows_zero {
                     return true;
                 }
                 rest = pass(others, copies.text.others);
             }
-            Step::Segment(_) | Step::Anything | Step::Longest(_) | Step::Segments(_) => {
+            Step::LazyRun(_) | Step::DotStar | Step::GreedyRun(_) | Step::Segments(_) => {
                 return false;
             }
         }
@@ -40,7 +40,7 @@ pub fn stop_at(steps: &[Step], end: char) -> bool
 
 /// Whether the first step is the literal `c`.
 fn begin_with(steps: &[Step], c: char) -> bool
-    ensures { IsTrue result → StopAt c steps.now }
+    ensures { IsTrue result → BeginOnlyWith c steps.now }
 {
     match steps.split_first() {
         Some((Step::Literal(other), _)) => *other == c,

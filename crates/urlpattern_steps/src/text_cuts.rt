@@ -40,7 +40,7 @@ pub fn after_same(text: &str, c: char, ignore_case: bool) -> Option<&str>
 }
 
 /// Returns the text without the prefix `front`.
-pub fn after_front<'a>(text: &'a str, front: &str) -> &'a str
+pub fn after_prefix<'a>(text: &'a str, front: &str) -> &'a str
     requires { (rest : List ℕ) × IsUtf8 rest × (text.now ≡ front.now ++ rest) }
     ensures { text.now ≡ front.now ++ result.now }
 {
@@ -48,7 +48,7 @@ pub fn after_front<'a>(text: &'a str, front: &str) -> &'a str
 }
 
 /// Splits a text at a byte index.
-pub fn split_at_seam(text: &str, count: usize) -> (&str, &str)
+pub fn split_at_boundary(text: &str, count: usize) -> (&str, &str)
     requires { (front rest : List ℕ) × IsUtf8 front × IsUtf8 rest × (text.now ≡ front ++ rest) × (length front ≡ count) }
     ensures cut { text.now ≡ result.0.now ++ result.1.now }
     ensures count { length result.0.now ≡ count }

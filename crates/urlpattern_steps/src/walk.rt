@@ -3,15 +3,15 @@
 ghost use Rattle.std.specs.Prelude.{◌≡◌, ◌∷◌, ◌++◌, replicate, None, IfOk, OnOk};
 ghost use Rattle.std.specs.Str.{chars};
 ghost use Rattle.urlpattern_meaning.specs.CaptureTexts.{captures_view};
-ghost use Rattle.urlpattern_steps.specs.Failed.{IsStateOf};
-ghost use Rattle.urlpattern_steps.specs.Walk.{captured_front, walk};
-ghost use Rattle.urlpattern_steps.specs.Taken.{AreFollowed, FollowsOn};
+ghost use Rattle.urlpattern_steps.specs.FailedStates.{IsStateOf};
+ghost use Rattle.urlpattern_steps.specs.Walk.{captured_prefix, walk};
+ghost use Rattle.urlpattern_steps.specs.Taken.{MatchesRestIfOk, MatchesInTurn};
 
 mod copies;
 mod runs;
 mod segments;
 
-use crate::failed::Failed;
+use crate::failed_states::FailedStates;
 use crate::repeats::pass;
 use crate::run_ends::has_one_end;
 use crate::step::{Group, Step};
@@ -25,7 +25,7 @@ struct Attempt<'s, 't> {
     /// The captures so far.
     captures: Vec<Option<&'t str>>,
     /// The failed states.
-    failed: Failed<'s, 't>,
+    failed: FailedStates<'s, 't>,
 }
 
 /// Whether steps match a whole text.
@@ -44,12 +44,12 @@ pub fn walk<'t>(
 ) -> Result<Option<Vec<Option<&'t str>>>, OutOfMemory>
     ensures { IfOk result (λ found. captures_view found ≡ walk ignore_case steps.now (chars text.now)) }
 {
-    let failed = Failed::new(alloc, steps, ignore_case, text, is_memoized)?;
+    let failed = FailedStates::new(alloc, steps, ignore_case, text, is_memoized)?;
     let mut attempt = Attempt {
         captures: Vec::new(alloc),
         failed,
     };
-    if attempt.follow(ignore_case, steps, text)? {
+    if attempt.match_rest(ignore_case, steps, text)? {
         Ok(Some(attempt.captures))
     } else {
         Ok(None)
@@ -59,12 +59,12 @@ pub fn walk<'t>(
 impl<'t> Attempt<'_, 't> {
     /// Whether the steps match the whole text. On a match their captures are added.
     #[cycle(following)]
-    fn follow(&mut self, ignore_case: bool, steps: &[Step], text: &'t str) -> Taken
+    fn match_rest(&mut self, ignore_case: bool, steps: &[Step], text: &'t str) -> Taken
         requires { IsStateOf ignore_case self.old.failed steps.now (chars text.now) }
-        ensures { AreFollowed self.old self.new result (walk ignore_case steps.now (chars text.now)) }
+        ensures { MatchesRestIfOk self.old self.new result (walk ignore_case steps.now (chars text.now)) }
     {
         let count = self.captures.len();
-        if self.follow_on(ignore_case, steps, text)? {
+        if self.match_in_turn(ignore_case, steps, text)? {
             return Ok(true);
         }
         self.captures.truncate(count);
@@ -74,9 +74,9 @@ impl<'t> Attempt<'_, 't> {
     /// Whether the steps match the whole text. On a match their captures are added, otherwise
     /// perhaps some of them.
     #[cycle(following)]
-    fn follow_on(&mut self, ignore_case: bool, steps: &[Step], text: &'t str) -> Taken
+    fn match_in_turn(&mut self, ignore_case: bool, steps: &[Step], text: &'t str) -> Taken
         requires { IsStateOf ignore_case self.old.failed steps.now (chars text.now) }
-        ensures { IfOk result (λ taken. FollowsOn self.old self.new taken (walk ignore_case steps.now (chars text.now))) }
+        ensures { IfOk result (λ taken. MatchesInTurn self.old self.new taken (walk ignore_case steps.now (chars text.now))) }
     {
         let mut left = steps;
         let mut rest = text;
@@ -89,7 +89,7 @@ impl<'t> Attempt<'_, 't> {
                     rest = remaining;
                     left = others;
                 }
-                Step::Segment(end) if has_one_end(&self.failed, others, *end) => {
+                Step::LazyRun(end) if has_one_end(&self.failed, others, *end) => {
                     let (front, remaining) = split_at_first(rest, *end, ignore_case);
                     if front.is_empty() {
                         return Ok(false);
@@ -98,20 +98,20 @@ impl<'t> Attempt<'_, 't> {
                     rest = remaining;
                     left = others;
                 }
-                Step::Anything if has_one_end(&self.failed, others, '\n') => {
+                Step::DotStar if has_one_end(&self.failed, others, '\n') => {
                     let (front, remaining) = split_at_first(rest, '\n', ignore_case);
                     self.captures.push(Some(front))?;
                     rest = remaining;
                     left = others;
                 }
-                Step::Segment(end) => return self.follow_shortest(
+                Step::LazyRun(end) => return self.match_shortest_run(
                     ignore_case,
                     *end,
                     left,
                     others,
                     rest,
                 ),
-                _ => return self.follow_once(ignore_case, step, left, others, rest),
+                _ => return self.match_memoized(ignore_case, step, left, others, rest),
             }
         }
         Ok(rest.is_empty())
@@ -122,7 +122,7 @@ impl<'t> Attempt<'_, 't> {
     ///
     /// A failed state is memoized, and not tried again.
     #[cycle(following)]
-    fn follow_once(
+    fn match_memoized(
         &mut self,
         ignore_case: bool,
         step: &Step,
@@ -132,12 +132,12 @@ impl<'t> Attempt<'_, 't> {
     ) -> Taken
         requires state { IsStateOf ignore_case self.old.failed steps.now (chars text.now) }
         requires first { steps.now ≡ step.now ∷ others.now }
-        ensures { IfOk result (λ taken. FollowsOn self.old self.new taken (walk ignore_case steps.now (chars text.now))) }
+        ensures { IfOk result (λ taken. MatchesInTurn self.old self.new taken (walk ignore_case steps.now (chars text.now))) }
     {
         if self.failed.contains(steps, text) {
             return Ok(false);
         }
-        if self.follow_first(ignore_case, step, steps, others, text)? {
+        if self.match_first_step(ignore_case, step, steps, others, text)? {
             return Ok(true);
         }
         self.failed.insert(steps, text);
@@ -149,7 +149,7 @@ impl<'t> Attempt<'_, 't> {
     ///
     /// The matches of the first step are tried in turn.
     #[cycle(following)]
-    fn follow_first(
+    fn match_first_step(
         &mut self,
         ignore_case: bool,
         step: &Step,
@@ -159,26 +159,31 @@ impl<'t> Attempt<'_, 't> {
     ) -> Taken
         requires state { IsStateOf ignore_case self.old.failed steps.now (chars text.now) }
         requires first { steps.now ≡ step.now ∷ others.now }
-        ensures { IfOk result (λ taken. FollowsOn self.old self.new taken (walk ignore_case steps.now (chars text.now))) }
+        ensures { IfOk result (λ taken. MatchesInTurn self.old self.new taken (walk ignore_case steps.now (chars text.now))) }
     {
         match step {
             Step::Literal(c) => match after_same(text, *c, ignore_case) {
-                Some(rest) => self.follow(ignore_case, others, rest),
+                Some(rest) => self.match_rest(ignore_case, others, rest),
                 None => Ok(false),
             },
-            Step::Segment(end) => self.follow_shortest(ignore_case, *end, steps, others, text),
-            Step::Anything => self.follow_longest(ignore_case, steps, others, text),
-            Step::Maybe(group) => self.follow_maybe(ignore_case, *group, others, text),
-            Step::Longest(run) => self.follow_longest_run(ignore_case, *run, others, text),
-            Step::Copies(copies) => self.follow_copies(ignore_case, *copies, others, text),
-            Step::Segments(segments) => self.follow_segments(ignore_case, *segments, others, text),
+            Step::LazyRun(end) => self.match_shortest_run(ignore_case, *end, steps, others, text),
+            Step::DotStar => self.match_longest_run(ignore_case, steps, others, text),
+            Step::OptionalGroup(group) => self.match_optional_group(
+                ignore_case,
+                *group,
+                others,
+                text,
+            ),
+            Step::GreedyRun(run) => self.match_greedy_run(ignore_case, *run, others, text),
+            Step::RepeatedLiteral(copies) => self.match_copies(ignore_case, *copies, others, text),
+            Step::Segments(segments) => self.match_segments(ignore_case, *segments, others, text),
         }
     }
 
     /// Whether the steps match the whole text with an optional group, or else without. On a match
     /// their captures are added, otherwise perhaps some of them.
     #[cycle(following)]
-    fn follow_maybe(
+    fn match_optional_group(
         &mut self,
         ignore_case: bool,
         group: Group,
@@ -186,19 +191,19 @@ impl<'t> Attempt<'_, 't> {
         text: &'t str,
     ) -> Taken
         requires { IsStateOf ignore_case self.old.failed others.now (chars text.now) }
-        ensures { IfOk result (λ taken. FollowsOn self.old self.new taken (walk ignore_case (Step.Maybe group ∷ others.now) (chars text.now))) }
+        ensures { IfOk result (λ taken. MatchesInTurn self.old self.new taken (walk ignore_case (Step.OptionalGroup group ∷ others.now) (chars text.now))) }
     {
-        if self.follow(ignore_case, others, text)? {
+        if self.match_rest(ignore_case, others, text)? {
             return Ok(true);
         }
-        add_missing(&mut self.captures, group.captures)?;
-        self.follow_on(ignore_case, pass(others, group.steps), text)
+        push_unmatched(&mut self.captures, group.captures)?;
+        self.match_in_turn(ignore_case, pass(others, group.steps), text)
     }
 
     /// Whether the steps match the whole rest of a text. On a match `front` and their captures are
     /// added.
     #[cycle(following)]
-    fn follow_captured(
+    fn match_after_capture(
         &mut self,
         ignore_case: bool,
         front: &'t str,
@@ -206,10 +211,10 @@ impl<'t> Attempt<'_, 't> {
         rest: &'t str,
     ) -> Taken
         requires { IsStateOf ignore_case self.old.failed steps.now (chars rest.now) }
-        ensures { AreFollowed self.old self.new result (captured_front (walk ignore_case steps.now) (chars front.now) (chars rest.now)) }
+        ensures { MatchesRestIfOk self.old self.new result (captured_prefix (walk ignore_case steps.now) (chars front.now) (chars rest.now)) }
     {
         self.captures.push(Some(front))?;
-        if self.follow(ignore_case, steps, rest)? {
+        if self.match_rest(ignore_case, steps, rest)? {
             return Ok(true);
         }
         self.captures.pop();
@@ -218,7 +223,7 @@ impl<'t> Attempt<'_, 't> {
 }
 
 /// Adds `count` captures that are `None`.
-pub fn add_missing(captures: &mut Vec<Option<&str>>, count: usize) -> Result<(), OutOfMemory>
+pub fn push_unmatched(captures: &mut Vec<Option<&str>>, count: usize) -> Result<(), OutOfMemory>
     ensures { OnOk result (captures.new.items ≡ captures.old.items ++ replicate count None) }
 {
     for _ in 0..count {

@@ -6,7 +6,7 @@ use Rattle.std.proofs.Math.Numerals.{add-one}
 use Rattle.std.proofs.lemmas.Bool.{false≢true, both_ways, or_cases, or_left}
 use Rattle.std.proofs.lemmas.List.{append-nil, append_cancel_right}
 use Rattle.urlpattern_syntax.specs.declared.tokenizer.TokenType.TheVariants.{Regexp}
-use Rattle.urlpattern_syntax.specs.Tokens.{FaultView, IncompleteEscapeCode, InvalidName, InvalidRegex, NotAscii, EscapedNotAscii, GroupAtEnd, CapturingGroup, NotClosed, reason, IsFaultAt, IsLexed, LacksEscaped, LacksQuestionMark, Body, Front, body_text, front_text, IsBody, IsFront, IsRegexpFront, is_question_mark, Body as bodies, Front as fronts}
+use Rattle.urlpattern_syntax.specs.Tokens.{FaultView, IncompleteEscapeCode, InvalidName, InvalidRegex, NotAscii, EscapedNotAscii, GroupAtEnd, CapturingGroup, NotClosed, reason, IsFaultAt, IsLexed, LacksEscaped, LacksQuestionMark, Body, BodyStart, body_text, body_start_text, IsBody, IsBodyStart, IsRegexpStart, is_question_mark, Body as bodies, BodyStart as fronts}
 use Rattle.urlpattern_syntax.specs.Text.{BeginsWith, is_among}
 
 -- The text is a body.
@@ -17,9 +17,9 @@ pub record IsBodyText (text : List ℕ) : Type 0 where
 
 -- The text is the start of a body.
 pub record IsFrontText (text : List ℕ) : Type 0 where
-  pub front : Front
-  pub is_front : IsFront front
-  pub spelled : text ≡ front_text front
+  pub front : BodyStart
+  pub is_front : IsBodyStart front
+  pub spelled : text ≡ body_start_text front
 
 -- A text that may be put before a body.
 pub record Prepends (unit : List ℕ) : Type 0 where
@@ -40,22 +40,22 @@ prepended unit text p b = record {
   spelled = ap (λ x. unit ++ x) b.spelled ∙ sym (p.spells b.body);
 }
 
-front_onto : (unit : List ℕ) → Prepends unit → Front → Front
+front_onto : (unit : List ℕ) → Prepends unit → BodyStart → BodyStart
 front_onto unit p (fronts.Here body) = fronts.Here (p.onto body)
 front_onto unit p (fronts.Inside body front) = fronts.Inside (p.onto body) front
 
-front_keeps : (unit : List ℕ) (p : Prepends unit) (front : Front) → IsFront front → IsFront (front_onto unit p front)
+front_keeps : (unit : List ℕ) (p : Prepends unit) (front : BodyStart) → IsBodyStart front → IsBodyStart (front_onto unit p front)
 unfolding front_onto
 front_keeps unit p (fronts.Here body) h = p.keeps body h
 front_keeps unit p (fronts.Inside body front) h = (p.keeps body h.0, h.1, h.2)
 
-front_spells : (unit : List ℕ) (p : Prepends unit) (front : Front) → front_text (front_onto unit p front) ≡ unit ++ front_text front
+front_spells : (unit : List ℕ) (p : Prepends unit) (front : BodyStart) → body_start_text (front_onto unit p front) ≡ unit ++ body_start_text front
 unfolding front_onto
 front_spells unit p (fronts.Here body) = p.spells body
 front_spells unit p (fronts.Inside body front) =
-    ap (λ x. (x ++ codes "(") ++ front_text front) (p.spells body)
-    ∙ ap (λ x. x ++ front_text front) (append_assoc unit (body_text body) (codes "("))
-    ∙ append_assoc unit (body_text body ++ codes "(") (front_text front)
+    ap (λ x. (x ++ codes "(") ++ body_start_text front) (p.spells body)
+    ∙ ap (λ x. x ++ body_start_text front) (append_assoc unit (body_text body) (codes "("))
+    ∙ append_assoc unit (body_text body ++ codes "(") (body_start_text front)
 
 pub prepended_front : (unit text : List ℕ) → Prepends unit → IsFrontText text → IsFrontText (unit ++ text)
 prepended_front unit text p f = record {
@@ -197,7 +197,7 @@ begins_among (c ∷ text) h = elim (or_cases (63 == c) false h) [ inl e ↦ or_l
 
 module _ (text rest : List ℕ) (depth : ℕ) (h : HasRead text rest depth) (unmarked : ¬ BeginsWith (is_among (codes "?)")) text) where
   -- The text read may precede a fault.
-  pub front_read : IsRegexpFront h.read
+  pub front_read : IsRegexpStart h.read
   front_read =
       let f : IsFrontText h.read = subst IsFrontText (append-nil h.read) (h.goes_on [] (GoesOn-front depth [] nowhere)) in
       record {
@@ -271,4 +271,4 @@ module _ (text rest : List ℕ) (depth : ℕ) (h : HasRead text rest depth) (unm
 
   pub fault_end : rest ≡ [] → IsFaultAt (codes "(" ++ text) (InvalidRegex (reason NotClosed))
   fault_end e =
-      (text, NotClosed, refl, subst IsRegexpFront (sym (h.cut ∙ ap (λ x. h.read ++ x) e ∙ append-nil h.read)) front_read, refl)
+      (text, NotClosed, refl, subst IsRegexpStart (sym (h.cut ∙ ap (λ x. h.read ++ x) e ∙ append-nil h.read)) front_read, refl)

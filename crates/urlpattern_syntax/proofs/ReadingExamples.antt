@@ -11,7 +11,7 @@ use Rattle.urlpattern_syntax.specs.Errors.{ErrorView, ErrorView as views}
 use Rattle.urlpattern_syntax.specs.Options.{OptionsView, default_options, pathname_options}
 use Rattle.urlpattern_syntax.specs.Parts.{PartView, fixed_text}
 use Rattle.urlpattern_syntax.specs.Pieces.{Piece, Text, Bare, TextGroup, Group, Placeholder, PlaceholderKindView, Segment, Custom, Ending, Stops, LacksClose}
-use Rattle.urlpattern_syntax.specs.Reading.{AreMet, AreParts, Encoding, FirstFails, Reads, Refuses, demands, items_of}
+use Rattle.urlpattern_syntax.specs.Reading.{AreMet, AreParts, Encoding, FirstFails, Reads, Rejects, demands, items_of}
 use Rattle.urlpattern_syntax.specs.RegexpText.{escaped}
 use Rattle.urlpattern_syntax.specs.Tokens.{TokenView, AreTokens, InvalidName, Nothing, Plain, IsRegexpBody, end_of}
 use Rattle.urlpattern_syntax.proofs.PieceExamples.{PieceCut, ends, piece, pieces_of, bare, braced, filled, starred_cut, starred_pieces, nested}
@@ -41,7 +41,7 @@ read_by pieces found are_tokens cut met are_parts = record {
 -- A text is rejected with the error of the first demand that fails.
 pub refused_by : {text : List ℕ} {options : OptionsView} {encoding : Encoding} {error : ErrorView} {tokens : List TokenView} (pieces : List Piece)
     (ending : Ending) → AreTokens text tokens → PieceCut options.prefix ending tokens pieces → FirstFails encoding (demands (items_of pieces) ending) error
-    → Refuses text options encoding error
+    → Rejects text options encoding error
 refused_by pieces ending are_tokens cut fails =
     inr (record { tokens = _; pieces = pieces; ending = ending; are_tokens = are_tokens; are_pieces = pieces_of cut; fails = fails })
 
@@ -269,7 +269,7 @@ empty_group =
 -- ---- texts that are rejected
 
 -- The pattern `{a`: a group is not closed.
-pub open_group : Refuses (codes "{a") default_options keeping (views.ExpectedToken Close End [])
+pub open_group : Rejects (codes "{a") default_options keeping (views.ExpectedToken Close End [])
 unfolding literals
 open_group =
     refused_by [] (LacksClose (token End 2 []))
@@ -277,7 +277,7 @@ open_group =
     (ends (_, token Char 1 (codes "a") ∷ [], _, refl, refl, (no, inl (codes "a", (refl, refl), no)), λ e. cc)) (inl (λ e. cc, refl))
 
 -- The pattern `a?`: a text has no modifier.
-pub stray_modifier : Refuses (codes "a?") default_options keeping (views.ExpectedToken End OtherModifier (codes "?"))
+pub stray_modifier : Rejects (codes "a?") default_options keeping (views.ExpectedToken End OtherModifier (codes "?"))
 unfolding literals
 stray_modifier =
     refused_by (Text (codes "a") ∷ []) (Stops (token OtherModifier 1 (codes "?")))
@@ -285,14 +285,14 @@ stray_modifier =
     (piece 1 (_, refl, refl, refl, λ k v. no) (ends (_, refl, refl))) (inr ((_, refl), inl (λ e. cc, refl)))
 
 -- The pattern `}`: no group is open.
-pub stray_close : Refuses (codes "}") default_options keeping (views.ExpectedToken End Close (codes "}"))
+pub stray_close : Rejects (codes "}") default_options keeping (views.ExpectedToken End Close (codes "}"))
 unfolding literals
 stray_close =
     refused_by [] (Stops (token Close 0 (codes "}"))) (tokens_of (token Close 0 (codes "}") ∷ []) (next (mark (refl, refl) tt refl) done))
     (ends (_, refl, refl)) (inl (λ e. cc, refl))
 
 -- The pattern `{a{b}}`: a brace opens where the group must be closed.
-pub nested_group : Refuses (codes "{a{b}}") default_options keeping (views.ExpectedToken Close Open (codes "{"))
+pub nested_group : Rejects (codes "{a{b}}") default_options keeping (views.ExpectedToken Close Open (codes "{"))
 unfolding literals
 nested_group =
     refused_by [] (LacksClose (token Open 2 (codes "{")))
@@ -305,7 +305,7 @@ nested_group =
     (ends nested) (inl (λ e. cc, refl))
 
 -- The pattern `:a:a`: two segments have the same name.
-pub same_name : Refuses (codes ":a:a") default_options keeping (views.DuplicateName (codes "a"))
+pub same_name : Rejects (codes ":a:a") default_options keeping (views.DuplicateName (codes "a"))
 unfolding literals
 same_name =
     refused_by (Bare [] (named (codes "a")) modifiers.None ∷ Bare [] (named (codes "a")) modifiers.None ∷ []) (Stops (token End 4 []))
@@ -315,7 +315,7 @@ same_name =
     (inr (first_name, inr ((_, refl), inr ((_, refl), inl ((0, lit< tt, refl), refl)))))
 
 -- The pattern `a{`: the text before a group that is not closed is not encoded.
-pub unasked : Refuses (codes "a{") default_options refusing (views.ExpectedToken Close End [])
+pub unasked : Rejects (codes "a{") default_options refusing (views.ExpectedToken Close End [])
 unfolding literals
 unasked =
     refused_by (Text (codes "a") ∷ []) (LacksClose (token End 2 []))
@@ -323,7 +323,7 @@ unasked =
     (piece 1 (_, refl, refl, refl, λ k v. no) (ends (_, [], _, refl, refl, (no, inl ([], (refl, refl), no)), λ e. cc))) (inl (λ e. cc, refl))
 
 -- The pattern `a}`: a text is encoded before End is expected.
-pub asked : Refuses (codes "a}") default_options refusing (views.Url InvalidPort)
+pub asked : Rejects (codes "a}") default_options refusing (views.Url InvalidPort)
 unfolding literals
 asked =
     refused_by (Text (codes "a") ∷ []) (Stops (token Close 1 (codes "}")))
@@ -331,7 +331,7 @@ asked =
     (piece 1 (_, refl, refl, refl, λ k v. no) (ends (_, refl, refl))) (inl refl)
 
 -- The pattern `:x`: an empty prefix is encoded too.
-pub asked_prefix : Refuses (codes ":x") default_options refusing (views.Url InvalidPort)
+pub asked_prefix : Rejects (codes ":x") default_options refusing (views.Url InvalidPort)
 unfolding literals
 asked_prefix =
     refused_by (Bare [] (named (codes "x")) modifiers.None ∷ []) (Stops (token End 2 []))
@@ -339,7 +339,7 @@ asked_prefix =
     (piece 1 (bare 0 1 (inl (refl, refl)) (refl, refl) refl no no) (ends (_, refl, refl))) (inr (first_name, inl refl))
 
 -- The pattern `{b}?`: the text of a group is encoded.
-pub asked_group : Refuses (codes "{b}?") default_options refusing (views.Url InvalidPort)
+pub asked_group : Rejects (codes "{b}?") default_options refusing (views.Url InvalidPort)
 unfolding literals
 asked_group =
     refused_by (TextGroup (codes "b") modifiers.Optional ∷ []) (Stops (token End 4 []))
@@ -353,7 +353,7 @@ asked_group =
     (inl refl)
 
 -- The pattern `a:`: a tokenizer fault is reported before any text is encoded.
-pub fault_first : Refuses (codes "a:") default_options refusing (views.Tokenizer InvalidName 1)
+pub fault_first : Rejects (codes "a:") default_options refusing (views.Tokenizer InvalidName 1)
 unfolding literals
 fault_first = inl (
   InvalidName,

@@ -8,7 +8,7 @@ use Rattle.unicode.proofs.BinaryLemmas.{is_id_start_stepped, is_id_continue_step
 use Rattle.urlpattern_syntax.specs.declared.tokenizer.TokenType.{TokenType}
 use Rattle.urlpattern_syntax.specs.declared.tokenizer.TokenType.TheVariants.{Close, Regexp, Name, Char, EscapedChar, End, InvalidChar}
 use Rattle.urlpattern_syntax.specs.Text.{byte_len, BeginsAt, BeginsWith, is_among, is_name_start, is_name_part}
-use Rattle.urlpattern_syntax.specs.Tokens.{TokenView, Spells, EndsThere, IsName, IsTokenOf, AreTokens, AreLenientTokens, IsFault, IncompleteEscapeCode, InvalidName, InvalidRegex, Nothing, Plain, IsRegexpBody, Here, IsRegexpFront, IsCut, marks, is_ignored, is_question_mark, Skips, RegexpFault, LacksRegexp, reason, RegexpFault as regexp_faults}
+use Rattle.urlpattern_syntax.specs.Tokens.{TokenView, Spells, IsMaximal, IsName, IsTokenOf, AreTokens, AreLenientTokens, IsFault, IncompleteEscapeCode, InvalidName, InvalidRegex, Nothing, Plain, IsRegexpBody, Here, IsRegexpStart, IsCut, marks, is_ignored, is_question_mark, Skips, RegexpFault, LacksRegexp, reason, RegexpFault as regexp_faults}
 
 -- ---- steps
 
@@ -47,7 +47,7 @@ char {whole} {rest} {c} {index} no_mark not_ignored place = record {
 }
 
 -- A character that is a token by itself.
-pub mark : {whole rest : List ℕ} {kind : TokenType} {c index : ℕ} → Spells kind (c ∷ []) (c ∷ []) → EndsThere kind rest → BeginsAt whole (c ∷ rest) index → IsTokenOf whole (c ∷ rest) (token kind index (c ∷ [])) rest
+pub mark : {whole rest : List ℕ} {kind : TokenType} {c index : ℕ} → Spells kind (c ∷ []) (c ∷ []) → IsMaximal kind rest → BeginsAt whole (c ∷ rest) index → IsTokenOf whole (c ∷ rest) (token kind index (c ∷ [])) rest
 mark {whole} {rest} {kind} {c} {index} spells ends place =
     record { lexed = record { spelling = c ∷ []; cut = refl; spells = spells; ends = ends }; place = place }
 
@@ -83,10 +83,10 @@ short_body {c} ascii plain not_marked = record {
 }
 
 -- The start of a body that is empty, and one of a single plain character.
-pub no_front : IsRegexpFront []
+pub no_front : IsRegexpStart []
 no_front = record { front = Here Nothing; is_front = tt; spelled = refl; not_marked = no }
 
-pub short_front : {c : ℕ} → c < 128 → is_among (codes "\\()") c ≡ false → is_question_mark c ≡ false → IsRegexpFront (c ∷ [])
+pub short_front : {c : ℕ} → c < 128 → is_among (codes "\\()") c ≡ false → is_question_mark c ≡ false → IsRegexpStart (c ∷ [])
 short_front {c} ascii plain not_marked =
     record { front = Here (Plain c Nothing); is_front = (ascii, both_ways _ plain, tt); spelled = refl; not_marked = both_ways _ not_marked }
 

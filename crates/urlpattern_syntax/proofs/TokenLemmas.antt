@@ -10,7 +10,7 @@ use Rattle.urlpattern_syntax.specs.declared.tokenizer.TokenType.{TokenType}
 use Rattle.urlpattern_syntax.specs.declared.tokenizer.TokenType.TheVariants.{Asterisk, Char, Close, End, EscapedChar, InvalidChar, Name, Open, OtherModifier, Regexp}
 use Rattle.urlpattern_syntax.specs.Text.{byte_len, BeginsAt, BeginsWith, is_among, is_name_start, is_name_part}
 use Rattle.urlpattern_syntax.proofs.TextLemmas.{byte_len-append, length-le-byte_len}
-use Rattle.urlpattern_syntax.specs.Tokens.{TokenView, end_of, AreTokensUnder, IsCut, IsInvalidChar, IsInvalidCharOf, IsTokenOf, Skips, SkipsBy, IsLexed, Spells, EndsThere, IsName, IsFaultAt, InvalidName, marks, is_ignored}
+use Rattle.urlpattern_syntax.specs.Tokens.{TokenView, end_of, AreTokensUnder, IsCut, IsInvalidChar, IsInvalidCharOf, IsTokenOf, Skips, SkipsBy, IsLexed, Spells, IsMaximal, IsName, IsFaultAt, InvalidName, marks, is_ignored}
 
 -- ---- skipped characters
 
@@ -62,7 +62,7 @@ pub no_name : (text : List ℕ) → ¬ BeginsWith is_name_start text → IsFault
 no_name text h = (text, refl, h)
 
 -- A character that is the spelling of a token.
-pub character_lexed : (kind : TokenType) (text value rest : List ℕ) (c : ℕ) → text ≡ c ∷ rest → text ≡ value ++ rest → ((spelling : List ℕ) → spelling ≡ c ∷ [] → Spells kind spelling spelling) → EndsThere kind rest → IsLexed text kind value rest
+pub character_lexed : (kind : TokenType) (text value rest : List ℕ) (c : ℕ) → text ≡ c ∷ rest → text ≡ value ++ rest → ((spelling : List ℕ) → spelling ≡ c ∷ [] → Spells kind spelling spelling) → IsMaximal kind rest → IsLexed text kind value rest
 character_lexed kind text value rest c e f spells ends = record {
   spelling = value;
   cut = f;

@@ -28,12 +28,12 @@ tokens_left TokenType.End = 0
 tokens_left kind = 1
 
 -- Whether the character is a Char token.
-abbrev pub stands_for_itself : ℕ → Bool
-stands_for_itself c = not (is_among marks c) && not (is_ignored c)
+abbrev pub is_char_token : ℕ → Bool
+is_char_token c = not (is_among marks c) && not (is_ignored c)
 
 -- The rest begins with these literal characters. A further literal character follows, unless there
 -- are none.
 pub record AreCharactersBefore (rest characters next : List ℕ) : Type 0 where
   pub cut : rest ≡ characters ++ next
-  pub stand : IsTrue (list_all stands_for_itself characters)
-  pub more : (characters ≡ []) ⊎ BeginsWith stands_for_itself next
+  pub stand : IsTrue (list_all is_char_token characters)
+  pub more : (characters ≡ []) ⊎ BeginsWith is_char_token next

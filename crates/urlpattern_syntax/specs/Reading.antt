@@ -190,8 +190,8 @@ pub record FailsDemand (text : List ℕ) (options : OptionsView) (encoding : Enc
   pub fails : FirstFails encoding (demands (items_of pieces) ending) error
 
 -- The text is rejected with this error: its first fault, or else its first demand that is not met.
-abbrev pub Refuses : List ℕ → OptionsView → Encoding → ErrorView → Type 0
-Refuses text options encoding error =
+abbrev pub Rejects : List ℕ → OptionsView → Encoding → ErrorView → Type 0
+Rejects text options encoding error =
     ((fault : FaultView) × (place : ℕ) × IsFault text fault place × (error ≡ ErrorView.Tokenizer fault place))
     ⊎ FailsDemand text options encoding error
 
@@ -202,14 +202,14 @@ IsReadAs text options encoding parts = Reads text options encoding (parts_view p
 -- ---- the results of callbacks
 
 -- The result of a callback, with its text as characters.
-abbrev pub answer_view : Result (String Global) Error → Result (List ℕ) ErrorView
-answer_view (Ok text) = Ok (text_of text)
-answer_view (Err error) = Err (error_view error)
+abbrev pub callback_result_view : Result (String Global) Error → Result (List ℕ) ErrorView
+callback_result_view (Ok text) = Ok (text_of text)
+callback_result_view (Err error) = Err (error_view error)
 
 -- The encoding of a callback: its possible results for the UTF-8 of a text.
 abbrev pub encoding_of : (List ℕ → Result (String Global) Error → Type 0) → Encoding
 encoding_of returns text answer =
-    (returned : Result (String Global) Error) × returns (encode_utf8_all text) returned × (answer ≡ answer_view returned)
+    (returned : Result (String Global) Error) × returns (encode_utf8_all text) returned × (answer ≡ callback_result_view returned)
 
 -- The possible results of callbacks of the type `F`: `F.Fn`, of the bound
 -- `F: Fn(&str) -> Result<String, Error>`.

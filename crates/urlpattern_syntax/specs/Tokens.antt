@@ -85,39 +85,39 @@ Spells End value text = ⊥
 Spells InvalidChar value text = ⊥
 
 -- A name has maximal length.
-abbrev pub EndsThere : TokenType → List ℕ → Type 0
-EndsThere Name rest = ¬ BeginsWith is_name_part rest
-EndsThere kind rest = Unit {0}
+abbrev pub IsMaximal : TokenType → List ℕ → Type 0
+IsMaximal Name rest = ¬ BeginsWith is_name_part rest
+IsMaximal kind rest = Unit {0}
 
 -- The text begins with the spelling of a token, and `rest` follows.
 pub record IsLexed (text : List ℕ) (kind : TokenType) (value rest : List ℕ) : Type 0 where
   pub spelling : List ℕ
   pub cut : text ≡ spelling ++ rest
   pub spells : Spells kind value spelling
-  pub ends : EndsThere kind rest
+  pub ends : IsMaximal kind rest
 
 -- ---- faults
 
 -- The start of a body, which stops in the body or inside an inner parenthesis.
-pub data Front : Type 0 where
-  Here : Body → Front
-  Inside : Body → Front → Front
+pub data BodyStart : Type 0 where
+  Here : Body → BodyStart
+  Inside : Body → BodyStart → BodyStart
 
 -- The text of the start of a body.
-abbrev pub front_text : Front → List ℕ
-front_text (Here body) = body_text body
-front_text (Inside body front) = body_text body ++ codes "(" ++ front_text front
+abbrev pub body_start_text : BodyStart → List ℕ
+body_start_text (Here body) = body_text body
+body_start_text (Inside body front) = body_text body ++ codes "(" ++ body_start_text front
 
 -- The start of a valid body.
-abbrev pub IsFront : Front → Type 0
-IsFront (Here body) = IsBody body
-IsFront (Inside body front) = IsBody body × IsFront front × BeginsWith is_question_mark (front_text front)
+abbrev pub IsBodyStart : BodyStart → Type 0
+IsBodyStart (Here body) = IsBody body
+IsBodyStart (Inside body front) = IsBody body × IsBodyStart front × BeginsWith is_question_mark (body_start_text front)
 
 -- The text may follow an opening parenthesis before a fault.
-pub record IsRegexpFront (text : List ℕ) : Type 0 where
-  pub front : Front
-  pub is_front : IsFront front
-  pub spelled : text ≡ front_text front
+pub record IsRegexpStart (text : List ℕ) : Type 0 where
+  pub front : BodyStart
+  pub is_front : IsBodyStart front
+  pub spelled : text ≡ body_start_text front
   pub not_marked : ¬ BeginsWith is_question_mark text
 
 -- A fault after an opening parenthesis.
@@ -128,14 +128,14 @@ pub data RegexpFault : Type 0 where
 abbrev pub LacksRegexp : List ℕ → RegexpFault → Type 0
 LacksRegexp rest StartsWithQuestionMark = BeginsWith is_question_mark rest
 LacksRegexp rest NotAscii =
-    (front more : List ℕ) × (c : ℕ) × IsRegexpFront front × (rest ≡ front ++ c ∷ more) × (128 ≤ c)
+    (front more : List ℕ) × (c : ℕ) × IsRegexpStart front × (rest ≡ front ++ c ∷ more) × (128 ≤ c)
 LacksRegexp rest EscapedNotAscii =
-    (front more : List ℕ) × (c : ℕ) × IsRegexpFront front × (rest ≡ front ++ codes "\\" ++ c ∷ more) × (128 ≤ c)
-LacksRegexp rest GroupAtEnd = (front : List ℕ) × IsRegexpFront front × (rest ≡ front ++ codes "(")
+    (front more : List ℕ) × (c : ℕ) × IsRegexpStart front × (rest ≡ front ++ codes "\\" ++ c ∷ more) × (128 ≤ c)
+LacksRegexp rest GroupAtEnd = (front : List ℕ) × IsRegexpStart front × (rest ≡ front ++ codes "(")
 LacksRegexp rest CapturingGroup =
-    (front more : List ℕ) × (c : ℕ) × IsRegexpFront front × (rest ≡ front ++ codes "(" ++ c ∷ more)
+    (front more : List ℕ) × (c : ℕ) × IsRegexpStart front × (rest ≡ front ++ codes "(" ++ c ∷ more)
     × ¬ IsTrue (is_question_mark c)
-LacksRegexp rest NotClosed = IsRegexpFront rest
+LacksRegexp rest NotClosed = IsRegexpStart rest
 LacksRegexp rest NoBody = (more : List ℕ) × (rest ≡ codes ")" ++ more)
 
 -- The words in which a fault is reported.
@@ -171,7 +171,7 @@ fault_view (TokenizerError.InvalidRegex fault) = InvalidRegex (regex_fault_text 
 -- No token begins at the start of the text, because of this fault.
 abbrev pub IsFaultAt : List ℕ → FaultView → Type 0
 IsFaultAt text IncompleteEscapeCode =
-    (text ≡ codes "\\") ⊎ ((front : List ℕ) × IsRegexpFront front × (text ≡ codes "(" ++ front ++ codes "\\"))
+    (text ≡ codes "\\") ⊎ ((front : List ℕ) × IsRegexpStart front × (text ≡ codes "(" ++ front ++ codes "\\"))
 IsFaultAt text InvalidName = (rest : List ℕ) × (text ≡ codes ":" ++ rest) × ¬ BeginsWith is_name_start rest
 IsFaultAt text (InvalidRegex reported) =
     (rest : List ℕ) × (fault : RegexpFault) × (text ≡ codes "(" ++ rest) × LacksRegexp rest fault × (reported ≡ reason fault)

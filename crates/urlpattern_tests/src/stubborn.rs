@@ -37,7 +37,7 @@ impl<const TAKES_TEXTS: bool, const HAS_MEMORY: bool> RegExp for Stubborn<TAKES_
 
     ghost IsMade = { λ engine regexp flags. text_of engine.text ≡ regexp };
 
-    ghost MayRefuse = { λ regexp flags force_eval. ⊤ };
+    ghost MayReject = { λ regexp flags force_eval. ⊤ };
 
     ghost answer = { λ engine text. option_map (λ captures. map option_text captures.now) engine.captures };
 

@@ -1,7 +1,7 @@
 //! Whether the two calls that split a constructor string agree, with at most two turns for each
 //! token.
 
-use super::making::Maker;
+use super::making::RandomSource;
 use super::{Outcome, given, same};
 use regex::Regex;
 use std::alloc::Global;
@@ -13,7 +13,7 @@ use urlpattern::{Error, UrlPatternInit};
 type Counted = Result<(UrlPatternInit, usize), Error>;
 
 /// Splits a constructor string by both calls.
-pub fn ask(maker: &mut Maker) -> Result<Outcome, Error> {
+pub fn ask(maker: &mut RandomSource) -> Result<Outcome, Error> {
     let alloc = maker.alloc;
     let (string, _) = given::constructor_string(maker)?;
     let base = parsed(alloc, given::base(maker))?;

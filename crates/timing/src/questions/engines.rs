@@ -2,7 +2,7 @@
 
 use super::Outcome;
 use super::given::{self, Given};
-use super::making::Maker;
+use super::making::RandomSource;
 use crate::calls::parts_of;
 use regex::Regex;
 use std::alloc::Global;
@@ -22,7 +22,7 @@ const PIECES: [&str; 19] = [
 const TEXTS: usize = 4;
 
 /// Calls the engines with texts.
-pub fn ask(maker: &mut Maker) -> Result<Outcome, Error> {
+pub fn ask(maker: &mut RandomSource) -> Result<Outcome, Error> {
     let given = Given::new(maker, RegexSyntax::Rust)?;
     let Some(regexp) = regular_expression(maker, &given)? else {
         return Ok(Outcome::Refused);
@@ -47,7 +47,7 @@ pub fn ask(maker: &mut Maker) -> Result<Outcome, Error> {
 
 /// A regular expression: one that is made from a pattern, a changed form of it, or one made from
 /// pieces. `None`: the text that was made is not a pattern.
-fn regular_expression(maker: &mut Maker, given: &Given) -> Result<Option<String>, Error> {
+fn regular_expression(maker: &mut RandomSource, given: &Given) -> Result<Option<String>, Error> {
     if maker.is_one_in(4) {
         return Ok(Some(maker.text(&PIECES, 9)?));
     }
@@ -67,7 +67,7 @@ fn regular_expression(maker: &mut Maker, given: &Given) -> Result<Option<String>
 
 /// The outcome for the results of the engines.
 fn are_answered_alike(
-    maker: &mut Maker,
+    maker: &mut RandomSource,
     by_regex: &Regex,
     by_pattern: &PatternRegexp,
     by_ecma: &EcmaRegexp,

@@ -1,6 +1,6 @@
 //! The texts of questions: random texts over a small alphabet, and changed forms of real ones.
 
-use super::making::Maker;
+use super::making::RandomSource;
 use std::alloc::AllocError;
 use std::borrow::CowStr;
 use urlpattern::parser::Options;
@@ -129,7 +129,7 @@ enum Place {
 
 impl Place {
     /// The options of this kind.
-    fn options(self, maker: &Maker) -> Result<Options, Error> {
+    fn options(self, maker: &RandomSource) -> Result<Options, Error> {
         match self {
             Place::Default => Ok(Options::default(maker.alloc)),
             Place::Host => Ok(Options::hostname(maker.alloc)),
@@ -160,7 +160,7 @@ pub struct Given {
 
 impl Given {
     /// A random pattern, in this syntax.
-    pub fn new(maker: &mut Maker, syntax: RegexSyntax) -> Result<Given, Error> {
+    pub fn new(maker: &mut RandomSource, syntax: RegexSyntax) -> Result<Given, Error> {
         let places = [Place::Default, Place::Host, Place::Path, Place::Path];
         let place = maker.one_of(&places, Place::Path);
         let mut options = place.options(maker)?;
@@ -176,7 +176,7 @@ impl Given {
 }
 
 /// A random syntax.
-pub fn syntax(maker: &mut Maker) -> RegexSyntax {
+pub fn syntax(maker: &mut RandomSource) -> RegexSyntax {
     if maker.is_one_in(4) {
         RegexSyntax::EcmaScript
     } else {
@@ -185,7 +185,7 @@ pub fn syntax(maker: &mut Maker) -> RegexSyntax {
 }
 
 /// A component's pattern, and a text that almost matches.
-fn component(maker: &mut Maker, pairs: Pairs) -> Result<(String, &'static str), AllocError> {
+fn component(maker: &mut RandomSource, pairs: Pairs) -> Result<(String, &'static str), AllocError> {
     let (real, near) = maker.one_of(pairs, ("", ""));
     let pattern = match maker.below(8) {
         0 | 1 | 2 => maker.text(&GROUPS, 7)?,
@@ -196,7 +196,7 @@ fn component(maker: &mut Maker, pairs: Pairs) -> Result<(String, &'static str), 
 }
 
 /// A text for a component.
-pub fn text(maker: &mut Maker, near: &str) -> Result<String, AllocError> {
+pub fn text(maker: &mut RandomSource, near: &str) -> Result<String, AllocError> {
     if maker.is_one_in(3) {
         return maker.text(&LETTERS, 7);
     }
@@ -204,7 +204,7 @@ pub fn text(maker: &mut Maker, near: &str) -> Result<String, AllocError> {
 }
 
 /// A constructor string, and a URL that almost matches.
-pub fn constructor_string(maker: &mut Maker) -> Result<(String, &'static str), AllocError> {
+pub fn constructor_string(maker: &mut RandomSource) -> Result<(String, &'static str), AllocError> {
     let (real, near) = maker.one_of(STRINGS, ("", ""));
     let string = if maker.is_one_in(8) {
         maker.text(&URL_PIECES, 10)?
@@ -215,7 +215,7 @@ pub fn constructor_string(maker: &mut Maker) -> Result<(String, &'static str), A
 }
 
 /// The text of a URL.
-pub fn url(maker: &mut Maker, near: &str) -> Result<String, AllocError> {
+pub fn url(maker: &mut RandomSource, near: &str) -> Result<String, AllocError> {
     if maker.is_one_in(4) {
         let (_, other) = maker.one_of(STRINGS, ("", ""));
         return maker.mutant(other, &URL_PIECES, 2);
@@ -224,12 +224,12 @@ pub fn url(maker: &mut Maker, near: &str) -> Result<String, AllocError> {
 }
 
 /// A base URL, or none.
-pub fn base(maker: &mut Maker) -> Option<&'static str> {
+pub fn base(maker: &mut RandomSource) -> Option<&'static str> {
     if maker.is_one_in(8) { None } else { Some(BASE) }
 }
 
 /// The components of a pattern or of an input, one by one.
-pub fn init(maker: &mut Maker, is_pattern: bool) -> Result<UrlPatternInit, AllocError> {
+pub fn init(maker: &mut RandomSource, is_pattern: bool) -> Result<UrlPatternInit, AllocError> {
     let mut init = UrlPatternInit::default();
     let filled = fill(maker, &mut init, is_pattern);
     match filled {
@@ -242,7 +242,7 @@ pub fn init(maker: &mut Maker, is_pattern: bool) -> Result<UrlPatternInit, Alloc
 }
 
 /// Fills the path and some other fields of an init.
-fn fill(maker: &mut Maker, init: &mut UrlPatternInit, is_pattern: bool) -> Result<(), AllocError> {
+fn fill(maker: &mut RandomSource, init: &mut UrlPatternInit, is_pattern: bool) -> Result<(), AllocError> {
     if maker.is_one_in(2) {
         init.base_url = Some(maker.mutant(BASE, &URL_PIECES, 2)?);
     }
@@ -272,7 +272,7 @@ fn field(init: &mut UrlPatternInit, component: usize) -> &mut Option<String> {
 }
 
 /// The text of a field: a pattern or, for an input, a text that almost matches one.
-fn field_text(maker: &mut Maker, pairs: Pairs, is_pattern: bool) -> Result<String, AllocError> {
+fn field_text(maker: &mut RandomSource, pairs: Pairs, is_pattern: bool) -> Result<String, AllocError> {
     if is_pattern {
         let (pattern, _) = component(maker, pairs)?;
         return Ok(pattern);
@@ -282,7 +282,7 @@ fn field_text(maker: &mut Maker, pairs: Pairs, is_pattern: bool) -> Result<Strin
 }
 
 /// The text or init of a pattern, and a URL that almost matches.
-pub fn pattern(maker: &mut Maker) -> Result<(StringOrInit<'static>, &'static str), AllocError> {
+pub fn pattern(maker: &mut RandomSource) -> Result<(StringOrInit<'static>, &'static str), AllocError> {
     if maker.is_one_in(3) {
         return Ok((StringOrInit::Init(init(maker, true)?), BASE));
     }

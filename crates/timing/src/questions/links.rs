@@ -1,6 +1,6 @@
 //! Whether the link of a URL's captures by a pattern is that URL.
 
-use super::making::Maker;
+use super::making::RandomSource;
 use crate::calls::{built, parts_of};
 use std::alloc::Global;
 use std::borrow::CowStr;
@@ -21,7 +21,7 @@ type Pattern = UrlPattern<PatternRegexp>;
 type Pairs = &'static [(&'static str, &'static str)];
 
 /// The beginnings of patterns and URLs.
-const FRONTS: Pairs = &[
+const PREFIXES: Pairs = &[
     ("https://example.com", "https://example.com"),
     ("https://*.example.com", "https://a.b.example.com"),
     ("https://*.example.com", "https://0x1.example.com"),
@@ -73,7 +73,7 @@ const STEPS_AT_MOST: usize = 4;
 
 /// The outcome for a pattern and a URL.
 #[derive(Clone, Copy, PartialEq, Eq)]
-enum Came {
+enum LinkOutcome {
     /// The link is the URL.
     Same,
     /// The link is another URL, since a capture is not its own canonical form.
@@ -99,24 +99,24 @@ enum Came {
 }
 
 /// All outcomes, each with its name.
-const WORDS: [(Came, &str); 11] = [
-    (Came::Same, "the same URL"),
+const WORDS: [(LinkOutcome, &str); 11] = [
+    (LinkOutcome::Same, "the same URL"),
     (
-        Came::Recoded,
+        LinkOutcome::Recoded,
         "another URL, as a text is not its own canonical form",
     ),
     (
-        Came::Copies,
+        LinkOutcome::Copies,
         "another URL, as copies of a fixed text are not captured",
     ),
-    (Came::Differs, "another URL"),
-    (Came::Missing, "a group is missing"),
-    (Came::NotCaptured, "a group may not capture its text"),
-    (Came::ReadOtherwise, "a component is read otherwise"),
-    (Came::NoUrl, "no URL"),
-    (Came::OtherText, "a URL with another text"),
-    (Came::Unmatched, "not matched"),
-    (Came::Refused, "refused"),
+    (LinkOutcome::Differs, "another URL"),
+    (LinkOutcome::Missing, "a group is missing"),
+    (LinkOutcome::NotCaptured, "a group may not capture its text"),
+    (LinkOutcome::ReadOtherwise, "a component is read otherwise"),
+    (LinkOutcome::NoUrl, "no URL"),
+    (LinkOutcome::OtherText, "a URL with another text"),
+    (LinkOutcome::Unmatched, "not matched"),
+    (LinkOutcome::Refused, "refused"),
 ];
 
 /// Makes `count` patterns and URLs, from the seed and the numbers after it. Prints those of which
@@ -126,14 +126,14 @@ pub fn run<O: Write>(alloc: Global, seed: u64, count: u64, out: &mut O) -> io::R
     let mut counts = [0u64; 11];
     for index in 0..count {
         let number = seed.wrapping_add(index);
-        let mut maker = Maker::new(alloc, number);
-        let came = ask(&mut maker).unwrap_or(Came::Differs);
+        let mut maker = RandomSource::new(alloc, number);
+        let came = ask(&mut maker).unwrap_or(LinkOutcome::Differs);
         for (tally, (kind, _)) in counts.iter_mut().zip(&WORDS) {
             if *kind == came {
                 *tally = tally.saturating_add(1);
             }
         }
-        if came == Came::Differs {
+        if came == LinkOutcome::Differs {
             writeln!(out, "question {number} differs:{}", maker.made())?;
         }
     }
@@ -144,13 +144,13 @@ pub fn run<O: Write>(alloc: Global, seed: u64, count: u64, out: &mut O) -> io::R
 }
 
 /// Makes a pattern and a URL that almost matches.
-fn ask(maker: &mut Maker) -> Result<Came, Error> {
+fn ask(maker: &mut RandomSource) -> Result<LinkOutcome, Error> {
     let (text, near) = made(maker)?;
     let given = StringOrInit::String(CowStr::Owned(text));
     let pattern = match built(maker.alloc, given, None, UrlPatternOptions::default()) {
         Ok(pattern) => pattern,
         Err(Error::OutOfMemory) => return Err(Error::OutOfMemory),
-        Err(_refused) => return Ok(Came::Refused),
+        Err(_refused) => return Ok(LinkOutcome::Refused),
     };
     let came = of_pattern(maker.alloc, &pattern, &near);
     drop(pattern);
@@ -158,10 +158,10 @@ fn ask(maker: &mut Maker) -> Result<Came, Error> {
 }
 
 /// The text of a pattern, and that of a URL.
-fn made(maker: &mut Maker) -> Result<(String, String), Error> {
+fn made(maker: &mut RandomSource) -> Result<(String, String), Error> {
     let mut text = String::new(maker.alloc);
     let mut near = String::new(maker.alloc);
-    push_one(maker, FRONTS, &mut text, &mut near)?;
+    push_one(maker, PREFIXES, &mut text, &mut near)?;
     push_one(maker, STEPS, &mut text, &mut near)?;
     for _ in 0..maker.below(STEPS_AT_MOST) {
         push_one(maker, STEPS, &mut text, &mut near)?;
@@ -174,7 +174,7 @@ fn made(maker: &mut Maker) -> Result<(String, String), Error> {
 
 /// Appends one of these pairs.
 fn push_one(
-    maker: &mut Maker,
+    maker: &mut RandomSource,
     pairs: Pairs,
     text: &mut String,
     near: &mut String,
@@ -186,12 +186,12 @@ fn push_one(
 }
 
 /// The outcome for a pattern and the text of a URL.
-fn of_pattern(alloc: Global, pattern: &Pattern, text: &str) -> Result<Came, Error> {
+fn of_pattern(alloc: Global, pattern: &Pattern, text: &str) -> Result<LinkOutcome, Error> {
     let Ok(url) = Url::parse(alloc, text) else {
-        return Ok(Came::Refused);
+        return Ok(LinkOutcome::Refused);
     };
     let Some(found) = pattern.captures(alloc, &url)? else {
-        return Ok(Came::Unmatched);
+        return Ok(LinkOutcome::Unmatched);
     };
     let came = match found.to_groups(alloc) {
         Ok(groups) => of_groups(alloc, pattern, &url, &groups),
@@ -207,22 +207,22 @@ fn of_groups(
     pattern: &Pattern,
     url: &Url,
     groups: &[GivenGroup<'_>],
-) -> Result<Came, Error> {
+) -> Result<LinkOutcome, Error> {
     match pattern.link(alloc, groups) {
         Ok(link) => of_link(alloc, pattern, url, groups, &link),
         Err(NoLink::OutOfMemory) => Err(Error::OutOfMemory),
-        Err(NoLink::Url(_)) => Ok(Came::NoUrl),
-        Err(NoLink::OtherText(_)) => Ok(Came::OtherText),
+        Err(NoLink::Url(_)) => Ok(LinkOutcome::NoUrl),
+        Err(NoLink::OtherText(_)) => Ok(LinkOutcome::OtherText),
         Err(NoLink::Component(error)) => of_error(&error),
     }
 }
 
 /// The outcome for a component without a text.
-fn of_error(error: &GenerateError) -> Result<Came, Error> {
+fn of_error(error: &GenerateError) -> Result<LinkOutcome, Error> {
     match error {
-        GenerateError::Missing(_, _) => Ok(Came::Missing),
-        GenerateError::NotCaptured(_, _) => Ok(Came::NotCaptured),
-        GenerateError::ReadOtherwise(_) | GenerateError::NoParts => Ok(Came::ReadOtherwise),
+        GenerateError::Missing(_, _) => Ok(LinkOutcome::Missing),
+        GenerateError::NotCaptured(_, _) => Ok(LinkOutcome::NotCaptured),
+        GenerateError::ReadOtherwise(_) | GenerateError::NoParts => Ok(LinkOutcome::ReadOtherwise),
         GenerateError::OutOfMemory => Err(Error::OutOfMemory),
     }
 }
@@ -234,12 +234,12 @@ fn of_link(
     url: &Url,
     groups: &[GivenGroup<'_>],
     link: &Url,
-) -> Result<Came, Error> {
+) -> Result<LinkOutcome, Error> {
     if link.as_str() == url.as_str() {
-        return Ok(Came::Same);
+        return Ok(LinkOutcome::Same);
     }
     let Some(found) = pattern.captures(alloc, link)? else {
-        return Ok(Came::Differs);
+        return Ok(LinkOutcome::Differs);
     };
     let is_recoded = match found.to_groups(alloc) {
         Ok(others) => Ok(!are_same(groups, &others)),
@@ -247,12 +247,12 @@ fn of_link(
     };
     drop(found);
     if is_recoded? {
-        return Ok(Came::Recoded);
+        return Ok(LinkOutcome::Recoded);
     }
     if has_copies(alloc, pattern)? {
-        Ok(Came::Copies)
+        Ok(LinkOutcome::Copies)
     } else {
-        Ok(Came::Differs)
+        Ok(LinkOutcome::Differs)
     }
 }
 

@@ -1,6 +1,6 @@
 //! Whether the first match of a list is that of a loop over its patterns.
 
-use super::making::Maker;
+use super::making::RandomSource;
 use super::patterns::is_result;
 use super::{Outcome, given};
 use crate::calls::built;
@@ -19,7 +19,7 @@ use urlpattern::{
 type First = Option<(usize, UrlPatternResult)>;
 
 /// The beginnings of the patterns of a list.
-const FRONTS: [&str; 10] = [
+const PREFIXES: [&str; 10] = [
     "https://example.com/a",
     "https://example.com/a/b",
     "https://example.com/:x",
@@ -57,7 +57,7 @@ const MANY: usize = 200;
 const URLS: usize = 20;
 
 /// Finds the first match of URLs in a list, over one of two engines.
-pub fn ask(maker: &mut Maker) -> Result<Outcome, Error> {
+pub fn ask(maker: &mut RandomSource) -> Result<Outcome, Error> {
     if maker.is_one_in(2) {
         ask_over::<Regex>(maker)
     } else {
@@ -66,7 +66,7 @@ pub fn ask(maker: &mut Maker) -> Result<Outcome, Error> {
 }
 
 /// Finds the first match of URLs in a list, and again after some of its patterns were removed.
-fn ask_over<E: RegExp>(maker: &mut Maker) -> Result<Outcome, Error> {
+fn ask_over<E: RegExp>(maker: &mut RandomSource) -> Result<Outcome, Error> {
     let most = if maker.is_one_in(8) { MANY } else { FEW };
     let size = maker.below(most + 1);
     let mut list = UrlPatternList::<E>::new(maker.alloc);
@@ -89,9 +89,9 @@ fn ask_over<E: RegExp>(maker: &mut Maker) -> Result<Outcome, Error> {
 }
 
 /// Appends `count` patterns to a list, except those that are rejected.
-fn fill<E: RegExp>(maker: &mut Maker, list: &mut UrlPatternList<E>, size: usize) -> Result<(), Error> {
+fn fill<E: RegExp>(maker: &mut RandomSource, list: &mut UrlPatternList<E>, size: usize) -> Result<(), Error> {
     for _ in 0..size {
-        let front = maker.one_of(&FRONTS, "");
+        let front = maker.one_of(&PREFIXES, "");
         let end = maker.text(&ENDS, 4)?;
         let text = format!(in maker.alloc; "{front}{end}")?;
         let given = StringOrInit::String(CowStr::Owned(text));
@@ -109,7 +109,7 @@ fn fill<E: RegExp>(maker: &mut Maker, list: &mut UrlPatternList<E>, size: usize)
 }
 
 /// The outcome for the results of a list.
-fn asked<E: RegExp>(maker: &mut Maker, list: &UrlPatternList<E>) -> Result<Outcome, Error> {
+fn asked<E: RegExp>(maker: &mut RandomSource, list: &UrlPatternList<E>) -> Result<Outcome, Error> {
     for _ in 0..URLS {
         let host = maker.one_of(&HOSTS, "");
         let path = maker.text(&STEPS, 5)?;

@@ -6,17 +6,17 @@ use std::alloc::{AllocError, Global};
 
 /// The random source of a question, and the texts that were made for it.
 #[derive(Drop)]
-pub struct Maker {
+pub struct RandomSource {
     /// The allocator of everything that is made.
     pub alloc: Global,
     numbers: SplitMix64,
     made: String,
 }
 
-impl Maker {
+impl RandomSource {
     /// The random numbers.
     pub fn new(alloc: Global, seed: u64) -> Self {
-        Maker {
+        RandomSource {
             alloc,
             numbers: SplitMix64::seed_from_u64(seed),
             made: String::new(alloc),

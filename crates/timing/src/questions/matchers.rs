@@ -1,7 +1,7 @@
 //! Whether a matcher accepts what it matches, and returns the same over each engine.
 
 use super::given::{self, Given};
-use super::making::Maker;
+use super::making::RandomSource;
 use super::{Outcome, same};
 use crate::calls::parts_of;
 use regex::Regex;
@@ -16,7 +16,7 @@ use urlpattern::{Error, RegexSyntax};
 const TEXTS: usize = 4;
 
 /// Matches texts by the matchers of a pattern.
-pub fn ask(maker: &mut Maker) -> Result<Outcome, Error> {
+pub fn ask(maker: &mut RandomSource) -> Result<Outcome, Error> {
     let given = Given::new(maker, RegexSyntax::Rust)?;
     match parts_of(maker.alloc, &given.pattern, &given.options) {
         Ok(parts) => Ok(same(asked(maker, &given, &parts)?)),
@@ -25,7 +25,7 @@ pub fn ask(maker: &mut Maker) -> Result<Outcome, Error> {
 }
 
 /// Whether the matchers of parts return the same for texts.
-fn asked(maker: &mut Maker, given: &Given, parts: &[Part]) -> Result<bool, Error> {
+fn asked(maker: &mut RandomSource, given: &Given, parts: &[Part]) -> Result<bool, Error> {
     let flags = if given.options.ignore_case { "ui" } else { "u" };
     let by_regex: Matcher<Regex> = generate_matcher(maker.alloc, parts, &given.options, flags)?;
     let by_pattern: Result<Matcher<PatternRegexp>, Error> = generate_matcher(
@@ -45,7 +45,7 @@ fn asked(maker: &mut Maker, given: &Given, parts: &[Part]) -> Result<bool, Error
 
 /// Whether two matchers return the same for texts.
 fn are_answered_alike<R: RegExp, S: RegExp>(
-    maker: &mut Maker,
+    maker: &mut RandomSource,
     one: &Matcher<R>,
     other: &Matcher<S>,
     near: &str,

@@ -1,6 +1,6 @@
 //! Whether the calls that match a pattern agree with each other.
 
-use super::making::Maker;
+use super::making::RandomSource;
 use super::{Outcome, given};
 use crate::calls::built;
 use regex::Regex;
@@ -21,7 +21,7 @@ type Found = Option<UrlPatternResult>;
 const INPUTS: usize = 3;
 
 /// Matches inputs by a pattern, with each call.
-pub fn ask(maker: &mut Maker) -> Result<Outcome, Error> {
+pub fn ask(maker: &mut RandomSource) -> Result<Outcome, Error> {
     match maker.below(4) {
         0 => ask_over::<EcmaRegexp>(maker),
         1 => ask_over::<PatternRegexp>(maker),
@@ -30,7 +30,7 @@ pub fn ask(maker: &mut Maker) -> Result<Outcome, Error> {
 }
 
 /// Matches inputs by a pattern over this engine.
-fn ask_over<R: RegExp>(maker: &mut Maker) -> Result<Outcome, Error> {
+fn ask_over<R: RegExp>(maker: &mut RandomSource) -> Result<Outcome, Error> {
     let options = UrlPatternOptions {
         ignore_case: maker.is_one_in(4),
         ..UrlPatternOptions::default()
@@ -51,7 +51,7 @@ fn ask_over<R: RegExp>(maker: &mut Maker) -> Result<Outcome, Error> {
 
 /// The outcome for the results of a pattern.
 fn asked<R: RegExp>(
-    maker: &mut Maker,
+    maker: &mut RandomSource,
     pattern: &UrlPattern<R>,
     near: &str,
 ) -> Result<Outcome, Error> {
@@ -69,7 +69,7 @@ fn asked<R: RegExp>(
 
 /// The input for a pattern, with its base.
 fn input(
-    maker: &mut Maker,
+    maker: &mut RandomSource,
     near: &str,
 ) -> Result<(StringOrInit<'static>, Option<&'static str>), Error> {
     if maker.is_one_in(4) {

@@ -1,7 +1,7 @@
 //! Whether a printed pattern reads as its parts again, and prints as the same text.
 
 use super::given::{Given, syntax};
-use super::making::Maker;
+use super::making::RandomSource;
 use super::{Outcome, same};
 use crate::calls::parts_of;
 use std::alloc::{AllocError, Global};
@@ -10,7 +10,7 @@ use urlpattern::component::generate_pattern_string;
 use urlpattern::parser::{Part, PartModifier, PartType};
 
 /// Prints the parts of a pattern, and reads and prints them again.
-pub fn ask(maker: &mut Maker) -> Result<Outcome, Error> {
+pub fn ask(maker: &mut RandomSource) -> Result<Outcome, Error> {
     let syntax = syntax(maker);
     let given = Given::new(maker, syntax)?;
     match parts_of(maker.alloc, &given.pattern, &given.options) {

@@ -2,7 +2,7 @@
 //! that they overlap.
 
 use super::Outcome;
-use super::making::Maker;
+use super::making::RandomSource;
 use std::alloc::{AllocError, Global};
 use urlpattern::regexp::PatternRegexp;
 use urlpattern::rules::{PatternCovering, PatternOverlap, PatternParts};
@@ -46,7 +46,7 @@ fn init_of(alloc: Global, pathname: &str) -> Result<UrlPatternInit, AllocError> 
 }
 
 /// A random pattern, or the reason why it is rejected.
-fn make_pattern(maker: &mut Maker) -> Result<Made, Error> {
+fn make_pattern(maker: &mut RandomSource) -> Result<Made, Error> {
     let alloc = maker.alloc;
     let text = maker.text(&PIECES, 6)?;
     let options = UrlPatternOptions::default();
@@ -61,7 +61,7 @@ fn make_pattern(maker: &mut Maker) -> Result<Made, Error> {
 
 /// Compares two patterns, and tests the results with texts: whether one covers the other, and
 /// whether they overlap.
-pub fn ask(maker: &mut Maker) -> Result<Outcome, Error> {
+pub fn ask(maker: &mut RandomSource) -> Result<Outcome, Error> {
     match make_pattern(maker) {
         Ok(covering) => {
             let outcome = ask_about(maker, &covering);
@@ -73,7 +73,7 @@ pub fn ask(maker: &mut Maker) -> Result<Outcome, Error> {
 }
 
 /// Whether this pattern covers a random one.
-fn ask_about(maker: &mut Maker, covering: &Made) -> Result<Outcome, Error> {
+fn ask_about(maker: &mut RandomSource, covering: &Made) -> Result<Outcome, Error> {
     match make_pattern(maker) {
         Ok(asked) => {
             let outcome = try_texts(maker, covering, &asked);
@@ -85,7 +85,7 @@ fn ask_about(maker: &mut Maker, covering: &Made) -> Result<Outcome, Error> {
 }
 
 /// Tests the results of comparing two patterns with texts.
-fn try_texts(maker: &mut Maker, covering: &Made, asked: &Made) -> Result<Outcome, Error> {
+fn try_texts(maker: &mut RandomSource, covering: &Made, asked: &Made) -> Result<Outcome, Error> {
     let (covers, is_parting) = covering_of(maker.alloc, covering, asked)?;
     let (apart, is_common) = overlap_of(maker.alloc, covering, asked)?;
     if !is_parting || !is_common {
@@ -151,7 +151,7 @@ fn matches_of(
 }
 
 /// A path that the asked pattern matches, made from random captures, or else any path.
-fn text_for(maker: &mut Maker, asked: &Made) -> Result<String, Error> {
+fn text_for(maker: &mut RandomSource, asked: &Made) -> Result<String, Error> {
     let alloc = maker.alloc;
     let mut values = Vec::new(alloc);
     for _ in NAMES {

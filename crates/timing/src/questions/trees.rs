@@ -1,6 +1,6 @@
 //! Whether values that are written as JSON are parsed as the same values.
 
-use super::making::Maker;
+use super::making::RandomSource;
 use super::{Outcome, given, same};
 use regex::Regex;
 use serde_json::Value;
@@ -12,7 +12,7 @@ use urlpattern::quirks::{
 use urlpattern::{Error, UrlPatternOptions};
 
 /// Writes a plain value of one of the types, and parses it again.
-pub fn ask(maker: &mut Maker) -> Result<Outcome, Error> {
+pub fn ask(maker: &mut RandomSource) -> Result<Outcome, Error> {
     match maker.below(5) {
         0 => ask_init(maker),
         1 => ask_input(maker),
@@ -23,14 +23,14 @@ pub fn ask(maker: &mut Maker) -> Result<Outcome, Error> {
 }
 
 /// An init.
-fn ask_init(maker: &mut Maker) -> Result<Outcome, Error> {
+fn ask_init(maker: &mut RandomSource) -> Result<Outcome, Error> {
     let init = given::init(maker, true)?;
     let written = init.to_json_value(maker.alloc);
     is_read_again(maker.alloc, init, written, UrlPatternInit::from_json_value)
 }
 
 /// A constructor string or an init.
-fn ask_input(maker: &mut Maker) -> Result<Outcome, Error> {
+fn ask_input(maker: &mut RandomSource) -> Result<Outcome, Error> {
     let (input, _) = given::pattern(maker)?;
     let is_same = match read_again(maker.alloc, input.to_json_value(maker.alloc)) {
         Ok(tree) => is_read(StringOrInit::from_json_value(maker.alloc, &tree), &input),
@@ -41,7 +41,7 @@ fn ask_input(maker: &mut Maker) -> Result<Outcome, Error> {
 }
 
 /// Options.
-fn ask_options(maker: &mut Maker) -> Result<Outcome, Error> {
+fn ask_options(maker: &mut RandomSource) -> Result<Outcome, Error> {
     let options = UrlPatternOptions {
         regex_syntax: given::syntax(maker),
         ignore_case: maker.is_one_in(2),
@@ -56,7 +56,7 @@ fn ask_options(maker: &mut Maker) -> Result<Outcome, Error> {
 }
 
 /// The eight texts of an input.
-fn ask_texts(maker: &mut Maker) -> Result<Outcome, Error> {
+fn ask_texts(maker: &mut RandomSource) -> Result<Outcome, Error> {
     let input = StringOrInit::Init(given::init(maker, false)?);
     let Some((input, given)) = process_match_input(maker.alloc, input, None)? else {
         return Ok(Outcome::Refused);
@@ -70,7 +70,7 @@ fn ask_texts(maker: &mut Maker) -> Result<Outcome, Error> {
 }
 
 /// A pattern as plain data.
-fn ask_pattern(maker: &mut Maker) -> Result<Outcome, Error> {
+fn ask_pattern(maker: &mut RandomSource) -> Result<Outcome, Error> {
     let (pattern, _) = given::pattern(maker)?;
     match plain_pattern(maker.alloc, pattern) {
         Ok(pattern) => {

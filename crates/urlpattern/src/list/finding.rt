@@ -1,10 +1,10 @@
 //! The first match of eight texts, by the index of a list.
 ghost use Rattle.std.specs.Prelude.{◌≡◌, ◌<◌, ◌≤◌, length, IfErr, IfOk, IfSome};
 ghost use Rattle.urlpattern_matches.specs.GroupTexts.{borrowed_texts};
-ghost use Rattle.urlpattern.specs.FirstMatch.{first_view, patterns_view, AsksBeforeMatch, CopiesFirstMatch, HasGroupsInOrder, IsFirstCaptured, IsFirstMatchOf};
+ghost use Rattle.urlpattern.specs.FirstMatch.{first_view, patterns_view, CallsEngineBeforeMatch, CopiesFirstMatch, HasGroupsInOrder, IsFirstCaptured, IsFirstMatchOf};
 ghost use Rattle.urlpattern.specs.PatternKeys.{address_of};
 ghost use Rattle.urlpattern_index.specs.Keys.{hashes_of, hashes_view};
-ghost use Rattle.urlpattern.specs.NextMatch.{AsksBeforeMatchFrom, IsFirstCapturedFrom, PassesRefused};
+ghost use Rattle.urlpattern.specs.NextMatch.{CallsEngineBeforeMatchFrom, IsFirstCapturedFrom, SkipsOnlyMismatches};
 ghost use Rattle.urlpattern_syntax.specs.Errors.{OnlyOutOfMemory};
 
 use super::UrlPatternList;
@@ -44,7 +44,7 @@ impl<R: RegExp> UrlPatternList<R> {
     ) -> Result<Option<(usize, UrlPatternCaptures<'p, 'u>)>, OutOfMemory>
         ensures first { IfOk result (IsFirstCaptured R.answer (patterns_view self.now) (borrowed_texts texts.entry)) }
         ensures groups { IfOk result (HasGroupsInOrder R.answer (patterns_view self.now) (borrowed_texts texts.entry)) }
-        ensures asked { IfErr result (λ _. AsksBeforeMatch R.answer (patterns_view self.now) (borrowed_texts texts.entry)) }
+        ensures asked { IfErr result (λ _. CallsEngineBeforeMatch R.answer (patterns_view self.now) (borrowed_texts texts.entry)) }
     {
         self.first_from(alloc, &texts, 0)
     }
@@ -61,7 +61,7 @@ impl<R: RegExp> UrlPatternList<R> {
     ) -> Result<Option<(usize, UrlPatternCaptures<'p, 'u>)>, OutOfMemory>
         ensures first { IfOk result (IsFirstCapturedFrom R.answer (patterns_view self.now) (borrowed_texts texts.now) from) }
         ensures groups { IfOk result (HasGroupsInOrder R.answer (patterns_view self.now) (borrowed_texts texts.now)) }
-        ensures asked { IfErr result (λ _. AsksBeforeMatchFrom R.answer (patterns_view self.now) (borrowed_texts texts.now) from) }
+        ensures asked { IfErr result (λ _. CallsEngineBeforeMatchFrom R.answer (patterns_view self.now) (borrowed_texts texts.now) from) }
     {
         let mut hashes = AddressHashes::new();
         hashes.fill(Address {
@@ -69,7 +69,7 @@ impl<R: RegExp> UrlPatternList<R> {
             hostname: texts.hostname,
             pathname: texts.pathname,
         });
-        match self.next_asked(&hashes, from) {
+        match self.next_candidate(&hashes, from) {
             Some(index) => self.first_listed(alloc, texts, &hashes, index),
             None => Ok(None),
         }
@@ -90,7 +90,7 @@ impl<R: RegExp> UrlPatternList<R> {
         requires hashes { hashes_view hashes.now ≡ hashes_of (address_of (borrowed_texts texts.now)) }
         ensures first { IfOk result (IsFirstCapturedFrom R.answer (patterns_view self.now) (borrowed_texts texts.now) index) }
         ensures groups { IfOk result (HasGroupsInOrder R.answer (patterns_view self.now) (borrowed_texts texts.now)) }
-        ensures asked { IfErr result (λ _. AsksBeforeMatchFrom R.answer (patterns_view self.now) (borrowed_texts texts.now) index) }
+        ensures asked { IfErr result (λ _. CallsEngineBeforeMatchFrom R.answer (patterns_view self.now) (borrowed_texts texts.now) index) }
     {
         let mut found = Some(index);
         while let Some(index) = found {
@@ -98,7 +98,7 @@ impl<R: RegExp> UrlPatternList<R> {
             if let Some(captures) = match_of_texts(alloc, pattern, texts)? {
                 return Ok(Some((index, captures)));
             }
-            found = self.next_asked(hashes, index + 1);
+            found = self.next_candidate(hashes, index + 1);
         }
         Ok(None)
     }
@@ -106,9 +106,9 @@ impl<R: RegExp> UrlPatternList<R> {
     /// Returns the index of the first pattern, from an index on, that may match texts with these
     /// hashes. `None`: no pattern from that index on matches.
     #[inline(always)]
-    pub(super) fn next_asked(&self, hashes: &AddressHashes, from: usize) -> Option<usize>
+    pub(super) fn next_candidate(&self, hashes: &AddressHashes, from: usize) -> Option<usize>
         ensures within { IfSome result (λ index. (from ≤ index) × (index < length self.now)) }
-        ensures passed { PassesRefused R.answer (patterns_view self.now) (hashes_view hashes.now) from result }
+        ensures passed { SkipsOnlyMismatches R.answer (patterns_view self.now) (hashes_view hashes.now) from result }
     {
         self.index.first_from(hashes, from)
     }

@@ -50,11 +50,11 @@ impl<'p, 'u, R: RegExp> UrlPatternMatches<'p, 'u, R> {
 impl<'p, 'u, R: RegExp> Iterator for UrlPatternMatches<'p, 'u, R> {
     ghost use Rattle.std.specs.Iterator.{at_most};
     ghost use Rattle.std.specs.Prelude.{◌-◌, length};
-    ghost use Rattle.urlpattern.specs.NextMatch.{matches_left, TakesMatch};
+    ghost use Rattle.urlpattern.specs.NextMatch.{matches_left, YieldsMatch};
 
     type Item = Result<(usize, UrlPatternCaptures<'p, 'u>), Error>;
 
-    ghost next_gives = { λ old found new. TakesMatch R.answer (matches_left old) found (matches_left new) };
+    ghost next_gives = { λ old found new. YieldsMatch R.answer (matches_left old) found (matches_left new) };
 
     ghost remaining = { λ matches. at_most (length matches.list.now - matches.from) };
 

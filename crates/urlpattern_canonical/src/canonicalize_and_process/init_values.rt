@@ -3,7 +3,7 @@ ghost use Rattle.std.specs.Prelude.{◌≡◌, Some, length, IfOk};
 ghost use Rattle.std.specs.Str.{chars};
 ghost use Rattle.urlpattern_syntax.specs.Text.{text_of, option_text};
 ghost use Rattle.urlpattern_syntax.specs.Errors.{OnlyOutOfMemory};
-ghost use Rattle.urlpattern_canonical.specs.Canonical.{IsAnswer, IsPathnameAnswer, IsPortAnswer, bytes_asked, is_hierarchical, is_hierarchical_under, processed_hash, processed_hostname, processed_password, processed_protocol, processed_search, processed_username};
+ghost use Rattle.urlpattern_canonical.specs.Canonical.{IsResult, IsPathnameResult, IsPortResult, bytes_passed, is_hierarchical, is_hierarchical_under, processed_hash, processed_hostname, processed_password, processed_protocol, processed_search, processed_username};
 
 use super::marks::{begins_with_slash, without_colon, without_first};
 use super::schemes::is_special_scheme;
@@ -15,7 +15,7 @@ impl Canonicalizer {
     ///
     /// Fails with `Error::Url` if the value is for a URL and `url` rejects it.
     pub fn process_protocol(&self, value: &str, kind: &ProcessType) -> Result<String, Error>
-        ensures { IsAnswer (processed_protocol kind.now (chars value.now)) (bytes_asked kind.now (length value.now)) result }
+        ensures { IsResult (processed_protocol kind.now (chars value.now)) (bytes_passed kind.now (length value.now)) result }
     {
         let value = without_colon(value);
         match kind {
@@ -28,7 +28,7 @@ impl Canonicalizer {
     ///
     /// Fails with `Error::Url` if the value is for a URL and `url` rejects it.
     pub fn process_username(&self, value: &str, kind: &ProcessType) -> Result<String, Error>
-        ensures { IsAnswer (processed_username kind.now (chars value.now)) (bytes_asked kind.now (length value.now)) result }
+        ensures { IsResult (processed_username kind.now (chars value.now)) (bytes_passed kind.now (length value.now)) result }
     {
         match kind {
             ProcessType::Pattern => self.kept(value),
@@ -40,7 +40,7 @@ impl Canonicalizer {
     ///
     /// Fails with `Error::Url` if the value is for a URL and `url` rejects it.
     pub fn process_password(&self, value: &str, kind: &ProcessType) -> Result<String, Error>
-        ensures { IsAnswer (processed_password kind.now (chars value.now)) (bytes_asked kind.now (length value.now)) result }
+        ensures { IsResult (processed_password kind.now (chars value.now)) (bytes_passed kind.now (length value.now)) result }
     {
         match kind {
             ProcessType::Pattern => self.kept(value),
@@ -52,7 +52,7 @@ impl Canonicalizer {
     ///
     /// Fails with `Error::Url` if the value is for a URL and `url` rejects it.
     pub fn process_hostname(&self, value: &str, kind: &ProcessType) -> Result<String, Error>
-        ensures { IsAnswer (processed_hostname kind.now (chars value.now)) (bytes_asked kind.now (length value.now)) result }
+        ensures { IsResult (processed_hostname kind.now (chars value.now)) (bytes_passed kind.now (length value.now)) result }
     {
         match kind {
             ProcessType::Pattern => self.kept(value),
@@ -70,7 +70,7 @@ impl Canonicalizer {
         protocol: Option<&str>,
         kind: &ProcessType,
     ) -> Result<String, Error>
-        ensures { IsPortAnswer kind.now value.now protocol.entry result }
+        ensures { IsPortResult kind.now value.now protocol.entry result }
     {
         match kind {
             ProcessType::Pattern => self.kept(value),
@@ -88,7 +88,7 @@ impl Canonicalizer {
         protocol: Option<&str>,
         kind: &ProcessType,
     ) -> Result<String, Error>
-        ensures { IsPathnameAnswer kind.now value.now protocol.entry result }
+        ensures { IsPathnameResult kind.now value.now protocol.entry result }
     {
         match kind {
             ProcessType::Pattern => self.kept(value),
@@ -100,7 +100,7 @@ impl Canonicalizer {
     ///
     /// Fails with `Error::Url` if the value is for a URL and `url` rejects it.
     pub fn process_search(&self, value: &str, kind: &ProcessType) -> Result<String, Error>
-        ensures { IsAnswer (processed_search kind.now (chars value.now)) (bytes_asked kind.now (length value.now)) result }
+        ensures { IsResult (processed_search kind.now (chars value.now)) (bytes_passed kind.now (length value.now)) result }
     {
         let value = without_first(value, b'?');
         match kind {
@@ -113,7 +113,7 @@ impl Canonicalizer {
     ///
     /// Fails with `Error::Url` if the value is for a URL and `url` rejects it.
     pub fn process_hash(&self, value: &str, kind: &ProcessType) -> Result<String, Error>
-        ensures { IsAnswer (processed_hash kind.now (chars value.now)) (bytes_asked kind.now (length value.now)) result }
+        ensures { IsResult (processed_hash kind.now (chars value.now)) (bytes_passed kind.now (length value.now)) result }
     {
         let value = without_first(value, b'#');
         match kind {
@@ -124,7 +124,7 @@ impl Canonicalizer {
 
     /// Returns the canonical path: of segments, or opaque.
     fn pathname_under(&self, value: &str, protocol: Option<&str>) -> Result<String, Error>
-        ensures { IsPathnameAnswer ProcessType.Url value.now protocol.entry result }
+        ensures { IsPathnameResult ProcessType.Url value.now protocol.entry result }
     {
         if is_hierarchical(protocol, value) {
             self.pathname(value)

@@ -1,7 +1,7 @@
 //! IPv6 addresses in brackets.
 ghost use Rattle.std.specs.Prelude.{◌≡◌};
 ghost use Rattle.std.specs.{List.list_all, Str.chars};
-ghost use Rattle.urlpattern_canonical.specs.Canonical.{IsAnswer, canonical_ipv6_hostname, is_ipv6_character};
+ghost use Rattle.urlpattern_canonical.specs.Canonical.{IsResult, canonical_ipv6_hostname, is_ipv6_character};
 
 use std::alloc::Global;
 use url::ParseError;
@@ -14,7 +14,7 @@ use urlpattern_syntax::Error;
 ///
 /// <https://urlpattern.spec.whatwg.org/#canonicalize-an-ipv6-hostname>
 pub fn canonicalize_ipv6_hostname(alloc: Global, value: &str) -> Result<String, Error>
-    ensures { IsAnswer (canonical_ipv6_hostname (chars value.now)) 0 result }
+    ensures { IsResult (canonical_ipv6_hostname (chars value.now)) 0 result }
 {
     if !is_ipv6_text(value) {
         return Err(Error::Url(ParseError::InvalidIpv6Address));

@@ -5,7 +5,7 @@ ghost use Rattle.urlpattern_syntax.specs.Errors.{MemoryOr, OnlyOutOfMemory};
 ghost use Rattle.urlpattern_canonical.specs.Canonical.{Reports, dummy_of_scheme, dummy_url, opaque_url, path_of};
 
 use super::Canonicalizer;
-use super::refusals::reported;
+use super::rejections::reported;
 use std::alloc::Global;
 use url::Url;
 use urlpattern_syntax::Error;

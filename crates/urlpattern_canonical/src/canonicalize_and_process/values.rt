@@ -3,12 +3,12 @@
 
 ghost use Rattle.std.specs.Prelude.{◌≡◌, length, IsAscii};
 ghost use Rattle.std.specs.Str.{chars};
-ghost use Rattle.urlpattern_canonical.specs.Canonical.{IsAnswer, canonical_hash, canonical_hostname, canonical_opaque_pathname, canonical_password, canonical_pathname, canonical_port, canonical_protocol, canonical_search, canonical_username, port_bytes, scheme_for_port, without_guard};
+ghost use Rattle.urlpattern_canonical.specs.Canonical.{IsResult, canonical_hash, canonical_hostname, canonical_opaque_pathname, canonical_password, canonical_pathname, canonical_port, canonical_protocol, canonical_search, canonical_username, port_bytes, scheme_for_port, without_added_prefix};
 ghost use Rattle.urlpattern_syntax.specs.Text.{option_text};
 
 use super::Canonicalizer;
 use super::marks::begins_with_slash;
-use super::refusals::{refused_as, reported};
+use super::rejections::{rejected_as, reported};
 use super::schemes::is_special_scheme;
 use super::urls::{parse_opaque, parse_under};
 use url::{ParseError, quirks};
@@ -20,7 +20,7 @@ impl Canonicalizer {
     ///
     /// Fails with `Error::Url` if `url` rejects the value.
     pub fn protocol(&self, value: &str) -> Result<String, Error>
-        ensures { IsAnswer (canonical_protocol (chars value.now)) (length value.now) result }
+        ensures { IsResult (canonical_protocol (chars value.now)) (length value.now) result }
     {
         if value.is_empty() {
             return Ok(String::new(self.alloc));
@@ -36,7 +36,7 @@ impl Canonicalizer {
     ///
     /// Fails with `Error::Url` if `url` rejects the value.
     pub fn username(&self, value: &str) -> Result<String, Error>
-        ensures { IsAnswer (canonical_username (chars value.now)) (length value.now) result }
+        ensures { IsResult (canonical_username (chars value.now)) (length value.now) result }
     {
         if value.is_empty() {
             return Ok(String::new(self.alloc));
@@ -50,7 +50,7 @@ impl Canonicalizer {
     ///
     /// Fails with `Error::Url` if `url` rejects the value.
     pub fn password(&self, value: &str) -> Result<String, Error>
-        ensures { IsAnswer (canonical_password (chars value.now)) (length value.now) result }
+        ensures { IsResult (canonical_password (chars value.now)) (length value.now) result }
     {
         if value.is_empty() {
             return Ok(String::new(self.alloc));
@@ -64,14 +64,14 @@ impl Canonicalizer {
     ///
     /// Fails with `Error::Url` if `url` rejects the value.
     pub fn hostname(&self, value: &str) -> Result<String, Error>
-        ensures { IsAnswer (canonical_hostname (chars value.now)) (length value.now) result }
+        ensures { IsResult (canonical_hostname (chars value.now)) (length value.now) result }
     {
         if value.is_empty() {
             return Ok(String::new(self.alloc));
         }
         let mut url = self.dummy()?;
         let answer = quirks::set_hostname(&mut url, value);
-        refused_as(ParseError::InvalidDomainCharacter, answer, value.len())?;
+        rejected_as(ParseError::InvalidDomainCharacter, answer, value.len())?;
         Ok(String::from_str(self.alloc, quirks::hostname(&url))?)
     }
 
@@ -79,7 +79,7 @@ impl Canonicalizer {
     ///
     /// Fails with `Error::Url` if `url` rejects the value.
     pub fn port(&self, value: &str, protocol: Option<&str>) -> Result<String, Error>
-        ensures { IsAnswer (canonical_port (option_text protocol.entry) (chars value.now)) (port_bytes value.now protocol.entry) result }
+        ensures { IsResult (canonical_port (option_text protocol.entry) (chars value.now)) (port_bytes value.now protocol.entry) result }
     {
         if value.is_empty() {
             return Ok(String::new(self.alloc));
@@ -87,7 +87,7 @@ impl Canonicalizer {
         let protocol = protocol.unwrap_or("");
         let bytes = value.len().max(protocol.len());
         let mut url = parse_under(self.alloc, scheme_for_port(protocol), bytes)?;
-        refused_as(
+        rejected_as(
             ParseError::InvalidPort,
             quirks::set_port(&mut url, value),
             bytes,
@@ -99,7 +99,7 @@ impl Canonicalizer {
     ///
     /// Fails with `Error::Url` if `url` rejects the value.
     pub fn pathname(&self, value: &str) -> Result<String, Error>
-        ensures { IsAnswer (canonical_pathname (chars value.now)) (length value.now) result }
+        ensures { IsResult (canonical_pathname (chars value.now)) (length value.now) result }
     {
         if value.is_empty() {
             return Ok(String::new(self.alloc));
@@ -110,14 +110,14 @@ impl Canonicalizer {
         }
         let guarded = format!(in self.alloc; "/-{value}")?;
         let url = self.dummy_with_path(&guarded, value.len())?;
-        Ok(String::from_str(self.alloc, without_guard(url.path()))?)
+        Ok(String::from_str(self.alloc, without_added_prefix(url.path()))?)
     }
 
     /// Returns the canonical opaque path.
     ///
     /// Fails with `Error::Url` if `url` rejects the value.
     pub fn opaque_pathname(&self, value: &str) -> Result<String, Error>
-        ensures { IsAnswer (canonical_opaque_pathname (chars value.now)) (length value.now) result }
+        ensures { IsResult (canonical_opaque_pathname (chars value.now)) (length value.now) result }
     {
         if value.is_empty() {
             return Ok(String::new(self.alloc));
@@ -131,7 +131,7 @@ impl Canonicalizer {
     ///
     /// Fails with `Error::Url` if `url` rejects the value.
     pub fn search(&self, value: &str) -> Result<String, Error>
-        ensures { IsAnswer (canonical_search (chars value.now)) (length value.now) result }
+        ensures { IsResult (canonical_search (chars value.now)) (length value.now) result }
     {
         if value.is_empty() {
             return Ok(String::new(self.alloc));
@@ -145,7 +145,7 @@ impl Canonicalizer {
     ///
     /// Fails with `Error::Url` if `url` rejects the value.
     pub fn hash(&self, value: &str) -> Result<String, Error>
-        ensures { IsAnswer (canonical_hash (chars value.now)) (length value.now) result }
+        ensures { IsResult (canonical_hash (chars value.now)) (length value.now) result }
     {
         if value.is_empty() {
             return Ok(String::new(self.alloc));
@@ -168,9 +168,9 @@ fn scheme_for_port(protocol: &str) -> &str
 }
 
 /// Returns the path without an initial `/-`.
-fn without_guard(path: &str) -> &str
+fn without_added_prefix(path: &str) -> &str
     requires { IsAscii path.now }
-    ensures { result.now ≡ without_guard path.now }
+    ensures { result.now ≡ without_added_prefix path.now }
 {
     match path.as_bytes() {
         [b'/', b'-', ..] => &path[2..],

@@ -1,7 +1,7 @@
 //! Whether a protocol is special.
 ghost use Rattle.std.specs.Prelude.{◌↔◌, IfErr, IfOk, IfSome, MatchBool, IsTrue};
 ghost use Rattle.std.specs.Str.{chars};
-ghost use Rattle.urlpattern_init.specs.SpecialProtocol.{AcceptsAny, AcceptsOnly, AcceptsSpecialScheme, CanonicalizesProtocol, IsKnownProtocol, IsSpecialTo, RefusesProtocol};
+ghost use Rattle.urlpattern_init.specs.SpecialProtocol.{AcceptsAny, AcceptsOnly, AcceptsSpecialScheme, CanonicalizesProtocol, IsKnownProtocol, IsSpecialTo, RejectsProtocol};
 ghost use Rattle.urlpattern_matcher.specs.Matchers.{matcher_view};
 ghost use Rattle.urlpattern_syntax.specs.Errors.{MemoryOr, OnlyOutOfMemory};
 
@@ -27,7 +27,7 @@ pub(super) fn is_special_protocol<R: RegExp>(
 ) -> Result<(bool, Option<(&str, ComponentWithParts<R>)>), Error>
     ensures special { IfOk result (λ found. IsSpecialTo R.RegExp (chars protocol.now) found.0) }
     ensures known { IfOk result (λ found. IfSome found.1 (IsKnownProtocol R.RegExp)) }
-    ensures refused { IfErr result (MemoryOr (RefusesProtocol (chars protocol.now))) }
+    ensures refused { IfErr result (MemoryOr (RejectsProtocol (chars protocol.now))) }
 {
     let options = Options::default(alloc);
     let canonicalize = |text: &str| -> Result<String, Error>

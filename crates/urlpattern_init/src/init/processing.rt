@@ -3,8 +3,8 @@ ghost use Rattle.std.specs.Prelude.{◌≡◌, ◌&&◌, None, Ok, is_none, opti
 ghost use Rattle.std.specs.Str.{chars};
 ghost use Rattle.urlpattern_canonical.specs.Canonical.{Reports};
 ghost use Rattle.urlpattern_init.specs.Inheritance as spec;
-ghost use Rattle.urlpattern_init.specs.Inheritance.{bytes_of, init_bytes, init_values, is_inheritable, missing, must_lack, up_to_last_slash, values_of, values_view};
-ghost use Rattle.urlpattern_init.specs.Processing.{IsFailureIn, IsGivenPathnameAnswer, IsTextAnswer, IsValueAfter, bytes_in, given_values, lacking_in, optional_bytes, value_in, values_in};
+ghost use Rattle.urlpattern_init.specs.Inheritance.{bytes_of, longest_init_bytes, init_values, is_inheritable, missing, must_lack, up_to_last_slash, values_of, values_view};
+ghost use Rattle.urlpattern_init.specs.Processing.{IsFailureIn, IsGivenPathnameResult, IsTextResult, IsValueAfter, bytes_in, given_values, lacking_in, optional_bytes, value_in, values_in};
 ghost use Rattle.urlpattern_components.specs.declared.eight.ComponentName.{ComponentName};
 ghost use Rattle.urlpattern_components.specs.Eight.{at};
 ghost use Rattle.urlpattern_syntax.specs.Errors.{MemoryOr, OnlyOutOfMemory};
@@ -235,7 +235,7 @@ impl Processing<'_> {
         text: &str,
         protocol: Option<&str>,
     ) -> Result<String, Error>
-        ensures { IsTextAnswer self.now protocol.entry component (chars text.now) result }
+        ensures { IsTextResult self.now protocol.entry component (chars text.now) result }
     {
         let values = &self.canonicalizer;
         match component {
@@ -253,7 +253,7 @@ impl Processing<'_> {
     /// Processes a pathname of the init. A relative pathname is appended to the base's path up to
     /// its last slash.
     fn processed_pathname(&self, text: &str, protocol: Option<&str>) -> Result<String, Error>
-        ensures { IsGivenPathnameAnswer self.now protocol.entry (chars text.now) result }
+        ensures { IsGivenPathnameResult self.now protocol.entry (chars text.now) result }
     {
         match &self.init.base_url {
             Some(base) if !is_absolute(text, self.kind) && !base.cannot_be_a_base() => {
@@ -282,7 +282,7 @@ pub fn process(
     kind: &ProcessType,
 ) -> Result<UrlPatternInit, Error>
     ensures ok { IfOk result (λ values. init_values kind.now init.now ≡ Ok (values_view values)) }
-    ensures err { IfErr result (MemoryOr (Reports (init_values kind.now init.now) (init_bytes kind.now init.now))) }
+    ensures err { IfErr result (MemoryOr (Reports (init_values kind.now init.now) (longest_init_bytes kind.now init.now))) }
 {
     let values = process_values(alloc, init, kind)?;
     Ok(UrlPatternInit::from_eight(values, None))
@@ -299,7 +299,7 @@ pub fn process_values(
     kind: &ProcessType,
 ) -> Result<Eight<Option<String>>, Error>
     ensures ok { IfOk result (λ values. init_values kind.now init.now ≡ Ok (values_of values)) }
-    ensures err { IfErr result (MemoryOr (Reports (init_values kind.now init.now) (init_bytes kind.now init.now))) }
+    ensures err { IfErr result (MemoryOr (Reports (init_values kind.now init.now) (longest_init_bytes kind.now init.now))) }
 {
     let canonicalizer = match kind {
         ProcessType::Pattern => Canonicalizer::new(alloc),

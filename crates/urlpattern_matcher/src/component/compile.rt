@@ -2,12 +2,12 @@
 
 ghost use Rattle.std.specs.Prelude.{◌≡◌, true, false, IfErr, IfOk};
 ghost use Rattle.std.specs.Str.{chars};
-ghost use Rattle.urlpattern_matcher.specs.Components.{AnswersByItsParts, FailsToRead, IsCompiledFrom, IsCompiledKeeping, IsComponentOf, IsEngineOf, IsWholeEngineOf, component_view, engine_flags, has_regexp, pattern_text};
+ghost use Rattle.urlpattern_matcher.specs.Components.{ReturnsByItsParts, FailsToRead, IsCompiledFrom, IsCompiledKeeping, IsComponentOf, IsEngineOf, IsWholeEngineOf, component_view, engine_flags, has_regexp, pattern_text};
 ghost use Rattle.urlpattern_matcher.specs.Matchers.{engine_view};
 ghost use Rattle.urlpattern_meaning.specs.GeneratedTexts.{IsGenerated};
 ghost use Rattle.urlpattern_syntax.specs.{Errors.OnlyOutOfMemory, Options.options_view, Parts.parts_view, Reading.encoding_by, Text.text_of};
 
-use super::matchers::generate_matcher_knowing;
+use super::matchers::generate_matcher_with_regexp;
 use super::{Component, ComponentWithParts};
 use crate::regexp::RegExp;
 use std::alloc::{AllocError, Global};
@@ -42,7 +42,7 @@ impl<R: RegExp> Component<R> {
         requires { F.IsAlwaysCallable encoding_callback }
         ensures compiled { IfOk result (λ component. IsCompiledFrom R.RegExp (pattern_text pattern.entry) (options_view options)
             (encoding_by F.Fn encoding_callback) (component_view component)) }
-        ensures means { IfOk result (λ component. AnswersByItsParts R.RegExp (options_view options) (component_view component)) }
+        ensures means { IfOk result (λ component. ReturnsByItsParts R.RegExp (options_view options) (component_view component)) }
         ensures refuses { IfErr result (FailsToRead (pattern_text pattern.entry) (options_view options) (encoding_by F.Fn encoding_callback)) }
     {
         match Self::compile_with_parts(alloc, pattern, encoding_callback, options) {
@@ -86,7 +86,7 @@ impl<R: RegExp> Component<R> {
         let flags = engine_flags(options);
         let has_regexp_group = has_regexp(part_list);
         let text = generate_regular_expression(alloc, part_list, options)?;
-        let matcher = generate_matcher_knowing(alloc, part_list, options, flags, Some(&text))?;
+        let matcher = generate_matcher_with_regexp(alloc, part_list, options, flags, Some(&text))?;
         let regexp = engine_of(alloc, text, flags, has_regexp_group)?;
         Ok(Component {
             pattern_string: generate_pattern_string(alloc, part_list, options)?,

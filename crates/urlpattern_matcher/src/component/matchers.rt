@@ -3,8 +3,8 @@
 ghost use Rattle.std.specs.Prelude.{◌≡◌, false, ◌++◌, IfOk, IfSome};
 ghost use Rattle.std.specs.Str.{chars};
 ghost use Rattle.urlpattern_matcher.specs.Components.{IsEngineOf};
-ghost use Rattle.urlpattern_matcher.specs.Matchers.{IfMatcher, PeelsBack, PeelsFront, PeelsTo, capture_of, engine_view, literal_view};
-ghost use Rattle.urlpattern_meaning.specs.Matching.{AnswersByMeaning, single_capture_matcher, IsMadeByEngine, IsMadeOf};
+ghost use Rattle.urlpattern_matcher.specs.Matchers.{IfMatcher, StripsFixedSuffix, StripsFixedPrefix, StripsFixedTexts, capture_of, engine_view, literal_view};
+ghost use Rattle.urlpattern_meaning.specs.Matching.{ReturnsByMeaning, single_capture_matcher, IsMadeByEngine, IsMadeOf};
 ghost use Rattle.urlpattern_syntax.specs.{Errors.OnlyOutOfMemory, Options.options_view, Text.text_of};
 ghost use Rattle.urlpattern_syntax.specs.Parts.{part_view, parts_view};
 ghost use Rattle.urlpattern_syntax.specs.RegexpText.{is_plain, regexp_text};
@@ -30,14 +30,14 @@ pub fn generate_matcher<R: RegExp>(
     flags: &str,
 ) -> Result<Matcher<R>, Error>
     ensures made { IfMatcher result (IsMadeOf (IsEngineOf R.RegExp false (chars flags.now)) (options_view options.now) (parts_view part_list.now)) }
-    ensures means { IfMatcher result (AnswersByMeaning R.answer (options_view options.now) (parts_view part_list.now)) }
+    ensures means { IfMatcher result (ReturnsByMeaning R.answer (options_view options.now) (parts_view part_list.now)) }
     ensures memory { OnlyOutOfMemory result }
 {
-    Ok(generate_matcher_knowing(alloc, part_list, options, flags, None)?)
+    Ok(generate_matcher_with_regexp(alloc, part_list, options, flags, None)?)
 }
 
 /// Generates the matcher of a list of parts, whose regular expression may be known.
-pub(crate) fn generate_matcher_knowing<R: RegExp>(
+pub(crate) fn generate_matcher_with_regexp<R: RegExp>(
     alloc: Global,
     part_list: &[Part],
     options: &Options,
@@ -47,7 +47,7 @@ pub(crate) fn generate_matcher_knowing<R: RegExp>(
     requires { IfSome whole (λ text. chars text.now ≡ regexp_text (options_view options.now) (parts_view part_list.now)) }
     ensures { IfMatcher result (IsMadeOf (IsEngineOf R.RegExp false (chars flags.now)) (options_view options.now) (parts_view part_list.now)) }
 {
-    let (prefix, middle, suffix) = peel(part_list);
+    let (prefix, middle, suffix) = strip_fixed_texts(part_list);
     let known = if middle.len() == part_list.len() {
         whole
     } else {
@@ -67,18 +67,18 @@ pub(crate) fn generate_matcher_knowing<R: RegExp>(
 
 /// Returns the plain fixed texts at the ends of a list of parts, or empty texts, and the parts
 /// between them.
-fn peel(part_list: &[Part]) -> (&str, &[Part], &str)
-    ensures { PeelsTo (parts_view part_list.now) (chars result.0.now) (parts_view result.1.now) (chars result.2.now) }
+fn strip_fixed_texts(part_list: &[Part]) -> (&str, &[Part], &str)
+    ensures { StripsFixedTexts (parts_view part_list.now) (chars result.0.now) (parts_view result.1.now) (chars result.2.now) }
 {
-    let (prefix, rest) = peel_front(part_list);
-    let (middle, suffix) = peel_back(rest);
+    let (prefix, rest) = strip_fixed_prefix(part_list);
+    let (middle, suffix) = strip_fixed_suffix(rest);
     (prefix, middle, suffix)
 }
 
 /// Returns the plain fixed text at the start of a list of parts, or an empty text, and the other
 /// parts.
-fn peel_front(part_list: &[Part]) -> (&str, &[Part])
-    ensures { PeelsFront (parts_view part_list.now) (chars result.0.now) (parts_view result.1.now) }
+fn strip_fixed_prefix(part_list: &[Part]) -> (&str, &[Part])
+    ensures { StripsFixedPrefix (parts_view part_list.now) (chars result.0.now) (parts_view result.1.now) }
 {
     match part_list.split_first() {
         Some((first, rest)) if is_plain(first) => (&first.value, rest),
@@ -88,8 +88,8 @@ fn peel_front(part_list: &[Part]) -> (&str, &[Part])
 
 /// Returns the plain fixed text at the end of a list of parts, or an empty text, and the other
 /// parts.
-fn peel_back(part_list: &[Part]) -> (&[Part], &str)
-    ensures { PeelsBack (parts_view part_list.now) (parts_view result.0.now) (chars result.1.now) }
+fn strip_fixed_suffix(part_list: &[Part]) -> (&[Part], &str)
+    ensures { StripsFixedSuffix (parts_view part_list.now) (parts_view result.0.now) (chars result.1.now) }
 {
     match part_list.split_last() {
         Some((last, middle)) if is_plain(last) => (middle, &last.value),
@@ -178,10 +178,10 @@ fn engine_matcher<R: RegExp>(
         (chars prefix.now) (parts_view middle.now) (chars suffix.now)) }
 {
     let regexp = match known {
-        Some(text) => ask_engine(alloc, text, flags, false)?,
+        Some(text) => call_engine(alloc, text, flags, false)?,
         None => {
             let text = generate_regular_expression(alloc, middle, options)?;
-            ask_engine(alloc, &text, flags, false)?
+            call_engine(alloc, &text, flags, false)?
         }
     };
     Ok(Matcher {
@@ -193,7 +193,7 @@ fn engine_matcher<R: RegExp>(
 }
 
 /// Compiles a text with an engine. The inner error is that the engine rejects the text.
-fn ask_engine<R: RegExp>(
+fn call_engine<R: RegExp>(
     alloc: Global,
     regexp: &str,
     flags: &str,

@@ -1,7 +1,7 @@
 //! The normal form of a list of parts.
 
 ghost use Rattle.std.specs.Prelude.{IfErr, IfOk};
-ghost use Rattle.urlpattern_printing.specs.NormalForms.{FailsIfPrintable, IsJoinedIfKept, IsReadFrom, RefusesPrinted};
+ghost use Rattle.urlpattern_printing.specs.NormalForms.{FailsIfPrintable, IsJoinedIfKept, IsReadFrom, RejectsPrinted};
 ghost use Rattle.urlpattern_syntax.specs.{Options.options_view, Parts.parts_view, Reading.encoding_by};
 
 use std::alloc::Global;
@@ -27,7 +27,7 @@ pub fn normalize_part_list<F: Fn(&str) -> Result<String, Error> + Drop>(
     ensures same { IfOk result (IsJoinedIfKept (options_view options.now) (encoding_by F.Fn encoding_callback) (parts_view part_list.now)) }
     ensures fails { IfErr result (FailsIfPrintable (options_view options.now) (encoding_by F.Fn encoding_callback) (parts_view part_list.now)) }
     ensures reads { IfOk result (IsReadFrom (options_view options.now) (encoding_by F.Fn encoding_callback) (parts_view part_list.now)) }
-    ensures refuses { IfErr result (RefusesPrinted (options_view options.now) (encoding_by F.Fn encoding_callback) (parts_view part_list.now)) }
+    ensures refuses { IfErr result (RejectsPrinted (options_view options.now) (encoding_by F.Fn encoding_callback) (parts_view part_list.now)) }
 {
     let text = generate_pattern_string(alloc, part_list, options)?;
     parse_pattern_string(alloc, &text, options, encoding_callback)

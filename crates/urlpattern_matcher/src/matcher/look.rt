@@ -2,9 +2,9 @@
 
 ghost use Rattle.std.specs.Prelude.{IfSome};
 ghost use Rattle.std.specs.Str.{chars};
-ghost use Rattle.urlpattern_matcher.specs.Looks.{look_answer, IsAsking};
+ghost use Rattle.urlpattern_matcher.specs.Looks.{look_result, NeedsEngine};
 ghost use Rattle.urlpattern_matcher.specs.Matchers.{matcher_view};
-ghost use Rattle.urlpattern_meaning.specs.Matching.{Answers, AsksEngine};
+ghost use Rattle.urlpattern_meaning.specs.Matching.{Returns, CallsEngine};
 
 use super::{InnerMatcher, Matcher};
 use crate::regexp::RegExp;
@@ -30,8 +30,8 @@ impl<R: RegExp> Matcher<R> {
     /// `Asks` is returned only for a text that has prefix and suffix, by a matcher with an engine
     /// between them.
     pub fn look<'m, 'a>(&'m self, input: &'a str) -> Option<Look<'m, 'a, R>>
-        ensures answer { Answers R.answer (matcher_view self.now) (chars input.now) (look_answer R.answer result) }
-        ensures asked { IfSome result (λ look. IsAsking look → AsksEngine (matcher_view self.now) (chars input.now)) }
+        ensures answer { Returns R.answer (matcher_view self.now) (chars input.now) (look_result R.answer result) }
+        ensures asked { IfSome result (λ look. NeedsEngine look → CallsEngine (matcher_view self.now) (chars input.now)) }
     {
         let middle = self.middle(input)?;
         match &self.inner {

@@ -28,7 +28,7 @@ impl<'a> GivenNames<'a> {
     }
 
     /// Whether the set contains the name.
-    pub(super) fn contain(&self, name: &str) -> bool
+    pub(super) fn contains_name(&self, name: &str) -> bool
         ensures { result ≡ has_name self.now name.now }
     {
         self.few.contains(&name) || self.others.contains(name)

@@ -96,7 +96,7 @@ impl<'a> PartList<'a> {
     {
         self.add_pending(parser)?;
         if !text.is_empty() {
-            let value = parser.ask(text)?;
+            let value = parser.encode(text)?;
             push(&mut self.parts, Part::fixed(parser.alloc, value, modifier))?;
         }
         Ok(())
@@ -122,8 +122,8 @@ impl<'a> PartList<'a> {
     {
         self.add_pending(parser)?;
         let name = self.new_name(parser.alloc, placeholder.name)?;
-        let prefix = parser.ask(before)?;
-        let suffix = parser.ask(after)?;
+        let prefix = parser.encode(before)?;
+        let suffix = parser.encode(after)?;
         let (kind, value) = parser.kind_and_value(placeholder.matched)?;
         let part = Part {
             kind,
@@ -162,7 +162,7 @@ impl<'a> PartList<'a> {
             }
             Some(name) => {
                 let text = String::from_str(alloc, name)?;
-                if self.given_names.contain(name) {
+                if self.given_names.contains_name(name) {
                     return Err(Error::Parser(ParserError::DuplicateName(text)));
                 }
                 self.given_names.add_name(name)?;
@@ -188,7 +188,7 @@ impl<'a> PartList<'a> {
         if self.pending_fixed_value.is_empty() {
             return Ok(());
         }
-        let value = parser.ask(&self.pending_fixed_value)?;
+        let value = parser.encode(&self.pending_fixed_value)?;
         self.pending_fixed_value.clear();
         push(
             &mut self.parts,

@@ -5,7 +5,7 @@ ghost use Rattle.std.specs.Prelude.{◌≡◌, ◌≢◌, ◌∷◌, ◌<◌, �
 ghost use Rattle.std.specs.Str.{chars};
 ghost use Rattle.urlpattern_syntax.specs.declared.tokenizer.TokenType.TheVariants as kinds;
 ghost use Rattle.urlpattern_syntax.specs.Parsing.{BeginsWithModifier, BeginsWithTexts, IsNameGiven};
-ghost use Rattle.urlpattern_parser.specs.Readers.{HasTokensLeft, IsNext, IsNextAfter, IsNextNamed, IsShorter, Stands, StartsText, Takes, TakesClose, TakesPlaceholder, TakesRow, reader_left, reader_text};
+ghost use Rattle.urlpattern_parser.specs.Readers.{HasTokensLeft, IsNext, IsNextAfter, IsNextNamed, IsShorter, IsAtPlace, StartsText, Consumes, ConsumesClose, ConsumesPlaceholder, ConsumesRow, reader_left, reader_text};
 ghost use Rattle.urlpattern_syntax.specs.Pieces.{is_placeholder, is_text};
 ghost use Rattle.urlpattern_syntax.specs.Text.{option_text, text_of};
 ghost use Rattle.urlpattern_syntax.specs.Tokens.{ReportsFault, TokenView, token_view};
@@ -97,7 +97,7 @@ impl<'a> Reader<'a> {
     ///
     /// The error is the first fault of the text.
     pub(super) fn read_to_end(&self) -> Result<(), Error>
-        requires { Stands self.now }
+        requires { IsAtPlace self.now }
         ensures tokens { OnOk result ((tokens : List TokenView) × HasTokensLeft self.now tokens) }
         ensures fault { IfErr result (ReportsFault (reader_text self.now)) }
     {
@@ -112,8 +112,8 @@ impl<'a> Reader<'a> {
         prefix_code_point: &str,
         next: &mut Next<'a>,
     ) -> Result<(), Error>
-        requires { Stands self.old }
-        ensures next { OnOk result (Takes self.old self.new (λ tokens rest. IsNext (chars prefix_code_point.now) tokens next.new rest)) }
+        requires { IsAtPlace self.old }
+        ensures next { OnOk result (Consumes self.old self.new (λ tokens rest. IsNext (chars prefix_code_point.now) tokens next.new rest)) }
         ensures named { OnOk result (IsNextNamed next.new) }
         ensures less { OnOk result (IsShorter (reader_left self.new) (reader_left self.old) next.new) }
         ensures fault { IfErr result (ReportsFault (reader_text self.old)) }
@@ -139,10 +139,10 @@ impl<'a> Reader<'a> {
 
     /// Consumes the first token.
     fn take(&mut self) -> Result<Token<'a>, Error>
-        requires stands { Stands self.old }
+        requires stands { IsAtPlace self.old }
         requires more { self.old.token.kind ≢ kinds.End }
         ensures token { IfOk result (λ token. token ≡ self.old.token) }
-        ensures takes { OnOk result (Takes self.old self.new (λ tokens rest. tokens ≡ token_view self.old.token ∷ rest)) }
+        ensures takes { OnOk result (Consumes self.old self.new (λ tokens rest. tokens ≡ token_view self.old.token ∷ rest)) }
         ensures less { OnOk result (reader_left self.new < reader_left self.old) }
         ensures fault { IfErr result (ReportsFault (reader_text self.old)) }
     {
@@ -155,9 +155,9 @@ impl<'a> Reader<'a> {
     /// Consumes a character, and the placeholder after it if the character is its prefix, or else
     /// the characters after it.
     fn character(&mut self, prefix_code_point: &str, next: &mut Next<'a>) -> Result<(), Error>
-        requires stands { Stands self.old }
+        requires stands { IsAtPlace self.old }
         requires character { self.old.token.kind ≡ kinds.Char }
-        ensures next { OnOk result (Takes self.old self.new (λ tokens rest. IsNext (chars prefix_code_point.now) tokens next.new rest)) }
+        ensures next { OnOk result (Consumes self.old self.new (λ tokens rest. IsNext (chars prefix_code_point.now) tokens next.new rest)) }
         ensures named { OnOk result (IsNextNamed next.new) }
         ensures less { OnOk result (reader_left self.new < reader_left self.old) }
         ensures fault { IfErr result (ReportsFault (reader_text self.old)) }
@@ -177,10 +177,10 @@ impl<'a> Reader<'a> {
     /// Consumes a character, and the characters after it except for the last, and returns their
     /// values.
     fn characters(&mut self) -> Result<(&'a str, &'a str), Error>
-        requires stands { Stands self.old }
+        requires stands { IsAtPlace self.old }
         requires character { self.old.token.kind ≡ kinds.Char }
         ensures first { IfOk result (λ taken. taken.0 ≡ self.old.token.value) }
-        ensures more { IfOk result (λ taken. TakesRow self.old self.new taken.1) }
+        ensures more { IfOk result (λ taken. ConsumesRow self.old self.new taken.1) }
         ensures less { OnOk result (reader_left self.new < reader_left self.old) }
         ensures fault { IfErr result (ReportsFault (reader_text self.old)) }
     {
@@ -193,9 +193,9 @@ impl<'a> Reader<'a> {
 
     /// Consumes a placeholder without braces and its modifier, after this prefix.
     fn bare(&mut self, prefix: &'a str, next: &mut Next<'a>) -> Result<(), Error>
-        requires stands { Stands self.old }
+        requires stands { IsAtPlace self.old }
         requires placeholder { IsTrue (is_placeholder self.old.token.kind) }
-        ensures next { OnOk result (Takes self.old self.new (λ tokens rest. IsNextAfter (chars prefix.now) tokens next.new rest)) }
+        ensures next { OnOk result (Consumes self.old self.new (λ tokens rest. IsNextAfter (chars prefix.now) tokens next.new rest)) }
         ensures named { OnOk result (IsNextNamed next.new) }
         ensures less { OnOk result (reader_left self.new < reader_left self.old) }
         ensures fault { IfErr result (ReportsFault (reader_text self.old)) }
@@ -208,9 +208,9 @@ impl<'a> Reader<'a> {
 
     /// Consumes a group from its opening brace, up to the place of its closing brace.
     fn group(&mut self) -> Result<Next<'a>, Error>
-        requires stands { Stands self.old }
+        requires stands { IsAtPlace self.old }
         requires opening { self.old.token.kind ≡ kinds.Open }
-        ensures next { IfOk result (λ next. Takes self.old self.new (λ tokens rest. (point : List ℕ) → IsNext point tokens next rest)) }
+        ensures next { IfOk result (λ next. Consumes self.old self.new (λ tokens rest. (point : List ℕ) → IsNext point tokens next rest)) }
         ensures named { IfOk result IsNextNamed }
         ensures less { OnOk result (reader_left self.new < reader_left self.old) }
         ensures fault { IfErr result (ReportsFault (reader_text self.old)) }
@@ -233,8 +233,8 @@ impl<'a> Reader<'a> {
 
     /// Consumes the texts that the tokens begin with, and returns their values, end to end.
     fn texts(&mut self) -> Result<String, Error>
-        requires { Stands self.old }
-        ensures texts { IfOk result (λ text. Takes self.old self.new (λ tokens rest. BeginsWithTexts tokens (text_of text) rest)) }
+        requires { IsAtPlace self.old }
+        ensures texts { IfOk result (λ text. Consumes self.old self.new (λ tokens rest. BeginsWithTexts tokens (text_of text) rest)) }
         ensures fault { IfErr result (ReportsFault (reader_text self.old)) }
     {
         let mut text = String::new(self.alloc);
@@ -249,9 +249,9 @@ impl<'a> Reader<'a> {
     ///
     /// <https://urlpattern.spec.whatwg.org/#try-to-consume-a-regexp-or-wildcard-token>
     fn placeholder(&mut self) -> Result<Placeholder<'a>, Error>
-        requires stands { Stands self.old }
+        requires stands { IsAtPlace self.old }
         requires placeholder { IsTrue (is_placeholder self.old.token.kind) }
-        ensures placeholder { IfOk result (TakesPlaceholder self.old self.new) }
+        ensures placeholder { IfOk result (ConsumesPlaceholder self.old self.new) }
         ensures named { IfOk result (λ placeholder. IsNameGiven (option_text placeholder.name)) }
         ensures less { OnOk result (reader_left self.new < reader_left self.old) }
         ensures fault { IfErr result (ReportsFault (reader_text self.old)) }
@@ -284,9 +284,9 @@ impl<'a> Reader<'a> {
 
     /// Consumes the closing brace of a group and its modifier, if the tokens begin with that brace.
     fn close(&mut self) -> Result<Option<PartModifier>, Error>
-        requires { Stands self.old }
-        ensures closes { IfOk result (λ found. IfSome found (TakesClose self.old self.new)) }
-        ensures lacks { IfOk result (λ found. IfNone found (Takes self.old self.new (λ tokens rest. tokens ≡ rest))) }
+        requires { IsAtPlace self.old }
+        ensures closes { IfOk result (λ found. IfSome found (ConsumesClose self.old self.new)) }
+        ensures lacks { IfOk result (λ found. IfNone found (Consumes self.old self.new (λ tokens rest. tokens ≡ rest))) }
         ensures other { IfOk result (λ found. IfNone found (self.new.token.kind ≢ kinds.Close)) }
         ensures fault { IfErr result (ReportsFault (reader_text self.old)) }
     {
@@ -302,8 +302,8 @@ impl<'a> Reader<'a> {
     /// <https://urlpattern.spec.whatwg.org/#try-to-consume-a-modifier-token>
     #[inline(always)]
     fn modifier(&mut self) -> Result<PartModifier, Error>
-        requires { Stands self.old }
-        ensures modifier { IfOk result (λ modifier. Takes self.old self.new (λ tokens rest. BeginsWithModifier tokens modifier rest)) }
+        requires { IsAtPlace self.old }
+        ensures modifier { IfOk result (λ modifier. Consumes self.old self.new (λ tokens rest. BeginsWithModifier tokens modifier rest)) }
         ensures fault { IfErr result (ReportsFault (reader_text self.old)) }
     {
         match self.token.kind {

@@ -1,7 +1,7 @@
 //! The strict tokens of a text, one by one.
 ghost use Rattle.std.specs.Prelude.{◌≡◌, ◌≤◌, ◌+◌, List, length, IfOk, IfErr, OnOk};
 ghost use Rattle.std.specs.Str.{chars};
-ghost use Rattle.urlpattern_syntax.specs.Cursors.{AreCharactersBefore, AreTokensAfter, IsPlace, stands_for_itself, tokens_left};
+ghost use Rattle.urlpattern_syntax.specs.Cursors.{AreCharactersBefore, AreTokensAfter, IsPlace, is_char_token, tokens_left};
 ghost use Rattle.urlpattern_parser.specs.CursorTexts.{GivesToken, cursor_rest, cursor_text};
 ghost use Rattle.urlpattern_syntax.specs.Text.{BeginsAt};
 ghost use Rattle.urlpattern_syntax.specs.Tokens.{Skips, ReportsFault, TokenView};
@@ -82,7 +82,7 @@ impl<'a> Cursor<'a> {
         let mut last = self.rest;
         let mut rest = self.rest;
         while let Some((first, after)) = split_first(rest) {
-            if !stands_for_itself(first) {
+            if !is_char_token(first) {
                 break;
             }
             last = rest;
@@ -120,8 +120,8 @@ fn place_of(input: &str, rest: &str) -> usize
 }
 
 /// Whether a character is a token by itself, and no mark.
-fn stands_for_itself(c: char) -> bool
-    ensures { result ≡ stands_for_itself c }
+fn is_char_token(c: char) -> bool
+    ensures { result ≡ is_char_token c }
 {
     !matches!(
         c,

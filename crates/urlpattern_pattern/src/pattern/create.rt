@@ -2,12 +2,12 @@
 
 ghost use Rattle.std.specs.Prelude.{is_some, option_copied, option_map, IfErr, IfOk, IfSome, IsTrue};
 ghost use Rattle.std.specs.Str.{chars};
-ghost use Rattle.urlpattern_compile.specs.Compiled.{IsPatternOfInit, RefusesInit};
-ghost use Rattle.urlpattern_compile.specs.FromString.{IsPatternOfText, RefusesPatternOfText};
+ghost use Rattle.urlpattern_compile.specs.Compiled.{IsPatternOfInit, RejectsInit};
+ghost use Rattle.urlpattern_compile.specs.FromString.{IsPatternOfText, RejectsPatternOfText};
 ghost use Rattle.urlpattern_init.specs.SpecialProtocol.{IsKnownProtocol};
 ghost use Rattle.urlpattern_matches.specs.ResultViews.{result_view};
-ghost use Rattle.urlpattern_pattern.specs.ByText.{AnswersByItsText, AnswersByTextOf, IsExecutedByMeaning, MakesFirstWays};
-ghost use Rattle.urlpattern_pattern.specs.KeptParts.{AreParted, KeepsPartsOf, KeepsPartsOfText};
+ghost use Rattle.urlpattern_pattern.specs.ByText.{ReturnsByItsText, ReturnsByTextOf, IsExecutedByMeaning, MakesFirstWays};
+ghost use Rattle.urlpattern_pattern.specs.KeptParts.{AreSeparated, KeepsPartsOf, KeepsPartsOfText};
 ghost use Rattle.urlpattern_pattern.specs.Patterns.{IfPattern};
 ghost use Rattle.urlpattern_syntax.specs.Errors.{MemoryOr};
 
@@ -36,7 +36,7 @@ impl<R: RegExp> UrlPattern<R> {
     /// these parts.
     ///
     /// With an engine whose matchers return first ways, as those of `PatternRegexp` do, the pattern
-    /// matches by its texts (`AnswersByItsText`). The first way is the captures that a backtracking
+    /// matches by its texts (`ReturnsByItsText`). The first way is the captures that a backtracking
     /// engine finds first.
     ///
     /// With `Pattern` as `UrlPattern<PatternRegexp>`, and a pattern for the path alone:
@@ -56,10 +56,10 @@ impl<R: RegExp> UrlPattern<R> {
         ensures compiled { IfPattern result (IsPatternOfInit R.RegExp init options) }
         ensures kept { IfOk result (KeepsPartsOf R.RegExp init options) }
         ensures parts { IfOk result (λ pattern. IsTrue (is_some pattern.parts)) }
-        ensures by_text { MakesFirstWays R.RegExp → IfPattern result (AnswersByItsText R.answer init options) }
-        ensures refused { IfErr result (MemoryOr (RefusesInit R.RegExp init options)) }
+        ensures by_text { MakesFirstWays R.RegExp → IfPattern result (ReturnsByItsText R.answer init options) }
+        ensures refused { IfErr result (MemoryOr (RejectsInit R.RegExp init options)) }
     {
-        Self::parse_knowing(alloc, init, None, options)
+        Self::parse_with_protocol(alloc, init, None, options)
     }
 
     /// Compiles a pattern from a constructor string, the pattern of a whole URL, and from a base
@@ -86,19 +86,19 @@ impl<R: RegExp> UrlPattern<R> {
         ensures compiled { IfPattern result (IsPatternOfText R.RegExp (chars pattern.now) (option_copied base_url.entry) options) }
         ensures parts { IfOk result (λ pattern. IsTrue (is_some pattern.parts)) }
         ensures kept { IfOk result (KeepsPartsOfText R.RegExp (chars pattern.now) (option_copied base_url.entry) options) }
-        ensures by_text { MakesFirstWays R.RegExp → IfPattern result (AnswersByTextOf R.RegExp (chars pattern.now) (option_copied base_url.entry) options) }
-        ensures refused { IfErr result (MemoryOr (RefusesPatternOfText R.RegExp (chars pattern.now) (option_copied base_url.entry) options)) }
+        ensures by_text { MakesFirstWays R.RegExp → IfPattern result (ReturnsByTextOf R.RegExp (chars pattern.now) (option_copied base_url.entry) options) }
+        ensures refused { IfErr result (MemoryOr (RejectsPatternOfText R.RegExp (chars pattern.now) (option_copied base_url.entry) options)) }
     {
         let keeps = options.regex_syntax == RegexSyntax::Rust;
         let (init, known) = init_of_text_keeping::<R>(alloc, pattern, base_url, keeps)?;
-        Self::parse_knowing(alloc, init, known, options)
+        Self::parse_with_protocol(alloc, init, known, options)
     }
 
     /// Compiles a pattern as `parse` does. The protocol may already be compiled, and comes with its
     /// text.
     ///
     /// The errors are those of `parse`.
-    fn parse_knowing(
+    fn parse_with_protocol(
         alloc: Global,
         init: UrlPatternInit,
         known: Option<(&str, ComponentWithParts<R>)>,
@@ -108,8 +108,8 @@ impl<R: RegExp> UrlPattern<R> {
         ensures compiled { IfPattern result (IsPatternOfInit R.RegExp init options) }
         ensures kept { IfOk result (KeepsPartsOf R.RegExp init options) }
         ensures parts { IfOk result (λ pattern. IsTrue (is_some pattern.parts)) }
-        ensures by_text { MakesFirstWays R.RegExp → IfPattern result (AnswersByItsText R.answer init options) }
-        ensures refused { IfErr result (MemoryOr (RefusesInit R.RegExp init options)) }
+        ensures by_text { MakesFirstWays R.RegExp → IfPattern result (ReturnsByItsText R.answer init options) }
+        ensures refused { IfErr result (MemoryOr (RejectsInit R.RegExp init options)) }
     {
         // A `?`, or one `match` for both, would copy the components, which fill kilobytes, once
         // more.
@@ -117,7 +117,7 @@ impl<R: RegExp> UrlPattern<R> {
             Ok(made) => made,
             Err(error) => return Err(error),
         };
-        let (components, parts) = parted(made);
+        let (components, parts) = separate_parts(made);
         Ok(Self::with_parts(components, parts))
     }
 
@@ -138,7 +138,7 @@ impl<R: RegExp> UrlPattern<R> {
         input: UrlPatternMatchInput,
     ) -> Result<Option<UrlPatternResult>, Error>
         ensures executed { IfOk result (λ found. IsExecutedByMeaning R.RegExp init options input (option_map result_view found)) }
-        ensures refused { IfErr result (MemoryOr (RefusesInit R.RegExp init options)) }
+        ensures refused { IfErr result (MemoryOr (RejectsInit R.RegExp init options)) }
     {
         let pattern = Self::parse(alloc, init, options)?;
         let found = pattern.exec(alloc, input);
@@ -148,8 +148,10 @@ impl<R: RegExp> UrlPattern<R> {
 }
 
 /// Separates components from their parts.
-fn parted<R: RegExp>(made: Eight<ComponentWithParts<R>>) -> (Eight<Component<R>>, PatternParts)
-    ensures { AreParted made result.0 result.1 }
+fn separate_parts<R: RegExp>(
+    made: Eight<ComponentWithParts<R>>,
+) -> (Eight<Component<R>>, PatternParts)
+    ensures { AreSeparated made result.0 result.1 }
 {
     let (protocol, protocol_parts) = made.protocol.into_fields();
     let (username, username_parts) = made.username.into_fields();

@@ -2,9 +2,9 @@
 
 ghost use Rattle.std.specs.Prelude.{option_copied};
 ghost use Rattle.std.specs.Str.{chars};
-ghost use Rattle.urlpattern_compile.specs.Compiled.{RefusesInit};
-ghost use Rattle.urlpattern_compile.specs.Diagnoses.{AcceptsInit, AcceptsPatternOfText, HasErrorOf, IfAccepted, IfRefused, IsWithinText, ShowsGiven, ShowsInit};
-ghost use Rattle.urlpattern_compile.specs.FromString.{RefusesPatternOfText};
+ghost use Rattle.urlpattern_compile.specs.Compiled.{RejectsInit};
+ghost use Rattle.urlpattern_compile.specs.Diagnoses.{AcceptsInit, AcceptsPatternOfText, HasErrorOf, IfAccepted, IfRejected, IsWithinText, ShowsGiven, ShowsInit};
+ghost use Rattle.urlpattern_compile.specs.FromString.{RejectsPatternOfText};
 
 use super::UrlPattern;
 use std::alloc::Global;
@@ -34,9 +34,9 @@ impl<R: RegExp> UrlPattern<R> {
         options: UrlPatternOptions,
     ) -> Result<Option<Diagnosis>, OutOfMemory>
         ensures accepted { IfAccepted result (AcceptsPatternOfText R.RegExp (chars pattern.now) (option_copied base_url.entry) options) }
-        ensures refused { IfRefused result (HasErrorOf (RefusesPatternOfText R.RegExp (chars pattern.now) (option_copied base_url.entry) options)) }
-        ensures shows { IfRefused result (ShowsGiven R.RegExp pattern.now (option_copied base_url.entry) options) }
-        ensures within { IfRefused result IsWithinText }
+        ensures refused { IfRejected result (HasErrorOf (RejectsPatternOfText R.RegExp (chars pattern.now) (option_copied base_url.entry) options)) }
+        ensures shows { IfRejected result (ShowsGiven R.RegExp pattern.now (option_copied base_url.entry) options) }
+        ensures within { IfRejected result IsWithinText }
     {
         diagnose_text::<R>(alloc, pattern, base_url, options)
     }
@@ -51,9 +51,9 @@ impl<R: RegExp> UrlPattern<R> {
         options: UrlPatternOptions,
     ) -> Result<Option<Diagnosis>, OutOfMemory>
         ensures accepted { IfAccepted result (AcceptsInit R.RegExp init.now options) }
-        ensures refused { IfRefused result (HasErrorOf (RefusesInit R.RegExp init.now options)) }
-        ensures shows { IfRefused result (ShowsInit R.RegExp init.now options) }
-        ensures within { IfRefused result IsWithinText }
+        ensures refused { IfRejected result (HasErrorOf (RejectsInit R.RegExp init.now options)) }
+        ensures shows { IfRejected result (ShowsInit R.RegExp init.now options) }
+        ensures within { IfRejected result IsWithinText }
     {
         diagnose_init::<R>(alloc, init, options)
     }

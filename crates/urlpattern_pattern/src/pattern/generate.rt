@@ -1,7 +1,7 @@
 //! Generates the text of one component from the texts of its groups.
 ghost use Rattle.std.specs.Prelude.{IfErr, IfOk};
-ghost use Rattle.urlpattern_generate.specs.Manners.{given_groups};
-ghost use Rattle.urlpattern_pattern.specs.ComponentTexts.{GeneratesText, RefusesGroups};
+ghost use Rattle.urlpattern_generate.specs.WriteSettings.{given_groups};
+ghost use Rattle.urlpattern_pattern.specs.ComponentTexts.{GeneratesText, RejectsGroups};
 ghost use Rattle.urlpattern_syntax.specs.Text.{text_of};
 
 use super::UrlPattern;
@@ -37,7 +37,7 @@ impl<R: RegExp> UrlPattern<R> {
         groups: &[GivenGroup<'_>],
     ) -> Result<String, GenerateError>
         ensures generated { IfOk result (λ text. GeneratesText R.answer self.now component (given_groups groups.now) (text_of text)) }
-        ensures refused { IfErr result (RefusesGroups R.answer self.now component (given_groups groups.now)) }
+        ensures refused { IfErr result (RejectsGroups R.answer self.now component (given_groups groups.now)) }
     {
         let Some(parts) = self.parts() else {
             return Err(GenerateError::NoParts);

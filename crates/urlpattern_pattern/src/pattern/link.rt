@@ -1,9 +1,9 @@
 //! Generates the URL of a pattern from the texts of its groups.
 ghost use Rattle.std.specs.Prelude.{IfErr, IfOk};
 ghost use Rattle.urlpattern_components.specs.Eight.{IsFirstError};
-ghost use Rattle.urlpattern_generate.specs.Manners.{given_groups};
+ghost use Rattle.urlpattern_generate.specs.WriteSettings.{given_groups};
 ghost use Rattle.urlpattern_init.specs.declared.init.UrlPatternMatchInput.TheVariants as inputs;
-ghost use Rattle.urlpattern_pattern.specs.LinkedUrls.{AnswersParts, AreWritten, IsConfirmedBefore, IsLink, RefusesLink, ReturnsGiven, TellsConfirmed};
+ghost use Rattle.urlpattern_pattern.specs.LinkedUrls.{HasPartsText, AreWritten, IsConfirmedBefore, IsLink, RejectsLink, ReturnsGiven, DecidesConfirmed};
 ghost use Rattle.urlpattern_pattern.specs.Match.{HasMatch};
 ghost use Rattle.urlpattern_pattern.specs.Patterns.{pattern_view};
 ghost use Rattle.urlpattern_pattern.specs.UrlPatterns.{AreMadeOfParts};
@@ -45,7 +45,7 @@ impl<R: RegExp> UrlPattern<R> {
         ensures generated { IfOk result (IsLink R.answer self.now (given_groups groups.now)) }
         ensures returns { IfOk result (ReturnsGiven R.answer self.now (given_groups groups.now)) }
         ensures matched { IfOk result (λ url. HasMatch R.answer (pattern_view self.now) (inputs.Url url)) }
-        ensures refused { IfErr result (RefusesLink R.answer self.now (given_groups groups.now)) }
+        ensures refused { IfErr result (RejectsLink R.answer self.now (given_groups groups.now)) }
     {
         let Some(parts) = self.parts() else {
             return Err(NoLink::Component(GenerateError::NoParts));
@@ -97,7 +97,7 @@ impl<R: RegExp> UrlPattern<R> {
     ) -> Result<bool, AllocError>
         requires made { AreMadeOfParts R.RegExp parts.now (pattern_view self.now) }
         requires written { AreWritten parts.now (given_groups groups.now) (cow_texts texts.now) }
-        ensures { IfOk result (λ is. TellsConfirmed is R.answer (pattern_view self.now) parts.now (given_groups groups.now) (cow_texts texts.now) name) }
+        ensures { IfOk result (λ is. DecidesConfirmed is R.answer (pattern_view self.now) parts.now (given_groups groups.now) (cow_texts texts.now) name) }
     {
         let kept = parts.components.get(name);
         let text = texts.get(name).as_str();
@@ -114,7 +114,7 @@ fn written_each<'d>(
     groups: &'d [GivenGroup<'d>],
 ) -> Result<Eight<CowStr<'d>>, GenerateError>
     ensures written { IfOk result (λ texts. AreWritten parts.now (given_groups groups.now) (cow_texts texts)) }
-    ensures refused { IfErr result (IsFirstError (AnswersParts parts.now (given_groups groups.now))) }
+    ensures refused { IfErr result (IsFirstError (HasPartsText parts.now (given_groups groups.now))) }
 {
     let protocol = written(alloc, parts, ComponentName::Protocol, groups)?;
     let username = written(alloc, parts, ComponentName::Username, groups)?;
@@ -146,7 +146,7 @@ fn written<'d>(
     component: ComponentName,
     groups: &'d [GivenGroup<'d>],
 ) -> Result<CowStr<'d>, GenerateError>
-    ensures { AnswersParts parts.now (given_groups groups.now) component result }
+    ensures { HasPartsText parts.now (given_groups groups.now) component result }
 {
     written_component(alloc, parts.components.get(component), component, groups)
 }

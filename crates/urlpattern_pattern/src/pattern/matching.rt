@@ -3,14 +3,14 @@
 //! All components look at their texts before anything is allocated. Engines are called last, and
 //! the first component that does not match ends the search.
 ghost use Rattle.std.specs.Prelude.{◌≡◌, None, Some, IfErr, IfNone, IfOk, IfSome};
-ghost use Rattle.urlpattern_matcher.specs.Looks.{look_answer, IsAsking};
+ghost use Rattle.urlpattern_matcher.specs.Looks.{look_result, NeedsEngine};
 ghost use Rattle.urlpattern_init.specs.declared.init.UrlPatternMatchInput.TheVariants as inputs;
 ghost use Rattle.urlpattern_init.specs.Inheritance.{texts_of_url};
 ghost use Rattle.urlpattern_matches.specs.BorrowedMatches.{IfMatch, groups_view, pattern_captures_view};
-ghost use Rattle.urlpattern_pattern.specs.Match.{AreGroupsInOrder, AsksAnEngine, CopiesMatch, FindsInInput, FindsInTexts, IfUrl, IsRefused, TestsInput, TestsTexts};
+ghost use Rattle.urlpattern_pattern.specs.Match.{AreGroupsInOrder, CallsAnEngine, CopiesMatch, FindsInInput, FindsInTexts, IfUrl, DoesNotMatch, TestsInput, TestsTexts};
 ghost use Rattle.urlpattern_matches.specs.ResultViews.{result_view};
 ghost use Rattle.urlpattern_matches.specs.MatchInput.{texts_view};
-ghost use Rattle.urlpattern_pattern.specs.MatchCalls.{AreCaptured, AreLooks, AskWithCause, HasAnswers, HasCaptures, HasGroups};
+ghost use Rattle.urlpattern_pattern.specs.MatchCalls.{AreCaptured, AreLooks, CallWithCause, HasMatcherResults, HasCaptures, HasGroups};
 ghost use Rattle.urlpattern_matches.specs.GroupTexts.{borrowed_texts};
 ghost use Rattle.urlpattern_pattern.specs.Patterns.{components_of, pattern_view};
 ghost use Rattle.urlpattern_components.specs.declared.eight.ComponentName.{ComponentName as Name};
@@ -51,7 +51,7 @@ impl<R: RegExp> UrlPattern<R> {
     pub fn test(&self, alloc: Global, input: UrlPatternMatchInput) -> Result<bool, Error>
         ensures matched { IfOk result (TestsInput R.answer (pattern_view self.now) input) }
         ensures memory { OnlyOutOfMemory result }
-        ensures asked { IfErr result (λ _. IfUrl (AsksAnEngine R.answer (pattern_view self.now)) input) }
+        ensures asked { IfErr result (λ _. IfUrl (CallsAnEngine R.answer (pattern_view self.now)) input) }
     {
         match input {
             UrlPatternMatchInput::Url(url) => self.test_url(alloc, &url),
@@ -101,7 +101,7 @@ impl<R: RegExp> UrlPattern<R> {
     pub fn test_url(&self, alloc: Global, url: &Url) -> Result<bool, Error>
         ensures matched { IfOk result (TestsInput R.answer (pattern_view self.now) (inputs.Url url.now)) }
         ensures memory { OnlyOutOfMemory result }
-        ensures asked { IfErr result (λ _. AsksAnEngine R.answer (pattern_view self.now) (texts_of_url url.now)) }
+        ensures asked { IfErr result (λ _. CallsAnEngine R.answer (pattern_view self.now) (texts_of_url url.now)) }
     {
         Ok(self.is_matched(alloc, &url_texts(url))?)
     }
@@ -141,7 +141,7 @@ impl<R: RegExp> UrlPattern<R> {
         ensures matched { IfOk result (FindsInInput pattern_captures_view R.answer (pattern_view self.now) (inputs.Url url.now)) }
         ensures groups { IfMatch result (λ found. AreGroupsInOrder R.answer (pattern_view self.now) (texts_of_url url.now) (groups_view found)) }
         ensures memory { OnlyOutOfMemory result }
-        ensures asked { IfErr result (λ _. AsksAnEngine R.answer (pattern_view self.now) (texts_of_url url.now)) }
+        ensures asked { IfErr result (λ _. CallsAnEngine R.answer (pattern_view self.now) (texts_of_url url.now)) }
     {
         Ok(match_of_texts(alloc, self, &url_texts(url))?)
     }
@@ -160,7 +160,7 @@ impl<R: RegExp> UrlPattern<R> {
         ensures matched { IfOk result (FindsInTexts pattern_captures_view R.answer (pattern_view self.now) (texts_view input.now)) }
         ensures groups { IfMatch result (λ found. AreGroupsInOrder R.answer (pattern_view self.now) (texts_view input.now) (groups_view found)) }
         ensures memory { OnlyOutOfMemory result }
-        ensures asked { IfErr result (λ _. AsksAnEngine R.answer (pattern_view self.now) (texts_view input.now)) }
+        ensures asked { IfErr result (λ _. CallsAnEngine R.answer (pattern_view self.now) (texts_view input.now)) }
     {
         Ok(match_of_texts(alloc, self, &input_texts(input))?)
     }
@@ -172,7 +172,7 @@ impl<R: RegExp> UrlPattern<R> {
     pub fn test_texts(&self, alloc: Global, texts: &Eight<&str>) -> Result<bool, Error>
         ensures matched { IfOk result (TestsTexts R.answer (pattern_view self.now) (borrowed_texts texts.now)) }
         ensures memory { OnlyOutOfMemory result }
-        ensures asked { IfErr result (λ _. AsksAnEngine R.answer (pattern_view self.now) (borrowed_texts texts.now)) }
+        ensures asked { IfErr result (λ _. CallsAnEngine R.answer (pattern_view self.now) (borrowed_texts texts.now)) }
     {
         Ok(self.is_matched(alloc, texts)?)
     }
@@ -199,7 +199,7 @@ impl<R: RegExp> UrlPattern<R> {
         ensures matched { IfOk result (FindsInTexts pattern_captures_view R.answer (pattern_view self.now) (borrowed_texts texts.now)) }
         ensures groups { IfMatch result (λ found. AreGroupsInOrder R.answer (pattern_view self.now) (borrowed_texts texts.now) (groups_view found)) }
         ensures memory { OnlyOutOfMemory result }
-        ensures asked { IfErr result (λ _. AsksAnEngine R.answer (pattern_view self.now) (borrowed_texts texts.now)) }
+        ensures asked { IfErr result (λ _. CallsAnEngine R.answer (pattern_view self.now) (borrowed_texts texts.now)) }
     {
         Ok(match_of_texts(alloc, self, texts)?)
     }
@@ -224,7 +224,7 @@ impl<R: RegExp> UrlPattern<R> {
     /// Whether the pattern matches eight texts.
     fn is_matched(&self, alloc: Global, texts: &Eight<&str>) -> Result<bool, OutOfMemory>
         ensures matched { IfOk result (TestsTexts R.answer (pattern_view self.now) (borrowed_texts texts.now)) }
-        ensures asked { IfErr result (λ _. AsksAnEngine R.answer (pattern_view self.now) (borrowed_texts texts.now)) }
+        ensures asked { IfErr result (λ _. CallsAnEngine R.answer (pattern_view self.now) (borrowed_texts texts.now)) }
     {
         Ok(self.group_captures(alloc, texts)?.is_some())
     }
@@ -249,8 +249,8 @@ impl<R: RegExp> UrlPattern<R> {
     #[inline(always)]
     fn look<'p, 'u>(&'p self, texts: &Eight<&'u str>) -> Option<Eight<Look<'p, 'u, R>>>
         ensures some { IfSome result (AreLooks R.answer (pattern_view self.now) (borrowed_texts texts.now)) }
-        ensures none { IfNone result (IsRefused R.answer (pattern_view self.now) (borrowed_texts texts.now)) }
-        ensures asked { IfSome result (AskWithCause (pattern_view self.now) (borrowed_texts texts.now)) }
+        ensures none { IfNone result (DoesNotMatch R.answer (pattern_view self.now) (borrowed_texts texts.now)) }
+        ensures asked { IfSome result (CallWithCause (pattern_view self.now) (borrowed_texts texts.now)) }
     {
         // The path rejects most texts, so it is the first.
         Some(Eight {
@@ -273,9 +273,9 @@ impl<R: RegExp> UrlPattern<R> {
         alloc: Global,
         texts: &Eight<&'u str>,
     ) -> Result<Option<Eight<GroupCaptures<'u>>>, OutOfMemory>
-        ensures refused { IfOk result (λ found. IfNone found (IsRefused R.answer (pattern_view self.now) (borrowed_texts texts.now))) }
-        ensures answers { IfOk result (λ found. IfSome found (HasAnswers R.answer (pattern_view self.now) (borrowed_texts texts.now))) }
-        ensures asked { IfErr result (λ _. AsksAnEngine R.answer (pattern_view self.now) (borrowed_texts texts.now)) }
+        ensures refused { IfOk result (λ found. IfNone found (DoesNotMatch R.answer (pattern_view self.now) (borrowed_texts texts.now))) }
+        ensures answers { IfOk result (λ found. IfSome found (HasMatcherResults R.answer (pattern_view self.now) (borrowed_texts texts.now))) }
+        ensures asked { IfErr result (λ _. CallsAnEngine R.answer (pattern_view self.now) (borrowed_texts texts.now)) }
     {
         let Some(looks) = self.look(texts) else {
             return Ok(None);
@@ -295,7 +295,7 @@ pub fn match_of_texts<'p, 'u, R: RegExp>(
 ) -> Result<Option<UrlPatternCaptures<'p, 'u>>, OutOfMemory>
     ensures matched { IfOk result (FindsInTexts pattern_captures_view R.answer (pattern_view pattern.now) (borrowed_texts texts.now)) }
     ensures groups { IfMatch result (λ found. AreGroupsInOrder R.answer (pattern_view pattern.now) (borrowed_texts texts.now) (groups_view found)) }
-    ensures asked { IfErr result (λ _. AsksAnEngine R.answer (pattern_view pattern.now) (borrowed_texts texts.now)) }
+    ensures asked { IfErr result (λ _. CallsAnEngine R.answer (pattern_view pattern.now) (borrowed_texts texts.now)) }
 {
     match pattern.group_captures(alloc, texts)? {
         Some(captures) => Ok(Some(pattern.match_with_names(texts, captures))),
@@ -309,8 +309,8 @@ fn finish_looks<'u, R: RegExp>(
     looks: Eight<Look<'_, 'u, R>>,
 ) -> Result<Option<Eight<GroupCaptures<'u>>>, OutOfMemory>
     ensures some { IfOk result (λ found. IfSome found (AreCaptured R.answer looks.entry)) }
-    ensures none { IfOk result (λ found. IfNone found ((name : Name) × (look_answer R.answer (Some (at looks.entry name)) ≡ None))) }
-    ensures asked { IfErr result (λ _. (name : Name) × IsAsking (at looks.entry name)) }
+    ensures none { IfOk result (λ found. IfNone found ((name : Name) × (look_result R.answer (Some (at looks.entry name)) ≡ None))) }
+    ensures asked { IfErr result (λ _. (name : Name) × NeedsEngine (at looks.entry name)) }
 {
     match looks.try_map(|look| GroupCaptures::of_look(alloc, look)) {
         Ok(captures) => Ok(Some(captures)),

@@ -2,7 +2,7 @@
 ghost use Rattle.std.specs.Prelude.{IfErr, IfOk};
 ghost use Rattle.urlpattern_init.specs.Inheritance.{texts_of_url};
 ghost use Rattle.urlpattern_matches.specs.GroupTexts.{borrowed_texts};
-ghost use Rattle.urlpattern_pattern.specs.{Mismatch.AsksInTurn, Mismatch.FindsMismatch, Patterns.pattern_view};
+ghost use Rattle.urlpattern_pattern.specs.{Mismatch.CallsInTurn, Mismatch.FindsMismatch, Patterns.pattern_view};
 ghost use Rattle.urlpattern_syntax.specs.Errors.{OnlyOutOfMemory};
 
 use super::UrlPattern;
@@ -32,7 +32,7 @@ impl<R: RegExp> UrlPattern<R> {
     pub fn mismatch(&self, alloc: Global, url: &Url) -> Result<Option<ComponentName>, Error>
         ensures first { IfOk result (FindsMismatch R.answer (pattern_view self.now) (texts_of_url url.now)) }
         ensures memory { OnlyOutOfMemory result }
-        ensures asked { IfErr result (λ _. AsksInTurn R.answer (pattern_view self.now) (texts_of_url url.now)) }
+        ensures asked { IfErr result (λ _. CallsInTurn R.answer (pattern_view self.now) (texts_of_url url.now)) }
     {
         self.mismatch_of_texts(alloc, &url_texts(url))
     }
@@ -48,7 +48,7 @@ impl<R: RegExp> UrlPattern<R> {
     ) -> Result<Option<ComponentName>, Error>
         ensures first { IfOk result (FindsMismatch R.answer (pattern_view self.now) (borrowed_texts texts.now)) }
         ensures memory { OnlyOutOfMemory result }
-        ensures asked { IfErr result (λ _. AsksInTurn R.answer (pattern_view self.now) (borrowed_texts texts.now)) }
+        ensures asked { IfErr result (λ _. CallsInTurn R.answer (pattern_view self.now) (borrowed_texts texts.now)) }
     {
         for name in ComponentName::all() {
             if !self.get(name).matcher.accepts(alloc, texts.get(name))? {

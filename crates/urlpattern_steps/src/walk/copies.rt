@@ -2,13 +2,13 @@
 
 ghost use Rattle.std.specs.Prelude.{◌∷◌};
 ghost use Rattle.std.specs.Str.{chars};
-ghost use Rattle.urlpattern_steps.specs.Failed.{IsStateOf};
+ghost use Rattle.urlpattern_steps.specs.FailedStates.{IsStateOf};
 ghost use Rattle.urlpattern_steps.specs.Walk.{walk, walk_copies};
-ghost use Rattle.urlpattern_steps.specs.Taken.{AreFollowed};
+ghost use Rattle.urlpattern_steps.specs.Taken.{MatchesRestIfOk};
 
 use crate::repeats::{after_literals, first_steps, pass, skip_copies, without_copy};
-use crate::step::{Copies, Step};
-use crate::text_cuts::after_front;
+use crate::step::{RepeatedLiteral, Step};
+use crate::text_cuts::after_prefix;
 use crate::walk::{Attempt, Taken};
 use urlpattern_syntax::text::before;
 
@@ -16,24 +16,24 @@ impl<'t> Attempt<'_, 't> {
     /// Whether a repeated literal and the steps after it match the whole text. The greatest number
     /// of copies is tried first. On a match the captures are added.
     #[cycle(following)]
-    pub(super) fn follow_copies(
+    pub(super) fn match_copies(
         &mut self,
         ignore_case: bool,
-        copies: Copies,
+        copies: RepeatedLiteral,
         steps: &[Step],
         text: &'t str,
     ) -> Taken
         requires { IsStateOf ignore_case self.old.failed steps.now (chars text.now) }
-        ensures { AreFollowed self.old self.new result (walk ignore_case (Step.Copies copies ∷ steps.now) (chars text.now)) }
+        ensures { MatchesRestIfOk self.old self.new result (walk ignore_case (Step.RepeatedLiteral copies ∷ steps.now) (chars text.now)) }
     {
         let first = copies.text.first;
         let literal = first_steps(steps, copies.text.others);
         let others = pass(steps, copies.text.others);
-        if copies.may_be_missing {
-            return self.follow_any_copies(ignore_case, first, literal, others, text);
+        if copies.allows_zero {
+            return self.match_any_copies(ignore_case, first, literal, others, text);
         }
         match after_literals(text, first, literal, ignore_case) {
-            Some(rest) => self.follow_any_copies(ignore_case, first, literal, others, rest),
+            Some(rest) => self.match_any_copies(ignore_case, first, literal, others, rest),
             None => Ok(false),
         }
     }
@@ -42,7 +42,7 @@ impl<'t> Attempt<'_, 't> {
     /// greatest number is tried first. On a match the captures are added. The literal is `first`
     /// and the characters of the literal steps.
     #[cycle(following)]
-    fn follow_any_copies(
+    fn match_any_copies(
         &mut self,
         ignore_case: bool,
         first: char,
@@ -51,12 +51,12 @@ impl<'t> Attempt<'_, 't> {
         text: &'t str,
     ) -> Taken
         requires { IsStateOf ignore_case self.old.failed others.now (chars text.now) }
-        ensures { AreFollowed self.old self.new result (walk_copies ignore_case first literal.now others.now (chars text.now)) }
+        ensures { MatchesRestIfOk self.old self.new result (walk_copies ignore_case first literal.now others.now (chars text.now)) }
     {
         let rest = skip_copies(text, first, literal, ignore_case);
         let mut front = before(text, rest);
         loop {
-            if self.follow(ignore_case, others, after_front(text, front))? {
+            if self.match_rest(ignore_case, others, after_prefix(text, front))? {
                 return Ok(true);
             }
             let Some(shorter) = without_copy(front, literal) else {

@@ -2,13 +2,13 @@
 
 ghost use Rattle.std.specs.Prelude.{◌≡◌, ◌∷◌};
 ghost use Rattle.std.specs.Str.{chars};
-ghost use Rattle.urlpattern_steps.specs.Failed.{IsStateOf};
+ghost use Rattle.urlpattern_steps.specs.FailedStates.{IsStateOf};
 ghost use Rattle.urlpattern_steps.specs.Walk.{walk};
-ghost use Rattle.urlpattern_steps.specs.Taken.{AreFollowed};
+ghost use Rattle.urlpattern_steps.specs.Taken.{MatchesRestIfOk};
 
-use crate::run_ends::{longest_front, next_of_run, remember_run};
+use crate::run_ends::{longest_prefix, memoize_run, next_of_run};
 use crate::step::{Run, Step};
-use crate::text_cuts::{after_front, split_at_first, without_last};
+use crate::text_cuts::{after_prefix, split_at_first, without_last};
 use crate::walk::{Attempt, Taken};
 use urlpattern_syntax::text::before;
 
@@ -16,7 +16,7 @@ impl<'t> Attempt<'_, 't> {
     /// Whether the steps match the whole text, the first a nonempty run without `end`. The shortest
     /// run is tried first. On a match the captures are added.
     #[cycle(following)]
-    pub(super) fn follow_shortest(
+    pub(super) fn match_shortest_run(
         &mut self,
         ignore_case: bool,
         end: char,
@@ -25,24 +25,24 @@ impl<'t> Attempt<'_, 't> {
         text: &'t str,
     ) -> Taken
         requires state { IsStateOf ignore_case self.old.failed steps.now (chars text.now) }
-        requires first { steps.now ≡ Step.Segment end ∷ others.now }
-        ensures { AreFollowed self.old self.new result (walk ignore_case steps.now (chars text.now)) }
+        requires first { steps.now ≡ Step.LazyRun end ∷ others.now }
+        ensures { MatchesRestIfOk self.old self.new result (walk ignore_case steps.now (chars text.now)) }
     {
         let mut rest = text;
         while let Some((_, remaining)) = next_of_run(&self.failed, ignore_case, end, steps, rest) {
             rest = remaining;
-            if self.follow_captured(ignore_case, before(text, rest), others, rest)? {
+            if self.match_after_capture(ignore_case, before(text, rest), others, rest)? {
                 return Ok(true);
             }
         }
-        remember_run(&mut self.failed, ignore_case, end, steps, text);
+        memoize_run(&mut self.failed, ignore_case, end, steps, text);
         Ok(false)
     }
 
     /// Whether the steps match the whole text, the first a run without a line feed. The longest run
     /// is tried first. On a match the captures are added.
     #[cycle(following)]
-    pub(super) fn follow_longest(
+    pub(super) fn match_longest_run(
         &mut self,
         ignore_case: bool,
         steps: &[Step],
@@ -50,13 +50,13 @@ impl<'t> Attempt<'_, 't> {
         text: &'t str,
     ) -> Taken
         requires state { IsStateOf ignore_case self.old.failed steps.now (chars text.now) }
-        requires first { steps.now ≡ Step.Anything ∷ others.now }
-        ensures { AreFollowed self.old self.new result (walk ignore_case steps.now (chars text.now)) }
+        requires first { steps.now ≡ Step.DotStar ∷ others.now }
+        ensures { MatchesRestIfOk self.old self.new result (walk ignore_case steps.now (chars text.now)) }
     {
-        let mut front = longest_front(&self.failed, ignore_case, steps, text);
+        let mut front = longest_prefix(&self.failed, ignore_case, steps, text);
         loop {
-            let rest = after_front(text, front);
-            if self.follow_captured(ignore_case, front, others, rest)? {
+            let rest = after_prefix(text, front);
+            if self.match_after_capture(ignore_case, front, others, rest)? {
                 return Ok(true);
             }
             self.failed.insert(steps, rest);
@@ -70,7 +70,7 @@ impl<'t> Attempt<'_, 't> {
     /// Whether a run of characters and the steps match the whole text. The longest run is tried
     /// first. On a match the run and the captures of the steps are added.
     #[cycle(following)]
-    pub(super) fn follow_longest_run(
+    pub(super) fn match_greedy_run(
         &mut self,
         ignore_case: bool,
         run: Run,
@@ -78,18 +78,18 @@ impl<'t> Attempt<'_, 't> {
         text: &'t str,
     ) -> Taken
         requires { IsStateOf ignore_case self.old.failed steps.now (chars text.now) }
-        ensures { AreFollowed self.old self.new result (walk ignore_case (Step.Longest run ∷ steps.now) (chars text.now)) }
+        ensures { MatchesRestIfOk self.old self.new result (walk ignore_case (Step.GreedyRun run ∷ steps.now) (chars text.now)) }
     {
         let (mut front, _) = split_at_first(text, run.end, ignore_case);
         while let Some(shorter) = without_last(front) {
-            let rest = after_front(text, front);
-            if self.follow_captured(ignore_case, front, steps, rest)? {
+            let rest = after_prefix(text, front);
+            if self.match_after_capture(ignore_case, front, steps, rest)? {
                 return Ok(true);
             }
             front = shorter;
         }
         if run.may_be_empty {
-            self.follow_captured(ignore_case, front, steps, text)
+            self.match_after_capture(ignore_case, front, steps, text)
         } else {
             Ok(false)
         }

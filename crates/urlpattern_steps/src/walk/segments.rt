@@ -2,13 +2,13 @@
 
 ghost use Rattle.std.specs.Prelude.{◌∷◌, IfOk, OnOk};
 ghost use Rattle.std.specs.Str.{chars};
-ghost use Rattle.urlpattern_steps.specs.Failed.{IsStateOf};
+ghost use Rattle.urlpattern_steps.specs.FailedStates.{IsStateOf};
 ghost use Rattle.urlpattern_steps.specs.Walk.{walk};
-ghost use Rattle.urlpattern_steps.specs.Taken.{AreFollowed, IsEndHere, IsEndOfSegments, Untouched};
+ghost use Rattle.urlpattern_steps.specs.Taken.{MatchesRestIfOk, IsEndHere, IsEndOfSegments, Untouched};
 
-use crate::repeats::{begun_after, ends, first_steps, goes_on, pass};
+use crate::repeats::{end_if_continued, ends, entry_after_literal, first_steps, pass};
 use crate::step::{Segments, Step};
-use crate::text_cuts::{after_front, split_at_seam, without_last};
+use crate::text_cuts::{after_prefix, split_at_boundary, without_last};
 use crate::walk::{Attempt, Taken};
 use std::mem;
 use urlpattern_syntax::error::OutOfMemory;
@@ -17,7 +17,7 @@ impl<'t> Attempt<'_, 't> {
     /// Whether runs joined by a separator, and the steps after them, match the whole text. On a
     /// match one capture for all of the preferred runs and the captures of the steps are added.
     #[cycle(following)]
-    pub(super) fn follow_segments(
+    pub(super) fn match_segments(
         &mut self,
         ignore_case: bool,
         segments: Segments,
@@ -25,14 +25,14 @@ impl<'t> Attempt<'_, 't> {
         text: &'t str,
     ) -> Taken
         requires { IsStateOf ignore_case self.old.failed steps.now (chars text.now) }
-        ensures { AreFollowed self.old self.new result (walk ignore_case (Step.Segments segments ∷ steps.now) (chars text.now)) }
+        ensures { MatchesRestIfOk self.old self.new result (walk ignore_case (Step.Segments segments ∷ steps.now) (chars text.now)) }
     {
         let literal = first_steps(steps, segments.separator.others);
         let others = pass(steps, segments.separator.others);
         match self.end_of_segments(ignore_case, segments, literal, others, text)? {
             Some(count) => {
-                let (front, rest) = split_at_seam(text, count);
-                self.follow_captured(ignore_case, front, others, rest)
+                let (front, rest) = split_at_boundary(text, count);
+                self.match_after_capture(ignore_case, front, others, rest)
             }
             None => Ok(false),
         }
@@ -59,10 +59,16 @@ impl<'t> Attempt<'_, 't> {
         let mut later = None;
         let mut front = text;
         loop {
-            let rest = after_front(text, front);
-            let next = begun_after(&begun, segments.separator.first, literal, ignore_case, rest);
+            let rest = after_prefix(text, front);
+            let next = entry_after_literal(
+                &begun,
+                segments.separator.first,
+                literal,
+                ignore_case,
+                rest,
+            );
             let stopping = self.end_here(ignore_case, others, next, front.len(), rest)?;
-            let onward = goes_on(rest, segments.end, ignore_case, later);
+            let onward = end_if_continued(rest, segments.end, ignore_case, later);
             let (beginning, either) = ends(segments.is_greedy, onward, stopping);
             let Some(shorter) = without_last(front) else {
                 return Ok(beginning);
@@ -93,7 +99,7 @@ impl<'t> Attempt<'_, 't> {
         }
         let alloc = *self.captures.allocator();
         let captures = mem::replace(&mut self.captures, Vec::new(alloc));
-        let is_taken = self.follow(ignore_case, steps, rest)?;
+        let is_taken = self.match_rest(ignore_case, steps, rest)?;
         self.captures = captures;
         if is_taken { Ok(Some(here)) } else { Ok(None) }
     }

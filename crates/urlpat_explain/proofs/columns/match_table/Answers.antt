@@ -3,7 +3,7 @@ use Rattle.std.proofs.lemmas.Str.{encode_ascii}
 use Rattle.std.specs.Borrow.{Bor}
 use Rattle.std.specs.Str.{chars}
 use Rattle.urlpat_explain.proofs.RowLemmas.{pieces-more, row-of}
-use Rattle.urlpat_explain.specs.Rows.{HasPieceForEach, IsMatchRow, IsVerdict, column, front_cells, pattern_cell, text_cell, widest}
+use Rattle.urlpat_explain.specs.Rows.{HasPieceForEach, IsMatchRow, IsVerdict, column, leading_cells, pattern_cell, text_cell, widest}
 use Rattle.urlpat_explain.specs.declared.columns.TheConstants.{NAME_WIDTH}
 use Rattle.urlpattern_matcher.specs.Components.{component_view}
 use Rattle.urlpattern_matcher.specs.declared.component.Component.{Component}
@@ -29,7 +29,7 @@ loop-name-preserved c =
     let by_text = subst (λ (text : List ℕ). IsVerdict (pattern name) text verdict)
     (ap (λ (text : Bor (List ℕ)). chars text.now) c.get-in-loop-name.ensures ∙ sym (at-each (λ other. chars (at lent other).now) name)) by_component in
     pieces-more (IsMatchRow pattern texts) names c.loop-name.name-index (string_bytes c.loop-name.table) (string_bytes c.push.new.self)
-    (front_cells pattern texts name ++ verdict ++ codes "\n") within c.loop-name.invariant
+    (leading_cells pattern texts name ++ verdict ++ codes "\n") within c.loop-name.invariant
     (row-of (string_bytes c.loop-name.table) _ _ _ _ _ (column NAME_WIDTH (name_text name)) (column (widest (pattern_cell pattern)) (pattern_cell pattern name))
     (column (widest (text_cell texts)) (text_cell texts name)) verdict
     (c.in_ok-push_column.ensures ∙ ap (λ (text : List ℕ). string_bytes c.loop-name.table ++ column NAME_WIDTH text) c.as_str.ensures)

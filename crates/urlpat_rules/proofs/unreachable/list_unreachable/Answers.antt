@@ -20,4 +20,4 @@ returns-clause-quiet g c = λ answered.
       c.in-Some-read_table.ensures.table,
       subst (λ t. HasDoubts t base) c.deref.ensures.value has,
     ))
-    (c.tell_unreachable-status.ensures.quiet answered)
+    (c.print_unreachable-status.ensures.quiet answered)

@@ -7,7 +7,7 @@ use Rattle.urlpattern_laws.proofs.CustomLaws.{pattern_matchers_capture, pattern_
 use Rattle.urlpattern_laws.proofs.FirstOfTrees.{first_of_tree}
 use Rattle.urlpattern_engine.proofs.RegexMatchers.{taken_first}
 use Rattle.urlpattern_engine.proofs.EngineLaws.{taken_first as taken_by_pattern_regexp_first}
-use Rattle.urlpattern_meaning.proofs.FirstAnswers.{first_one, matcher_first}
+use Rattle.urlpattern_meaning.proofs.FirstResults.{first_one, matcher_first}
 use Rattle.urlpattern_meaning.proofs.MatcherMeaning.{matcher_means}
 use Rattle.urlpattern_meaning.proofs.OutcomesExist.{outcome_listed}
 use Rattle.urlpattern_meaning.proofs.OneMeaning.{each_tree_means, one_meaning}

@@ -2,7 +2,7 @@ use Rattle.std.proofs.Common.{◌≤◌, subst, sym, take_all}
 use Rattle.std.proofs.lemmas.List.{length-map}
 use Rattle.std.specs.List.{All}
 use Rattle.urlpattern_compare.proofs.ShadowedLemmas.{all_more, all_now, now, now_at}
-use Rattle.urlpattern_compare.specs.Comparing.{IsNotKnownToCover, Tells}
+use Rattle.urlpattern_compare.specs.Comparing.{IsNotKnownToCover, DecidesCovering}
 use Rattle.urlpattern_compare.proofs.shadowed.first_covering.Goals as goal
 
 pub loop-index-preserved : goal.loop-index-preserved
@@ -13,7 +13,7 @@ loop-index-preserved c =
     let pattern = c.index-patterns-index.result in
     let there = now_at patterns i pattern c.loop-index-test.true c.index-patterns-index.is in
     all_more (IsNotKnownToCover asked) (all_now patterns) i pattern.now there c.loop-index.invariant
-    (subst (Tells pattern.now asked) c.if-covers.false c.in_ok-covers.ensures)
+    (subst (DecidesCovering pattern.now asked) c.if-covers.false c.in_ok-covers.ensures)
 
 pub returns-then-covers : goal.returns-then-covers
 returns-then-covers c =
@@ -22,7 +22,7 @@ returns-then-covers c =
       (
         pattern.now,
         now_at patterns c.loop-index.index pattern c.loop-index-test.true c.index-patterns-index.is,
-        subst (Tells pattern.now c.args.asked.now) c.if-covers.true c.in_ok-covers.ensures,
+        subst (DecidesCovering pattern.now c.args.asked.now) c.if-covers.true c.in_ok-covers.ensures,
       ),
       c.loop-index.invariant,
     )

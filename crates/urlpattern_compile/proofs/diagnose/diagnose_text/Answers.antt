@@ -2,11 +2,11 @@ use Rattle.std.proofs.Common.{◌≡◌, [], Ok, sym, ◌∙◌, refl, subst, in
 use Rattle.std.specs.Prelude.{option_copied, string_bytes, unwrap_or}
 use Rattle.std.specs.Str.{chars}
 use Rattle.urlpattern_canonical.specs.Canonical.{Reports}
-use Rattle.urlpattern_init.specs.ConstructorString.{RefusesString}
+use Rattle.urlpattern_init.specs.ConstructorString.{RejectsString}
 use Rattle.urlpattern_compile.specs.Diagnoses.{ShowsText}
 use Rattle.urlpattern_diagnosis.specs.declared.diagnosis.Subject.{Subject}
 use Rattle.urlpattern_canonical.specs.BaseUrls.{parsed_base, text_bytes}
-use Rattle.urlpattern_compile.specs.FromString.{IsInitOfText, RefusesPatternOfText, RefusesSplit}
+use Rattle.urlpattern_compile.specs.FromString.{IsInitOfText, RejectsPatternOfText, RejectsSplit}
 use Rattle.urlpattern_compile.proofs.DiagnosisLemmas.{init_accepted, init_shown, is_other, protocol_shown, shows_all, text-or_nothing}
 use Rattle.urlpattern_syntax.specs.declared.error.Error.{Error}
 use Rattle.urlpattern_syntax.specs.Errors.{error_view}
@@ -17,9 +17,9 @@ use Rattle.urlpattern_compile.proofs.diagnose.diagnose_text.Goals.{After-init_di
 pub returns-in-Err-parse_constructor_string-clause-refused : goal.returns-in-Err-parse_constructor_string-clause-refused
 returns-in-Err-parse_constructor_string-clause-refused g c =
     let text = chars c.args.pattern.now in
-    let refused = is_other (RefusesString text c.in-Ok.base) c.in-Err-parse_constructor_string.error c.in_ok-error-in-Err-parse_constructor_string.error
+    let refused = is_other (RejectsString text c.in-Ok.base) c.in-Err-parse_constructor_string.error c.in_ok-error-in-Err-parse_constructor_string.error
     c.in-Err-parse_constructor_string.ensures.refused c.in_ok-error-in-Err-parse_constructor_string.ensures in
-    subst (λ (error : Error). RefusesPatternOfText g.R.RegExp text (option_copied c.args.base_url) c.args.options (error_view error))
+    subst (λ (error : Error). RejectsPatternOfText g.R.RegExp text (option_copied c.args.base_url) c.args.options (error_view error))
     (sym c.in_ok-protocol_diagnosis-in-Err-parse_constructor_string.ensures.error) (inl (inr (c.in-Ok.base, c.in-Ok.ensures.ok, refused)))
 
 pub returns-in-Err-parse_constructor_string-clause-shows : goal.returns-in-Err-parse_constructor_string-clause-shows
@@ -28,10 +28,10 @@ returns-in-Err-parse_constructor_string-clause-shows g c =
     let is = c.in_ok-protocol_diagnosis-in-Err-parse_constructor_string.ensures in
     let text = chars c.args.pattern.now in
     let base = option_copied c.args.base_url in
-    let refused = is_other (RefusesString text c.in-Ok.base) c.in-Err-parse_constructor_string.error c.in_ok-error-in-Err-parse_constructor_string.error
+    let refused = is_other (RejectsString text c.in-Ok.base) c.in-Err-parse_constructor_string.error c.in_ok-error-in-Err-parse_constructor_string.error
     c.in-Err-parse_constructor_string.ensures.refused c.in_ok-error-in-Err-parse_constructor_string.ensures in
     protocol_shown g.R.RegExp c.args.pattern.now base c.args.options made.subject made is.text
-    (subst (λ (error : Error). RefusesSplit text base (error_view error)) (sym is.error) (c.in-Ok.base, c.in-Ok.ensures.ok, refused)) is.shows
+    (subst (λ (error : Error). RejectsSplit text base (error_view error)) (sym is.error) (c.in-Ok.base, c.in-Ok.ensures.ok, refused)) is.shows
 
 -- The init is that of the text.
 is_init : (g : given.Over) (c : After-init_diagnosis-found g) → IsInitOfText g.R.RegExp (chars c.args.pattern.now) (option_copied c.args.base_url) c.in-Ok-parse_constructor_string.init

@@ -1,9 +1,9 @@
 use Rattle.std.proofs.Common.{◌≡◌, ◌-◌, length, refl, sym, ap, ◌∙◌, subst}
 use Rattle.std.specs.Str.{chars}
-use Rattle.urlpattern_diagnosis.specs.Faults.{IsAlone}
+use Rattle.urlpattern_diagnosis.specs.Faults.{IsSingleSpan}
 use Rattle.urlpattern_diagnosis.specs.Spans.{IsSpanAt}
 use Rattle.urlpattern_diagnosis.proofs.TokenFaultLemmas.{body_faulty, body_found, ends_from, escape_found}
-use Rattle.urlpattern_meaning.proofs.FrontTokens.{no_fault}
+use Rattle.urlpattern_meaning.proofs.BodyStartTokens.{no_fault}
 use Rattle.urlpattern_syntax.specs.Tokens.{IsFaultAt, fault_view, regex_fault_text}
 use Rattle.urlpattern_diagnosis.proofs.token.token_fault.Goals as goal
 
@@ -21,7 +21,7 @@ pub returns-in-IncompleteEscapeCode-clause-fault : goal.returns-in-IncompleteEsc
 returns-in-IncompleteEscapeCode-clause-fault c =
     let text = c.args.text.now in
     escape_found c.args.component text c.args.place (fault_view c.args.fault.now) c.requires c.of_span.result c.utf8.text (ap fault_view c.in-IncompleteEscapeCode.is)
-    (subst (IsAlone (IsSpanAt text (length text - 1) 1)) (sym c.of_span.ensures) (subst (λ start. IsSpanAt text start 1 c.at.result) c.saturating_sub.ensures c.at.ensures.at, refl))
+    (subst (IsSingleSpan (IsSpanAt text (length text - 1) 1)) (sym c.of_span.ensures) (subst (λ start. IsSpanAt text start 1 c.at.result) c.saturating_sub.ensures c.at.ensures.at, refl))
 
 pub returns-in-Some-clause-fault : goal.returns-in-Some-clause-fault
 returns-in-Some-clause-fault c =

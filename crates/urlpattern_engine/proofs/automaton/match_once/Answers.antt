@@ -3,7 +3,7 @@ use Rattle.std.proofs.lemmas.Str.{scalars-chars}
 use Rattle.std.specs.Prelude.{IfOk}
 use Rattle.std.specs.Str.{chars}
 use Rattle.urlpattern_meaning.specs.CaptureTexts.{captures_view}
-use Rattle.urlpattern_engine.proofs.ReadAnswers.{regex_as_read}
+use Rattle.urlpattern_engine.proofs.GrammarResults.{regex_as_read}
 use Rattle.urlpattern_engine.proofs.automaton.match_once.Goals as goal
 
 pub returns-in-Ok : goal.returns-in-Ok

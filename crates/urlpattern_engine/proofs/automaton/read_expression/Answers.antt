@@ -1,7 +1,7 @@
 use Rattle.std.proofs.Common.{subst}
 use Rattle.regex_syntax.specs.Verdict.{Refuses}
 use Rattle.regex_syntax.specs.declared.Config.{Config}
-use Rattle.urlpattern_engine.proofs.RefusalLemmas.{unreadable_of_refused}
+use Rattle.urlpattern_engine.proofs.RejectionLemmas.{unreadable_of_refused}
 use Rattle.urlpattern_engine.proofs.automaton.read_expression.Goals.{in-OutOfMemory, in_default}
 use Rattle.urlpattern_engine.proofs.automaton.read_expression.Goals as goal
 

@@ -4,7 +4,7 @@ use Rattle.regex_syntax.specs.Verdict.{Refuses}
 use Rattle.regex_syntax.specs.declared.Config.{Config}
 use Rattle.regex_syntax.specs.declared.error.ErrorKind.TheVariants.{OutOfMemory}
 use Rattle.urlpattern_engine.specs.Automatons.{config_for}
-use Rattle.urlpattern_engine.proofs.RefusalLemmas.{unreadable_of_refused}
+use Rattle.urlpattern_engine.proofs.RejectionLemmas.{unreadable_of_refused}
 use Rattle.urlpattern_engine.proofs.automaton.regex_of.Goals as goal
 
 pub returns-in-Err-Syntax-clause-refused : goal.returns-in-Err-Syntax-clause-refused

@@ -2,7 +2,7 @@ use Rattle.std.proofs.Common.{subst, sym}
 use Rattle.std.specs.Prelude.{ℕ, List, Option}
 use Rattle.std.specs.Str.{chars}
 use Rattle.urlpattern.specs.Errors.{MemoryOr}
-use Rattle.urlpattern.specs.FromString.{RefusesPatternOfText}
+use Rattle.urlpattern.specs.FromString.{RejectsPatternOfText}
 use Rattle.urlpattern_ffi.specs.Calls.{c_options, IsAdded, IsCompiledFromText, KeepsItsParts}
 use Rattle.urlpattern_ffi.specs.KeptPatterns.{boxed_patterns}
 use Rattle.urlpattern_engine.specs.PatternRegexps.{pattern_engine}
@@ -21,7 +21,7 @@ returns-in-Ok-compiled c =
 pub returns-in-Err : goal.returns-in-Err
 returns-in-Err c =
     let old = boxed_patterns c.args.kept.now in
-    let Why = λ (bytes : List ℕ) (url : Option (List ℕ)). MemoryOr (RefusesPatternOfText pattern_engine (chars bytes) url (c_options c.args.ignore_case)) c.in-Err.error in
+    let Why = λ (bytes : List ℕ) (url : Option (List ℕ)). MemoryOr (RejectsPatternOfText pattern_engine (chars bytes) url (c_options c.args.ignore_case)) c.in-Err.error in
     let why = of_texts Why c.args.text.now c.args.base.now c.in-Ok.text.now c.in-Ok-from_utf8.base.now _
     c.in-Ok.ensures.cases.0 c.in-Ok-from_utf8.ensures.cases.0 c.given_base.ensures c.in-Err.ensures.refused in
     subst (λ status. IsAdded old c.args.text.now c.args.base.now c.args.ignore_case old status) (sym c.status_of_error-status.ensures)

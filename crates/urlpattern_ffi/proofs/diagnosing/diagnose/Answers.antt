@@ -2,7 +2,7 @@ use Rattle.std.proofs.Common.{◌∙◌, ap, refl, subst}
 use Rattle.std.specs.Prelude.{ℕ, List, Option, option_copied, string_bytes}
 use Rattle.std.specs.Str.{chars}
 use Rattle.urlpattern.specs.Errors.{error_view}
-use Rattle.urlpattern.specs.FromString.{RefusesPatternOfText}
+use Rattle.urlpattern.specs.FromString.{RejectsPatternOfText}
 use Rattle.urlpattern_ffi.specs.Calls.{given_base, c_options}
 use Rattle.urlpattern_ffi.specs.ReportedDiagnoses.{place_of_diagnosis}
 use Rattle.urlpattern_compile.specs.Diagnoses.{ShowsGiven}
@@ -14,7 +14,7 @@ use Rattle.urlpattern_ffi.proofs.diagnosing.diagnose.Goals as goal
 pub returns-in-Ok-Some : goal.returns-in-Ok-Some
 returns-in-Ok-Some c =
     let found = c.in-Ok-Some.diagnosis in
-    let Refuses = λ (bytes : List ℕ) (url : Option (List ℕ)) (asked : UrlPatternOptions). RefusesPatternOfText pattern_engine (chars bytes) url asked (error_view found.error) in
+    let Refuses = λ (bytes : List ℕ) (url : Option (List ℕ)) (asked : UrlPatternOptions). RejectsPatternOfText pattern_engine (chars bytes) url asked (error_view found.error) in
     let base = c.given_base.ensures ∙ ap given_base c.in-Ok-from_utf8.ensures.cases.0 in
     let given = rw c.in-Ok-Some.field-0-is at c.in-Ok-Some.ensures.refused in
     let asked = subst (λ asked. Refuses c.in-Ok.text.now (option_copied c.given_base.result) asked) c.options-options.ensures given in

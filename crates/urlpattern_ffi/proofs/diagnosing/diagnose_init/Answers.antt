@@ -2,7 +2,7 @@ use Rattle.std.proofs.Common.{◌∙◌, ap, refl, subst}
 use Rattle.std.specs.Prelude.{string_bytes}
 use Rattle.urlpattern.specs.Errors.{error_view}
 use Rattle.urlpattern_ffi.specs.ReportedDiagnoses.{place_of_diagnosis}
-use Rattle.urlpattern_compile.specs.Compiled.{RefusesInit}
+use Rattle.urlpattern_compile.specs.Compiled.{RejectsInit}
 use Rattle.urlpattern_compile.specs.Diagnoses.{ShowsInit}
 use Rattle.urlpattern_engine.specs.PatternRegexps.{pattern_engine}
 use Rattle.urlpattern_inputs.specs.declared.options.UrlPatternOptions.{UrlPatternOptions}
@@ -13,7 +13,7 @@ pub returns-in-Ok-Some : goal.returns-in-Ok-Some
 returns-in-Ok-Some c =
     let found = c.in-Ok-Some.diagnosis in
     let given = rw c.in-Ok-Some.field-0-is at c.in-Ok-Some.ensures.refused in
-    let why = subst (λ (asked : UrlPatternOptions). RefusesInit pattern_engine c.in-Ok.init asked (error_view found.error)) c.options.ensures given in
+    let why = subst (λ (asked : UrlPatternOptions). RejectsInit pattern_engine c.in-Ok.init asked (error_view found.error)) c.options.ensures given in
     let shown = subst (λ (asked : UrlPatternOptions). ShowsInit pattern_engine c.in-Ok.init asked found) c.options.ensures (rw c.in-Ok-Some.field-0-is at c.in-Ok-Some.ensures.shows) in
     init_diagnosed c.args.json.now c.args.ignore_case c.write_diagnosis.new.place
     (string_bytes found.reason) c.args.buffer.now c.write_diagnosis.new.buffer c.write_diagnosis.new.needed c.write_diagnosis.result

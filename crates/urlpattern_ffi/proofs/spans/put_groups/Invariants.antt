@@ -1,5 +1,5 @@
 use Rattle.std.proofs.Common.{◌≡◌, ◌++◌, ◌-◌, List}
-use Rattle.urlpattern_ffi.specs.GroupSpans.{NumberedGroup, numbered, ArePut}
+use Rattle.urlpattern_ffi.specs.GroupSpans.{NumberedGroup, numbered, AreWrittenAt}
 use Rattle.urlpattern_matches.specs.BorrowedMatches.{groups_left}
 use Rattle.urlpattern_ffi.proofs.spans.put_groups.Given as goal
 
@@ -8,4 +8,4 @@ abbrev pub invariant-loop-capture : goal.invariant-loop-capture
 invariant-loop-capture l =
     (done : List NumberedGroup)
     × (done ++ numbered l.component (l.sizes.spans - l.from.spans) (groups_left l.capture-iterator) ≡ numbered l.component 0 (groups_left l.fn.groups))
-    × ArePut done l.from l.sizes l.initial.buffer l.buffer l.initial.spans l.spans
+    × AreWrittenAt done l.from l.sizes l.initial.buffer l.buffer l.initial.spans l.spans

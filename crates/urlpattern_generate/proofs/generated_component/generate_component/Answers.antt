@@ -2,8 +2,8 @@ use Rattle.std.proofs.Common.{ap, subst, sym}
 use Rattle.std.specs.Str.{chars}
 use Rattle.urlpattern_matcher.specs.Matchers.{matcher_view}
 use Rattle.urlpattern_generate.proofs.GeneratingLemmas.{told_canonical, told_found}
-use Rattle.urlpattern_generate.specs.Generating.{TellsFound}
-use Rattle.urlpattern_generate.specs.Manners.{given_groups, manner_for}
+use Rattle.urlpattern_generate.specs.Generating.{DecidesFound}
+use Rattle.urlpattern_generate.specs.WriteSettings.{given_groups, settings_for}
 use Rattle.urlpattern_generate.specs.WrittenTexts.{IsWritten}
 use Rattle.urlpattern_syntax.specs.ComponentParts.{kept_options, kept_parts}
 use Rattle.urlpattern_syntax.specs.Text.{text_of}
@@ -12,13 +12,13 @@ use Rattle.urlpattern_generate.proofs.generated_component.generate_component.Goa
 pub returns-then-branch-2-clause-generated : goal.returns-then-branch-2-clause-generated
 returns-then-branch-2-clause-generated g c =
     let parts = kept_parts c.args.kept.now in
-    let manner = manner_for c.args.component (kept_options c.args.kept.now) parts (given_groups c.args.groups.now) in
+    let settings = settings_for c.args.component (kept_options c.args.kept.now) parts (given_groups c.args.groups.now) in
     let answer = g.R.RegExp.answer in
     let matcher = matcher_view c.args.matcher.now in
     let own = c.in_ok-text-in-Ok.text in
     record {
-      is_written = subst (IsWritten manner parts) (sym (ap chars c.in_ok-text-in-Ok.ensures.ok)) c.in-Ok.ensures.written;
-      is_found = told_found answer matcher manner parts (text_of own) c.in_ok-confirms.field-0 c.if-branch.true
-          (subst (λ bytes. TellsFound c.in_ok-confirms.field-0 answer matcher manner parts (chars bytes)) c.deref.ensures c.in_ok-confirms.ensures);
-      is_canonical = told_canonical manner.canonical c.in_ok-is_canonical.field-0 c.deref-then-branch.result.now (text_of own) c.if-branch-2.true (ap chars c.deref-then-branch.ensures) c.in_ok-is_canonical.ensures;
+      is_written = subst (IsWritten settings parts) (sym (ap chars c.in_ok-text-in-Ok.ensures.ok)) c.in-Ok.ensures.written;
+      is_found = told_found answer matcher settings parts (text_of own) c.in_ok-confirms.field-0 c.if-branch.true
+          (subst (λ bytes. DecidesFound c.in_ok-confirms.field-0 answer matcher settings parts (chars bytes)) c.deref.ensures c.in_ok-confirms.ensures);
+      is_canonical = told_canonical settings.canonical c.in_ok-is_canonical.field-0 c.deref-then-branch.result.now (text_of own) c.if-branch-2.true (ap chars c.deref-then-branch.ensures) c.in_ok-is_canonical.ensures;
     }

@@ -1,6 +1,6 @@
 use Rattle.std.proofs.Common.{◌≡◌, drop}
 use Rattle.std.specs.Str.{chars}
-use Rattle.urlpattern_generate.specs.Manners.{given_groups, text_given}
+use Rattle.urlpattern_generate.specs.WriteSettings.{given_groups, text_given}
 use Rattle.urlpattern_generate.proofs.given_groups.given_text.Given as goal
 
 -- None of the groups so far is the one.

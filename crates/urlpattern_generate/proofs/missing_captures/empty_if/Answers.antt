@@ -1,5 +1,5 @@
 use Rattle.std.proofs.Common.{◌∙◌, Some, ap, sym}
-use Rattle.urlpattern_generate.specs.Asked.{empty_if}
+use Rattle.urlpattern_generate.specs.Requested.{empty_if}
 use Rattle.urlpattern_syntax.proofs.TextLemmas.{chars_nothing}
 use Rattle.urlpattern_generate.proofs.missing_captures.empty_if.Goals as goal
 

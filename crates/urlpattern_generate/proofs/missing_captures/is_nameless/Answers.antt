@@ -1,7 +1,7 @@
 use Rattle.std.proofs.Common.{◌≡◌, ◌∙◌, ap, rules}
 use Rattle.std.specs.Char.{is_ascii_digit}
 use Rattle.std.specs.Str.{chars}
-use Rattle.urlpattern_generate.proofs.AskedLemmas.{full_nameless, other_nameless}
+use Rattle.urlpattern_generate.proofs.RequestedLemmas.{full_nameless, other_nameless}
 use Rattle.urlpattern_generate.proofs.missing_captures.is_nameless.Goals as goal
 use Rattle.urlpattern_syntax.specs.declared.parser.PartType.TheVariants.{FullWildcard}
 use Rattle.urlpattern_syntax.specs.Text.{begins_with, text_of}

@@ -30,7 +30,7 @@ returns-then-not-read_part c =
     left_segments path c.read_part.new.self c.read_part.ensures.open
     (λ text fits.
     let (rest, read, more) = c.loop-part.invariant.are_read text fits in
-    let (first, others, cut, fits_part, fits_others) = subst (λ (parts : List PartView). FitsParts path.is_whole path.delimiter parts rest) next more in
+    let (first, others, cut, fits_part, fits_others) = subst (λ (parts : List PartView). FitsParts path.is_exact path.delimiter parts rest) next more in
     subst (λ all. ReadsTo all c.read_part.new.self text others) c.if-not-read_part.true
     (c.read_part.ensures.read text first others fits_part (subst (IsReadTo c.loop-part.segments text) cut read)))
 

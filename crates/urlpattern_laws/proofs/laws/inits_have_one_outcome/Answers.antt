@@ -7,18 +7,18 @@ use Rattle.urlpattern_engine.proofs.EngineLaws.{taken_first}
 use Rattle.urlpattern_engine.specs.PatternRegexps.{pattern_engine}
 use Rattle.urlpattern_laws.proofs.InitOutcomesExist.{init_outcome, inits_have_values}
 use Rattle.urlpattern_laws.proofs.OutcomesOne.{first_ways_decide, init_refusal_one, pattern_or_refusal}
-use Rattle.urlpattern_laws.specs.Outcomes.{TakesOrRefusesGenerated}
+use Rattle.urlpattern_laws.specs.Outcomes.{NeverAcceptsAndRejectsGenerated}
 use Rattle.urlpattern_laws.proofs.laws.inits_have_one_outcome.Goals as goal
 
 -- The regular expression of parts without a custom one is never rejected.
-takes_generated : TakesOrRefusesGenerated pattern_engine
-takes_generated manner none = record {
+takes_generated : NeverAcceptsAndRejectsGenerated pattern_engine
+takes_generated settings none = record {
   whole = λ parts reads value error taken refused. elim refused [
-    | inl is ↦ is.1.0 (manner.options, parts, none parts reads, refl)
+    | inl is ↦ is.1.0 (settings.options, parts, none parts reads, refl)
     | inr again ↦ (let never : false ≡ true = again.0 in cc never)
   ];
   of_matcher = λ parts before middle after reads cut value error taken refused.
-      refused.1.0 (manner.options, middle, all_right before middle (all_left (before ++ middle) after (subst (λ (ps : List PartView). All IsNotCustom ps) cut (none parts reads))), refl);
+      refused.1.0 (settings.options, middle, all_right before middle (all_left (before ++ middle) after (subst (λ (ps : List PartView). All IsNotCustom ps) cut (none parts reads))), refl);
 }
 
 pub returns-clause-not_both : goal.returns-clause-not_both

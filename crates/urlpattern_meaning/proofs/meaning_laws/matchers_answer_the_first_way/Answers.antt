@@ -1,4 +1,4 @@
-use Rattle.urlpattern_meaning.proofs.FirstAnswers.{first_agrees, first_one, matcher_first}
+use Rattle.urlpattern_meaning.proofs.FirstResults.{first_agrees, first_one, matcher_first}
 use Rattle.urlpattern_meaning.proofs.meaning_laws.matchers_answer_the_first_way.Goals as goal
 
 pub returns-clause-first : goal.returns-clause-first

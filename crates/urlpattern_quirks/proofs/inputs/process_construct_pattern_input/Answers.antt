@@ -2,7 +2,7 @@ use Rattle.std.proofs.Common.{List, ℕ, subst}
 use Rattle.std.specs.Prelude.{IfErr, IfOk, option_copied}
 use Rattle.std.specs.Str.{chars}
 use Rattle.urlpattern_compile.specs.FromString.{IsInitOfText}
-use Rattle.urlpattern_quirks.specs.Inputs.{RefusesText}
+use Rattle.urlpattern_quirks.specs.Inputs.{RejectsText}
 use Rattle.urlpattern_matcher.specs.Regexes.{regex_engine}
 use Rattle.urlpattern_syntax.specs.Errors.{MemoryOr}
 use Rattle.urlpattern_quirks.proofs.inputs.process_construct_pattern_input.Goals as goal
@@ -16,5 +16,5 @@ returns-in-String-clause-constructed c =
 pub returns-in-String-clause-refused : goal.returns-in-String-clause-refused
 returns-in-String-clause-refused c =
     rw c.in-String.is
-    (subst (λ (bytes : List ℕ). IfErr c.init_of_text.result (MemoryOr (RefusesText (chars bytes) (option_copied c.args.base_url)))) c.as_str.ensures.value
+    (subst (λ (bytes : List ℕ). IfErr c.init_of_text.result (MemoryOr (RejectsText (chars bytes) (option_copied c.args.base_url)))) c.as_str.ensures.value
     c.init_of_text.ensures.refused)

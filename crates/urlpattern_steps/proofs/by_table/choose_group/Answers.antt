@@ -1,6 +1,6 @@
 use Rattle.std.proofs.Common.{◌≡◌, None, refl, sym, ap, ◌∙◌, subst}
 use Rattle.std.specs.Str.{chars}
-use Rattle.urlpattern_steps.specs.Failed.{EndsWith}
+use Rattle.urlpattern_steps.specs.FailedStates.{EndsWith}
 use Rattle.urlpattern_steps.specs.Walk.{walk}
 use Rattle.urlpattern_steps.specs.Taken.{with_captures}
 use Rattle.urlpattern_steps.proofs.FailedLemmas.{ends_drop}
@@ -13,9 +13,9 @@ returns-clause-chosen c = λ ignore_case row.
     let others = c.args.others.now in
     let text = chars c.args.text.now in
     let old = c.args.captures.now.items in
-    let new = c.add_missing.new.captures.items in
+    let new = c.push_unmatched.new.captures.items in
     let none : walk ignore_case others text ≡ None = none_of (walk ignore_case others text) (sym (c.is_taken.ensures ignore_case row) ∙ c.if-is_taken.false) in
-    plus_maybe ignore_case old old new c.args.group others text none refl c.in_ok-add_missing.ensures
+    plus_maybe ignore_case old old new c.args.group others text none refl c.in_ok-push_unmatched.ensures
     ∙ ap (λ l. with_captures new (walk ignore_case l text)) (sym c.pass.ensures)
 
 pub returns-clause-end : goal.returns-clause-end

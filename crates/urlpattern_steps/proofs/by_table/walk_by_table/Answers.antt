@@ -4,7 +4,7 @@ use Rattle.std.specs.Prelude.{IfSome}
 use Rattle.std.specs.Str.{chars, IsUtf8}
 use Rattle.urlpattern_syntax.proofs.TextLemmas.{chars-empty, chars-some}
 use Rattle.urlpattern_steps.specs.declared.step.Step.{Step}
-use Rattle.urlpattern_steps.specs.Failed.{EndsWith}
+use Rattle.urlpattern_steps.specs.FailedStates.{EndsWith}
 use Rattle.urlpattern_steps.specs.Walk.{walk}
 use Rattle.urlpattern_steps.specs.Table.{IsRow, following, row_at}
 use Rattle.urlpattern_steps.specs.Taken.{with_captures}
@@ -13,8 +13,8 @@ use Rattle.urlpattern_steps.proofs.FollowLemmas.{end_taken}
 use Rattle.urlpattern_steps.proofs.TableLemmas.{row_within}
 use Rattle.urlpattern_steps.proofs.by_table.walk_by_table.Goals as goal
 
-pub take_front-requires-clause-row : goal.take_front-requires-clause-row
-take_front-requires-clause-row c =
+pub match_prefix-requires-clause-row : goal.match_prefix-requires-clause-row
+match_prefix-requires-clause-row c =
     let others = c.in-Some.others.now in
     let after = following c.in-Some.step.now others in
     let rest = chars c.loop-step.rest.now in
@@ -24,8 +24,8 @@ take_front-requires-clause-row c =
     let is = row_within c.args.ignore_case (chars c.args.text.now) rest c.args.steps.now after c.in_ok-rows.rows.items c.deref-in-Literal.result.now c.in_ok-rows.ensures further c.loop-step.invariant.of_text c.deref-in-Literal.ensures.value in
     subst (λ r. IsRow c.args.ignore_case rest after r) (sym (c.row_for-row.ensures ∙ ap (λ (l : List Step). row_at c.deref-in-Literal.result.now (length l)) c.following.ensures)) is
 
-pub loop-step-preserved-in-Maybe-1 : goal.loop-step-preserved-in-Maybe-1
-loop-step-preserved-in-Maybe-1 c =
+pub loop-step-preserved-in-OptionalGroup-1 : goal.loop-step-preserved-in-OptionalGroup-1
+loop-step-preserved-in-OptionalGroup-1 c =
     let others = c.in-Some.others.now in
     let now = c.loop-step.captures.items in
     let rest = chars c.loop-step.rest.now in
@@ -34,10 +34,10 @@ loop-step-preserved-in-Maybe-1 c =
     let row = row_within c.args.ignore_case (chars c.args.text.now) rest c.args.steps.now others c.in_ok-rows.rows.items c.deref.result.now c.in_ok-rows.ensures ends c.loop-step.invariant.of_text c.deref.ensures.value in
     record {
       is_text = c.loop-step.invariant.is_text;
-      of_steps = ends_longer c.args.steps.now others c.in_ok-left-in-Maybe.left.now ends c.in_ok-left-in-Maybe.ensures.end;
+      of_steps = ends_longer c.args.steps.now others c.in_ok-left-in-OptionalGroup.left.now ends c.in_ok-left-in-OptionalGroup.ensures.end;
       of_text = c.loop-step.invariant.of_text;
       so_far = c.loop-step.invariant.so_far ∙ ap (λ l. with_captures now (walk c.args.ignore_case l rest)) left
-          ∙ ap (λ (s : Step). with_captures now (walk c.args.ignore_case (s ∷ others) rest)) c.in-Maybe.is ∙ c.in_ok-left-in-Maybe.ensures.chosen c.args.ignore_case row;
+          ∙ ap (λ (s : Step). with_captures now (walk c.args.ignore_case (s ∷ others) rest)) c.in-OptionalGroup.is ∙ c.in_ok-left-in-OptionalGroup.ensures.chosen c.args.ignore_case row;
     }
 
 pub loop-step-preserved : goal.loop-step-preserved
@@ -45,7 +45,7 @@ loop-step-preserved c =
     let step = c.in-Some.step.now in
     let others = c.in-Some.others.now in
     let now = c.loop-step.captures.items in
-    let new = c.take_front.new.captures.items in
+    let new = c.match_prefix.new.captures.items in
     let rest = chars c.loop-step.rest.now in
     let remaining = chars c.in-Some-2.remaining.now in
     let left : c.loop-step.left.now ≡ step ∷ others = c.in-Some.ensures.cases.0 in

@@ -2,7 +2,7 @@ use Rattle.std.proofs.Common.{◌≡◌, length}
 use denote.Text.{Utf8}
 use denote.Shadow.{shadow}
 use Rattle.std.specs.Str.{chars}
-use Rattle.urlpattern_steps.specs.Failed.{EndsWith}
+use Rattle.urlpattern_steps.specs.FailedStates.{EndsWith}
 use Rattle.urlpattern_steps.specs.Walk.{walk}
 use Rattle.urlpattern_steps.specs.Taken.{with_captures}
 use Rattle.urlpattern_steps.proofs.by_table.walk_by_table.Given as goal

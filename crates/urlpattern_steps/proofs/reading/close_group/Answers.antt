@@ -1,6 +1,6 @@
 use Rattle.std.proofs.Common.{◌∷◌, length, drop, sym, refl, subst, inr, ◌∙◌}
 use Rattle.std.proofs.lemmas.List.{take-append-drop}
-use Rattle.urlpattern_steps.specs.declared.step.Step.TheVariants.{Maybe}
+use Rattle.urlpattern_steps.specs.declared.step.Step.TheVariants.{OptionalGroup}
 use Rattle.urlpattern_steps.specs.ReadSteps.{IsStepGroup, IsSomeGroup}
 use Rattle.urlpattern_steps.specs.Walk.{capture_count}
 use Rattle.urlpattern_steps.proofs.StepGroupLemmas.{inserted, some_group}
@@ -16,7 +16,7 @@ pub returns-in_ok-insert-in-Optional-clause-group :
 returns-in_ok-insert-in-Optional-clause-group c = λ t.
     let done = c.args.steps.now.items in
     let own = drop c.args.first done in
-    let group = Maybe (record { steps = length own; captures = capture_count own }) ∷ own in (
+    let group = OptionalGroup (record { steps = length own; captures = capture_count own }) ∷ own in (
       group,
       subst (λ times. IsStepGroup times own group) (sym c.in-Optional.is) (inr refl),
       c.in_ok-insert-in-Optional.ensures.items ∙ inserted done c.deref.result.now c.args.first c.counted_group-group.result c.deref.ensures.value c.counted_group-group.ensures,

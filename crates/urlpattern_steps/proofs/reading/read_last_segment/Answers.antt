@@ -2,7 +2,7 @@ use mathlib.Core.Bool.{beq}
 use Rattle.std.proofs.lemmas.Bool.{false≢true, true≢false}
 use Rattle.std.proofs.Common.{◌≡◌, ◌++◌, Bool, true, false, not, codes}
 use Rattle.std.specs.Str.{chars}
-use Rattle.urlpattern_steps.proofs.FrontLemmas.{ReadsRun, run_step, run_step_is}
+use Rattle.urlpattern_steps.proofs.PrefixLemmas.{ReadsRun, run_step, run_step_is}
 use Rattle.urlpattern_steps.proofs.SegmentTextLemmas.{cut_read, last_run, last_read}
 use Rattle.urlpattern_steps.proofs.reading.read_last_segment.Goals as goal
 use Rattle.urlpattern_steps.proofs.reading.read_last_segment.Goals.{then-other-end-via-then-other-end, then-other-end-via-else-other-end+then-is_other_greedy-is_greedy}

@@ -3,9 +3,9 @@ use Rattle.std.specs.Prelude.{IfSome, IsSomeAnd, is_some}
 use Rattle.std.proofs.lemmas.Bool.{false≢true}
 use Rattle.std.specs.Str.{chars}
 use Rattle.urlpattern_steps.specs.declared.step.Step.{Step}
-use Rattle.urlpattern_steps.specs.declared.step_tokens.StepToken.TheVariants.{Open, Close, FirstSegment, Step as One, MaybeStep}
+use Rattle.urlpattern_steps.specs.declared.step_tokens.StepToken.TheVariants.{Open, Close, FirstSegment, Step as One, OptionalStep}
 use Rattle.urlpattern_steps.specs.declared.step.Group.{Group}
-use Rattle.urlpattern_steps.specs.declared.step.Step.TheVariants.{Maybe}
+use Rattle.urlpattern_steps.specs.declared.step.Step.TheVariants.{OptionalGroup}
 use Rattle.urlpattern_meaning.specs.GeneratedTexts.{IsGenerated}
 use Rattle.urlpattern_steps.specs.ReadSteps.{BeginsWithRegexpToken, EndsSegments, IsStepGroup}
 use Rattle.urlpattern_steps.proofs.StepReadingLemmas.{IsBegun, begun, begun-close, begun-ends, begun-more, begun-open, segments-spell, spells-once, spells-maybe}
@@ -37,24 +37,24 @@ loop-token-preserved-in_ok-push-in-Step c =
       to_read = λ generated. subst (IsLeft c.loop-token.opened remaining) (sym c.in_ok-push-in-Step.ensures.items) (goes_on generated);
     }
 
-pub loop-token-preserved-in_ok-push-in-MaybeStep-2 : goal.loop-token-preserved-in_ok-push-in-MaybeStep-2
-loop-token-preserved-in_ok-push-in-MaybeStep-2 c =
+pub loop-token-preserved-in_ok-push-in-OptionalStep-2 : goal.loop-token-preserved-in_ok-push-in-OptionalStep-2
+loop-token-preserved-in_ok-push-in-OptionalStep-2 c =
     let rest = chars c.loop-token.rest.now in
     let remaining = chars c.in-Some-read_token.remaining.now in
-    let step = c.in-MaybeStep.step in
+    let step = c.in-OptionalStep.step in
     let group : Group = record { steps = 1; captures = 1 } in
-    let begins : BeginsWithRegexpToken rest (MaybeStep step) remaining = subst (λ t. BeginsWithRegexpToken rest t remaining) c.in-MaybeStep.is c.in-Some-read_token.ensures.token in
-    let goes_on : IsGenerated (chars c.args.regexp.now) → GoesOn (MaybeStep step) c.loop-token.opened remaining c.loop-token.steps.items =
-    λ generated. subst (λ t. GoesOn t c.loop-token.opened remaining c.loop-token.steps.items) c.in-MaybeStep.is
+    let begins : BeginsWithRegexpToken rest (OptionalStep step) remaining = subst (λ t. BeginsWithRegexpToken rest t remaining) c.in-OptionalStep.is c.in-Some-read_token.ensures.token in
+    let goes_on : IsGenerated (chars c.args.regexp.now) → GoesOn (OptionalStep step) c.loop-token.opened remaining c.loop-token.steps.items =
+    λ generated. subst (λ t. GoesOn t c.loop-token.opened remaining c.loop-token.steps.items) c.in-OptionalStep.is
     (came c.loop-token.opened rest c.loop-token.steps.items c.in-Some-read_token.token remaining (c.loop-token.invariant.to_read generated) c.in-Some-read_token.ensures.token c.in-Some-read_token.ensures.reads) in
-    let added = c.in_ok-push-in-MaybeStep-2.ensures.items ∙ ap (λ l. l ++ step ∷ []) c.in_ok-push-in-MaybeStep.ensures.items ∙ append_assoc c.loop-token.steps.items (Maybe group ∷ []) (step ∷ []) in
+    let added = c.in_ok-push-in-OptionalStep-2.ensures.items ∙ ap (λ l. l ++ step ∷ []) c.in_ok-push-in-OptionalStep.ensures.items ∙ append_assoc c.loop-token.steps.items (OptionalGroup group ∷ []) (step ∷ []) in
     record {
       is_text = search rules;
       so_far = subst (IsBegun (chars c.args.regexp.now) c.loop-token.opened remaining)
           (sym added)
-          (begun-more (chars c.args.regexp.now) c.loop-token.opened rest begins.0 remaining c.loop-token.steps.items (Maybe group ∷ step ∷ []) c.loop-token.invariant.so_far
+          (begun-more (chars c.args.regexp.now) c.loop-token.opened rest begins.0 remaining c.loop-token.steps.items (OptionalGroup group ∷ step ∷ []) c.loop-token.invariant.so_far
           (spells-maybe step group begins.0 refl (sym begins.1.1) begins.1) begins.2);
-      to_read = λ generated. subst (IsLeft c.loop-token.opened remaining) (sym added) (goes_on generated (Maybe group ∷ step ∷ []));
+      to_read = λ generated. subst (IsLeft c.loop-token.opened remaining) (sym added) (goes_on generated (OptionalGroup group ∷ step ∷ []));
     }
 
 pub loop-token-preserved-in-FirstSegment : goal.loop-token-preserved-in-FirstSegment

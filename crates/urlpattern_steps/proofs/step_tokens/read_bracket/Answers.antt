@@ -4,8 +4,8 @@ use Rattle.urlpattern_steps.specs.ReadSteps.{BeginsWithCaptured, IsRead, IsUnqua
 use Rattle.urlpattern_steps.proofs.StepTokenLemmas.{captured-spells, captured-maybe}
 use Rattle.std.specs.Prelude.{List, ℕ, ◌≡◌}
 use Rattle.urlpattern_steps.specs.declared.step.Step.{Step}
-use Rattle.urlpattern_steps.specs.declared.step_tokens.StepToken.TheVariants.{Step as One, MaybeStep}
-use Rattle.urlpattern_steps.proofs.FrontLemmas.{by_bracket}
+use Rattle.urlpattern_steps.specs.declared.step_tokens.StepToken.TheVariants.{Step as One, OptionalStep}
+use Rattle.urlpattern_steps.proofs.PrefixLemmas.{by_bracket}
 use Rattle.urlpattern_steps.proofs.step_tokens.read_bracket.Goals as goal
 
 pub returns-clause-token : goal.returns-clause-token
@@ -56,7 +56,7 @@ returns-in-Some-after-clause-reads c =
     let found : (c.in_ok-step.step ≡ step) × (chars c.in_ok-step.rest.now ≡ behind) = rw (c.in_ok-step.step-is, c.in_ok-step.rest-is) (c.in_ok-step.ensures.reads step behind begins) in found in
     let cut = c.in_ok-rest.ensures.cut in
     let asked = c.in-Some-after.ensures.cut in
-    by_bracket (λ token rest. IsUnquantified rest → (MaybeStep c.in_ok-step.step ≡ token) × (chars c.in-Some-after.remaining.now ≡ rest)) (chars c.args.text.now)
+    by_bracket (λ token rest. IsUnquantified rest → (OptionalStep c.in_ok-step.step ≡ token) × (chars c.in-Some-after.remaining.now ≡ rest)) (chars c.args.text.now)
     (λ rest e q. absurd (c.in_default.ensures.other (codes ":" ++ rest) e))
     (λ step rest begins q.
     let found : chars c.in_ok-step.rest.now ≡ codes ")" ++ rest = (same step (codes ")" ++ rest) begins).1 in
@@ -65,7 +65,7 @@ returns-in-Some-after-clause-reads c =
     (λ step rest begins q.
     let found = same step (codes ")?" ++ rest) begins in
     let left : chars c.in_ok-step.rest.now ≡ codes ")?" ++ rest = found.1 in
-    (ap MaybeStep found.0, cc))
+    (ap OptionalStep found.0, cc))
     (λ end is_greedy rest begins q. absurd (c.in_default-read_first_segment.ensures.reads end is_greedy rest begins))
 
 pub returns-clause-reads : goal.returns-clause-reads

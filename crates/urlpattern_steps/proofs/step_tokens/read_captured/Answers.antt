@@ -1,5 +1,5 @@
 use Rattle.std.specs.Str.{chars}
-use Rattle.urlpattern_steps.proofs.FrontLemmas.{captured_run}
+use Rattle.urlpattern_steps.proofs.PrefixLemmas.{captured_run}
 use Rattle.urlpattern_steps.proofs.step_tokens.read_captured.Goals as goal
 
 pub returns-in-None-clause-reads : goal.returns-in-None-clause-reads

@@ -6,7 +6,7 @@ use Rattle.urlpattern_syntax.specs.RegexpText.{regexp_marks}
 use Rattle.urlpattern_syntax.specs.Text.{is_among}
 use Rattle.urlpattern_steps.specs.ReadSteps.{BeginsWithCharacter}
 use Rattle.urlpattern_steps.proofs.StepTokenLemmas.{escaped-begins, if_both, plain-begins, not_class}
-use Rattle.urlpattern_steps.proofs.FrontLemmas.{escaped_read}
+use Rattle.urlpattern_steps.proofs.PrefixLemmas.{escaped_read}
 use Rattle.urlpattern_steps.proofs.step_tokens.read_class_character.Goals as goal
 
 pub returns-in-92-clause-character : goal.returns-in-92-clause-character

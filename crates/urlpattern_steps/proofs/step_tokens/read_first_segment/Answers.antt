@@ -2,7 +2,7 @@ use Rattle.std.proofs.Common.{◌≡◌, ◌++◌, codes, ap₂}
 use Rattle.std.specs.Str.{chars}
 use Rattle.urlpattern_steps.specs.declared.step_tokens.StepToken.TheVariants.{FirstSegment}
 use Rattle.urlpattern_steps.specs.ReadSteps.{BeginsWithCaptured}
-use Rattle.urlpattern_steps.proofs.FrontLemmas.{ReadsRun, repeated_no_segments, segments_read, segments_run}
+use Rattle.urlpattern_steps.proofs.PrefixLemmas.{ReadsRun, repeated_no_segments, segments_read, segments_run}
 use Rattle.urlpattern_steps.proofs.StepTokenLemmas.{first_segment-begins}
 use Rattle.urlpattern_steps.proofs.step_tokens.read_first_segment.Goals as goal
 

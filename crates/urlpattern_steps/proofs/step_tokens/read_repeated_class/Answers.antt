@@ -2,7 +2,7 @@ use Rattle.std.specs.Str.{chars}
 use Rattle.urlpattern_meaning.specs.Dialect.{IsClassCharacter}
 use Rattle.urlpattern_steps.specs.ReadSteps.{BeginsWithCharacter}
 use Rattle.urlpattern_steps.proofs.StepTokenLemmas.{lazy_class}
-use Rattle.urlpattern_steps.proofs.FrontLemmas.{class_begins}
+use Rattle.urlpattern_steps.proofs.PrefixLemmas.{class_begins}
 use Rattle.urlpattern_steps.proofs.step_tokens.read_repeated_class.Goals as goal
 
 pub returns-clause-step : goal.returns-clause-step

@@ -7,8 +7,8 @@ use Rattle.urlpattern.proofs.ListLemmas.{first-of_texts}
 use Rattle.urlpattern.proofs.NextLemmas.{asks-earlier, asks-of_all, first-earlier, first-of_all}
 use Rattle.urlpattern_index.specs.Keys.{hashes_of, hashes_view}
 use Rattle.urlpattern_matches.specs.BorrowedMatches.{pattern_captures_view}
-use Rattle.urlpattern.specs.FirstMatch.{AsksBeforeMatch, IsFirstMatchOf, first_captures_view, patterns_view}
-use Rattle.urlpattern.specs.NextMatch.{AsksBeforeMatchFrom, IsFirstMatchFrom}
+use Rattle.urlpattern.specs.FirstMatch.{CallsEngineBeforeMatch, IsFirstMatchOf, first_captures_view, patterns_view}
+use Rattle.urlpattern.specs.NextMatch.{CallsEngineBeforeMatchFrom, IsFirstMatchFrom}
 use Rattle.urlpattern.specs.PatternKeys.{address_of}
 use Rattle.urlpattern_matches.specs.declared.captures.UrlPatternCaptures.{UrlPatternCaptures}
 use Rattle.urlpattern.proofs.list.UrlPatternList.first_captures.Given as given
@@ -42,7 +42,7 @@ returns-in-Some-clause-asked g c =
     let texts = texts_of_url c.args.url.now in
     let before = c.in-Some.ensures.passed texts (hashed g (goal.at.returns-in-Some-clause-asked g c).After-fill) in
     let patterns = patterns_view c.args.self.now in
-    IfErr-weaker c.listed_captures.result (λ _. AsksBeforeMatchFrom answer patterns texts c.in-Some.index) (λ _. AsksBeforeMatch answer patterns texts)
+    IfErr-weaker c.listed_captures.result (λ _. CallsEngineBeforeMatchFrom answer patterns texts c.in-Some.index) (λ _. CallsEngineBeforeMatch answer patterns texts)
     (λ _ asks. asks-of_all answer texts patterns (asks-earlier answer texts patterns 0 c.in-Some.index c.in-Some.ensures.within.0 before asks))
     c.listed_captures.ensures.asked
 

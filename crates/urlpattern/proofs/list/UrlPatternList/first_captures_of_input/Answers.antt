@@ -1,6 +1,6 @@
 use Rattle.std.proofs.Common.{subst}
 use Rattle.urlpattern_pattern.proofs.Results.{if_err}
-use Rattle.urlpattern.specs.FirstMatch.{AsksBeforeMatch, IsFirstMatchOf, first_captures_view, patterns_view}
+use Rattle.urlpattern.specs.FirstMatch.{CallsEngineBeforeMatch, IsFirstMatchOf, first_captures_view, patterns_view}
 use Rattle.urlpattern.proofs.list.UrlPatternList.first_captures_of_input.Goals as goal
 use Rattle.urlpattern_components.specs.Eight.{Texts}
 
@@ -12,4 +12,4 @@ returns-clause-first g c =
 pub returns-in_err-first-clause-asked : goal.returns-in_err-first-clause-asked
 returns-in_err-first-clause-asked g c =
     if_err _ c.from_residual.result
-    (subst (λ (texts : Texts). AsksBeforeMatch g.R.RegExp.answer (patterns_view c.args.self.now) texts) c.input_texts.ensures c.in_err-first.ensures.asked)
+    (subst (λ (texts : Texts). CallsEngineBeforeMatch g.R.RegExp.answer (patterns_view c.args.self.now) texts) c.input_texts.ensures c.in_err-first.ensures.asked)

@@ -5,7 +5,7 @@ use Rattle.urlpattern_pattern.proofs.Results.{if_err}
 use Rattle.urlpattern.proofs.NextLemmas.{left, less-left, next-found}
 use Rattle.urlpattern_matches.specs.GroupTexts.{borrowed_texts}
 use Rattle.urlpattern.specs.FirstMatch.{patterns_view}
-use Rattle.urlpattern.specs.NextMatch.{AreRefusedBetween}
+use Rattle.urlpattern.specs.NextMatch.{NoneMatchBetween}
 use Rattle.urlpattern_pattern.specs.Patterns.{pattern_view}
 use Rattle.urlpattern_pattern.specs.UrlPatterns.{UrlPattern}
 use Rattle.urlpattern.proofs.list.UrlPatternList.first_listed.Given as given
@@ -15,7 +15,7 @@ use Rattle.urlpattern.proofs.list.UrlPatternList.first_listed.Goals.{After-index
 -- The pattern that is tried, and the ones before it.
 asked : (g : given.Over) (c : After-index-pattern g) → (c.args.index ≤ c.in-Some.index)
     × (slice_get (patterns_view c.args.self.now) c.in-Some.index ≡ Some (pattern_view c.index-pattern.result.now))
-    × AreRefusedBetween g.R.RegExp.answer (patterns_view c.args.self.now) (borrowed_texts c.args.texts.now) c.args.index c.in-Some.index
+    × NoneMatchBetween g.R.RegExp.answer (patterns_view c.args.self.now) (borrowed_texts c.args.texts.now) c.args.index c.in-Some.index
 asked g c =
     let ((later, within), before) = rw c.in-Some.is at c.loop-found.invariant in
     let items = c.self.inside.patterns.items in
@@ -46,16 +46,16 @@ pub loop-found-smaller : goal.loop-found-smaller
 loop-found-smaller g c =
     let count = length c.args.self.now in
     let ((later, within), before) = rw c.in-Some.is at c.loop-found.invariant in
-    subst (λ found. left count c.next_asked-found.result < left count found) (sym c.in-Some.is)
-    (less-left count c.in-Some.index c.next_asked-found.result within c.next_asked-found.ensures.within)
+    subst (λ found. left count c.next_candidate-found.result < left count found) (sym c.in-Some.is)
+    (less-left count c.in-Some.index c.next_candidate-found.result within c.next_candidate-found.ensures.within)
 
 pub loop-found-preserved : goal.loop-found-preserved
 loop-found-preserved g c =
     let texts = borrowed_texts c.args.texts.now in
     let (later, there, before) = asked g (goal.at.loop-found-preserved g c).After-index-pattern in
     next-found g.R.RegExp.answer texts c.args.self.now c.args.index c.in-Some.index (pattern_view c.index-pattern.result.now) later there before
-    (rw c.in_default-2.is at c.in_ok-captures.ensures.matched) c.next_asked-found.result
-    (c.next_asked-found.ensures.within, c.next_asked-found.ensures.passed texts c.requires.hashes)
+    (rw c.in_default-2.is at c.in_ok-captures.ensures.matched) c.next_candidate-found.result
+    (c.next_candidate-found.ensures.within, c.next_candidate-found.ensures.passed texts c.requires.hashes)
 
 pub returns-in-Some-2-clause-first : goal.returns-in-Some-2-clause-first
 returns-in-Some-2-clause-first g c =

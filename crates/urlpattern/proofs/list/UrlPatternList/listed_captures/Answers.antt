@@ -3,7 +3,7 @@ use Rattle.urlpattern_components.specs.Eight.{Texts}
 use Rattle.urlpattern_index.specs.Keys.{hashes_of}
 use Rattle.urlpattern_pattern.proofs.Results.{if_err}
 use Rattle.urlpattern.specs.FirstMatch.{first_captures_view, patterns_view, HasGroupsInOrder}
-use Rattle.urlpattern.specs.NextMatch.{AsksBeforeMatchFrom, IsFirstMatchFrom}
+use Rattle.urlpattern.specs.NextMatch.{CallsEngineBeforeMatchFrom, IsFirstMatchFrom}
 use Rattle.urlpattern.specs.PatternKeys.{address_of}
 use Rattle.urlpattern.proofs.list.UrlPatternList.listed_captures.Goals as goal
 
@@ -24,4 +24,4 @@ returns-clause-groups g c =
 pub returns-in_err-first_listed-clause-asked : goal.returns-in_err-first_listed-clause-asked
 returns-in_err-first_listed-clause-asked g c =
     if_err _ c.from_residual.result
-    (subst (λ (texts : Texts). AsksBeforeMatchFrom g.R.RegExp.answer (patterns_view c.args.self.now) texts c.args.index) c.url_texts.ensures c.in_err-first_listed.ensures.asked)
+    (subst (λ (texts : Texts). CallsEngineBeforeMatchFrom g.R.RegExp.answer (patterns_view c.args.self.now) texts c.args.index) c.url_texts.ensures c.in_err-first_listed.ensures.asked)

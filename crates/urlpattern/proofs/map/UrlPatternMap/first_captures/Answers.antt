@@ -11,7 +11,7 @@ use Rattle.urlpattern_pattern.proofs.Results.{if_err}
 use Rattle.urlpattern_matches.specs.BorrowedMatches.{pattern_captures_view}
 use Rattle.urlpattern_pattern.specs.Patterns.{pattern_view}
 use Rattle.urlpattern_pattern.specs.UrlPatterns.{UrlPattern}
-use Rattle.urlpattern.specs.FirstMatch.{AsksBeforeMatch, HasGroupsInOrder, IsFirstMatch, patterns_view}
+use Rattle.urlpattern.specs.FirstMatch.{CallsEngineBeforeMatch, HasGroupsInOrder, IsFirstMatch, patterns_view}
 use Rattle.urlpattern.proofs.map.UrlPatternMap.first_captures.Goals as goal
 
 pub index-requires : goal.index-requires
@@ -57,4 +57,4 @@ returns-in_err-index-clause-asked g c =
     let patterns = c.self.inside.patterns in
     let are_patterns : patterns ≡ keys_of c.args.self.now = sym (keys_of-zip patterns c.self.inside.values.items c.self.invariant) ∙ ap keys_of c.self.view_is in
     if_err _ c.from_residual.result
-    (subst (λ (patterns : List (UrlPattern g.row.R.Denot)). AsksBeforeMatch g.R.RegExp.answer (patterns_view patterns) (texts_of_url c.args.url.now)) are_patterns c.in_err-index.ensures.asked)
+    (subst (λ (patterns : List (UrlPattern g.row.R.Denot)). CallsEngineBeforeMatch g.R.RegExp.answer (patterns_view patterns) (texts_of_url c.args.url.now)) are_patterns c.in_err-index.ensures.asked)

@@ -26,8 +26,8 @@ use Rattle.std.specs.contracts.alloc.Global as global
 use Rattle.std.proofs.alloc.Global.TheLaws as global_laws
 use Rattle.std.specs.contracts.impls.GlobalAllocator.TheImpl.{ghosts}
 use Rattle.urlpattern_c.specs.Memory.{heap, leads_to}
-use Rattle.urlpattern_ffi.specs.contracts.kept.Kept as kept
-use Rattle.urlpattern_ffi.specs.declared.kept.Kept.{Kept}
+use Rattle.urlpattern_ffi.specs.contracts.pattern_box.PatternBox as kept
+use Rattle.urlpattern_ffi.specs.declared.pattern_box.PatternBox.{PatternBox}
 use Rattle.urlpattern_c.proofs.Values.{both, single, Slot, loose_good, loose_in, slot_out, filled}
 use Rattle.urlpattern_c.specs.contracts.slot.Slot.into_loose.{ended, clauses}
 use Rattle.urlpattern_c.proofs.slot.Slot.into_loose.Statement.{statement}
@@ -44,7 +44,7 @@ into_loose_spec 𝓤 𝓛 𝓜 𝓡 wired =
     qed 𝓛 ((raw (alive 𝓛 ended.signature z.0.0 z.0.1) ⊛ ‵ (owns (types_at ended.signature.params z.0.0) z.0.3 z.0.4)) ∷ raw (fact 𝓤 (IsSome d.held)) ∷ []) ∵
     move ! (1 ∷ []) $ heard ! (IsSome d.held) (λ some. let k = filled d.held some in
     split ! $ move ! (1 ∷ []) $ fsplit ! $ slot_out ! d z.0.4.0 (λ at.
-    rewrite ! 0 (λ (held : Option Kept). ‵ (leads_to d.at held)) k.1 refl $
+    rewrite ! 0 (λ (held : Option PatternBox). ‵ (leads_to d.at held)) k.1 refl $
     in_a_block ! d.at (λ p. box_owns (ghosts.dealloc_token heap) R p k.0) (fst∗ 𝓤 (never 𝓤) (sem 𝓛 (ghosts.dealloc_token heap (bare (lone R.mir)) null_ptr))) (λ b o e.
     move ! (1 ∷ []) $ fsplit ! $ handle_tells al ! a z.0.4.1.0 (λ h ea fits.
     -- [the handle; nothing; what the slot owned; the tokens].

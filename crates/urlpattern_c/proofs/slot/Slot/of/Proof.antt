@@ -22,8 +22,8 @@ use Rattle.std.proofs.raw_atomic.Walks.{proved_at, leaves}
 use Rattle.std.specs.contracts.alloc.Global as global
 use Rattle.std.proofs.alloc.Global.TheLaws as global_laws
 use Rattle.std.specs.contracts.impls.GlobalAllocator.TheImpl.{ghosts}
-use Rattle.urlpattern_ffi.specs.contracts.kept.Kept as kept
-use Rattle.urlpattern_c.proofs.Values.{both, single, Loose, loose_good, loose_out, slot_in}
+use Rattle.urlpattern_ffi.specs.contracts.pattern_box.PatternBox as kept
+use Rattle.urlpattern_c.proofs.Values.{both, single, BoxParts, loose_good, loose_out, slot_in}
 use Rattle.urlpattern_c.specs.contracts.slot.Slot.of.{ended, clauses}
 use Rattle.urlpattern_c.proofs.slot.Slot.of.Statement.{statement}
 use Rattle.urlpattern_c.proofs.slot.Slot.of.Code as code
@@ -31,7 +31,7 @@ use Rattle.urlpattern_c.proofs.slot.Slot.of.Code as code
 pub of_spec : {M : Type 1} → statement M
 of_spec 𝓤 𝓛 𝓜 𝓡 wired =
     let H = 𝓛.H in let 𝓣 = tables 𝓤 H 𝓜 𝓡 𝓡.env in let c = clauses 𝓛 𝓜.mem 𝓡.returns in let fn = code.function in
-    let R : RattleType = kept.the_row in let Z : RattleType = global.the_row in let LZ = global_laws.the_row_laws in let From : RattleType = Loose R Z LZ ghosts in
+    let R : RattleType = kept.the_row in let Z : RattleType = global.the_row in let LZ = global_laws.the_row_laws in let From : RattleType = BoxParts R Z LZ ghosts in
     let hs : Stays ended.signature.params ended.kept = (stay_dropped (plain (λ _. From)) ended.kept.0, tt) in
     proved_at 𝓛 ended hs c 𝓜 𝓡 (Goes-blank 𝓛 0 (plain (λ _. From)) ended.kept.0 (λ κs x f. tt), tt) #self fn (code.unfolded 𝓤 H 𝓜 𝓡 wired) (λ z are.
     let v = z.0.3.0 in let Post : Val → SProp 𝓤 = (walk_of 𝓛 ended hs c).post z in let Run : List Val → SProp 𝓤 = λ us. WpFn 𝓤 H 𝓣.C 𝓣.Λ fn us Post in

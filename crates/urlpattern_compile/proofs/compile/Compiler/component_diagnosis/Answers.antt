@@ -3,8 +3,8 @@ use Rattle.std.specs.Prelude.{IfSome}
 use Rattle.std.specs.Str.{chars}
 use Rattle.urlpattern_matcher.proofs.CompileLemmas.{text-or_asterisk}
 use Rattle.urlpattern_diagnosis.specs.Faults.{IsFaultOf}
-use Rattle.urlpattern_compile.specs.CompilerSteps.{manner_by}
-use Rattle.urlpattern_compile.specs.Diagnoses.{IsPartOfRefused}
+use Rattle.urlpattern_compile.specs.CompilerSteps.{settings_by}
+use Rattle.urlpattern_compile.specs.Diagnoses.{IsPartOfRejected}
 use Rattle.urlpattern_compile.proofs.DiagnosisLemmas.{shows_fault}
 use Rattle.urlpattern_syntax.specs.Options.{OptionsView}
 use Rattle.urlpattern_compile.proofs.compile.Compiler.component_diagnosis.Goals as goal
@@ -13,16 +13,16 @@ use Rattle.urlpattern_compile.proofs.compile.Compiler.component_diagnosis.Goals.
 pub returns-clause-shows : goal.returns-clause-shows
 returns-clause-shows g c =
     let pattern = c.unwrap_or-pattern.result.now in
-    let error = c.args.refusal.error in
-    let component = c.args.refusal.component in
+    let error = c.args.rejection.error in
+    let component = c.args.rejection.component in
     let point = chars c.as_str-point.result.now in
-    let manner = manner_by c.args.self.now c.args.refusal.hierarchical c.args.refusal.component in
+    let settings = settings_by c.args.self.now c.args.rejection.hierarchical c.args.rejection.component in
     let is = c.in_ok-of_part.ensures in
-    let same : point ≡ manner.options.prefix = ap chars c.as_str-point.ensures.value ∙ ap (λ (options : OptionsView). options.prefix) c.in-Ok.ensures.ok in
-    let text : chars pattern ≡ manner.text = text-or_asterisk c.pattern_of.result _ _ c.unwrap_or-pattern.ensures refl ∙ c.pattern_of.ensures in
-    let faulty : IsFaultOf (Some component) pattern point error c.match-refused.fault ⊎ IsPartOfRefused pattern error c.match-refused.fault = elim c.match-refused.branch [
-      | in-Some w ↦ inr (subst (IsPartOfRefused pattern error) (sym w.fault-is)
-          (subst (λ found. IfSome found (IsPartOfRefused pattern error)) w.in-Some.is c.in_ok-refused.ensures.part))
+    let same : point ≡ settings.options.prefix = ap chars c.as_str-point.ensures.value ∙ ap (λ (options : OptionsView). options.prefix) c.in-Ok.ensures.ok in
+    let text : chars pattern ≡ settings.text = text-or_asterisk c.pattern_of.result _ _ c.unwrap_or-pattern.ensures refl ∙ c.pattern_of.ensures in
+    let faulty : IsFaultOf (Some component) pattern point error c.match-refused.fault ⊎ IsPartOfRejected pattern error c.match-refused.fault = elim c.match-refused.branch [
+      | in-Some w ↦ inr (subst (IsPartOfRejected pattern error) (sym w.fault-is)
+          (subst (λ found. IfSome found (IsPartOfRejected pattern error)) w.in-Some.is c.in_ok-refused.ensures.part))
       | in-None+in_ok-fault-in-None w ↦ inl (subst (IsFaultOf (Some component) pattern point error) (sym w.fault-is) w.in_ok-fault-in-None.ensures.fault)
     ] in
-    (pattern, text, shows_fault component c.unwrap_or-text.result.now pattern point manner.options.prefix error c.in_ok-of_part.field-0 c.match-refused.fault is.error is.text same faulty is.fault)
+    (pattern, text, shows_fault component c.unwrap_or-text.result.now pattern point settings.options.prefix error c.in_ok-of_part.field-0 c.match-refused.fault is.error is.text same faulty is.fault)

@@ -1,7 +1,7 @@
 use Rattle.std.proofs.Common.{◌≡◌, ◌+◌, ◌&&◌, ◌==◌, ◌<◌, true, false, cond, not, codes, get_or, length, sym, ap, ◌∙◌, arith}
 use Rattle.std.proofs.lemmas.Bool.{and_left, and_right, both_ways}
 use Rattle.std.proofs.lemmas.List.{length-map}
-use Rattle.urlpattern_constructor.specs.Split.{passes_at, ends_at, is_end, is_ending, is_open, is_sign}
+use Rattle.urlpattern_constructor.specs.Split.{passes_at, ends_at, is_end, is_ending, is_open, is_non_special_pattern_char}
 use Rattle.urlpattern_constructor.specs.Splitting.{is_hostname, text_of_source, tokens_of}
 use Rattle.urlpattern_constructor.proofs.TextBetween.{are_closed}
 use Rattle.urlpattern_constructor.proofs.SeenLemmas.{cond-bound, depth_after-bound, way_ends, way_goes, way_stops}
@@ -40,13 +40,13 @@ loop-section-preserved c =
       | else-is_seen-via-else-is_seen w ↦ and_left _ _ (sym c.is_seen-is_seen.ensures ∙ w.if-is_seen.false)
     ] in
     let seen = c.is_seen-is_seen.ensures in
-    let opened : c.count_bracket-opened.result ≡ c.loop-section.opened + cond (is_hostname c.args.section && (not (is_open token.kind) && c.loop-section.position.depth == 0) && passes_at (is_sign (codes "[")) (tokens_of c.args.self.now) c.loop-section.position.index) 1 0 =
-    c.count_bracket-opened.ensures ∙ ap (λ b. c.loop-section.opened + cond (is_hostname c.args.section && b && passes_at (is_sign (codes "[")) (tokens_of c.args.self.now) c.loop-section.position.index) 1 0) seen in
-    let closed : c.count_bracket-closed.result ≡ c.loop-section.closed + cond (is_hostname c.args.section && (not (is_open token.kind) && c.loop-section.position.depth == 0) && passes_at (is_sign (codes "]")) (tokens_of c.args.self.now) c.loop-section.position.index) 1 0 =
-    c.count_bracket-closed.ensures ∙ ap (λ b. c.loop-section.closed + cond (is_hostname c.args.section && b && passes_at (is_sign (codes "]")) (tokens_of c.args.self.now) c.loop-section.position.index) 1 0) seen in
+    let opened : c.count_bracket-opened.result ≡ c.loop-section.opened + cond (is_hostname c.args.section && (not (is_open token.kind) && c.loop-section.position.depth == 0) && passes_at (is_non_special_pattern_char (codes "[")) (tokens_of c.args.self.now) c.loop-section.position.index) 1 0 =
+    c.count_bracket-opened.ensures ∙ ap (λ b. c.loop-section.opened + cond (is_hostname c.args.section && b && passes_at (is_non_special_pattern_char (codes "[")) (tokens_of c.args.self.now) c.loop-section.position.index) 1 0) seen in
+    let closed : c.count_bracket-closed.result ≡ c.loop-section.closed + cond (is_hostname c.args.section && (not (is_open token.kind) && c.loop-section.position.depth == 0) && passes_at (is_non_special_pattern_char (codes "]")) (tokens_of c.args.self.now) c.loop-section.position.index) 1 0 =
+    c.count_bracket-closed.ensures ∙ ap (λ b. c.loop-section.closed + cond (is_hostname c.args.section && b && passes_at (is_non_special_pattern_char (codes "]")) (tokens_of c.args.self.now) c.loop-section.position.index) 1 0) seen in
     let bound = depth_after-bound token.kind c.loop-section.position.depth in
-    let one_opened = cond-bound (is_hostname c.args.section && (not (is_open token.kind) && c.loop-section.position.depth == 0) && passes_at (is_sign (codes "[")) (tokens_of c.args.self.now) c.loop-section.position.index) in
-    let one_closed = cond-bound (is_hostname c.args.section && (not (is_open token.kind) && c.loop-section.position.depth == 0) && passes_at (is_sign (codes "]")) (tokens_of c.args.self.now) c.loop-section.position.index) in
+    let one_opened = cond-bound (is_hostname c.args.section && (not (is_open token.kind) && c.loop-section.position.depth == 0) && passes_at (is_non_special_pattern_char (codes "[")) (tokens_of c.args.self.now) c.loop-section.position.index) in
+    let one_closed = cond-bound (is_hostname c.args.section && (not (is_open token.kind) && c.loop-section.position.depth == 0) && passes_at (is_non_special_pattern_char (codes "]")) (tokens_of c.args.self.now) c.loop-section.position.index) in
     record {
       within = omega arith;
       way = way_goes _ _ _ _ _ _ _ _ _ _ _ token c.loop-section.invariant.way is goes passes c.depth_after.ensures opened closed;

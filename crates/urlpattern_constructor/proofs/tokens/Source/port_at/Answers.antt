@@ -16,10 +16,10 @@ pathname_at-turns-requires-clause-slash c slash =
     let ends = rw (c.after-from.ensures.index, c.after-from.ensures.depth) at c.end_of-end.ensures.ends in
     let size = tokens_len c.args.self.now in
     let after : c.args.end.index < c.end_of-end.result.index = omega (arith, ends.after) in
-    let seen = slash_seen_from_sign (codes ":") tokens c.args.end.index c.end_of-end.result.index (sym c.is_sign.ensures ∙ c.if-is_sign.true) after (slash_is_seen Port tokens (c.args.end.index + 1) 0 c.end_of-end.result.index ends slash) in
+    let seen = slash_seen_from_sign (codes ":") tokens c.args.end.index c.end_of-end.result.index (sym c.is_non_special_pattern_char.ensures ∙ c.if-is_non_special_pattern_char.true) after (slash_is_seen Port tokens (c.args.end.index + 1) 0 c.end_of-end.result.index ends slash) in
     let left = c.requires.slash c.end_of-end.result.index (omega arith) seen slash in
     omega (arith, left, c.end_of-end.ensures.turns, c.after-from.ensures.index, c.after-from.ensures.turns, ends.within)
 
 pub returns-clause-split : goal.returns-clause-split
 returns-clause-split c =
-    inr ((λ h. both_ways _ (sym c.is_sign.ensures ∙ c.if-is_sign.false) h), ap Some chars-nil, c.pathname_at-turns-2.ensures.split)
+    inr ((λ h. both_ways _ (sym c.is_non_special_pattern_char.ensures ∙ c.if-is_non_special_pattern_char.false) h), ap Some chars-nil, c.pathname_at-turns-2.ensures.split)

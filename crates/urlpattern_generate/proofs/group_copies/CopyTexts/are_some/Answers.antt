@@ -13,9 +13,9 @@ pub returns-in_default-without_back : goal.returns-in_default-without_back
 returns-in_default-without_back c =
     refuted (λ are. none_where_no_front c.args.self.may_be_empty c.in-Some.ensures.cut c.in-Some-split_at_first.ensures.cut c.in_default-without_back.ensures.none (c.loop-front.invariant.same.0 are))
 
-pub returns-in_default-without_front : goal.returns-in_default-without_front
-returns-in_default-without_front c =
-    refuted (λ are. none_where_no_behind c.args.self.may_be_empty c.in-Some.ensures.cut c.in-Some-split_at_first.ensures.cut c.in_default-without_front.ensures.none (c.loop-front.invariant.same.0 are))
+pub returns-in_default-without_prefix : goal.returns-in_default-without_prefix
+returns-in_default-without_prefix c =
+    refuted (λ are. none_where_no_behind c.args.self.may_be_empty c.in-Some.ensures.cut c.in-Some-split_at_first.ensures.cut c.in_default-without_prefix.ensures.none (c.loop-front.invariant.same.0 are))
 
 pub returns-then-not-is_long_enough : goal.returns-then-not-is_long_enough
 returns-then-not-is_long_enough c =
@@ -24,7 +24,7 @@ returns-then-not-is_long_enough c =
 
 pub loop-front-preserved : goal.loop-front-preserved
 loop-front-preserved c =
-    let same = more_where_cut c.args.self.may_be_empty c.in-Some.ensures.cut c.in-Some-split_at_first.ensures.cut _ _ c.in-Some-without_back.ensures.cut c.in-Some-without_front.ensures.cut
+    let same = more_where_cut c.args.self.may_be_empty c.in-Some.ensures.cut c.in-Some-split_at_first.ensures.cut _ _ c.in-Some-without_back.ensures.cut c.in-Some-without_prefix.ensures.cut
     (c.is_long_enough.ensures.0 c.if-not-is_long_enough.false) in
     record {
       is_text = search rules;

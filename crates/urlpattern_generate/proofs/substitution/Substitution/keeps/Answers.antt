@@ -2,7 +2,7 @@ use Rattle.std.proofs.Common.{◌≡◌, ◌∙◌, ℕ, Bool, List, Ok, refl, s
 use Rattle.std.specs.Str.{chars}
 use Rattle.urlpattern_components.specs.declared.eight.ComponentName.{ComponentName}
 use Rattle.urlpattern_components.specs.declared.eight.ComponentName.TheVariants.{Protocol, Username, Password, Hostname, Port, Pathname, Search, Hash}
-use Rattle.urlpattern_generate.specs.Manners.{begins_ipv6, canonical_for, is_ipv6_host}
+use Rattle.urlpattern_generate.specs.WriteSettings.{begins_ipv6, canonical_for, is_ipv6_host}
 use Rattle.urlpattern_syntax.specs.ComponentParts.{kept_parts}
 use Rattle.urlpattern_syntax.specs.Parts.{PartView}
 use Rattle.urlpattern_generate.proofs.substitution.Substitution.keeps.Goals as goal

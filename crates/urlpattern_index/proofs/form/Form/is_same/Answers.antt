@@ -8,7 +8,7 @@ pub returns : goal.returns
 returns c = λ is_same.
     let segments : c.args.self.now.segments.items ≡ c.args.other.now.segments.items =
     sym c.as_slice.ensures.value ∙ (slice_eq-Decides booleans_Decides c.as_slice.result.now c.as_slice-2.result.now c.eq.result c.eq.ensures).0 is_same ∙ c.as_slice-2.ensures.value in
-    let protocol : c.args.self.now.has_protocol ≡ c.args.other.now.has_protocol = same_flag _ _ c.if-self-other.false in
-    let hostname : c.args.self.now.has_hostname ≡ c.args.other.now.has_hostname = same_flag _ _ c.if-self-other-2.false in
-    let whole : c.args.self.now.is_whole ≡ c.args.other.now.is_whole = same_flag _ _ c.if-self-other-3.false in
+    let protocol : c.args.self.now.uses_protocol ≡ c.args.other.now.uses_protocol = same_flag _ _ c.if-self-other.false in
+    let hostname : c.args.self.now.uses_hostname ≡ c.args.other.now.uses_hostname = same_flag _ _ c.if-self-other-2.false in
+    let whole : c.args.self.now.is_exact ≡ c.args.other.now.is_exact = same_flag _ _ c.if-self-other-3.false in
     cc

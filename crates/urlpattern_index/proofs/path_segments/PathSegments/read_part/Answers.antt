@@ -1,7 +1,7 @@
 use Rattle.std.proofs.Common.{◌≡◌, ◌≢◌, ◌++◌, ◌∙◌, List, ℕ, append_assoc, ap, refl, rules, subst, sym}
 use Rattle.std.specs.Prelude.{IsTrue, Option, None, Some, chars}
 use Rattle.urlpattern_index.proofs.PathSegmentLemmas.{read_run, reads_some}
-use Rattle.urlpattern_index.specs.Paths.{FitsBy, FitsOnce, FitsPart}
+use Rattle.urlpattern_index.specs.Paths.{FitsModified, FitsUnmodified, FitsPart}
 use Rattle.urlpattern_index.specs.Segments.{IsReadTo, ReadsTo}
 use Rattle.urlpattern_index.specs.declared.path_segments.PathSegments.{PathSegments}
 use Rattle.urlpattern_syntax.specs.declared.parser.{PartModifier.PartModifier, PartType.PartType}
@@ -11,7 +11,7 @@ use Rattle.urlpattern_index.proofs.path_segments.PathSegments.read_part.Goals as
 
 -- A text that fits a group without a modifier begins with the group's prefix.
 prefixed : (kind : PartType) (delimiter : Option ℕ) (part : PartView) (text : List ℕ) → kind ≢ PartType.FixedText
-    → FitsOnce kind delimiter part text → (more : List ℕ) × (text ≡ part.prefix ++ more)
+    → FitsUnmodified kind delimiter part text → (more : List ℕ) × (text ≡ part.prefix ++ more)
 prefixed PartType.FixedText delimiter part text other fits = absurd (other refl)
 prefixed PartType.SegmentWildcard (Some end) part text other (run, cut, lack) =
     (run ++ part.suffix, cut ∙ append_assoc part.prefix run part.suffix)
@@ -20,8 +20,8 @@ prefixed PartType.Regexp delimiter part text other fits = fits
 prefixed PartType.FullWildcard delimiter part text other fits = fits
 
 once : (delimiter : Option ℕ) (part : PartView) (text : List ℕ) → part.modifier ≡ PartModifier.None
-    → FitsPart delimiter part text → FitsOnce part.kind delimiter part text
-once delimiter part text none fits = subst (λ modifier. FitsBy modifier delimiter part text) none fits
+    → FitsPart delimiter part text → FitsUnmodified part.kind delimiter part text
+once delimiter part text none fits = subst (λ modifier. FitsModified modifier delimiter part text) none fits
 
 -- The prefix is read.
 module _ (segments : PathSegments) (path : List ℕ) (delimiter : Option ℕ) (part : PartView) (text rest prefix : List ℕ)
@@ -37,8 +37,8 @@ module _ (segments : PathSegments) (path : List ℕ) (delimiter : Option ℕ) (p
   before_run : part.kind ≡ PartType.SegmentWildcard → delimiter ≡ Some 47 → (suffix : List ℕ) → suffix ≡ part.suffix
       → (run : List ℕ) × IsTrue (lacks 47 run) × IsReadTo segments path (prefix ++ (run ++ (suffix ++ rest)))
   before_run segment slash suffix is_suffix =
-      let at_slash = subst (λ (d : Option ℕ). FitsOnce part.kind d part text) slash (once delimiter part text none fits) in
-      let (run, cut, lack) = subst (λ kind. FitsOnce kind (Some 47) part text) segment at_slash in
+      let at_slash = subst (λ (d : Option ℕ). FitsUnmodified part.kind d part text) slash (once delimiter part text none fits) in
+      let (run, cut, lack) = subst (λ kind. FitsUnmodified kind (Some 47) part text) segment at_slash in
       let whole : text ≡ prefix ++ run ++ suffix = cut ∙ ap (λ p. p ++ run ++ part.suffix) (sym is_prefix) ∙ ap (λ s. prefix ++ run ++ s) (sym is_suffix) in
       (run, lack, subst (IsReadTo segments path) (ap (λ t. t ++ rest) whole ∙ append_assoc (prefix ++ run) suffix rest ∙ append_assoc prefix run (suffix ++ rest)) is)
 

@@ -3,8 +3,8 @@ use Rattle.std.proofs.lemmas.Result.{err_from_is_err_and}
 use Rattle.urlpattern_canonical.proofs.CanonicalLemmas.{reports-more, reports-through}
 use Rattle.urlpattern_init.proofs.InheritanceLemmas.{given-le, refused-protocol}
 use Rattle.urlpattern_components.specs.declared.eight.ComponentName.TheVariants.{Protocol}
-use Rattle.urlpattern_init.specs.Inheritance.{asked_bytes, given_bytes, processed_values, processed_value, values_view}
-use Rattle.urlpattern_canonical.specs.Canonical.{bytes_asked}
+use Rattle.urlpattern_init.specs.Inheritance.{longest_bytes, given_bytes, processed_values, processed_value, values_view}
+use Rattle.urlpattern_canonical.specs.Canonical.{bytes_passed}
 use Rattle.urlpattern_init.proofs.init.processing.process_values.Goals as goal
 
 pub returns-in_err-protocol-clause-err : goal.returns-in_err-protocol-clause-err
@@ -15,7 +15,7 @@ returns-in_err-protocol-clause-err c =
     let base = c.args.init.now.base_url in
     let error = c.in_err-protocol.field-0.0 in
     rw (p.1, p.2)
-    (reports-through (processed_value mode values base None Protocol) (processed_values mode values base) (asked_bytes mode values base) error
+    (reports-through (processed_value mode values base None Protocol) (processed_values mode values base) (longest_bytes mode values base) error
     (λ reason refused. refused-protocol mode values base reason refused)
-    (reports-more (processed_value mode values base None Protocol) (bytes_asked mode (max 0 (given_bytes mode values base Protocol))) (asked_bytes mode values base) error
+    (reports-more (processed_value mode values base None Protocol) (bytes_passed mode (max 0 (given_bytes mode values base Protocol))) (longest_bytes mode values base) error
     (given-le mode values base Protocol) c.in_err-protocol.ensures.err))

@@ -9,6 +9,6 @@ use Rattle.urlpattern_matcher.proofs.component.matchers.generate_matcher.Goals a
 
 pub returns-clause-means : goal.returns-clause-means
 returns-clause-means g c = λ plain kept follows text answered lacks scalars answers.
-    let made = c.in_ok-generate_matcher_knowing in
+    let made = c.in_ok-generate_matcher_with_regexp in
     matcher_means g.R.RegExp.answer (IsEngineOf g.R.RegExp false (chars c.args.flags.now)) (options_view c.args.options.now)
     (map part_view c.args.part_list.now) (matcher_view made.field-0) text answered made.ensures plain kept lacks scalars follows answers

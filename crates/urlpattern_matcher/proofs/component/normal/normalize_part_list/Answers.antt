@@ -8,7 +8,7 @@ use Rattle.urlpattern_syntax.proofs.ReadingLemmas.{MemoryOr-weaker}
 use Rattle.urlpattern_syntax.specs.Errors.{ErrorView}
 use Rattle.urlpattern_syntax.specs.Options.{options_view}
 use Rattle.urlpattern_syntax.specs.Parts.{parts_view}
-use Rattle.urlpattern_syntax.specs.Reading.{Reads, Refuses, encoding_by}
+use Rattle.urlpattern_syntax.specs.Reading.{Reads, Rejects, encoding_by}
 use Rattle.urlpattern_matcher.proofs.component.normal.normalize_part_list.Goals as goal
 
 pub returns-clause-same : goal.returns-clause-same
@@ -22,7 +22,7 @@ returns-clause-same g c =
 pub returns-clause-fails : goal.returns-clause-fails
 returns-clause-fails g c =
     let encoding = encoding_by g.F.Fn c.args.encoding_callback in
-    let Refused : List ℕ → ErrorView → Type 0 = λ text error. Refuses text (options_view c.args.options.now) encoding error in
+    let Refused : List ℕ → ErrorView → Type 0 = λ text error. Rejects text (options_view c.args.options.now) encoding error in
     let text = ap chars c.deref.ensures ∙ c.in_ok-text.ensures.text in
     if_err-map _ _ c.parse_pattern_string.result
     (λ error refused printable. MemoryOr-weaker (Refused (chars c.deref.result.now)) (FailsText encoding (encoded_texts (joined (parts_view c.args.part_list.now)))) error

@@ -2,7 +2,7 @@ use Rattle.std.proofs.Common.{◌≡◌, false, length, sym, subst, rules}
 use Rattle.std.specs.Str.{chars}
 use Rattle.urlpattern_meaning.specs.Matching.{MayBeEmpty, PassesFilter}
 use Rattle.urlpattern_syntax.proofs.TextLemmas.{chars-empty, chars-some}
-use Rattle.urlpattern_matcher.proofs.MatcherAnswers.{captured-by, may_be-some, not_captured-by}
+use Rattle.urlpattern_matcher.proofs.MatcherResults.{captured-by, may_be-some, not_captured-by}
 use Rattle.urlpattern_matcher.proofs.matcher.Matcher.is_captured.Goals as goal
 use Rattle.urlpattern_matcher.proofs.matcher.Matcher.is_captured.Goals.{then-allow_empty, else-allow_empty}
 

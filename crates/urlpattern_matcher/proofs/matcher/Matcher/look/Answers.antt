@@ -3,7 +3,7 @@ use Rattle.std.specs.Prelude.{Ok}
 use Rattle.std.specs.Str.{chars}
 use Rattle.urlpattern_meaning.specs.Matching.{RegExp}
 use Rattle.urlpattern_matcher.specs.Matchers.{engine_view, inner_view, matcher_view}
-use Rattle.urlpattern_matcher.proofs.MatcherAnswers.{answers-engine, not_matched-literal, not_matched-single, not_matched-without}
+use Rattle.urlpattern_matcher.proofs.MatcherResults.{answers-engine, not_matched-literal, not_matched-single, not_matched-without}
 use Rattle.urlpattern_matcher.proofs.matcher.Matcher.look.Goals as goal
 
 pub returns-in_err-middle-clause-answer : goal.returns-in_err-middle-clause-answer

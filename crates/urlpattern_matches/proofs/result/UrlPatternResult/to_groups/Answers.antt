@@ -6,7 +6,7 @@ use Rattle.std.specs.String.{string_eq}
 use Rattle.urlpattern_components.proofs.EightLemmas.{of_each}
 use Rattle.urlpattern_components.specs.declared.eight.ComponentName.TheVariants.{Protocol}
 use Rattle.urlpattern_matches.proofs.TakenLemmas.{component-more}
-use Rattle.urlpattern_matches.specs.BorrowedMatches.{HasDistinctGroups, all_listed_groups, lent_group, listed_groups, named_groups, texts_captured}
+use Rattle.urlpattern_matches.specs.BorrowedMatches.{HasDistinctGroups, all_listed_groups, borrowed_group, listed_groups, named_groups, texts_captured}
 use Rattle.urlpattern_matches.specs.declared.result.UrlPatternComponentResult.{UrlPatternComponentResult}
 use Rattle.urlpattern_matches.proofs.result.UrlPatternResult.to_groups.Goals as goal
 
@@ -18,12 +18,12 @@ loop-component-preserved c =
     let component = get_or names i Protocol in
     let eight : length names ≡ 8 = ap length c.all-component-items.ensures in
     let old = c.loop-component.taken.items in
-    let new = c.add_taken.new.taken.items in
+    let new = c.add_participating.new.taken.items in
     record {
       added = component-more result names i Protocol old new (omega arith) c.loop-component.invariant.added
-          (subst (λ (one : UrlPatternComponentResult). map lent_group new ≡ map lent_group old ++ texts_captured (named_groups component (listed_groups one.groups))) c.component.ensures c.in_ok-add_taken.ensures.added);
+          (subst (λ (one : UrlPatternComponentResult). map borrowed_group new ≡ map borrowed_group old ++ texts_captured (named_groups component (listed_groups one.groups))) c.component.ensures c.in_ok-add_participating.ensures.added);
       differ = All-more (HasDistinctGroups result) names i Protocol (omega arith) c.loop-component.invariant.differ
-          (subst (λ (one : UrlPatternComponentResult). IsUnique string_eq one.groups) c.component.ensures c.in_ok-add_taken.ensures.differ);
+          (subst (λ (one : UrlPatternComponentResult). IsUnique string_eq one.groups) c.component.ensures c.in_ok-add_participating.ensures.differ);
     }
 
 pub returns : goal.returns

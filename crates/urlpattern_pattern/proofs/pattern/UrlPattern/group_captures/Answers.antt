@@ -2,7 +2,7 @@ use Rattle.std.proofs.Common.{subst}
 use Rattle.std.proofs.lemmas.Option.{IfSome_then}
 use Rattle.std.proofs.lemmas.Result.{IfErr-weaker, IfOk-weaker}
 use Rattle.std.specs.Prelude.{Option}
-use Rattle.urlpattern_meaning.specs.Matching.{Answers}
+use Rattle.urlpattern_meaning.specs.Matching.{Returns}
 use Rattle.urlpattern_meaning.specs.PartMeaning.{Captures}
 use Rattle.urlpattern_pattern.proofs.MatchSteps.{asks-an_engine}
 use Rattle.urlpattern_matches.specs.GroupTexts.{borrowed_texts}
@@ -14,7 +14,7 @@ pub returns-clause-answers : goal.returns-clause-answers
 returns-clause-answers g c =
     IfOk-weaker c.finish_looks.result _ _ (λ found some. IfSome_then found some (λ captures answered name.
     subst
-    (λ (found : Option Captures). Answers g.R.RegExp.answer (pattern_view c.args.self.now name).matcher (at (borrowed_texts c.args.texts.now) name) found)
+    (λ (found : Option Captures). Returns g.R.RegExp.answer (pattern_view c.args.self.now name).matcher (at (borrowed_texts c.args.texts.now) name) found)
     (answered name) (c.in-Some.ensures.some name))) c.finish_looks.ensures.some
 
 pub returns-clause-asked : goal.returns-clause-asked

@@ -1,5 +1,5 @@
 use Rattle.std.proofs.Common.{rules, sym, subst, IfSome}
-use Rattle.urlpattern_generate.specs.Manners.{given_groups}
+use Rattle.urlpattern_generate.specs.WriteSettings.{given_groups}
 use Rattle.urlpattern_pattern.proofs.LinkedLemmas.{link_matched, link_returns, linked, refused_reading, refused_text, refused_url}
 use Rattle.urlpattern_pattern.specs.LinkedUrls.{IsConfirmedBefore}
 use Rattle.urlpattern_pattern.specs.Patterns.{pattern_view}

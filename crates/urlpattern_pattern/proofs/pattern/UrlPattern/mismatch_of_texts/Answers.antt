@@ -2,7 +2,7 @@ use Rattle.std.proofs.Common.{◌≡◌, ℕ, ◌<◌, ◌≤◌, List, ap, arit
 use Rattle.std.proofs.lemmas.Bool.{false≢true}
 use Rattle.std.proofs.lemmas.List.Elements.{All-more}
 use Rattle.std.specs.Prelude.{All, None}
-use Rattle.urlpattern_meaning.specs.Matching.{Answers, AsksEngine, IsMatched, MatcherView}
+use Rattle.urlpattern_meaning.specs.Matching.{Returns, CallsEngine, IsMatched, MatcherView}
 use Rattle.urlpattern_components.proofs.EightLemmas.{of_each}
 use Rattle.urlpattern_pattern.proofs.MismatchLemmas.{matches_before, of_got}
 use Rattle.urlpattern_pattern.proofs.Results.{if_err}
@@ -20,7 +20,7 @@ returns-in_err-accepts-clause-asked g c =
     let within : c.loop-name.name-index < length names = omega arith in
     let name = get_or names c.loop-name.name-index Protocol in
     let before = matches_before g.R.RegExp.answer (pattern_view c.args.self.now) (borrowed_texts c.args.texts.now) names c.loop-name.name-index c.all-name-items.ensures within c.loop-name.invariant in
-    let asks = of_got AsksEngine c.args.self.now c.args.texts.now name c.get.result.now c.get-in-loop-name.result.now c.get.ensures c.get-in-loop-name.ensures c.in_err-accepts.ensures.asked in
+    let asks = of_got CallsEngine c.args.self.now c.args.texts.now name c.get.result.now c.get-in-loop-name.result.now c.get.ensures c.get-in-loop-name.ensures c.in_err-accepts.ensures.asked in
     if_err _ c.from_residual.result (name, before, asks)
 
 pub returns-then-not-branch-clause-first : goal.returns-then-not-branch-clause-first
@@ -29,7 +29,7 @@ returns-then-not-branch-clause-first g c =
     let eight : length names ≡ 8 = ap length c.all-name-items.ensures in
     let within : c.loop-name.name-index < length names = omega arith in
     let name = get_or names c.loop-name.name-index Protocol in
-    let refuses = λ (matcher : MatcherView g.row.R.Denot) (text : List ℕ). Answers g.R.RegExp.answer matcher text None in (
+    let refuses = λ (matcher : MatcherView g.row.R.Denot) (text : List ℕ). Returns g.R.RegExp.answer matcher text None in (
       matches_before g.R.RegExp.answer (pattern_view c.args.self.now) (borrowed_texts c.args.texts.now) names c.loop-name.name-index c.all-name-items.ensures within c.loop-name.invariant,
       of_got refuses c.args.self.now c.args.texts.now name c.get.result.now c.get-in-loop-name.result.now c.get.ensures c.get-in-loop-name.ensures
           (λ captures matches. false≢true (sym c.if-not-branch.true ∙ c.in_ok-accepts.ensures.answer.1 (captures, matches))),

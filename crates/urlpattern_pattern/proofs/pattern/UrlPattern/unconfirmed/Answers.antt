@@ -3,7 +3,7 @@ use Rattle.std.proofs.lemmas.List.Elements.{All-more}
 use Rattle.std.specs.Prelude.{All, Some}
 use Rattle.urlpattern_components.specs.declared.eight.ComponentName.TheVariants.{Protocol}
 use Rattle.urlpattern_components.specs.Eight.{components}
-use Rattle.urlpattern_generate.specs.Manners.{given_groups}
+use Rattle.urlpattern_generate.specs.WriteSettings.{given_groups}
 use Rattle.urlpattern_pattern.proofs.LinkedLemmas.{all_confirmed, confirmed_if, first_other, other_if}
 use Rattle.urlpattern_pattern.specs.LinkedUrls.{IsConfirmed, IsConfirmedBefore, IsOther}
 use Rattle.urlpattern_pattern.specs.Patterns.{pattern_view}

@@ -1,6 +1,6 @@
 use Rattle.std.proofs.Common.{take}
 use Rattle.std.specs.Prelude.{All}
-use Rattle.urlpattern_generate.specs.Manners.{given_groups}
+use Rattle.urlpattern_generate.specs.WriteSettings.{given_groups}
 use Rattle.urlpattern_pattern.specs.LinkedUrls.{IsConfirmed}
 use Rattle.urlpattern_pattern.specs.Patterns.{pattern_view}
 use Rattle.urlpattern_generate.specs.UrlsOfTexts.{cow_texts}

@@ -1,4 +1,4 @@
-use Rattle.urlpattern_generate.specs.Manners.{given_groups}
+use Rattle.urlpattern_generate.specs.WriteSettings.{given_groups}
 use Rattle.urlpattern_pattern.proofs.LinkedLemmas.{part_answered}
 use Rattle.urlpattern_pattern.proofs.pattern.link.written.Goals as goal
 

@@ -12,20 +12,20 @@ returns-then-is_empty g c =
 
 pub write_to-requires : goal.write_to-requires
 write_to-requires g c =
-    let marked = sym c.goes_on_with_suffix.ensures ∙ c.if-goes_on_with_suffix.true in
+    let marked = sym c.continues_name_with_suffix.ensures ∙ c.if-continues_name_with_suffix.true in
     rw (← escaped-by c.pattern-suffix.ensures c.deref.ensures) at (rw marked at c.requires)
 
-pub returns-then-goes_on_with_suffix : goal.returns-then-goes_on_with_suffix
-returns-then-goes_on_with_suffix g c =
-    let marked = sym c.goes_on_with_suffix.ensures ∙ c.if-goes_on_with_suffix.true in
+pub returns-then-continues_name_with_suffix : goal.returns-then-continues_name_with_suffix
+returns-then-continues_name_with_suffix g c =
+    let marked = sym c.continues_name_with_suffix.ensures ∙ c.if-continues_name_with_suffix.true in
     rw marked (rw (escaped-by c.pattern-suffix.ensures c.deref.ensures) at c.write_to.ensures)
 
-pub write_to-requires-else-goes_on_with_suffix : goal.write_to-requires-else-goes_on_with_suffix
-write_to-requires-else-goes_on_with_suffix g c =
-    let unmarked = sym c.goes_on_with_suffix.ensures ∙ c.if-goes_on_with_suffix.false in
+pub write_to-requires-else-continues_name_with_suffix : goal.write_to-requires-else-continues_name_with_suffix
+write_to-requires-else-continues_name_with_suffix g c =
+    let unmarked = sym c.continues_name_with_suffix.ensures ∙ c.if-continues_name_with_suffix.false in
     rw (← escaped-by c.pattern-suffix.ensures c.deref.ensures) at (rw unmarked at c.requires)
 
-pub returns-else-goes_on_with_suffix : goal.returns-else-goes_on_with_suffix
-returns-else-goes_on_with_suffix g c =
-    let unmarked = sym c.goes_on_with_suffix.ensures ∙ c.if-goes_on_with_suffix.false in
-    rw unmarked (rw (escaped-by c.pattern-suffix.ensures c.deref.ensures) at c.write_to-else-goes_on_with_suffix.ensures)
+pub returns-else-continues_name_with_suffix : goal.returns-else-continues_name_with_suffix
+returns-else-continues_name_with_suffix g c =
+    let unmarked = sym c.continues_name_with_suffix.ensures ∙ c.if-continues_name_with_suffix.false in
+    rw unmarked (rw (escaped-by c.pattern-suffix.ensures c.deref.ensures) at c.write_to-else-continues_name_with_suffix.ensures)

@@ -7,9 +7,9 @@ use Rattle.std.specs.Str.{chars, IsUtf8}
 use Rattle.urlpattern_syntax.proofs.TextLemmas.{chars-empty, chars-some}
 use Rattle.urlpattern_syntax.specs.Text.{line_feed}
 use Rattle.urlpattern_steps.specs.declared.step.Step.{Step}
-use Rattle.urlpattern_steps.specs.declared.step.Step.TheVariants.{Literal, Segment, Anything}
-use Rattle.urlpattern_steps.specs.Failed.{EndsWith}
-use Rattle.urlpattern_steps.specs.Walk.{captured_front, up_to_first, walk, StopAt}
+use Rattle.urlpattern_steps.specs.declared.step.Step.TheVariants.{Literal, LazyRun, DotStar}
+use Rattle.urlpattern_steps.specs.FailedStates.{EndsWith}
+use Rattle.urlpattern_steps.specs.Walk.{captured_prefix, up_to_first, walk, BeginOnlyWith}
 use Rattle.urlpattern_steps.proofs.AttemptLemmas.{call_follows_on, follows_missed, follows_on, leaves_captured, leaves_end, leaves_missed, leaves_passed, maybe_left, untouched-same}
 use Rattle.urlpattern_steps.proofs.FirstLemmas.{passed_shorter, places}
 use Rattle.urlpattern_steps.proofs.FollowLemmas.{plus, literal_other, literal_passed}
@@ -23,38 +23,38 @@ use Rattle.urlpattern_steps.proofs.walk.Attempt.+following.Goals as goal
 
 -- ---- the first step
 
-pub follow_first-follow-requires : goal.follow_first-follow-requires
-follow_first-follow-requires n c =
+pub match_first_step-match_rest-requires : goal.match_first_step-match_rest-requires
+match_first_step-match_rest-requires n c =
     let first : EndsWith c.args.steps.now c.args.others.now = (c.args.step.now ∷ [], c.requires.1.1.1) in
     let cut = c.in-Some.ensures.cut in
     let behind : EndsWith (chars c.args.text.now) (chars c.in-Some.rest.now) = (cut.0, cut.1) in
     search (rules, places, first, behind)
 
-pub follow_first-follow_maybe-requires : goal.follow_first-follow_maybe-requires
-follow_first-follow_maybe-requires n c = search (rules, places)
+pub match_first_step-match_optional_group-requires : goal.match_first_step-match_optional_group-requires
+match_first_step-match_optional_group-requires n c = search (rules, places)
 
-pub follow_first-follow_longest_run-requires : goal.follow_first-follow_longest_run-requires
-follow_first-follow_longest_run-requires n c = search (rules, places)
+pub match_first_step-match_greedy_run-requires : goal.match_first_step-match_greedy_run-requires
+match_first_step-match_greedy_run-requires n c = search (rules, places)
 
-pub follow_first-follow_copies-requires : goal.follow_first-follow_copies-requires
-follow_first-follow_copies-requires n c = search (rules, places)
+pub match_first_step-match_copies-requires : goal.match_first_step-match_copies-requires
+match_first_step-match_copies-requires n c = search (rules, places)
 
-pub follow_first-follow_segments-requires : goal.follow_first-follow_segments-requires
-follow_first-follow_segments-requires n c = search (rules, places)
+pub match_first_step-match_segments-requires : goal.match_first_step-match_segments-requires
+match_first_step-match_segments-requires n c = search (rules, places)
 
-pub follow_first-returns-in-Some : goal.follow_first-returns-in-Some
-follow_first-returns-in-Some n c =
+pub match_first_step-returns-in-Some : goal.match_first_step-returns-in-Some
+match_first_step-returns-in-Some n c =
     let others = c.args.others.now in
     let text = chars c.args.text.now in
     let rest = chars c.in-Some.rest.now in
     let d = c.in-Literal.c in
     let one = begins_one c.args.ignore_case d text rest c.in-Some.ensures.cut in
     let first : c.args.steps.now ≡ Literal d ∷ others = c.requires.1.1.1 ∙ ap (λ (s : Step). s ∷ others) c.in-Literal.is in
-    call_follows_on c.args.self.now c.follow.new.self (walk c.args.ignore_case c.args.steps.now text) (walk c.args.ignore_case others rest) c.follow.result
-    (ap (λ s. walk c.args.ignore_case s text) first ∙ literal_passed c.args.ignore_case d one.0 others text rest one.1 one.2) c.follow.ensures
+    call_follows_on c.args.self.now c.match_rest.new.self (walk c.args.ignore_case c.args.steps.now text) (walk c.args.ignore_case others rest) c.match_rest.result
+    (ap (λ s. walk c.args.ignore_case s text) first ∙ literal_passed c.args.ignore_case d one.0 others text rest one.1 one.2) c.match_rest.ensures
 
-pub follow_first-returns-in-None : goal.follow_first-returns-in-None
-follow_first-returns-in-None n c =
+pub match_first_step-returns-in-None : goal.match_first_step-returns-in-None
+match_first_step-returns-in-None n c =
     let others = c.args.others.now in
     let text = chars c.args.text.now in
     let d = c.in-Literal.c in
@@ -65,21 +65,21 @@ follow_first-returns-in-None n c =
 
 -- ---- an optional group
 
-pub follow_maybe-follow_on-requires : goal.follow_maybe-follow_on-requires
-follow_maybe-follow_on-requires n c = (
+pub match_optional_group-match_in_turn-requires : goal.match_optional_group-match_in_turn-requires
+match_optional_group-match_in_turn-requires n c = (
   omega (arith, passed_shorter c.args.group.steps c.args.others.now c.pass.result.now c.pass.ensures),
-  search (rules, places, c.in_ok-follow.ensures.whole),
+  search (rules, places, c.in_ok-match_rest.ensures.whole),
 )
 
-pub follow_maybe-returns : goal.follow_maybe-returns
-follow_maybe-returns n c =
-    maybe_left c.args.ignore_case c.args.self.now c.follow.new.self _ c.follow_on.new.self c.args.group c.args.others.now c.pass.result.now (chars c.args.text.now) _ c.follow_on.result
-    c.if-branch.false c.in_ok-follow.ensures c.in_ok-add_missing.ensures refl c.pass.ensures c.follow_on.ensures
+pub match_optional_group-returns : goal.match_optional_group-returns
+match_optional_group-returns n c =
+    maybe_left c.args.ignore_case c.args.self.now c.match_rest.new.self _ c.match_in_turn.new.self c.args.group c.args.others.now c.pass.result.now (chars c.args.text.now) _ c.match_in_turn.result
+    c.if-branch.false c.in_ok-match_rest.ensures c.in_ok-push_unmatched.ensures refl c.pass.ensures c.match_in_turn.ensures
 
 -- ---- the steps in turn
 
-pub follow_on-loop-step-preserved-in-Literal-1 : goal.follow_on-loop-step-preserved-in-Literal-1
-follow_on-loop-step-preserved-in-Literal-1 n c =
+pub match_in_turn-loop-step-preserved-in-Literal-1 : goal.match_in_turn-loop-step-preserved-in-Literal-1
+match_in_turn-loop-step-preserved-in-Literal-1 n c =
     let rest = chars c.loop-step.rest.now in
     let remaining = chars c.in-Some-after_same.remaining.now in
     let others = c.in-Some.others.now in
@@ -93,8 +93,8 @@ follow_on-loop-step-preserved-in-Literal-1 n c =
           (ap (plus c.loop-step.self.captures.items) (literal_passed c.args.ignore_case d one.0 others rest remaining one.1 one.2)) ([], search rules) refl;
     }
 
-pub follow_on-returns-in_default-after_same : goal.follow_on-returns-in_default-after_same
-follow_on-returns-in_default-after_same n c =
+pub match_in_turn-returns-in_default-after_same : goal.match_in_turn-returns-in_default-after_same
+match_in_turn-returns-in_default-after_same n c =
     let rest = chars c.loop-step.rest.now in
     let others = c.in-Some.others.now in
     let d = c.in-Literal.c in
@@ -102,25 +102,25 @@ follow_on-returns-in_default-after_same n c =
     leaves_missed c.args.ignore_case _ _ _ _ _ _ c.loop-step.invariant.leaves
     (ap (λ l. walk c.args.ignore_case l rest) left ∙ literal_other c.args.ignore_case d others rest c.in_default-after_same.ensures.other)
 
-pub follow_on-returns-then-is_empty : goal.follow_on-returns-then-is_empty
-follow_on-returns-then-is_empty n c =
+pub match_in_turn-returns-then-is_empty : goal.match_in_turn-returns-then-is_empty
+match_in_turn-returns-then-is_empty n c =
     let rest = chars c.loop-step.rest.now in
     let others = c.in-Some.others.now in
-    let end = c.in-Segment.end in
-    let left : c.loop-step.left.now ≡ Segment end ∷ others = c.in-Some.ensures.cases.0 ∙ ap (λ (s : Step). s ∷ others) c.in-Segment.is in
-    let stops : StopAt end others = c.has_one_end.ensures c.if-has_one_end.true in
+    let end = c.in-LazyRun.end in
+    let left : c.loop-step.left.now ≡ LazyRun end ∷ others = c.in-Some.ensures.cases.0 ∙ ap (λ (s : Step). s ∷ others) c.in-LazyRun.is in
+    let stops : BeginOnlyWith end others = c.has_one_end.ensures c.if-has_one_end.true in
     let empty : length c.split_at_first.result.0.now ≡ 0 = search rules in
     let front : up_to_first c.args.ignore_case end rest ≡ [] = sym c.split_at_first.ensures.front ∙ chars-empty c.split_at_first.result.0.now empty in
-    leaves_missed c.args.ignore_case _ _ _ _ _ _ c.loop-step.invariant.leaves (ap (λ l. walk c.args.ignore_case l rest) left ∙ shortest_none c.args.ignore_case end (captured_front (walk c.args.ignore_case others)) (stop-gives c.args.ignore_case end others stops) rest front)
+    leaves_missed c.args.ignore_case _ _ _ _ _ _ c.loop-step.invariant.leaves (ap (λ l. walk c.args.ignore_case l rest) left ∙ shortest_none c.args.ignore_case end (captured_prefix (walk c.args.ignore_case others)) (stop-gives c.args.ignore_case end others stops) rest front)
 
-pub follow_on-loop-step-preserved-then-has_one_end : goal.follow_on-loop-step-preserved-then-has_one_end
-follow_on-loop-step-preserved-then-has_one_end n c =
+pub match_in_turn-loop-step-preserved-then-has_one_end : goal.match_in_turn-loop-step-preserved-then-has_one_end
+match_in_turn-loop-step-preserved-then-has_one_end n c =
     let rest = chars c.loop-step.rest.now in
     let remaining = chars c.split_at_first.result.1.now in
     let others = c.in-Some.others.now in
-    let end = c.in-Segment.end in
-    let left : c.loop-step.left.now ≡ Segment end ∷ others = c.in-Some.ensures.cases.0 ∙ ap (λ (s : Step). s ∷ others) c.in-Segment.is in
-    let stops : StopAt end others = c.has_one_end.ensures c.if-has_one_end.true in
+    let end = c.in-LazyRun.end in
+    let left : c.loop-step.left.now ≡ LazyRun end ∷ others = c.in-Some.ensures.cases.0 ∙ ap (λ (s : Step). s ∷ others) c.in-LazyRun.is in
+    let stops : BeginOnlyWith end others = c.has_one_end.ensures c.if-has_one_end.true in
     let run = c.split_at_first.result.0 in
     let some : ¬ (length run.now ≡ 0) = search rules in
     let utf8 : IsUtf8 run.now = search rules in
@@ -128,148 +128,148 @@ follow_on-loop-step-preserved-then-has_one_end n c =
     record {
       is_text = search rules;
       shorter = omega (arith, c.in-Some.ensures.cases.1, c.loop-step.invariant.shorter);
-      leaves = leaves_captured c.args.ignore_case _ _ _ _ _ _ c.loop-step.invariant.leaves _ (Segment end) others run remaining left
+      leaves = leaves_captured c.args.ignore_case _ _ _ _ _ _ c.loop-step.invariant.leaves _ (LazyRun end) others run remaining left
           (rw (c.split_at_first.ensures.front, c.split_at_first.ensures.rest) (sym (both_ends c.args.ignore_case end rest)))
-          (rw (c.split_at_first.ensures.front, c.split_at_first.ensures.rest) (shortest_ends c.args.ignore_case end (captured_front (walk c.args.ignore_case others)) (stop-gives c.args.ignore_case end others stops) rest front))
-          c.in_ok-push-in-Segment.ensures.items refl;
+          (rw (c.split_at_first.ensures.front, c.split_at_first.ensures.rest) (shortest_ends c.args.ignore_case end (captured_prefix (walk c.args.ignore_case others)) (stop-gives c.args.ignore_case end others stops) rest front))
+          c.in_ok-push-in-LazyRun.ensures.items refl;
     }
 
-pub follow_on-loop-step-preserved : goal.follow_on-loop-step-preserved
-follow_on-loop-step-preserved n c =
+pub match_in_turn-loop-step-preserved : goal.match_in_turn-loop-step-preserved
+match_in_turn-loop-step-preserved n c =
     let rest = chars c.loop-step.rest.now in
     let others = c.in-Some.others.now in
-    let left : c.loop-step.left.now ≡ Anything ∷ others = c.in-Some.ensures.cases.0 ∙ ap (λ (s : Step). s ∷ others) c.in-Anything.is in
-    let stops : StopAt line_feed others = search rules in
-    let run = c.split_at_first-in-Anything.result.0 in
-    let remaining = chars c.split_at_first-in-Anything.result.1.now in
+    let left : c.loop-step.left.now ≡ DotStar ∷ others = c.in-Some.ensures.cases.0 ∙ ap (λ (s : Step). s ∷ others) c.in-DotStar.is in
+    let stops : BeginOnlyWith line_feed others = search rules in
+    let run = c.split_at_first-in-DotStar.result.0 in
+    let remaining = chars c.split_at_first-in-DotStar.result.1.now in
     record {
       is_text = search rules;
       shorter = omega (arith, c.in-Some.ensures.cases.1, c.loop-step.invariant.shorter);
-      leaves = leaves_captured c.args.ignore_case _ _ _ _ _ _ c.loop-step.invariant.leaves _ Anything others run remaining left
-          (rw (c.split_at_first-in-Anything.ensures.front, c.split_at_first-in-Anything.ensures.rest) (sym (both_ends c.args.ignore_case line_feed rest)))
-          (rw (c.split_at_first-in-Anything.ensures.front, c.split_at_first-in-Anything.ensures.rest) (longest_ends c.args.ignore_case line_feed (captured_front (walk c.args.ignore_case others)) (stop-gives c.args.ignore_case line_feed others stops) rest))
-          c.in_ok-push-in-Anything.ensures.items refl;
+      leaves = leaves_captured c.args.ignore_case _ _ _ _ _ _ c.loop-step.invariant.leaves _ DotStar others run remaining left
+          (rw (c.split_at_first-in-DotStar.ensures.front, c.split_at_first-in-DotStar.ensures.rest) (sym (both_ends c.args.ignore_case line_feed rest)))
+          (rw (c.split_at_first-in-DotStar.ensures.front, c.split_at_first-in-DotStar.ensures.rest) (longest_ends c.args.ignore_case line_feed (captured_prefix (walk c.args.ignore_case others)) (stop-gives c.args.ignore_case line_feed others stops) rest))
+          c.in_ok-push-in-DotStar.ensures.items refl;
     }
 
-pub follow_on-returns : goal.follow_on-returns
-follow_on-returns n c =
+pub match_in_turn-returns : goal.match_in_turn-returns
+match_in_turn-returns n c =
     let rest = c.loop-step.rest.now in
     let utf8 : IsUtf8 rest = search rules in
     leaves_end c.args.ignore_case _ _ _ _ _ _ c.loop-step.invariant.leaves c.is_empty-2.result (nil_from_length c.loop-step.left.now (search rules)) (λ e. chars-empty rest (search rules)) (λ e. chars-some rest utf8 (search rules))
 
 -- ---- runs
 
-pub follow_longest-loop-self-init : goal.follow_longest-loop-self-init
-follow_longest-loop-self-init = runs.follow_longest-loop-self-init
+pub match_longest_run-loop-self-init : goal.match_longest_run-loop-self-init
+match_longest_run-loop-self-init = runs.match_longest_run-loop-self-init
 
-pub follow_longest-follow_captured-requires : goal.follow_longest-follow_captured-requires
-follow_longest-follow_captured-requires = runs.follow_longest-follow_captured-requires
+pub match_longest_run-match_after_capture-requires : goal.match_longest_run-match_after_capture-requires
+match_longest_run-match_after_capture-requires = runs.match_longest_run-match_after_capture-requires
 
-pub follow_longest-returns-then-branch : goal.follow_longest-returns-then-branch
-follow_longest-returns-then-branch = runs.follow_longest-returns-then-branch
+pub match_longest_run-returns-then-branch : goal.match_longest_run-returns-then-branch
+match_longest_run-returns-then-branch = runs.match_longest_run-returns-then-branch
 
-pub follow_longest-insert-requires : goal.follow_longest-insert-requires
-follow_longest-insert-requires = runs.follow_longest-insert-requires
+pub match_longest_run-insert-requires : goal.match_longest_run-insert-requires
+match_longest_run-insert-requires = runs.match_longest_run-insert-requires
 
-pub follow_longest-returns-in_default : goal.follow_longest-returns-in_default
-follow_longest-returns-in_default = runs.follow_longest-returns-in_default
+pub match_longest_run-returns-in_default : goal.match_longest_run-returns-in_default
+match_longest_run-returns-in_default = runs.match_longest_run-returns-in_default
 
-pub follow_longest-loop-self-preserved : goal.follow_longest-loop-self-preserved
-follow_longest-loop-self-preserved = runs.follow_longest-loop-self-preserved
+pub match_longest_run-loop-self-preserved : goal.match_longest_run-loop-self-preserved
+match_longest_run-loop-self-preserved = runs.match_longest_run-loop-self-preserved
 
-pub follow_shortest-next_of_run-requires : goal.follow_shortest-next_of_run-requires
-follow_shortest-next_of_run-requires = runs.follow_shortest-next_of_run-requires
+pub match_shortest_run-next_of_run-requires : goal.match_shortest_run-next_of_run-requires
+match_shortest_run-next_of_run-requires = runs.match_shortest_run-next_of_run-requires
 
-pub follow_shortest-before-requires : goal.follow_shortest-before-requires
-follow_shortest-before-requires = runs.follow_shortest-before-requires
+pub match_shortest_run-before-requires : goal.match_shortest_run-before-requires
+match_shortest_run-before-requires = runs.match_shortest_run-before-requires
 
-pub follow_shortest-follow_captured-requires : goal.follow_shortest-follow_captured-requires
-follow_shortest-follow_captured-requires = runs.follow_shortest-follow_captured-requires
+pub match_shortest_run-match_after_capture-requires : goal.match_shortest_run-match_after_capture-requires
+match_shortest_run-match_after_capture-requires = runs.match_shortest_run-match_after_capture-requires
 
-pub follow_shortest-returns-then-branch : goal.follow_shortest-returns-then-branch
-follow_shortest-returns-then-branch = runs.follow_shortest-returns-then-branch
+pub match_shortest_run-returns-then-branch : goal.match_shortest_run-returns-then-branch
+match_shortest_run-returns-then-branch = runs.match_shortest_run-returns-then-branch
 
-pub follow_shortest-loop-remaining-preserved : goal.follow_shortest-loop-remaining-preserved
-follow_shortest-loop-remaining-preserved = runs.follow_shortest-loop-remaining-preserved
+pub match_shortest_run-loop-remaining-preserved : goal.match_shortest_run-loop-remaining-preserved
+match_shortest_run-loop-remaining-preserved = runs.match_shortest_run-loop-remaining-preserved
 
-pub follow_shortest-remember_run-requires-clause-dead : goal.follow_shortest-remember_run-requires-clause-dead
-follow_shortest-remember_run-requires-clause-dead = runs.follow_shortest-remember_run-requires-clause-dead
+pub match_shortest_run-memoize_run-requires-clause-dead : goal.match_shortest_run-memoize_run-requires-clause-dead
+match_shortest_run-memoize_run-requires-clause-dead = runs.match_shortest_run-memoize_run-requires-clause-dead
 
-pub follow_shortest-returns : goal.follow_shortest-returns
-follow_shortest-returns = runs.follow_shortest-returns
+pub match_shortest_run-returns : goal.match_shortest_run-returns
+match_shortest_run-returns = runs.match_shortest_run-returns
 
-pub follow_longest_run-loop-shorter-init : goal.follow_longest_run-loop-shorter-init
-follow_longest_run-loop-shorter-init = runs.follow_longest_run-loop-shorter-init
+pub match_greedy_run-loop-shorter-init : goal.match_greedy_run-loop-shorter-init
+match_greedy_run-loop-shorter-init = runs.match_greedy_run-loop-shorter-init
 
-pub follow_longest_run-after_front-rest-requires : goal.follow_longest_run-after_front-rest-requires
-follow_longest_run-after_front-rest-requires = runs.follow_longest_run-after_front-rest-requires
+pub match_greedy_run-after_prefix-rest-requires : goal.match_greedy_run-after_prefix-rest-requires
+match_greedy_run-after_prefix-rest-requires = runs.match_greedy_run-after_prefix-rest-requires
 
-pub follow_longest_run-follow_captured-requires : goal.follow_longest_run-follow_captured-requires
-follow_longest_run-follow_captured-requires = runs.follow_longest_run-follow_captured-requires
+pub match_greedy_run-match_after_capture-requires : goal.match_greedy_run-match_after_capture-requires
+match_greedy_run-match_after_capture-requires = runs.match_greedy_run-match_after_capture-requires
 
-pub follow_longest_run-returns-then-branch : goal.follow_longest_run-returns-then-branch
-follow_longest_run-returns-then-branch = runs.follow_longest_run-returns-then-branch
+pub match_greedy_run-returns-then-branch : goal.match_greedy_run-returns-then-branch
+match_greedy_run-returns-then-branch = runs.match_greedy_run-returns-then-branch
 
-pub follow_longest_run-loop-shorter-preserved : goal.follow_longest_run-loop-shorter-preserved
-follow_longest_run-loop-shorter-preserved = runs.follow_longest_run-loop-shorter-preserved
+pub match_greedy_run-loop-shorter-preserved : goal.match_greedy_run-loop-shorter-preserved
+match_greedy_run-loop-shorter-preserved = runs.match_greedy_run-loop-shorter-preserved
 
-pub follow_longest_run-follow_captured-requires-then-run : goal.follow_longest_run-follow_captured-requires-then-run
-follow_longest_run-follow_captured-requires-then-run = runs.follow_longest_run-follow_captured-requires-then-run
+pub match_greedy_run-match_after_capture-requires-then-run : goal.match_greedy_run-match_after_capture-requires-then-run
+match_greedy_run-match_after_capture-requires-then-run = runs.match_greedy_run-match_after_capture-requires-then-run
 
-pub follow_longest_run-returns-then-run : goal.follow_longest_run-returns-then-run
-follow_longest_run-returns-then-run = runs.follow_longest_run-returns-then-run
+pub match_greedy_run-returns-then-run : goal.match_greedy_run-returns-then-run
+match_greedy_run-returns-then-run = runs.match_greedy_run-returns-then-run
 
-pub follow_longest_run-returns-else-run : goal.follow_longest_run-returns-else-run
-follow_longest_run-returns-else-run = runs.follow_longest_run-returns-else-run
+pub match_greedy_run-returns-else-run : goal.match_greedy_run-returns-else-run
+match_greedy_run-returns-else-run = runs.match_greedy_run-returns-else-run
 
 -- ---- a repeated literal
 
-pub follow_copies-follow_any_copies-requires : goal.follow_copies-follow_any_copies-requires
-follow_copies-follow_any_copies-requires = copies.follow_copies-follow_any_copies-requires
+pub match_copies-match_any_copies-requires : goal.match_copies-match_any_copies-requires
+match_copies-match_any_copies-requires = copies.match_copies-match_any_copies-requires
 
-pub follow_copies-follow_any_copies-requires-in-Some : goal.follow_copies-follow_any_copies-requires-in-Some
-follow_copies-follow_any_copies-requires-in-Some = copies.follow_copies-follow_any_copies-requires-in-Some
+pub match_copies-match_any_copies-requires-in-Some : goal.match_copies-match_any_copies-requires-in-Some
+match_copies-match_any_copies-requires-in-Some = copies.match_copies-match_any_copies-requires-in-Some
 
-pub follow_copies-returns-then-copies : goal.follow_copies-returns-then-copies
-follow_copies-returns-then-copies = copies.follow_copies-returns-then-copies
+pub match_copies-returns-then-copies : goal.match_copies-returns-then-copies
+match_copies-returns-then-copies = copies.match_copies-returns-then-copies
 
-pub follow_copies-returns-in-Some : goal.follow_copies-returns-in-Some
-follow_copies-returns-in-Some = copies.follow_copies-returns-in-Some
+pub match_copies-returns-in-Some : goal.match_copies-returns-in-Some
+match_copies-returns-in-Some = copies.match_copies-returns-in-Some
 
-pub follow_copies-returns-in-None : goal.follow_copies-returns-in-None
-follow_copies-returns-in-None = copies.follow_copies-returns-in-None
+pub match_copies-returns-in-None : goal.match_copies-returns-in-None
+match_copies-returns-in-None = copies.match_copies-returns-in-None
 
-pub follow_any_copies-loop-shorter-init : goal.follow_any_copies-loop-shorter-init
-follow_any_copies-loop-shorter-init = copies.follow_any_copies-loop-shorter-init
+pub match_any_copies-loop-shorter-init : goal.match_any_copies-loop-shorter-init
+match_any_copies-loop-shorter-init = copies.match_any_copies-loop-shorter-init
 
-pub follow_any_copies-after_front-requires : goal.follow_any_copies-after_front-requires
-follow_any_copies-after_front-requires = copies.follow_any_copies-after_front-requires
+pub match_any_copies-after_prefix-requires : goal.match_any_copies-after_prefix-requires
+match_any_copies-after_prefix-requires = copies.match_any_copies-after_prefix-requires
 
-pub follow_any_copies-follow-requires : goal.follow_any_copies-follow-requires
-follow_any_copies-follow-requires = copies.follow_any_copies-follow-requires
+pub match_any_copies-match_rest-requires : goal.match_any_copies-match_rest-requires
+match_any_copies-match_rest-requires = copies.match_any_copies-match_rest-requires
 
-pub follow_any_copies-returns-then-branch : goal.follow_any_copies-returns-then-branch
-follow_any_copies-returns-then-branch = copies.follow_any_copies-returns-then-branch
+pub match_any_copies-returns-then-branch : goal.match_any_copies-returns-then-branch
+match_any_copies-returns-then-branch = copies.match_any_copies-returns-then-branch
 
-pub follow_any_copies-returns-in_default : goal.follow_any_copies-returns-in_default
-follow_any_copies-returns-in_default = copies.follow_any_copies-returns-in_default
+pub match_any_copies-returns-in_default : goal.match_any_copies-returns-in_default
+match_any_copies-returns-in_default = copies.match_any_copies-returns-in_default
 
-pub follow_any_copies-loop-shorter-preserved : goal.follow_any_copies-loop-shorter-preserved
-follow_any_copies-loop-shorter-preserved = copies.follow_any_copies-loop-shorter-preserved
+pub match_any_copies-loop-shorter-preserved : goal.match_any_copies-loop-shorter-preserved
+match_any_copies-loop-shorter-preserved = copies.match_any_copies-loop-shorter-preserved
 
 -- ---- separated runs
 
-pub follow_segments-end_of_segments-requires : goal.follow_segments-end_of_segments-requires
-follow_segments-end_of_segments-requires = segments.follow_segments-end_of_segments-requires
+pub match_segments-end_of_segments-requires : goal.match_segments-end_of_segments-requires
+match_segments-end_of_segments-requires = segments.match_segments-end_of_segments-requires
 
-pub follow_segments-follow_captured-requires : goal.follow_segments-follow_captured-requires
-follow_segments-follow_captured-requires = segments.follow_segments-follow_captured-requires
+pub match_segments-match_after_capture-requires : goal.match_segments-match_after_capture-requires
+match_segments-match_after_capture-requires = segments.match_segments-match_after_capture-requires
 
-pub follow_segments-returns-in-Some : goal.follow_segments-returns-in-Some
-follow_segments-returns-in-Some = segments.follow_segments-returns-in-Some
+pub match_segments-returns-in-Some : goal.match_segments-returns-in-Some
+match_segments-returns-in-Some = segments.match_segments-returns-in-Some
 
-pub follow_segments-returns-in-None : goal.follow_segments-returns-in-None
-follow_segments-returns-in-None = segments.follow_segments-returns-in-None
+pub match_segments-returns-in-None : goal.match_segments-returns-in-None
+match_segments-returns-in-None = segments.match_segments-returns-in-None
 
 pub end_of_segments-end_here-requires : goal.end_of_segments-end_here-requires
 end_of_segments-end_here-requires = segments.end_of_segments-end_here-requires

@@ -1,6 +1,6 @@
 use Rattle.std.proofs.Common.{◌≡◌}
 use Rattle.std.specs.Str.{chars}
-use Rattle.urlpattern_parser.specs.Readers.{Stands, reader_left, reader_text}
+use Rattle.urlpattern_parser.specs.Readers.{IsAtPlace, reader_left, reader_text}
 use Rattle.urlpattern_parser.proofs.StopLemmas.{ReachesBy}
 use Rattle.urlpattern_parser.proofs.parser.stop.Stop.of.Given as goal
 
@@ -8,7 +8,7 @@ use Rattle.urlpattern_parser.proofs.parser.stop.Stop.of.Given as goal
 abbrev pub invariant-loop-next : goal.invariant-loop-next
 invariant-loop-next l = record {
   whole : reader_text l.reader ≡ chars l.fn.input;
-  stands : Stands l.reader;
+  stands : IsAtPlace l.reader;
   reached : ReachesBy (chars l.prefix_code_point) (chars l.fn.input) l.reader;
 }
 

@@ -1,6 +1,6 @@
 use Rattle.std.proofs.Common.{◌≡◌, ◌<◌, ◌∷◌, length, true, rules, arith}
 use Rattle.std.specs.Str.{chars}
-use Rattle.urlpattern_syntax.specs.Cursors.{stands_for_itself}
+use Rattle.urlpattern_syntax.specs.Cursors.{is_char_token}
 use Rattle.urlpattern_parser.proofs.CharacterLemmas.{character_tokens, characters_before, leaves_next}
 use Rattle.urlpattern_parser.proofs.tokenizer.cursors.Cursor.characters.Goals as goal
 
@@ -8,7 +8,7 @@ pub loop-first-preserved : goal.loop-first-preserved
 loop-first-preserved c =
     let cut : chars c.loop-first.rest.now ≡ c.in-Some.first ∷ chars c.in-Some.after.now = search rules in
     let shorter : length c.in-Some.after.now < length c.loop-first.rest.now = search rules in
-    let stands : stands_for_itself c.in-Some.first ≡ true = search rules in
+    let stands : is_char_token c.in-Some.first ≡ true = search rules in
     record {
       last_is_text = search rules;
       is_text = search rules;

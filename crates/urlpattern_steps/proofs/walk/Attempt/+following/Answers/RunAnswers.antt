@@ -5,9 +5,9 @@ use Rattle.std.specs.Option.{option_or}
 use Rattle.std.specs.Str.{chars, IsUtf8}
 use Rattle.urlpattern_syntax.proofs.TextLemmas.{chars-empty}
 use Rattle.urlpattern_syntax.specs.Text.{line_feed}
-use Rattle.urlpattern_steps.specs.declared.step.Step.TheVariants.{Anything, Longest}
-use Rattle.urlpattern_steps.specs.Failed.{EndsWith, HasEnded}
-use Rattle.urlpattern_steps.specs.Walk.{Continuation, captured_front, longest, shortest, up_to_first, walk}
+use Rattle.urlpattern_steps.specs.declared.step.Step.TheVariants.{DotStar, GreedyRun}
+use Rattle.urlpattern_steps.specs.FailedStates.{EndsWith, HasEnded}
+use Rattle.urlpattern_steps.specs.Walk.{Continuation, captured_prefix, longest, shortest, up_to_first, walk}
 use Rattle.urlpattern_steps.specs.Taken.{Untouched}
 use Rattle.urlpattern_steps.proofs.AttemptLemmas.{cut_sooner, follows_later, follows_missed, follows_none, follows_taken, follows_untouched, untouched-same}
 use Rattle.urlpattern_steps.proofs.FallingLemmas.{falling, falling-found, front_shrinks}
@@ -16,72 +16,72 @@ use Rattle.urlpattern_steps.proofs.LongestLemmas.{at_least, falling_empty, falli
 use Rattle.urlpattern_steps.proofs.RunLemmas.{both_ends, lacks_less, longest_ended, longest_shorter}
 use Rattle.urlpattern_steps.proofs.FirstLemmas.{places}
 use Rattle.urlpattern_steps.proofs.walk.Attempt.+following.Goals as goal
-use Rattle.urlpattern_steps.proofs.walk.Attempt.+following.Goals.{follow_longest-Else-branch, follow_longest_run-After-follow_captured, follow_shortest-After-follow_captured}
+use Rattle.urlpattern_steps.proofs.walk.Attempt.+following.Goals.{match_longest_run-Else-branch, match_greedy_run-After-match_after_capture, match_shortest_run-After-match_after_capture}
 
 -- ---- the longest prefix
 
-pub follow_longest-loop-self-init : goal.follow_longest-loop-self-init
-follow_longest-loop-self-init n c =
-    let cut = c.longest_front-front.ensures in
-    let ended : HasEnded c.args.ignore_case line_feed (Anything ∷ c.args.others.now) (chars cut.0) = subst (λ s. HasEnded c.args.ignore_case line_feed s (chars cut.0)) c.requires.1.1.1 cut.4 in
+pub match_longest_run-loop-self-init : goal.match_longest_run-loop-self-init
+match_longest_run-loop-self-init n c =
+    let cut = c.longest_prefix-front.ensures in
+    let ended : HasEnded c.args.ignore_case line_feed (DotStar ∷ c.args.others.now) (chars cut.0) = subst (λ s. HasEnded c.args.ignore_case line_feed s (chars cut.0)) c.requires.1.1.1 cut.4 in
     record {
       is_text = search rules;
-      so_far = (cut.0, cut.1, cut.2, (cut.3, longest_ended c.args.ignore_case line_feed (walk c.args.ignore_case c.args.others.now) (chars c.longest_front-front.result.now) (chars cut.0) ended));
+      so_far = (cut.0, cut.1, cut.2, (cut.3, longest_ended c.args.ignore_case line_feed (walk c.args.ignore_case c.args.others.now) (chars c.longest_prefix-front.result.now) (chars cut.0) ended));
       before = untouched-same c.args.self.now;
     }
 
-pub follow_longest-follow_captured-requires : goal.follow_longest-follow_captured-requires
-follow_longest-follow_captured-requires n c =
-    let first : EndsWith c.args.steps.now c.args.others.now = (Anything ∷ [], c.requires.1.1.1) in
+pub match_longest_run-match_after_capture-requires : goal.match_longest_run-match_after_capture-requires
+match_longest_run-match_after_capture-requires n c =
+    let first : EndsWith c.args.steps.now c.args.others.now = (DotStar ∷ [], c.requires.1.1.1) in
     search (rules, places, first)
 
-pub follow_longest-returns-then-branch : goal.follow_longest-returns-then-branch
-follow_longest-returns-then-branch n c =
+pub match_longest_run-returns-then-branch : goal.match_longest_run-returns-then-branch
+match_longest_run-returns-then-branch n c =
     let front = c.loop-self.front.now in
     let so_far = c.loop-self.invariant.so_far in
     let utf8 : IsUtf8 front = search rules in
-    follows_taken c.args.self.now c.loop-self.self c.follow_captured.new.self _ _ _ c.loop-self.invariant.before c.if-branch.true c.in_ok-follow_captured.ensures
-    (λ found some. longest_taken c.args.ignore_case c.args.steps.now c.args.others.now c.requires.1.1.1 c.args.text.now front c.after_front-rest.result.now so_far.0 found utf8 c.after_front-rest.ensures so_far.2 so_far.3.0 so_far.3.1
+    follows_taken c.args.self.now c.loop-self.self c.match_after_capture.new.self _ _ _ c.loop-self.invariant.before c.if-branch.true c.in_ok-match_after_capture.ensures
+    (λ found some. longest_taken c.args.ignore_case c.args.steps.now c.args.others.now c.requires.1.1.1 c.args.text.now front c.after_prefix-rest.result.now so_far.0 found utf8 c.after_prefix-rest.ensures so_far.2 so_far.3.0 so_far.3.1
     some)
 
 -- No prefix of this length or longer has a match.
-longest_none : (n : ℕ) (c : follow_longest-Else-branch n)
-    → longest c.args.ignore_case line_feed (captured_front (walk c.args.ignore_case c.args.others.now)) (chars c.loop-self.front.now) (chars c.after_front-rest.result.now) ≡ None
+longest_none : (n : ℕ) (c : match_longest_run-Else-branch n)
+    → longest c.args.ignore_case line_feed (captured_prefix (walk c.args.ignore_case c.args.others.now)) (chars c.loop-self.front.now) (chars c.after_prefix-rest.result.now) ≡ None
 longest_none n c =
     let so_far = c.loop-self.invariant.so_far in
-    longest_missed c.args.ignore_case c.args.others.now c.args.text.now c.loop-self.front.now c.after_front-rest.result.now so_far.0 c.loop-self.self.captures.items c.follow_captured.new.self.captures.items _
-    c.after_front-rest.ensures so_far.2 so_far.3.1 c.if-branch.false c.in_ok-follow_captured.ensures.adds
+    longest_missed c.args.ignore_case c.args.others.now c.args.text.now c.loop-self.front.now c.after_prefix-rest.result.now so_far.0 c.loop-self.self.captures.items c.match_after_capture.new.self.captures.items _
+    c.after_prefix-rest.ensures so_far.2 so_far.3.1 c.if-branch.false c.in_ok-match_after_capture.ensures.adds
 
-longest_untouched : (n : ℕ) (c : follow_longest-Else-branch n) → Untouched c.args.self.now c.follow_captured.new.self
-longest_untouched n c = follows_untouched c.args.self.now c.loop-self.self c.follow_captured.new.self _ _ c.loop-self.invariant.before c.if-branch.false c.in_ok-follow_captured.ensures
+longest_untouched : (n : ℕ) (c : match_longest_run-Else-branch n) → Untouched c.args.self.now c.match_after_capture.new.self
+longest_untouched n c = follows_untouched c.args.self.now c.loop-self.self c.match_after_capture.new.self _ _ c.loop-self.invariant.before c.if-branch.false c.in_ok-match_after_capture.ensures
 
-pub follow_longest-insert-requires : goal.follow_longest-insert-requires
-follow_longest-insert-requires n c =
-    let before = longest_untouched n ((goal.at.follow_longest-insert-requires n c).Else-branch) in (
+pub match_longest_run-insert-requires : goal.match_longest_run-insert-requires
+match_longest_run-insert-requires n c =
+    let before = longest_untouched n ((goal.at.match_longest_run-insert-requires n c).Else-branch) in (
       c.args.ignore_case,
       search (rules, places, before),
-      longest_dead c.args.ignore_case c.args.steps.now c.args.others.now c.requires.1.1.1 (chars c.loop-self.front.now) (chars c.after_front-rest.result.now)
-          (longest_none n ((goal.at.follow_longest-insert-requires n c).Else-branch)),
+      longest_dead c.args.ignore_case c.args.steps.now c.args.others.now c.requires.1.1.1 (chars c.loop-self.front.now) (chars c.after_prefix-rest.result.now)
+          (longest_none n ((goal.at.match_longest_run-insert-requires n c).Else-branch)),
     )
 
-pub follow_longest-returns-in_default : goal.follow_longest-returns-in_default
-follow_longest-returns-in_default n c =
+pub match_longest_run-returns-in_default : goal.match_longest_run-returns-in_default
+match_longest_run-returns-in_default n c =
     let front = c.loop-self.front.now in
-    let rest = c.after_front-rest.result.now in
-    let missed = (goal.at.follow_longest-returns-in_default n c).Else-branch in
+    let rest = c.after_prefix-rest.result.now in
+    let missed = (goal.at.match_longest_run-returns-in_default n c).Else-branch in
     let before = longest_untouched n missed in
-    let whole : c.args.text.now ≡ rest = c.after_front-rest.ensures ∙ ap (λ f. f ++ rest) c.in_default.ensures.empty in
+    let whole : c.args.text.now ≡ rest = c.after_prefix-rest.ensures ∙ ap (λ f. f ++ rest) c.in_default.ensures.empty in
     follows_missed c.args.self.now _ _ (record { same = before.same; whole = c.insert.ensures ∙ before.whole })
     (ap (λ t. walk c.args.ignore_case c.args.steps.now (chars t)) whole ∙ longest_dead c.args.ignore_case c.args.steps.now c.args.others.now c.requires.1.1.1 (chars front) (chars rest) (longest_none n missed))
 
-pub follow_longest-loop-self-preserved : goal.follow_longest-loop-self-preserved
-follow_longest-loop-self-preserved n c =
+pub match_longest_run-loop-self-preserved : goal.match_longest_run-loop-self-preserved
+match_longest_run-loop-self-preserved n c =
     let front = c.loop-self.front.now in
     let shorter = c.in-Some.shorter.now in
-    let rest = c.after_front-rest.result.now in
-    let gives : Continuation = captured_front (walk c.args.ignore_case c.args.others.now) in
+    let rest = c.after_prefix-rest.result.now in
+    let gives : Continuation = captured_prefix (walk c.args.ignore_case c.args.others.now) in
     let so_far = c.loop-self.invariant.so_far in
-    let missed = (goal.at.follow_longest-loop-self-preserved n c).Else-branch in
+    let missed = (goal.at.match_longest_run-loop-self-preserved n c).Else-branch in
     let before = longest_untouched n missed in
     let last = c.in-Some.ensures.cut in
     let utf8 : IsUtf8 shorter = search rules in
@@ -91,7 +91,7 @@ follow_longest-loop-self-preserved n c =
     record {
       is_text = search rules;
       so_far = cut_sooner c.args.text.now front shorter rest last.0
-          (λ r. (up_to_first c.args.ignore_case line_feed (chars shorter) ≡ chars shorter) × (longest c.args.ignore_case line_feed gives (chars shorter) r ≡ gives (chars shorter) r)) last.1 after c.after_front-rest.ensures last.2 (
+          (λ r. (up_to_first c.args.ignore_case line_feed (chars shorter) ≡ chars shorter) × (longest c.args.ignore_case line_feed gives (chars shorter) r ≡ gives (chars shorter) r)) last.1 after c.after_prefix-rest.ensures last.2 (
             less.0,
             subst (λ r. longest c.args.ignore_case line_feed gives (chars shorter) r ≡ gives (chars shorter) r) (sym passed.1)
                 (longest_shorter c.args.ignore_case line_feed gives (chars shorter) last.0 (chars rest) less.1 (ap (λ f. longest c.args.ignore_case line_feed gives f (chars rest)) (sym passed.0) ∙ longest_none n missed)),
@@ -101,20 +101,20 @@ follow_longest-loop-self-preserved n c =
 
 -- ---- the shortest prefix
 
-pub follow_shortest-next_of_run-requires : goal.follow_shortest-next_of_run-requires
-follow_shortest-next_of_run-requires n c =
+pub match_shortest_run-next_of_run-requires : goal.match_shortest_run-next_of_run-requires
+match_shortest_run-next_of_run-requires n c =
     let so_far = c.loop-remaining.invariant.so_far in
     let ends : EndsWith (chars c.args.text.now) (chars c.loop-remaining.rest.now) = (so_far.0, so_far.1) in
     search (rules, places, ends)
 
-pub follow_shortest-before-requires : goal.follow_shortest-before-requires
-follow_shortest-before-requires n c =
+pub match_shortest_run-before-requires : goal.match_shortest_run-before-requires
+match_shortest_run-before-requires n c =
     let so_far = c.loop-remaining.invariant.so_far in
     let d = c.in-Some.field-0-0 in
     (so_far.0 ++ d ∷ [], run_passed so_far.0 (chars c.args.text.now) (chars c.loop-remaining.rest.now) d (chars c.in-Some.remaining.now) so_far.1 c.in-Some.ensures.cut)
 
-pub follow_shortest-follow_captured-requires : goal.follow_shortest-follow_captured-requires
-follow_shortest-follow_captured-requires n c =
+pub match_shortest_run-match_after_capture-requires : goal.match_shortest_run-match_after_capture-requires
+match_shortest_run-match_after_capture-requires n c =
     let so_far = c.loop-remaining.invariant.so_far in
     let d = c.in-Some.field-0-0 in
     let text = chars c.args.text.now in
@@ -123,56 +123,56 @@ follow_shortest-follow_captured-requires n c =
     search (rules, places, ends)
 
 -- The result of this prefix comes first, and then those of longer ones.
-shortest_so_far : (n : ℕ) (c : follow_shortest-After-follow_captured n)
-    → let gives : Continuation = captured_front (walk c.args.ignore_case c.args.others.now) in
+shortest_so_far : (n : ℕ) (c : match_shortest_run-After-match_after_capture n)
+    → let gives : Continuation = captured_prefix (walk c.args.ignore_case c.args.others.now) in
     let remaining = chars c.in-Some.remaining.now in
     walk c.args.ignore_case c.args.steps.now (chars c.args.text.now)
     ≡ option_or (gives (chars c.before-in-Some.result.now) remaining) (shortest c.args.ignore_case c.args.end gives (c.loop-remaining.invariant.so_far.0 ++ c.in-Some.field-0-0 ∷ []) remaining)
 shortest_so_far n c =
     let so_far = c.loop-remaining.invariant.so_far in
     so_far.2
-    ∙ shortest_grown c.args.ignore_case c.args.end (captured_front (walk c.args.ignore_case c.args.others.now)) (chars c.args.text.now) so_far.0 (chars c.before-in-Some.result.now) (chars c.loop-remaining.rest.now) (chars c.in-Some.remaining.now)
+    ∙ shortest_grown c.args.ignore_case c.args.end (captured_prefix (walk c.args.ignore_case c.args.others.now)) (chars c.args.text.now) so_far.0 (chars c.before-in-Some.result.now) (chars c.loop-remaining.rest.now) (chars c.in-Some.remaining.now)
     c.in-Some.field-0-0 so_far.1 c.in-Some.ensures.cut c.in-Some.ensures.other c.before-in-Some.ensures
 
-pub follow_shortest-returns-then-branch : goal.follow_shortest-returns-then-branch
-follow_shortest-returns-then-branch n c =
-    let longer = shortest c.args.ignore_case c.args.end (captured_front (walk c.args.ignore_case c.args.others.now)) (c.loop-remaining.invariant.so_far.0 ++ c.in-Some.field-0-0 ∷ []) (chars c.in-Some.remaining.now) in
-    follows_taken c.args.self.now c.loop-remaining.self c.follow_captured.new.self _ _ _ c.loop-remaining.invariant.before c.if-branch.true c.in_ok-follow_captured.ensures
-    (λ found some. shortest_so_far n ((goal.at.follow_shortest-returns-then-branch n c).After-follow_captured) ∙ ap (λ o. option_or o longer) some)
+pub match_shortest_run-returns-then-branch : goal.match_shortest_run-returns-then-branch
+match_shortest_run-returns-then-branch n c =
+    let longer = shortest c.args.ignore_case c.args.end (captured_prefix (walk c.args.ignore_case c.args.others.now)) (c.loop-remaining.invariant.so_far.0 ++ c.in-Some.field-0-0 ∷ []) (chars c.in-Some.remaining.now) in
+    follows_taken c.args.self.now c.loop-remaining.self c.match_after_capture.new.self _ _ _ c.loop-remaining.invariant.before c.if-branch.true c.in_ok-match_after_capture.ensures
+    (λ found some. shortest_so_far n ((goal.at.match_shortest_run-returns-then-branch n c).After-match_after_capture) ∙ ap (λ o. option_or o longer) some)
 
-pub follow_shortest-loop-remaining-preserved : goal.follow_shortest-loop-remaining-preserved
-follow_shortest-loop-remaining-preserved n c =
+pub match_shortest_run-loop-remaining-preserved : goal.match_shortest_run-loop-remaining-preserved
+match_shortest_run-loop-remaining-preserved n c =
     let so_far = c.loop-remaining.invariant.so_far in
     let d = c.in-Some.field-0-0 in
     let remaining = chars c.in-Some.remaining.now in
-    let longer = shortest c.args.ignore_case c.args.end (captured_front (walk c.args.ignore_case c.args.others.now)) (so_far.0 ++ d ∷ []) remaining in
-    let none = follows_none c.loop-remaining.self c.follow_captured.new.self _ _ c.if-branch.false c.in_ok-follow_captured.ensures in
+    let longer = shortest c.args.ignore_case c.args.end (captured_prefix (walk c.args.ignore_case c.args.others.now)) (so_far.0 ++ d ∷ []) remaining in
+    let none = follows_none c.loop-remaining.self c.match_after_capture.new.self _ _ c.if-branch.false c.in_ok-match_after_capture.ensures in
     record {
       is_text = search rules;
       so_far = (
         so_far.0 ++ d ∷ [],
         run_passed so_far.0 (chars c.args.text.now) (chars c.loop-remaining.rest.now) d remaining so_far.1 c.in-Some.ensures.cut,
-        shortest_so_far n ((goal.at.follow_shortest-loop-remaining-preserved n c).After-follow_captured) ∙ ap (λ o. option_or o longer) none,
+        shortest_so_far n ((goal.at.match_shortest_run-loop-remaining-preserved n c).After-match_after_capture) ∙ ap (λ o. option_or o longer) none,
       );
-      before = follows_untouched c.args.self.now c.loop-remaining.self c.follow_captured.new.self _ _ c.loop-remaining.invariant.before c.if-branch.false c.in_ok-follow_captured.ensures;
+      before = follows_untouched c.args.self.now c.loop-remaining.self c.match_after_capture.new.self _ _ c.loop-remaining.invariant.before c.if-branch.false c.in_ok-match_after_capture.ensures;
     }
 
-pub follow_shortest-remember_run-requires-clause-dead : goal.follow_shortest-remember_run-requires-clause-dead
-follow_shortest-remember_run-requires-clause-dead n c =
+pub match_shortest_run-memoize_run-requires-clause-dead : goal.match_shortest_run-memoize_run-requires-clause-dead
+match_shortest_run-memoize_run-requires-clause-dead n c =
     let so_far = c.loop-remaining.invariant.so_far in
     so_far.2 ∙ run_ended c.args.ignore_case c.args.end c.args.steps.now c.args.others.now so_far.0 (chars c.loop-remaining.rest.now) c.requires.1.1.1 c.in_default.ensures.none
 
-pub follow_shortest-returns : goal.follow_shortest-returns
-follow_shortest-returns n c =
+pub match_shortest_run-returns : goal.match_shortest_run-returns
+match_shortest_run-returns n c =
     let so_far = c.loop-remaining.invariant.so_far in
     let before = c.loop-remaining.invariant.before in
-    follows_missed c.args.self.now _ _ (record { same = before.same; whole = c.remember_run.ensures ∙ before.whole })
+    follows_missed c.args.self.now _ _ (record { same = before.same; whole = c.memoize_run.ensures ∙ before.whole })
     (so_far.2 ∙ run_ended c.args.ignore_case c.args.end c.args.steps.now c.args.others.now so_far.0 (chars c.loop-remaining.rest.now) c.requires.1.1.1 c.in_default.ensures.none)
 
 -- ---- a greedy run
 
-pub follow_longest_run-loop-shorter-init : goal.follow_longest_run-loop-shorter-init
-follow_longest_run-loop-shorter-init n c =
+pub match_greedy_run-loop-shorter-init : goal.match_greedy_run-loop-shorter-init
+match_greedy_run-loop-shorter-init n c =
     let run = c.args.run in
     let text = chars c.args.text.now in
     let front = c.split_at_first.result.0.now in
@@ -187,73 +187,73 @@ follow_longest_run-loop-shorter-init n c =
         rest,
         further,
         bytes_join c.args.text.now front rest whole utf8 further cut,
-        rw (c.split_at_first.ensures.front, c.split_at_first.ensures.rest) (longest_run_falling c.args.ignore_case run.may_be_empty run.end (captured_front (walk c.args.ignore_case c.args.steps.now)) text),
+        rw (c.split_at_first.ensures.front, c.split_at_first.ensures.rest) (longest_run_falling c.args.ignore_case run.may_be_empty run.end (captured_prefix (walk c.args.ignore_case c.args.steps.now)) text),
       );
       before = untouched-same c.args.self.now;
     }
 
-pub follow_longest_run-after_front-rest-requires : goal.follow_longest_run-after_front-rest-requires
-follow_longest_run-after_front-rest-requires n c = let so_far = c.loop-shorter.invariant.so_far in (so_far.0, so_far.1, so_far.2)
+pub match_greedy_run-after_prefix-rest-requires : goal.match_greedy_run-after_prefix-rest-requires
+match_greedy_run-after_prefix-rest-requires n c = let so_far = c.loop-shorter.invariant.so_far in (so_far.0, so_far.1, so_far.2)
 
-pub follow_longest_run-follow_captured-requires : goal.follow_longest_run-follow_captured-requires
-follow_longest_run-follow_captured-requires n c = search (rules, places)
+pub match_greedy_run-match_after_capture-requires : goal.match_greedy_run-match_after_capture-requires
+match_greedy_run-match_after_capture-requires n c = search (rules, places)
 
 -- A nonempty prefix has the result of the continuation.
-run_given : (n : ℕ) (c : follow_longest_run-After-follow_captured n)
-    → let gives : Continuation = captured_front (walk c.args.ignore_case c.args.steps.now) in
+run_given : (n : ℕ) (c : match_greedy_run-After-match_after_capture n)
+    → let gives : Continuation = captured_prefix (walk c.args.ignore_case c.args.steps.now) in
     let front = chars c.loop-shorter.front.now in
-    at_least c.args.run.may_be_empty gives front (chars c.loop-shorter.invariant.so_far.0) ≡ gives front (chars c.after_front-rest.result.now)
+    at_least c.args.run.may_be_empty gives front (chars c.loop-shorter.invariant.so_far.0) ≡ gives front (chars c.after_prefix-rest.result.now)
 run_given n c =
     let so_far = c.loop-shorter.invariant.so_far in
     let last = c.in-Some.ensures.cut in
     let utf8 : IsUtf8 c.in-Some.shorter.now = search rules in
-    front_given c.args.run.may_be_empty (captured_front (walk c.args.ignore_case c.args.steps.now)) c.args.text.now c.loop-shorter.front.now c.in-Some.shorter.now c.after_front-rest.result.now so_far.0 last.0 utf8 last.1 last.2
-    c.after_front-rest.ensures so_far.2
+    front_given c.args.run.may_be_empty (captured_prefix (walk c.args.ignore_case c.args.steps.now)) c.args.text.now c.loop-shorter.front.now c.in-Some.shorter.now c.after_prefix-rest.result.now so_far.0 last.0 utf8 last.1 last.2
+    c.after_prefix-rest.ensures so_far.2
 
-pub follow_longest_run-returns-then-branch : goal.follow_longest_run-returns-then-branch
-follow_longest_run-returns-then-branch n c =
+pub match_greedy_run-returns-then-branch : goal.match_greedy_run-returns-then-branch
+match_greedy_run-returns-then-branch n c =
     let so_far = c.loop-shorter.invariant.so_far in
-    follows_taken c.args.self.now c.loop-shorter.self c.follow_captured.new.self _ _ _ c.loop-shorter.invariant.before c.if-branch.true c.in_ok-follow_captured.ensures
-    (λ found some. so_far.3 ∙ falling-found (at_least c.args.run.may_be_empty (captured_front (walk c.args.ignore_case c.args.steps.now))) [] (chars c.loop-shorter.front.now) (chars so_far.0) found
-    (run_given n ((goal.at.follow_longest_run-returns-then-branch n c).After-follow_captured) ∙ some))
+    follows_taken c.args.self.now c.loop-shorter.self c.match_after_capture.new.self _ _ _ c.loop-shorter.invariant.before c.if-branch.true c.in_ok-match_after_capture.ensures
+    (λ found some. so_far.3 ∙ falling-found (at_least c.args.run.may_be_empty (captured_prefix (walk c.args.ignore_case c.args.steps.now))) [] (chars c.loop-shorter.front.now) (chars so_far.0) found
+    (run_given n ((goal.at.match_greedy_run-returns-then-branch n c).After-match_after_capture) ∙ some))
 
-pub follow_longest_run-loop-shorter-preserved : goal.follow_longest_run-loop-shorter-preserved
-follow_longest_run-loop-shorter-preserved n c =
+pub match_greedy_run-loop-shorter-preserved : goal.match_greedy_run-loop-shorter-preserved
+match_greedy_run-loop-shorter-preserved n c =
     let front = c.loop-shorter.front.now in
     let shorter = c.in-Some.shorter.now in
-    let tries : Continuation = at_least c.args.run.may_be_empty (captured_front (walk c.args.ignore_case c.args.steps.now)) in
+    let tries : Continuation = at_least c.args.run.may_be_empty (captured_prefix (walk c.args.ignore_case c.args.steps.now)) in
     let so_far = c.loop-shorter.invariant.so_far in
     let last = c.in-Some.ensures.cut in
     let utf8 : IsUtf8 shorter = search rules in
-    let none = follows_none c.loop-shorter.self c.follow_captured.new.self _ _ c.if-branch.false c.in_ok-follow_captured.ensures in
+    let none = follows_none c.loop-shorter.self c.match_after_capture.new.self _ _ c.if-branch.false c.in_ok-match_after_capture.ensures in
     record {
       is_text = search rules;
       so_far = cut_sooner c.args.text.now front shorter so_far.0 last.0
-          (λ r. walk c.args.ignore_case (Longest c.args.run ∷ c.args.steps.now) (chars c.args.text.now) ≡ falling tries [] (chars shorter) r) last.1 so_far.1 so_far.2 last.2
+          (λ r. walk c.args.ignore_case (GreedyRun c.args.run ∷ c.args.steps.now) (chars c.args.text.now) ≡ falling tries [] (chars shorter) r) last.1 so_far.1 so_far.2 last.2
           (so_far.3 ∙ front_shrinks tries front shorter so_far.0 last.0 utf8 so_far.1 last.1 (IsUtf8-encode last.0 last.1) last.2
-          (run_given n ((goal.at.follow_longest_run-loop-shorter-preserved n c).After-follow_captured) ∙ none));
-      before = follows_untouched c.args.self.now c.loop-shorter.self c.follow_captured.new.self _ _ c.loop-shorter.invariant.before c.if-branch.false c.in_ok-follow_captured.ensures;
+          (run_given n ((goal.at.match_greedy_run-loop-shorter-preserved n c).After-match_after_capture) ∙ none));
+      before = follows_untouched c.args.self.now c.loop-shorter.self c.match_after_capture.new.self _ _ c.loop-shorter.invariant.before c.if-branch.false c.in_ok-match_after_capture.ensures;
     }
 
-pub follow_longest_run-follow_captured-requires-then-run : goal.follow_longest_run-follow_captured-requires-then-run
-follow_longest_run-follow_captured-requires-then-run n c = search (rules, places)
+pub match_greedy_run-match_after_capture-requires-then-run : goal.match_greedy_run-match_after_capture-requires-then-run
+match_greedy_run-match_after_capture-requires-then-run n c = search (rules, places)
 
-pub follow_longest_run-returns-then-run : goal.follow_longest_run-returns-then-run
-follow_longest_run-returns-then-run n c =
+pub match_greedy_run-returns-then-run : goal.match_greedy_run-returns-then-run
+match_greedy_run-returns-then-run n c =
     let front = c.loop-shorter.front.now in
-    let gives : Continuation = captured_front (walk c.args.ignore_case c.args.steps.now) in
+    let gives : Continuation = captured_prefix (walk c.args.ignore_case c.args.steps.now) in
     let so_far = c.loop-shorter.invariant.so_far in
-    follows_later c.args.self.now c.loop-shorter.self c.follow_captured-then-run.new.self _ (gives (chars front) (chars c.args.text.now)) c.follow_captured-then-run.result c.loop-shorter.invariant.before
+    follows_later c.args.self.now c.loop-shorter.self c.match_after_capture-then-run.new.self _ (gives (chars front) (chars c.args.text.now)) c.match_after_capture-then-run.result c.loop-shorter.invariant.before
     (so_far.3
     ∙ ap (λ b. falling (at_least b gives) [] (chars front) (chars so_far.0)) c.if-run.true
     ∙ falling_empty gives (chars front) (chars so_far.0) (chars-empty front (ap length c.in_default.ensures.empty))
     ∙ ap (λ r. gives (chars front) (chars r)) (sym (so_far.2 ∙ ap (λ f. f ++ so_far.0) c.in_default.ensures.empty)))
-    c.follow_captured-then-run.ensures
+    c.match_after_capture-then-run.ensures
 
-pub follow_longest_run-returns-else-run : goal.follow_longest_run-returns-else-run
-follow_longest_run-returns-else-run n c =
+pub match_greedy_run-returns-else-run : goal.match_greedy_run-returns-else-run
+match_greedy_run-returns-else-run n c =
     let front = c.loop-shorter.front.now in
-    let gives : Continuation = captured_front (walk c.args.ignore_case c.args.steps.now) in
+    let gives : Continuation = captured_prefix (walk c.args.ignore_case c.args.steps.now) in
     let so_far = c.loop-shorter.invariant.so_far in
     follows_missed c.args.self.now c.loop-shorter.self _ c.loop-shorter.invariant.before
     (so_far.3

@@ -1,0 +1,79 @@
+//! The parts of a pattern text that a callback may reject: custom expressions, and runs of
+//! characters.
+ghost use Rattle.std.specs.Prelude.{◌≡◌, IfOk, IfSome, Ok, true};
+ghost use Rattle.urlpattern_diagnosis.specs.Faults.{IsSpanOfBody};
+ghost use Rattle.urlpattern_diagnosis.specs.Spans.{IsSpanIn};
+ghost use Rattle.urlpattern_syntax.specs.declared.tokenizer.Token.{Token};
+ghost use Rattle.urlpattern_syntax.specs.declared.tokenizer.TokenType.TheVariants.{Regexp};
+
+use crate::span::Span;
+use std::alloc::Global;
+use urlpattern_syntax::error::OutOfMemory;
+use urlpattern_syntax::tokenizer::{Token, TokenType};
+
+/// The first custom expression of a text that the callback rejects, without its parentheses.
+///
+/// The error is that of the callback.
+pub fn rejected_expression<F: Fn(&str) -> Result<bool, OutOfMemory>>(
+    text: &str,
+    tokens: &[Token<'_>],
+    refuses: F,
+) -> Result<Option<Span>, OutOfMemory>
+    requires { F.IsAlwaysCallable refuses }
+    ensures refused { IfOk result (λ found. IfSome found (λ span. (token : Token) × (token.kind ≡ Regexp) × F.post refuses token.value (Ok true) × IsSpanOfBody text.now token span)) }
+    ensures within { IfOk result (λ found. IfSome found (IsSpanIn text.now)) }
+{
+    for token in tokens {
+        if token.kind == TokenType::Regexp && refuses(token.value)? {
+            return Ok(Some(span_of_body(text, *token)));
+        }
+    }
+    Ok(None)
+}
+
+/// The span of a custom expression, without its parentheses.
+fn span_of_body(text: &str, token: Token<'_>) -> Span
+    ensures body { IsSpanOfBody text.now token.entry result }
+    ensures within { IsSpanIn text.now result }
+{
+    if token.index >= text.len() {
+        return Span::whole(text);
+    }
+    Span::at(text, token.index + 1, token.value.len())
+}
+
+/// The first run of characters of a text that the callback rejects. Runs are as long as possible.
+///
+/// The error is that of the callback, or of an allocation.
+pub fn rejected_run<F: Fn(&str) -> Result<bool, OutOfMemory>>(
+    alloc: Global,
+    text: &str,
+    tokens: &[Token<'_>],
+    refuses: F,
+) -> Result<Option<Span>, OutOfMemory>
+    requires { F.IsAlwaysCallable refuses }
+    ensures within { IfOk result (λ found. IfSome found (IsSpanIn text.now)) }
+{
+    let mut row = String::new(alloc);
+    let mut start = 0;
+    for token in tokens {
+        if is_character(token.kind) {
+            if row.is_empty() {
+                start = token.index;
+            }
+            row.push_str(token.value)?;
+        } else if !row.is_empty() {
+            if refuses(&row)? {
+                let len = token.index.saturating_sub(start);
+                return Ok(Some(Span::at(text, start, len)));
+            }
+            row.clear();
+        }
+    }
+    Ok(None)
+}
+
+/// Whether a token is a character, escaped or not.
+fn is_character(kind: TokenType) -> bool {
+    matches!(kind, TokenType::Char | TokenType::EscapedChar)
+}

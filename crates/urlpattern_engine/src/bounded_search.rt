@@ -1,0 +1,200 @@
+//! Searches an automaton by backtracking, without a visited set.
+
+ghost use Rattle.std.specs.Prelude.{◌≡◌, ◌^◌, ◌<◌, ◌≤◌, option_map, IfNone, IfOk};
+ghost use Rattle.regex_vm.specs.Found.{group_cells, put};
+ghost use Rattle.urlpattern_engine.specs.Automatons.{match_at_start};
+ghost use Rattle.urlpattern_engine.specs.BoundedSearches.{FollowsMove, IsFoundEnd, IsTextPlace, IsState, found_from};
+
+use regex_nfa::{Nfa, State, StateId};
+
+/// The number of states that a search may visit, apart from those for each byte. A choice that
+/// stays open, or that all remaining bytes decide, costs one more for each remaining byte.
+const STATES: usize = 128;
+
+/// The number of further states for each byte.
+const STATES_PER_BYTE: usize = 16;
+
+/// The greatest number of open choices.
+const DEPTH: usize = 64;
+
+/// The number of cells of a search, two for each group.
+pub(crate) const FEW: usize = 8;
+
+/// The error of a search that would visit too many states, or leave too many choices open.
+#[derive(Clone, Copy)]
+pub(crate) struct BudgetExceeded;
+
+/// The next move of a search from a state at a position.
+#[derive(Clone, Copy)]
+pub(crate) enum StateMove {
+    /// Continue with a state at a position.
+    Continue(StateId, usize),
+    /// Continue with a state at a position, after a look at all remaining bytes.
+    ContinueByRest(StateId, usize),
+    /// Try the first state at a position, and backtrack to the second if there is no match from the
+    /// first.
+    Choice(StateId, StateId, usize),
+    /// A match ends at a position.
+    Ends(usize),
+    /// No match.
+    Fails,
+}
+
+/// An automaton and bytes, to be matched from their start.
+///
+/// A choice stays open only if no byte was found to decide it. Visited states are not marked, so a
+/// search may be slow, and is then given up.
+#[derive(Clone, Copy)]
+pub(crate) struct BoundedSearch<'a> {
+    pub(crate) nfa: &'a Nfa,
+    pub(crate) bytes: &'a [u8],
+}
+
+impl BoundedSearch<'_> {
+    /// Returns the cells of the first groups, if the automaton matches at the start of the bytes.
+    ///
+    /// The error is that the search was given up.
+    pub(crate) fn find(&self) -> Result<Option<[usize; FEW]>, BudgetExceeded>
+        ensures { IfOk result (λ cells. cells ≡ option_map (λ found. group_cells found 8) (match_at_start self.now.nfa.now self.now.bytes.now)) }
+    {
+        let mut cells = [0usize; FEW];
+        let mut budget = self
+            .bytes
+            .len()
+            .saturating_mul(STATES_PER_BYTE)
+            .saturating_add(STATES);
+        match self.end(self.nfa.start, 0, DEPTH, &mut budget, &mut cells)? {
+            Some(_) => Ok(Some(cells)),
+            None => Ok(None),
+        }
+    }
+
+    /// Returns the end of the preferred match from a state at a position, and writes the cells of
+    /// its groups. `None`: no match.
+    ///
+    /// The error is that the search was given up.
+    #[inline(never)]
+    #[cycle(search)]
+    fn end(
+        &self,
+        state: StateId,
+        at: usize,
+        depth: usize,
+        budget: &mut usize,
+        cells: &mut [usize; FEW],
+    ) -> Result<Option<usize>, BudgetExceeded>
+        requires state { IsState self.now state }
+        requires place { IsTextPlace self.now at }
+        ensures found { IfOk result (IsFoundEnd (found_from self.now cells.old state at) cells.new) }
+        ensures fewer { budget.new ≤ budget.old }
+    {
+        let mut id = state;
+        let mut place = at;
+        'states: while *budget > 0 {
+            *budget -= 1;
+            match self.step(id, place, cells) {
+                StateMove::Continue(next, after) => {
+                    id = next;
+                    place = after;
+                }
+                StateMove::ContinueByRest(next, after) => {
+                    *budget = budget.saturating_sub(self.bytes.len() - after);
+                    id = next;
+                    place = after;
+                }
+                StateMove::Choice(first, second, after) => {
+                    *budget = budget.saturating_sub(self.bytes.len() - after);
+                    match self.try_branch(first, after, depth, budget, cells)? {
+                        Some(end) => return Ok(Some(end)),
+                        None => {
+                            id = second;
+                            place = after;
+                        }
+                    }
+                }
+                StateMove::Ends(end) => return Ok(Some(end)),
+                StateMove::Fails => return Ok(None),
+            }
+        }
+        Err(BudgetExceeded)
+    }
+
+    /// Returns the end of the preferred match from a state at a position, and writes the cells of
+    /// its groups. `None`: no match, and the cells are unchanged.
+    ///
+    /// The error is that the search was given up.
+    #[inline(never)]
+    #[cycle(search)]
+    fn try_branch(
+        &self,
+        state: StateId,
+        at: usize,
+        depth: usize,
+        budget: &mut usize,
+        cells: &mut [usize; FEW],
+    ) -> Result<Option<usize>, BudgetExceeded>
+        requires state { IsState self.now state }
+        requires place { IsTextPlace self.now at }
+        ensures found { IfOk result (IsFoundEnd (found_from self.now cells.old state at) cells.new) }
+        ensures kept { IfOk result (λ end. IfNone end (cells.new ≡ cells.old)) }
+        ensures fewer { budget.new ≤ budget.old }
+    {
+        if depth == 0 {
+            return Err(BudgetExceeded);
+        }
+        let mut copy = *cells;
+        match self.end(state, at, depth - 1, budget, &mut copy)? {
+            Some(end) => {
+                *cells = copy;
+                Ok(Some(end))
+            }
+            None => Ok(None),
+        }
+    }
+
+    /// Returns the next move from a state at a position. A state that saves a position writes its
+    /// cell.
+    #[inline(always)]
+    fn step(&self, id: StateId, at: usize, cells: &mut [usize; FEW]) -> StateMove
+        requires state { IsState self.now id }
+        requires place { IsTextPlace self.now at }
+        ensures { FollowsMove self.now (found_from self.now cells.old id at) cells.new result }
+    {
+        let state = self.nfa.state(id);
+        match state {
+            State::Split { first, second } => self.choice(id, first, second, at),
+            State::Save { slot, next } => {
+                write(slot, at, cells);
+                StateMove::Continue(next, at)
+            }
+            State::Look { look, next } => {
+                if self.holds(look, at) {
+                    StateMove::Continue(next, at)
+                } else {
+                    StateMove::Fails
+                }
+            }
+            State::Match => StateMove::Ends(at),
+            _ => match self.next(state, at) {
+                Some(next) => StateMove::Continue(next, at + 1),
+                None => StateMove::Fails,
+            },
+        }
+    }
+}
+
+/// Writes a position to the cell of a slot, if the slot has one.
+#[inline(always)]
+fn write(slot: u32, at: usize, cells: &mut [usize; FEW])
+    requires { at < 2 ^ 63 }
+    ensures { cells.new ≡ put cells.old slot at }
+{
+    let slot = slot as usize;
+    if slot < 2 {
+        return;
+    }
+    let index = slot - 2;
+    if index < FEW {
+        cells[index] = at + 1;
+    }
+}

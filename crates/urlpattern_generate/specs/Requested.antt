@@ -1,0 +1,48 @@
+-- The captures that are requested of the groups of parts.
+use Rattle.std.specs.Prelude.{◌≡◌, ℕ, Bool, false, List, [], Option, Some, None, Ok, length, if◌then◌else◌}
+use Rattle.std.specs.{Char.is_ascii_digit, Str.chars}
+use Rattle.url.specs.Parser.{Parsed}
+use Rattle.urlpattern_canonical.specs.Canonical.{IsRejectedByUrl}
+use Rattle.urlpattern_generate.specs.WriteSettings.{WriteSettings}
+use Rattle.urlpattern_generate.specs.Links.{OfEachGroup}
+use Rattle.urlpattern_meaning.specs.PartMeaning.{Captures, capture_of_no_copies}
+use Rattle.urlpattern_syntax.specs.declared.parser.{PartModifier.PartModifier, PartType.PartType}
+use Rattle.urlpattern_syntax.specs.{Parts.PartView, Text.begins_with}
+
+-- The group is an unnamed wildcard, which is named by a number.
+abbrev pub is_nameless : PartType → (name : List ℕ) → Bool
+is_nameless PartType.FullWildcard name = begins_with is_ascii_digit name
+is_nameless kind name = false
+
+-- The empty text, or None.
+abbrev pub empty_if : Bool → Option (List ℕ)
+empty_if is = if is then Some [] else None
+
+-- The capture of a group without a value, by its modifier: None if the group is optional, otherwise
+-- the empty text for an unnamed wildcard.
+abbrev pub capture_by_modifier : PartModifier → PartView → Option (List ℕ)
+capture_by_modifier PartModifier.Optional part = None
+capture_by_modifier PartModifier.ZeroOrMore part = capture_of_no_copies part
+capture_by_modifier modifier part = empty_if (is_nameless part.kind part.name)
+
+-- The capture of a group without a value.
+abbrev pub default_capture : PartView → Option (List ℕ)
+default_capture part = capture_by_modifier part.modifier part
+
+-- The requested capture of a group: the canonical form of its value, or the capture of a group
+-- without one.
+abbrev pub IsRequestedBy : (List ℕ → Parsed (List ℕ)) → (given : Option (List ℕ)) → PartView → Option (List ℕ) → Type 0
+IsRequestedBy canonical None part capture = capture ≡ default_capture part
+IsRequestedBy canonical (Some text) part capture = (value : List ℕ) × (canonical text ≡ Ok value) × (capture ≡ Some value)
+
+-- The capture is the one that is requested of the group.
+abbrev pub IsRequested : WriteSettings → PartView → Option (List ℕ) → Type 0
+IsRequested settings part capture = IsRequestedBy settings.canonical (settings.given part.name) part capture
+
+-- The captures are those that are requested of the groups of the parts.
+abbrev pub AreRequested : WriteSettings → List PartView → Captures → Type 0
+AreRequested settings = OfEachGroup (IsRequested settings)
+
+-- `url` rejects the value of this group, or the value may be too long.
+abbrev pub RejectsGiven : WriteSettings → (name : List ℕ) → Type 0
+RejectsGiven settings name = (bytes : List ℕ) × (settings.given name ≡ Some (chars bytes)) × IsRejectedByUrl (settings.canonical (chars bytes)) (length bytes)

@@ -1,0 +1,116 @@
+//! Memoization of the failed states of a match.
+
+ghost use Rattle.std.specs.Prelude.{◌≡◌, ◌⊎◌, ℕ, false, IfOk, IfSome, IsTrue};
+ghost use Rattle.std.specs.Str.{chars};
+ghost use Rattle.urlpattern_steps.specs.FailedStates.{HasBit, IsFailedState, HoldsOnlyFailed, bit_of};
+
+use crate::step::Step;
+use std::alloc::{AllocError, Global};
+use std::marker::Model;
+
+/// Failed states of a match, memoized: remaining steps that do not match the remaining text.
+///
+/// In contracts the value is the match alone. Memoized states change no result, only the time.
+#[derive(Drop)]
+pub struct FailedStates<'s, 't> {
+    ignore_case: bool,
+    steps: &'s [Step],
+    text: &'t str,
+    /// A bit for each state; empty without memoization.
+    bits: Vec<u64>,
+}
+
+impl<'s, 't> Model for FailedStates<'s, 't> {
+    ghost use Rattle.std.specs.Str.{chars};
+    ghost use Rattle.urlpattern_steps.specs.FailedStates.{AreFailed, Whole};
+
+    ghost Value = { Whole };
+
+    ghost view = { λ failed. record { ignore_case = failed.ignore_case; steps = failed.steps.now; text = chars failed.text.now } };
+
+    ghost invariant = { λ failed. AreFailed (record { ignore_case = failed.ignore_case; steps = failed.steps.now; text = chars failed.text.now }) failed.bits.items };
+}
+
+impl<'s, 't> FailedStates<'s, 't> {
+    /// Creates a memo without states, with room for all of them if `has_room`.
+    pub fn new(
+        alloc: Global,
+        steps: &'s [Step],
+        ignore_case: bool,
+        text: &'t str,
+        has_room: bool,
+    ) -> Result<Self, AllocError>
+        ensures { IfOk result (λ failed. failed ≡ record { ignore_case = ignore_case; steps = steps.now; text = chars text.now }) }
+    {
+        let count = if has_room { words(steps, text) } else { 0 };
+        Ok(FailedStates {
+            ignore_case,
+            steps,
+            text,
+            bits: vec![in alloc; 0u64; count]?,
+        })
+    }
+
+    /// Whether states are memoized.
+    pub fn has_room(&self) -> bool {
+        !self.bits.is_empty()
+    }
+
+    /// Whether the state is memoized as failed.
+    pub fn contains(&self, steps: &[Step], text: &str) -> bool
+        ensures { HoldsOnlyFailed self.now steps.now (chars text.now) result }
+    {
+        if !self.has_room() {
+            return false;
+        }
+        match bit_of(self.text, steps, text) {
+            Some(bit) => has_bit(&self.bits, bit),
+            None => false,
+        }
+    }
+
+    /// Memoizes a failed state, if there is room.
+    pub fn insert(&mut self, steps: &[Step], text: &str)
+        requires { IsFailedState self.old steps.now (chars text.now) }
+        ensures { self.new ≡ self.old }
+    {
+        if !self.has_room() {
+            return;
+        }
+        if let Some(bit) = bit_of(self.text, steps, text) {
+            set_bit(&mut self.bits, bit);
+        }
+    }
+}
+
+/// The index of the bit of a state.
+fn bit_of(whole: &str, steps: &[Step], text: &str) -> Option<usize>
+    ensures { IfSome result (λ bit. bit ≡ bit_of (chars whole.now) steps.now (chars text.now)) }
+{
+    let row = steps.len().checked_mul(whole.len().checked_add(1)?)?;
+    row.checked_add(text.len())
+}
+
+/// The number of words that have a bit for each state.
+fn words(steps: &[Step], text: &str) -> usize {
+    let rows = steps.len().saturating_add(1);
+    rows.saturating_mul(text.len().saturating_add(1)) / 64 + 1
+}
+
+/// Whether the bit is set.
+fn has_bit(bits: &[u64], bit: usize) -> bool
+    ensures { IsTrue result → HasBit bits.now bit }
+{
+    let word = bit / 64;
+    word < bits.len() && (bits[word] >> (bit % 64)) & 1 == 1
+}
+
+/// Sets the bit, if it is in range.
+fn set_bit(bits: &mut [u64], bit: usize)
+    ensures { (other : ℕ) → HasBit bits.new other → HasBit bits.old other ⊎ (other ≡ bit) }
+{
+    let word = bit / 64;
+    if word < bits.len() {
+        bits[word] |= 1 << (bit % 64);
+    }
+}
